@@ -1,0 +1,98 @@
+-- A fault at a descriptor stays, and the front before it, whatever bytes follow.
+use Rattle.std.proofs.Common.{◌≡◌, ℕ, ◌≤◌, Bool, true, false, cond, nat_lt, nat_le, List, [], ◌++◌, length, refl, sym, ap, ◌∙◌, arith, length-append, append_assoc, Option, Some, None}
+use Rattle.std.specs.Prelude.{is_some, IsTrue}
+use Rattle.std.specs.Option.{option_or}
+use Rattle.std.proofs.lemmas.Bool.{cond-true, ltb-false, le-ltb}
+use Rattle.smf_frames.specs.declared.dump.Layout.{Layout}
+use Rattle.smf_frames.specs.declared.fault.FrameFault.{FrameFault}
+use Rattle.smf_frames.specs.declared.fault.FrameFault.TheVariants.{SegmentCrossesBlock, ExtendedBlock, BlockLength}
+use Rattle.smf_frames.specs.declared.next.Next.TheVariants.{Stops}
+use Rattle.smf_frames.specs.Segment.{named_len, kind_of}
+use Rattle.smf_frames.specs.Faults.{lacks_room, is_block_due, block_fault, segment_fault, descriptor_fault, end_fault, fault_at}
+use Rattle.smf_frames.specs.Longest.{Front}
+use Rattle.smf_frames.specs.Front.{start, data_len, behind, stopped, front}
+use Rattle.smf_frames.proofs.Numbers.{names_same}
+use Rattle.smf_frames.proofs.Ways.{next_at, Way, way_same, front_way, front_stops, leads}
+use Rattle.smf_frames.proofs.Cuts.{cut_way}
+use Rattle.smf_frames.proofs.Grown.{way_cut}
+use Rattle.smf_frames.proofs.Fronts.{front_led}
+
+-- the tests of a descriptor, before some bytes and before more of them
+stays_by : (lacks short longer due : Bool) (block segment block' segment' : Option FrameFault)
+    → (short ≡ false → (longer ≡ false) × (block' ≡ block) × (segment' ≡ segment))
+    → is_some (cond lacks (Some SegmentCrossesBlock) (cond short None (cond due block segment)))
+    ≡ true
+    → cond lacks (Some SegmentCrossesBlock) (cond longer None (cond due block' segment'))
+    ≡ cond lacks (Some SegmentCrossesBlock) (cond short None (cond due block segment))
+stays_by true short longer due block segment block' segment' same broken = refl
+stays_by false true longer due block segment block' segment' same broken = absurd cc
+stays_by false false longer due block segment block' segment' same broken =
+    let is = same refl in
+    ap (λ l. cond l None (cond due block' segment')) is.0 ∙ λ i. cond due (is.1 i) (is.2 i)
+
+-- the fault at a descriptor
+descriptor_stays : (layout : Layout) (begun left : Option ℕ) (bytes more : List ℕ)
+    → is_some (descriptor_fault layout begun left bytes) ≡ true
+    → descriptor_fault layout begun left (bytes ++ more) ≡ descriptor_fault layout begun left bytes
+descriptor_stays layout begun left bytes more broken =
+    stays_by (lacks_room left) (nat_lt (length bytes) 4) (nat_lt (length (bytes ++ more)) 4)
+    (is_block_due layout left) (block_fault bytes)
+    (segment_fault begun left (named_len bytes) (kind_of bytes)) (block_fault (bytes ++ more))
+    (segment_fault begun left (named_len (bytes ++ more)) (kind_of (bytes ++ more))) same broken
+  where
+    same : nat_lt (length bytes) 4 ≡ false → (nat_lt (length (bytes ++ more)) 4 ≡ false)
+        × (block_fault (bytes ++ more) ≡ block_fault bytes)
+        × (segment_fault begun left (named_len (bytes ++ more)) (kind_of (bytes ++ more))
+        ≡ segment_fault begun left (named_len bytes) (kind_of bytes))
+    same there =
+        let long : 4 ≤ length bytes = ltb-false (length bytes) 4 there in
+        let names = names_same bytes more long in (
+          le-ltb (length (bytes ++ more)) 4 (omega (arith, length-append bytes more)),
+          (λ i. cond (nat_le 128 (names.first i)) (Some ExtendedBlock)
+              (cond (nat_lt (names.len i) 4) (Some BlockLength) None)),
+          λ i. segment_fault begun left (names.len i) (names.kind i),
+        )
+
+-- the fault before such bytes
+fault_stays : (layout : Layout) (begun left : Option ℕ) (bytes more : List ℕ)
+    → is_some (descriptor_fault layout begun left bytes) ≡ true
+    → fault_at layout begun left (bytes ++ more) ≡ fault_at layout begun left bytes
+fault_stays layout begun left bytes more broken =
+    ap (λ fault. option_or fault (end_fault begun left (bytes ++ more)))
+    (descriptor_stays layout begun left bytes more broken)
+    ∙ some_or (descriptor_fault layout begun left bytes) broken
+  where
+    some_or : (fault : Option FrameFault) → is_some fault ≡ true
+        → option_or fault (end_fault begun left (bytes ++ more)) ≡ option_or fault
+        (end_fault begun left bytes)
+    some_or None some = absurd cc
+    some_or (Some fault) some = refl
+
+-- the front before it
+pub front_lasts : (layout : Layout) (text more : List ℕ) → IsTrue (front layout text).is_broken
+    → front layout (text ++ more) ≡ front layout text
+front_lasts layout text more broken =
+    let led = leads layout start text in
+    let begun : Option ℕ = data_len led.last.begun in
+    let left : Option ℕ = led.last.left in
+    let cut = way_cut led.way in
+    let behind_is : cut.front ++ (led.rest ++ more) ≡ text ++ more =
+    sym (append_assoc cut.front led.rest more) ∙ ap (λ b. b ++ more) (sym cut.parts) in
+    let way : Way layout start (text ++ more) led.records led.last (led.rest ++ more) =
+    way_same behind_is cut.made (sym cut.is)
+    (cut_way layout cut.front (led.rest ++ more) cut.more cut.begun cut.left cut.cut) in
+    let here : is_some (descriptor_fault layout begun left led.rest) ≡ true =
+    sym (ap (λ (f : Front). f.is_broken) (front_led layout text led)) ∙ broken in
+    let stays = descriptor_stays layout begun left led.rest more here in
+    let stops : next_at layout led.last (led.rest ++ more) ≡ Stops =
+    cond-true (is_some (descriptor_fault layout begun left (led.rest ++ more))) _ _
+    (ap (λ f. is_some f) stays ∙ here) in
+    let same : stopped layout led.last (led.rest ++ more) ≡ stopped layout led.last led.rest =
+    λ i. record {
+      records = [];
+      fault = fault_stays layout begun left led.rest more here i;
+      is_broken = is_some (stays i);
+    } in
+    front_way way
+    ∙ ap (behind led.records) (front_stops layout led.last (led.rest ++ more) stops ∙ same)
+    ∙ sym (front_led layout text led)

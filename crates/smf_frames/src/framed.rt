@@ -1,0 +1,24 @@
+ghost use Rattle.std.specs.Prelude.{◌≡◌, ◌≤◌, IfOk, length};
+ghost use Rattle.smf_frames.specs.Framed as spec;
+
+use crate::descriptor::DESCRIPTOR_LEN;
+use std::alloc::{AllocError, Global};
+
+/// The most data that a record has, in bytes: with its descriptor, whose two bytes name the length
+/// of both, it has 65,535.
+pub const MAX_DATA: usize = 65_531;
+
+/// The record with that data.
+pub fn record_with(alloc: Global, joined: &[u8]) -> Result<Vec<u8>, AllocError>
+    requires { length joined.now ≤ MAX_DATA }
+    ensures { IfOk result (λ made. made.items ≡ spec.record_with joined.now) }
+{
+    let len = DESCRIPTOR_LEN + joined.len();
+    let mut bytes = Vec::with_capacity(alloc, len)?;
+    bytes.push((len / 256) as u8)?;
+    bytes.push((len % 256) as u8)?;
+    bytes.push(0)?;
+    bytes.push(0)?;
+    bytes.extend_from_slice(joined)?;
+    Ok(bytes)
+}

@@ -1,0 +1,9 @@
+pub mod CodePageLemmas
+pub mod DateLemmas
+pub mod DateTextLemmas
+pub mod DayOfTextLemmas
+pub mod EncodingLemmas
+pub mod NameLemmas
+pub mod ShowLemmas
+pub mod UnlikeLemmas
+pub mod YearLemmas

@@ -1,0 +1,4 @@
+pub mod FieldLemmas
+pub mod IdentityLemmas
+pub mod SectionLemmas
+pub mod UsageFacts

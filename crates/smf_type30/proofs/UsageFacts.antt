@@ -1,0 +1,177 @@
+-- What the class of a usage record tells of it: it passes every test of the ladders.
+use Rattle.std.proofs.Common.{◌≡◌, ◌≢◌, ◌≤◌, ◌<◌, ◌==◌, ◌⊎◌, inl, inr, ℕ, List, length, nat_lt, Bool, true, false, not, ◌||◌, cond, Option, Some, None, is_none, is_some, refl, sym}
+use Rattle.std.proofs.lemmas.Bool.{ltb-true, ltb-false, eqb-true, eqb-false, not-false, or_cases, and_from, not_from_false, cond-false, ne_eqb}
+use Rattle.smf_frames.specs.declared.header.TheConstants.{HEADER_LEN}
+use Rattle.smf_frames.specs.Header.{header_of}
+use Rattle.smf_type30.specs.declared.layout.TheConstants.{DUMP_HEADER, DUMP_TRAILER, DATA_LOST, WORK, STEP_END, JOB_END, SUBTYPE_END, TRIPLETS_END, HUNDREDTHS_PER_DAY, IDENTIFICATION, PROCESSOR, IO_ACTIVITY, COMPLETION}
+use Rattle.smf_type30.specs.declared.classes.Class.TheVariants.{Usage}
+use Rattle.smf_type30.specs.declared.damage.Damage.{Damage}
+use Rattle.smf_type30.specs.Section.{fits, count_of}
+use Rattle.smf_type30.specs.Usage.{subtype_of, accounts_of}
+use Rattle.smf_type30.specs.Class.{class_of, damage_of, usage_unless, type_of, has_date, has_time, IsUsage, measures_work}
+
+-- the date, the time and each section are as they should be
+pub record Undamaged (bytes : List ℕ) : Type 0 where
+  pub date : has_date bytes ≡ true
+  pub time : (header_of bytes).time < HUNDREDTHS_PER_DAY
+  pub identified : count_of bytes IDENTIFICATION ≢ 0
+  pub identification : fits bytes IDENTIFICATION ≡ true
+  pub processor : fits bytes PROCESSOR ≡ true
+  pub io_activity : fits bytes IO_ACTIVITY ≡ true
+  pub completion : fits bytes COMPLETION ≡ true
+  pub accounts : is_some (accounts_of bytes) ≡ true
+
+-- the record has the triplets, is one of work, and undamaged
+pub record UsageFacts (bytes : List ℕ) : Type 0 where
+  pub long : TRIPLETS_END ≤ length bytes
+  pub subtype : (subtype_of bytes ≡ STEP_END) ⊎ (subtype_of bytes ≡ JOB_END)
+  pub processing : count_of bytes PROCESSOR ≢ 0
+  pub work : measures_work bytes ≡ true
+  pub parts : Undamaged bytes
+
+-- where the first test of a ladder would have given another answer, it failed, and the tests below
+-- gave the answer
+record Passed {A : Type 0} (test : Bool) (others answer : A) : Type 0 where
+  failed : test ≡ false
+  below : others ≡ answer
+
+-- to pass a test
+passed : {A : Type 0} (test : Bool) (here others answer : A) → (here ≡ answer → ⊥)
+    → cond test here others ≡ answer → Passed test others answer
+passed true here others answer other e = absurd (other e)
+passed false here others answer other e = record { failed = refl; below = e }
+
+-- where all else would have been another answer, the last test of a ladder held
+record Held {A : Type 0} (test : Bool) (here answer : A) : Type 0 where
+  holds : test ≡ true
+  gives : here ≡ answer
+
+-- to hold the last test
+held : {A : Type 0} (test : Bool) (here others answer : A) → (others ≡ answer → ⊥)
+    → cond test here others ≡ answer → Held test here answer
+held true here others answer other e = record { holds = refl; gives = e }
+held false here others answer other e = absurd (other e)
+
+-- what is not none is some
+is_some-there : {A : Type 0} (o : Option A) → is_none o ≡ false → is_some o ≡ true
+is_some-there None e = cc
+is_some-there (Some x) e = refl
+
+-- the ladder of damages
+undamaged : (bytes : List ℕ) → damage_of bytes ≡ None → Undamaged bytes
+unfolding damage_of
+undamaged bytes none =
+    let date = passed (not (has_date bytes)) _ _ _ (λ e. cc) none in
+    let time = passed (not (has_time bytes)) _ _ _ (λ e. cc) date.below in
+    let there = passed (count_of bytes IDENTIFICATION == 0) _ _ _ (λ e. cc) time.below in
+    let identification = passed (not (fits bytes IDENTIFICATION)) _ _ _ (λ e. cc) there.below in
+    let processor = passed (not (fits bytes PROCESSOR)) _ _ _ (λ e. cc) identification.below in
+    let io_activity = passed (not (fits bytes IO_ACTIVITY)) _ _ _ (λ e. cc) processor.below in
+    let completion = passed (not (fits bytes COMPLETION)) _ _ _ (λ e. cc) io_activity.below in
+    let accounts = passed (is_none (accounts_of bytes)) _ _ _ (λ e. cc) completion.below in
+    record {
+      date = not-false _ date.failed;
+      time = ltb-true _ _ (not-false _ time.failed);
+      identified = eqb-false _ _ there.failed;
+      identification = not-false _ identification.failed;
+      processor = not-false _ processor.failed;
+      io_activity = not-false _ io_activity.failed;
+      completion = not-false _ completion.failed;
+      accounts = is_some-there _ accounts.failed;
+    }
+
+-- only what has no damage is a usage record
+no_damage : (damage : Option Damage) → usage_unless damage ≡ Usage → damage ≡ None
+no_damage None e = refl
+no_damage (Some damage) e = cc
+
+-- what the test of the subtype means
+step_or_job : (bytes : List ℕ)
+    → (subtype_of bytes == STEP_END || subtype_of bytes == JOB_END) ≡ true
+    → (subtype_of bytes ≡ STEP_END) ⊎ (subtype_of bytes ≡ JOB_END)
+step_or_job bytes e = elim (or_cases _ _ e) [
+  | inl step ↦ inl (eqb-true _ _ step)
+  | inr job ↦ inr (eqb-true _ _ job)
+]
+
+-- the ladder of classes
+pub usage_facts : (bytes : List ℕ) → IsUsage bytes → UsageFacts bytes
+unfolding class_of measures_work
+usage_facts bytes usage =
+    let header = passed (nat_lt (length bytes) HEADER_LEN) _ _ _ (λ e. cc) usage in
+    let dump_header = passed (type_of bytes == DUMP_HEADER) _ _ _ (λ e. cc) header.below in
+    let dump_trailer = passed (type_of bytes == DUMP_TRAILER) _ _ _ (λ e. cc) dump_header.below in
+    let data_lost = passed (type_of bytes == DATA_LOST) _ _ _ (λ e. cc) dump_trailer.below in
+    let type = held (type_of bytes == WORK) _ _ _ (λ e. cc) data_lost.below in
+    let long_header = passed (nat_lt (length bytes) SUBTYPE_END) _ _ _ (λ e. cc) type.gives in
+    let charged = subtype_of bytes == STEP_END || subtype_of bytes == JOB_END in
+    let subtype = passed (not charged) _ _ _ (λ e. cc) long_header.below in
+    let long = passed (nat_lt (length bytes) TRIPLETS_END) _ _ _ (λ e. cc) subtype.below in
+    let processor = passed (count_of bytes PROCESSOR == 0) _ _ _ (λ e. cc) long.below in
+    let ends = and_from _ _ type.holds (not-false _ subtype.failed) in
+    record {
+      long = ltb-false _ _ long.failed;
+      subtype = step_or_job bytes (not-false _ subtype.failed);
+      processing = eqb-false _ _ processor.failed;
+      work = and_from _ _ ends (not_from_false _ processor.failed);
+      parts = undamaged bytes (no_damage _ processor.below);
+    }
+
+-- a usage record can be read
+pub usage_measures_work : (bytes : List ℕ) → IsUsage bytes → measures_work bytes ≡ true
+usage_measures_work bytes usage = (usage_facts bytes usage).work
+
+-- the facts one by one, for the calls on a usage record
+pub usage_long : (bytes : List ℕ) → IsUsage bytes → TRIPLETS_END ≤ length bytes
+usage_long bytes usage = (usage_facts bytes usage).long
+
+pub usage_subtype : (bytes : List ℕ) → IsUsage bytes
+    → (subtype_of bytes ≡ STEP_END) ⊎ (subtype_of bytes ≡ JOB_END)
+usage_subtype bytes usage = (usage_facts bytes usage).subtype
+
+pub usage_processing : (bytes : List ℕ) → IsUsage bytes → count_of bytes PROCESSOR ≢ 0
+usage_processing bytes usage = (usage_facts bytes usage).processing
+
+pub usage_date : (bytes : List ℕ) → IsUsage bytes → has_date bytes ≡ true
+usage_date bytes usage = (usage_facts bytes usage).parts.date
+
+pub usage_time : (bytes : List ℕ) → IsUsage bytes → (header_of bytes).time < HUNDREDTHS_PER_DAY
+usage_time bytes usage = (usage_facts bytes usage).parts.time
+
+pub usage_identified : (bytes : List ℕ) → IsUsage bytes → count_of bytes IDENTIFICATION ≢ 0
+usage_identified bytes usage = (usage_facts bytes usage).parts.identified
+
+pub usage_identification : (bytes : List ℕ) → IsUsage bytes → fits bytes IDENTIFICATION ≡ true
+usage_identification bytes usage = (usage_facts bytes usage).parts.identification
+
+pub usage_processor : (bytes : List ℕ) → IsUsage bytes → fits bytes PROCESSOR ≡ true
+usage_processor bytes usage = (usage_facts bytes usage).parts.processor
+
+pub usage_io_activity : (bytes : List ℕ) → IsUsage bytes → fits bytes IO_ACTIVITY ≡ true
+usage_io_activity bytes usage = (usage_facts bytes usage).parts.io_activity
+
+pub usage_completion : (bytes : List ℕ) → IsUsage bytes → fits bytes COMPLETION ≡ true
+usage_completion bytes usage = (usage_facts bytes usage).parts.completion
+
+pub usage_accounts : (bytes : List ℕ) → IsUsage bytes → is_some (accounts_of bytes) ≡ true
+usage_accounts bytes usage = (usage_facts bytes usage).parts.accounts
+
+-- all of them
+pub ruleset usage = (
+  usage_long,
+  usage_subtype,
+  usage_processing,
+  usage_date,
+  usage_time,
+  usage_identified,
+  usage_identification,
+  usage_processor,
+  usage_io_activity,
+  usage_completion,
+  usage_accounts,
+)
+
+-- where a section is there, what it says is told
+pub present : {A : Type 0} (count : ℕ) (absent told : A) → count ≢ 0
+    → told ≡ cond (count == 0) absent told
+present count absent told there = sym (cond-false _ absent told (ne_eqb count 0 there))

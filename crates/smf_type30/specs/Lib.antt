@@ -1,0 +1,9 @@
+-- Read in this order: where a work record has its sections and accounting fields, what it tells, of
+-- what class a record is, and how damages are numbered. The last two files serve the code alone.
+pub mod Section
+pub mod Accounts
+pub mod Usage
+pub mod Class
+pub mod Damage
+pub mod Lent
+pub mod Walk

@@ -1,0 +1,71 @@
+ghost use Rattle.std.specs.Prelude.{◌≡◌, ◌≤◌, length, drop, is_some, IsNone, IsSome, IfSome, option_copied};
+ghost use Rattle.smf_type30.specs.declared.layout.TheConstants.{ACCOUNTING, TRIPLETS_END};
+ghost use Rattle.smf_type30.specs.Section.{offset_of};
+ghost use Rattle.smf_type30.specs.Accounts.{fields_in, nth_of, accounts_of, account_of};
+ghost use Rattle.smf_type30.specs.Walk.{BeginsWith, BeginsWithNone, EndsBefore, LeavesRest};
+
+use crate::layout::ACCOUNTING;
+use crate::section::{count, offset};
+
+/// The first field of a text, a length byte and that many bytes, and what follows it.
+fn split_field(text: &[u8]) -> Option<(&[u8], &[u8])>
+    ensures none { IsNone result → BeginsWithNone text.now }
+    ensures some { IfSome result (λ split. BeginsWith text.now split.0.now split.1.now) }
+{
+    let (len, rest) = text.split_first()?;
+    rest.split_at_checked(*len as usize)
+}
+
+/// What follows so many fields of a text, if they all lie inside it.
+fn skip_fields(count: u16, text: &[u8]) -> Option<&[u8]>
+    ensures inside { is_some result ≡ is_some (fields_in count text.now) }
+    ensures none { IsNone result → EndsBefore count text.now }
+    ensures some { IfSome result (λ rest. LeavesRest count text.now rest.now) }
+{
+    let mut rest = text;
+    for _ in 0..count {
+        let (_, after) = split_field(rest)?;
+        rest = after;
+    }
+    Some(rest)
+}
+
+/// The field behind n others, of so many at the front of a text.
+fn nth_field(count: u16, text: &[u8], n: u16) -> Option<&[u8]>
+    requires { IsSome (fields_in count text.now) }
+    ensures { option_copied result ≡ nth_of (fields_in count text.now) n }
+{
+    if count <= n {
+        return None;
+    }
+    let (field, _) = split_field(skip_fields(n, text)?)?;
+    Some(field)
+}
+
+/// A record from its first accounting field on.
+fn from_accounts(bytes: &[u8]) -> &[u8]
+    requires { TRIPLETS_END ≤ length bytes.now }
+    ensures { result.now ≡ drop (offset_of bytes.now ACCOUNTING) bytes.now }
+{
+    bytes.get(offset(bytes, ACCOUNTING)..).unwrap_or_default()
+}
+
+/// Tells whether the accounting fields lie inside the record.
+#[tactic(auto, unfolding(crate::specs::Accounts::accounts_of))]
+pub fn has_accounts(bytes: &[u8]) -> bool
+    requires { TRIPLETS_END ≤ length bytes.now }
+    ensures { result ≡ is_some (accounts_of bytes.now) }
+{
+    skip_fields(count(bytes, ACCOUNTING), from_accounts(bytes)).is_some()
+}
+
+/// Accounting field n, the first being 1.
+#[tactic(auto, unfolding(crate::specs::Accounts::accounts_of, crate::specs::Accounts::account_of))]
+pub fn account(bytes: &[u8], n: u16) -> Option<&[u8]>
+    requires long { TRIPLETS_END ≤ length bytes.now }
+    requires fields { IsSome (accounts_of bytes.now) }
+    ensures { option_copied result ≡ account_of bytes.now n }
+{
+    let others = n.checked_sub(1)?;
+    nth_field(count(bytes, ACCOUNTING), from_accounts(bytes), others)
+}

@@ -1,0 +1,22 @@
+//! The class of an SMF record, and the fields of a usage record, lent from its bytes.
+#![tactic(auto)]
+
+mod accounts;
+mod class_of;
+mod classes;
+mod damage;
+mod layout;
+mod number;
+mod section;
+mod usage;
+
+pub use class_of::class;
+pub use classes::Class;
+pub use damage::Damage;
+pub use layout::{HUNDREDTHS_PER_DAY, JOB_END, STEP_END};
+pub use usage::{Moment, Type30};
+
+#[cfg(test)]
+mod samples;
+#[cfg(test)]
+mod tests;

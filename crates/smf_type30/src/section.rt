@@ -1,0 +1,52 @@
+ghost use Rattle.std.specs.Prelude.{◌≡◌, ◌≢◌, ◌+◌, ◌≤◌, length, IsTrue};
+ghost use Rattle.smf_type30.specs.Lent.{Lends};
+ghost use Rattle.smf_type30.specs.Section as spec;
+
+use crate::layout::Section;
+use crate::number::{number2, number4};
+
+/// The offset that a section's triplet tells.
+pub fn offset(bytes: &[u8], section: Section) -> usize
+    requires { section.triplet + 8 ≤ length bytes.now }
+    ensures { result ≡ spec.offset_of bytes.now section }
+{
+    number4(bytes, section.triplet) as usize
+}
+
+/// The length that a section's triplet tells.
+pub fn len(bytes: &[u8], section: Section) -> u16
+    requires { section.triplet + 8 ≤ length bytes.now }
+    ensures { result ≡ spec.length_of bytes.now section }
+{
+    number2(bytes, section.triplet + 4)
+}
+
+/// The number that a section's triplet tells, 0 where the section is absent.
+pub fn count(bytes: &[u8], section: Section) -> u16
+    requires { section.triplet + 8 ≤ length bytes.now }
+    ensures { result ≡ spec.count_of bytes.now section }
+{
+    number2(bytes, section.triplet + 6)
+}
+
+/// Tells whether a section is absent, or long enough and inside the record.
+pub fn fits(bytes: &[u8], section: Section) -> bool
+    requires { section.triplet + 8 ≤ length bytes.now }
+    ensures { result ≡ spec.fits bytes.now section }
+{
+    let len = len(bytes, section);
+    count(bytes, section) == 0
+        || section.least <= len && offset(bytes, section) + len as usize <= bytes.len()
+}
+
+/// A section that is there, lent from its record.
+pub fn lend(bytes: &[u8], section: Section) -> &[u8]
+    requires triplet { section.triplet + 8 ≤ length bytes.now }
+    requires there { spec.count_of bytes.now section ≢ 0 }
+    requires fits { IsTrue (spec.fits bytes.now section) }
+    ensures { Lends bytes.now section result.now }
+{
+    let start = offset(bytes, section);
+    let end = start + len(bytes, section) as usize;
+    &bytes[start..end]
+}

@@ -1,0 +1,220 @@
+ghost use Rattle.std.specs.Prelude.{◌≡◌, ◌≤◌, ◌<◌, ◌+◌, ◌-◌, ◌^◌, ◌↔◌, ◌⊎◌, ◌++◌, length, take, IsTrue, IsOk, IfOk, IfErr, Some, option_copied};
+ghost use Rattle.smf_text.specs.Day.{IsDay};
+ghost use Rattle.smf_text.specs.PackedDate.{packed_day_of};
+ghost use Rattle.smf_frames.specs.Header.{header_of};
+ghost use Rattle.smf_type30.specs.declared.layout.TheConstants.{HUNDREDTHS_PER_DAY, IDENTIFICATION, JOB_END, STEP_END, TRIPLETS_END};
+ghost use Rattle.smf_type30.specs.Section.{part_in};
+ghost use Rattle.smf_type30.specs.Usage as spec;
+ghost use Rattle.smf_type30.specs.Class.{IsUsage, measures_work, read_fault};
+
+use crate::accounts;
+use crate::class_of::first_damage;
+use crate::damage::Damage;
+use crate::layout::{
+    BLOCKS, COMPLETION, Field, IDENTIFICATION, IO_ACTIVITY, JOB_END, JOB_ID, JOB_NAME, PROCESSOR,
+    PROGRAM_NAME, READER_START, SRB_TIME, STEP_NUMBER, SUBTYPE, SUBTYPE_END, TCB_TIME,
+    TRIPLETS_END,
+};
+use crate::number::{number2, number4};
+use crate::section::{count, lend};
+use smf_frames::Header;
+use smf_text::packed_day;
+use std::marker::Model;
+use std::ops::Range;
+
+/// When a record was written.
+#[derive(Clone, Copy, Debug, PartialEq, Eq)]
+pub struct Moment {
+    /// The day, counted from 1970-01-01.
+    pub day: i32,
+    /// The time of day, in hundredths of a second since midnight.
+    pub time: u32,
+}
+
+/// A record that measures the work of a step or a job, and lends its fields.
+#[derive(Drop)]
+pub struct Type30<'a> {
+    bytes: &'a [u8],
+}
+
+impl<'a> Model for Type30<'a> {
+    ghost use Rattle.std.specs.Prelude.{List, ℕ};
+    ghost use Rattle.smf_type30.specs.Class.{IsUsage};
+
+    ghost Value = { List ℕ };
+
+    ghost view = { λ usage. usage.bytes.now };
+
+    ghost invariant = { λ usage. IsUsage usage.bytes.now };
+}
+
+impl<'a> Type30<'a> {
+    /// Reads a record, its descriptor included, that measures work if it is long enough to tell.
+    /// One that is no usage record is answered with its damage: with `Short` where it ends before
+    /// its triplets do, whatever its type.
+    #[tactic(auto, unfolding(crate::specs::Class::class_of, crate::specs::Class::measures_work))]
+    pub fn read(bytes: &'a [u8]) -> Result<Type30<'a>, Damage>
+        requires { TRIPLETS_END ≤ length bytes.now → IsTrue (measures_work bytes.now) }
+        ensures usage { IsOk result ↔ IsUsage bytes.now }
+        ensures value { IfOk result (λ usage. usage ≡ bytes.now) }
+        ensures damage { IfErr result (λ damage. read_fault bytes.now ≡ Some damage) }
+    {
+        if bytes.len() < TRIPLETS_END {
+            return Err(Damage::Short);
+        }
+        match first_damage(bytes) {
+            None => Ok(Type30 { bytes }),
+            Some(damage) => Err(damage),
+        }
+    }
+
+    /// The subtype: 4 for a step, 5 for a job.
+    #[tactic(auto, using(crate::proofs::UsageFacts::usage), unfolding(crate::specs::Usage::subtype_of))]
+    pub fn subtype(&self) -> u16
+        ensures value { result ≡ spec.subtype_of self.now }
+        ensures either { (result ≡ STEP_END) ⊎ (result ≡ JOB_END) }
+        ensures usage { IsUsage self.now }
+    {
+        number2(self.bytes, SUBTYPE.offset)
+    }
+
+    /// The identity of the work: system, job name, reader's time and date, subtype, and the step
+    /// number, which is 0 for a job. Two records of one identity tell of the same work.
+    #[tactic(auto, using(crate::proofs::UsageFacts::usage))]
+    pub fn identity(&self) -> [u8; 24]
+        ensures value { result ≡ spec.identity_of self.now }
+    {
+        let subtype = &self.bytes[SUBTYPE.offset..SUBTYPE_END];
+        let mut identity = [0; 24];
+        put(&mut identity, 0..4, &self.header().system);
+        put(&mut identity, 4..12, self.job());
+        put(&mut identity, 12..20, self.identified(READER_START));
+        put(&mut identity, 20..22, subtype);
+        put(&mut identity, 22..24, &self.step());
+        identity
+    }
+
+    /// When the record was written.
+    #[tactic(auto, unfolding(crate::specs::Usage::day_of, crate::specs::Usage::time_of))]
+    pub fn moment(&self) -> Moment
+        ensures day { result.day ≡ spec.day_of self.now }
+        ensures time { result.time ≡ spec.time_of self.now }
+        ensures is_day { IsDay result.day }
+        ensures is_time { result.time < HUNDREDTHS_PER_DAY }
+    {
+        let header = self.header();
+        Moment {
+            day: packed_day(&header.date).unwrap(),
+            time: header.time,
+        }
+    }
+
+    /// The CPU time, under TCBs and SRBs, in hundredths of a second.
+    #[tactic(auto, using(crate::proofs::UsageFacts::usage))]
+    pub fn cpu(&self) -> u64
+        ensures value { result ≡ spec.cpu_of self.now }
+        ensures bound { result < 2 ^ 33 }
+    {
+        let processor = lend(self.bytes, PROCESSOR);
+        u64::from(number4(processor, TCB_TIME.offset))
+            + u64::from(number4(processor, SRB_TIME.offset))
+    }
+
+    /// The blocks transferred, the EXCP count: 0 without an I/O activity section.
+    #[tactic(auto, using(crate::proofs::UsageFacts::usage), unfolding(crate::specs::Usage::excp_of))]
+    pub fn excp(&self) -> u32
+        ensures value { result ≡ spec.excp_of self.now }
+    {
+        if count(self.bytes, IO_ACTIVITY) == 0 {
+            return 0;
+        }
+        number4(lend(self.bytes, IO_ACTIVITY), BLOCKS.offset)
+    }
+
+    /// The name of the job, in EBCDIC.
+    #[tactic(auto, unfolding(crate::specs::Usage::job_of))]
+    pub fn job(&self) -> &'a [u8]
+        ensures value { result.now ≡ spec.job_of self.now }
+        ensures len { length result.now ≡ 8 }
+    {
+        self.identified(JOB_NAME)
+    }
+
+    /// The name of the program, in EBCDIC.
+    #[tactic(auto, unfolding(crate::specs::Usage::program_of))]
+    pub fn program(&self) -> &'a [u8]
+        ensures value { result.now ≡ spec.program_of self.now }
+        ensures len { length result.now ≡ 8 }
+    {
+        self.identified(PROGRAM_NAME)
+    }
+
+    /// The JES job identifier, in EBCDIC.
+    #[tactic(auto, unfolding(crate::specs::Usage::job_id_of))]
+    pub fn job_id(&self) -> &'a [u8]
+        ensures value { result.now ≡ spec.job_id_of self.now }
+        ensures len { length result.now ≡ 8 }
+    {
+        self.identified(JOB_ID)
+    }
+
+    /// Accounting field n, the first being 1.
+    #[tactic(auto, using(crate::proofs::UsageFacts::usage))]
+    pub fn account(&self, n: u16) -> Option<&'a [u8]>
+        ensures value { option_copied result ≡ spec.account_of self.now n }
+    {
+        accounts::account(self.bytes, n)
+    }
+
+    /// The completion code and the termination indicator, None without a completion section.
+    #[tactic(auto, using(crate::proofs::UsageFacts::usage), unfolding(crate::specs::Usage::completion_of))]
+    pub fn completion(&self) -> Option<[u8; 4]>
+        ensures value { result ≡ spec.completion_of self.now }
+    {
+        if count(self.bytes, COMPLETION) == 0 {
+            return None;
+        }
+        lend(self.bytes, COMPLETION).first_chunk().copied()
+    }
+
+    /// The standard header.
+    #[tactic(auto, using(crate::proofs::UsageFacts::usage))]
+    fn header(&self) -> Header
+        ensures value { result ≡ header_of self.now }
+        ensures date { IsOk (packed_day_of result.date) }
+        ensures time { result.time < HUNDREDTHS_PER_DAY }
+    {
+        Header::read(self.bytes).unwrap()
+    }
+
+    /// A field of the identification section.
+    #[tactic(auto, using(crate::proofs::UsageFacts::usage))]
+    fn identified(&self, field: Field) -> &'a [u8]
+        requires { field.offset + field.len ≤ IDENTIFICATION.least }
+        ensures value { result.now ≡ part_in self.now IDENTIFICATION field }
+        ensures len { length result.now ≡ field.len }
+    {
+        &lend(self.bytes, IDENTIFICATION)[field.offset..field.offset + field.len]
+    }
+
+    /// The step number, 0 for a job.
+    fn step(&self) -> [u8; 2]
+        ensures { result ≡ spec.step_of self.now }
+    {
+        if self.subtype() == JOB_END {
+            return [0, 0];
+        }
+        let step = self.identified(STEP_NUMBER);
+        [step[0], step[1]]
+    }
+}
+
+/// Writes bytes into a part of a buffer.
+fn put(buffer: &mut [u8], part: Range<usize>, bytes: &[u8])
+    requires forward { part.start ≤ part.end }
+    requires inside { part.end ≤ length buffer.old }
+    requires all { length bytes.now ≡ part.end - part.start }
+    ensures { take part.end buffer.new ≡ take part.start buffer.old ++ bytes.now }
+{
+    buffer[part].copy_from_slice(bytes);
+}
