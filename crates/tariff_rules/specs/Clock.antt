@@ -1,0 +1,33 @@
+-- A minute of the day, as HH:MM.
+use Rattle.std.specs.Prelude.{ℕ, ◌+◌, ◌-◌, ◌*◌, ◌==◌, ◌&&◌, not, Bool, nat_le, nat_lt, if◌then◌else◌, List, length, slice_index, Option, Some, None}
+use Rattle.std.specs.Char.{is_ascii_digit}
+use Rattle.tariff_rules.specs.declared.clock.TheConstants.{MINUTES_OF_DAY}
+
+-- two digits, a colon, two digits
+abbrev pub is_clock_text : List ℕ → Bool
+is_clock_text text =
+    length text == 5
+    && is_ascii_digit (slice_index text 0) && is_ascii_digit (slice_index text 1)
+    && slice_index text 2 == 58
+    && is_ascii_digit (slice_index text 3) && is_ascii_digit (slice_index text 4)
+
+-- the number of two digits
+abbrev pub two_digits : ℕ → ℕ → ℕ
+two_digits tens ones = 10 * (tens - 48) + (ones - 48)
+
+abbrev pub hour_of : List ℕ → ℕ
+hour_of text = two_digits (slice_index text 0) (slice_index text 1)
+
+abbrev pub minute_in_hour : List ℕ → ℕ
+minute_in_hour text = two_digits (slice_index text 3) (slice_index text 4)
+
+abbrev pub minute_in_day : List ℕ → ℕ
+minute_in_day text = 60 * hour_of text + minute_in_hour text
+
+-- the minute of the day, from 00:00 to 24:00
+abbrev pub minute_of_text : List ℕ → Option ℕ
+minute_of_text text =
+    if not (is_clock_text text) then None
+    else if nat_lt (minute_in_hour text) 60 && nat_le (minute_in_day text) MINUTES_OF_DAY
+    then Some (minute_in_day text)
+    else None

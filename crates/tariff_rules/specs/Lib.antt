@@ -1,0 +1,12 @@
+-- Read in this order: what a tariff says, and what a record costs by it. Then the file: its faults
+-- and keys, what its tables have at a key, its shifts and its centres, and the whole of it.
+pub mod Terms
+pub mod Price
+pub mod Faults
+pub mod Document
+pub mod Clock
+pub mod ShiftEntry
+pub mod ShiftConflict
+pub mod Prefix
+pub mod CentreEntry
+pub mod TariffFile

@@ -1,0 +1,67 @@
+-- What an entry of a tariff file's array of shifts says.
+use Rattle.std.specs.Prelude.{ℕ, ◌==◌, ◌&&◌, not, Bool, nat_le, nat_lt, if◌then◌else◌, List, length, is_some, Option, Some, None, Result, Ok, Err}
+use Rattle.std.specs.List.{filter_map, list_all}
+use Rattle.std.specs.Option.{ok_or}
+use Rattle.toml.specs.Data.{as_table, Data, Members}
+use Rattle.tariff_rules.specs.Clock.{minute_of_text}
+use Rattle.tariff_rules.specs.Document.{◌>>=◌, entries_in, name_at, read_at, text_at, whole_at, whole_in}
+use Rattle.tariff_rules.specs.Terms.{ShiftRule}
+use Rattle.tariff_rules.specs.declared.fault.TariffFault.{TariffFault}
+use Rattle.tariff_rules.specs.declared.fault.TariffFault.TheVariants.{Range}
+use Rattle.tariff_rules.specs.declared.key.Key.{Key}
+use Rattle.tariff_rules.specs.declared.key.Key.TheVariants as key
+use Rattle.tariff_rules.specs.declared.shift.TheConstants.{MAX_PERCENT}
+use Rattle.tariff_rules.specs.declared.shift.entry.TheConstants.{DAYS_OF_WEEK}
+
+-- a weekday, Monday 1 to Sunday 7
+abbrev pub weekday_in : Data → Option ℕ
+weekday_in value = whole_in 1 DAYS_OF_WEEK value
+
+abbrev pub is_weekday : Data → Bool
+is_weekday value = is_some (weekday_in value)
+
+-- one to seven of them, of which some may be the same
+abbrev pub are_weekdays : List Data → Bool
+are_weekdays entries =
+    not (length entries == 0) && nat_le (length entries) DAYS_OF_WEEK
+    && list_all is_weekday entries
+
+abbrev pub weekdays_of : List Data → Option (List ℕ)
+weekdays_of entries = if are_weekdays entries then Some (filter_map weekday_in entries) else None
+
+unfoldable pub days_at : Members → Result (List ℕ) TariffFault
+days_at table = do
+  entries ← read_at table key.Days entries_in
+  ok_or (weekdays_of entries) (Range key.Days)
+
+-- a minute of the day
+unfoldable pub minute_at : Members → Key → Result ℕ TariffFault
+minute_at table key = do
+  text ← text_at table key
+  ok_or (minute_of_text text) (Range key)
+
+-- the first minute behind the shift, which is behind its first minute
+unfoldable pub to_at : Members → ℕ → Result ℕ TariffFault
+to_at table from = do
+  to ← minute_at table key.To
+  if nat_lt from to then Ok to else Err (Range key.To)
+
+unfoldable pub shift_rule_of : Members → Result ShiftRule TariffFault
+shift_rule_of table = do
+  name ← name_at table
+  days ← days_at table
+  from ← minute_at table key.From
+  to ← to_at table from
+  percent ← whole_at table key.Percent 0 MAX_PERCENT
+  Ok (record {
+    shift = record { name = name; percent = percent };
+    days = days;
+    from = from;
+    to = to;
+  })
+
+-- the rule of an entry, which has to be a table
+unfoldable pub shift_rule_in : Data → Result ShiftRule TariffFault
+shift_rule_in value = do
+  table ← ok_or (as_table value) (Range key.Shift)
+  shift_rule_of table

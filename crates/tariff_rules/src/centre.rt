@@ -1,0 +1,90 @@
+//! Centres, and which records each pays for.
+
+ghost use Rattle.std.specs.Prelude.{◌≡◌, find};
+ghost use Rattle.std.specs.Option.{option_copied};
+ghost use Rattle.smf_text.specs.Names.{IsName};
+ghost use Rattle.tariff_rules.specs.Price as spec;
+
+mod entry;
+
+use smf_text::Name;
+use smf_type30::Type30;
+use std::marker::Model;
+
+/// The field of a record that a centre rule looks at.
+#[derive(Clone, Copy, Debug)]
+pub(crate) enum Field {
+    /// An accounting field, counted from 1.
+    Account(u16),
+    /// The job's name.
+    Job,
+}
+
+impl Field {
+    /// What the record has in the field, if it is there.
+    fn text_of<'a>(self, usage: &Type30<'a>) -> Option<&'a [u8]>
+        ensures { option_copied result ≡ spec.text_of usage.now self }
+    {
+        match self {
+            Field::Account(n) => usage.account(n),
+            Field::Job => Some(usage.job()),
+        }
+    }
+}
+
+/// What a centre pays for: the records whose field begins with the prefix, in bytes of code page
+/// 037.
+#[derive(Debug, Drop)]
+pub(crate) struct CentreRule {
+    centre: Name,
+    field: Field,
+    prefix: Vec<u8>,
+}
+
+impl Model for CentreRule {
+    ghost use Rattle.smf_text.specs.Names.{IsName};
+    ghost use Rattle.tariff_rules.specs.Terms.{CentreRule as Rule};
+
+    ghost Value = { Rule };
+
+    ghost view = { λ r. record { centre = r.centre; field = r.field; prefix = r.prefix.items } };
+
+    ghost invariant = { λ r. IsName r.centre };
+}
+
+impl CentreRule {
+    /// Whether the centre pays for the record, unless an earlier rule decides.
+    fn applies_to(&self, usage: &Type30<'_>) -> bool
+        ensures { result ≡ spec.applies_to usage.now self.now }
+    {
+        match self.field.text_of(usage) {
+            None => false,
+            Some(text) => text.starts_with(&self.prefix),
+        }
+    }
+}
+
+/// The first rule that applies to the record.
+fn rule_for<'r>(rules: &'r [CentreRule], usage: &Type30<'_>) -> Option<&'r CentreRule>
+    ensures { option_copied result ≡ find (spec.applies_to usage.now) rules.now }
+{
+    rules.iter().find(|rule| rule.applies_to(usage))
+}
+
+/// The centre of the records that no rule applies to.
+fn unassigned() -> Name
+    ensures { result ≡ spec.unassigned }
+{
+    Name::of("UNASSIGNED").unwrap()
+}
+
+/// The centre that pays for the record: that of the first rule that applies.
+pub(crate) fn centre_of(rules: &[CentreRule], usage: &Type30<'_>) -> Name
+    ensures value { result ≡ spec.centre_of rules.now usage.now }
+    ensures name { IsName result }
+{
+    match rule_for(rules, usage) {
+        Some(rule) => rule.centre,
+        None => unassigned(),
+    }
+}

@@ -1,0 +1,26 @@
+//! Tariff files, and what a record of usage costs by a tariff.
+#![tactic(auto)]
+
+mod centre;
+mod clock;
+mod document;
+mod fault;
+mod key;
+mod prefix;
+mod priced;
+mod rates;
+mod rules;
+mod shift;
+mod tariff;
+
+pub use fault::TariffFault;
+pub use key::Key;
+pub use priced::{Priced, price};
+pub use rates::{MAX_AMOUNT, MAX_RATE};
+pub use shift::MAX_PERCENT;
+pub use tariff::{MAX_CENTRES, MAX_SHIFTS, MAX_TEXT, Tariff};
+
+#[cfg(test)]
+mod samples;
+#[cfg(test)]
+mod tests;

@@ -1,0 +1,129 @@
+//! What an entry of a tariff file's array of shifts says.
+
+ghost use Rattle.std.specs.Prelude.{◌≡◌, map, IfOk};
+ghost use Rattle.std.specs.List.{filter_map, list_all};
+ghost use Rattle.toml.specs.View.{table_view, view};
+ghost use Rattle.tariff_rules.specs.Document.{Answers, AnswersItems};
+ghost use Rattle.tariff_rules.specs.ShiftEntry as spec;
+
+use super::{MAX_PERCENT, Shift, ShiftRule};
+use crate::clock::minute_of_text;
+use crate::document::{entries_at, name_at, text_at, whole_at, whole_in};
+use crate::fault::TariffFault;
+use crate::key::Key;
+use crate::rules::Rule;
+use std::alloc::{AllocError, Global};
+use toml::{Table, Value};
+
+/// The number of weekdays.
+const DAYS_OF_WEEK: usize = 7;
+
+/// A weekday, Monday 1 to Sunday 7.
+fn weekday_in(value: &Value) -> Option<u8>
+    ensures { result ≡ spec.weekday_in (view value.now) }
+{
+    match whole_in(value, 1, DAYS_OF_WEEK as u64) {
+        Some(day) => Some(day as u8),
+        None => None,
+    }
+}
+
+fn is_weekday(value: &Value) -> bool
+    ensures { result ≡ spec.is_weekday (view value.now) }
+{
+    weekday_in(value).is_some()
+}
+
+fn all_weekdays(entries: &[Value]) -> bool
+    ensures { result ≡ list_all (λ entry. spec.is_weekday (view entry)) entries.now }
+{
+    entries.iter().all(|entry| is_weekday(entry))
+}
+
+/// Whether the entries are one to seven weekdays.
+#[tactic(auto, using(crate::proofs::EntryLemmas::entry_lemmas))]
+fn are_weekdays(entries: &[Value]) -> bool
+    ensures { result ≡ spec.are_weekdays (map view entries.now) }
+{
+    !entries.is_empty() && entries.len() <= DAYS_OF_WEEK && all_weekdays(entries)
+}
+
+/// The weekdays among the entries, in order.
+#[tactic(auto, using(crate::proofs::EntryLemmas::entry_lemmas))]
+fn weekdays_of(alloc: Global, entries: &[Value]) -> Result<Vec<u8>, AllocError>
+    ensures { IfOk result
+        (λ days. days.items ≡ filter_map spec.weekday_in (map view entries.now)) }
+{
+    entries
+        .iter()
+        .filter_map(|entry| weekday_in(entry))
+        .collect(alloc)
+}
+
+/// The weekdays at the key `days`.
+#[tactic(auto, unfolding(crate::specs::ShiftEntry::days_at))]
+fn days_at(alloc: Global, table: &Table) -> Result<Vec<u8>, TariffFault>
+    ensures { AnswersItems result (spec.days_at (table_view table.now)) }
+{
+    let entries = entries_at(table, Key::Days)?;
+    if !are_weekdays(entries) {
+        return Err(TariffFault::Range(Key::Days));
+    }
+    Ok(weekdays_of(alloc, entries)?)
+}
+
+/// The minute of the day at a key.
+#[tactic(auto, unfolding(crate::specs::ShiftEntry::minute_at))]
+fn minute_at(table: &Table, key: Key) -> Result<u32, TariffFault>
+    ensures { result ≡ spec.minute_at (table_view table.now) key }
+{
+    let text = text_at(table, key)?;
+    minute_of_text(text.as_bytes()).ok_or(TariffFault::Range(key))
+}
+
+/// The first minute behind the shift, which is behind its first minute.
+#[tactic(auto, unfolding(crate::specs::ShiftEntry::to_at))]
+fn to_at(table: &Table, from: u32) -> Result<u32, TariffFault>
+    ensures { result ≡ spec.to_at (table_view table.now) from }
+{
+    let to = minute_at(table, Key::To)?;
+    if from < to {
+        Ok(to)
+    } else {
+        Err(TariffFault::Range(Key::To))
+    }
+}
+
+impl ShiftRule {
+    /// The rule of a table.
+    #[tactic(auto, unfolding(crate::specs::ShiftEntry::shift_rule_of))]
+    fn of_table(alloc: Global, table: &Table) -> Result<ShiftRule, TariffFault>
+        ensures { Answers result (spec.shift_rule_of (table_view table.now)) }
+    {
+        let name = name_at(table)?;
+        let days = days_at(alloc, table)?;
+        let from = minute_at(table, Key::From)?;
+        let to = to_at(table, from)?;
+        let percent = whole_at(table, Key::Percent, 0, u64::from(MAX_PERCENT))? as u16;
+        Ok(ShiftRule {
+            shift: Shift { name, percent },
+            days,
+            from,
+            to,
+        })
+    }
+}
+
+impl Rule for ShiftRule {
+    ghost use Rattle.tariff_rules.specs.ShiftEntry.{shift_rule_in};
+
+    ghost rule_in = { shift_rule_in };
+
+    #[tactic(auto, unfolding(crate::specs::ShiftEntry::shift_rule_in))]
+    fn read(alloc: Global, value: &Value) -> Result<ShiftRule, TariffFault> {
+        match value.as_table() {
+            Some(table) => ShiftRule::of_table(alloc, table),
+            None => Err(TariffFault::Range(Key::Shift)),
+        }
+    }
+}
