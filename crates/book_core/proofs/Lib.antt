@@ -1,0 +1,16 @@
+-- Lists and sets first; then entries of a map, and what those of a plain ledger hold, charge and dispute.
+pub mod ListLemmas
+pub mod SumsAlike
+pub mod SetLemmas
+pub mod EntryLemmas
+pub mod HeldLemmas
+pub mod AcceptLemmas
+pub mod RowLemmas
+pub mod ChargedLemmas
+pub mod DisputeLemmas
+pub mod GroupLemmas
+pub mod KeyedRowLemmas
+pub mod ShownLemmas
+pub mod IdentityLemmas
+pub mod PricingLemmas
+pub mod AnswerLemmas

@@ -1,0 +1,32 @@
+//! The books of a chargeback office: what they mean, and a plain ledger that keeps them in memory.
+#![tactic(auto)]
+
+mod answer;
+mod charge_rows;
+mod dispute;
+mod fault;
+mod held;
+mod identities;
+mod limits;
+mod naming;
+mod plain;
+mod pricing;
+mod row;
+mod sink;
+mod source;
+mod variant;
+
+pub use answer::{Accepted, Ruled};
+pub use dispute::{Dispute, Variant};
+pub use fault::LedgerFault;
+pub use limits::{MAX_HELD, MAX_PERIOD, MAX_TOTAL};
+pub use naming::{Naming, ShaNames};
+pub use plain::PlainLedger;
+pub use row::{ChargeRow, RowKey};
+pub use sink::Sink;
+pub use source::Source;
+
+#[cfg(test)]
+mod samples;
+#[cfg(test)]
+mod tests;
