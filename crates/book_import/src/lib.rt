@@ -1,0 +1,11 @@
+//! Dumps into a ledger, and the receipts for them.
+#![tactic(auto)]
+
+mod reading;
+mod receipt;
+mod records;
+mod whole;
+
+pub use reading::MAX_READS;
+pub use receipt::{Receipt, Stop};
+pub use whole::import_whole;

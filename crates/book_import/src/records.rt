@@ -1,0 +1,87 @@
+ghost use Rattle.std.specs.Prelude.{◌≡◌, ◌+◌, ◌≤◌, ◌<◌, ◌^◌, OnErr, All};
+ghost use Rattle.smf_frames.specs.Framed.{IsFramed};
+ghost use Rattle.smf_frames.specs.Texts.{texts};
+ghost use Rattle.book_core.specs.Answers.{Answers};
+ghost use Rattle.book_core.specs.PlainBook.{book_of, naming_of};
+ghost use Rattle.book_import.specs.Imports.{Handles, handle as handled};
+ghost use Rattle.book_import.specs.Receipts as spec;
+ghost use Rattle.book_import.specs.Receipts.{counted};
+
+use crate::receipt::{Receipt, Stop};
+use book_core::{Accepted, LedgerFault, Naming, PlainLedger};
+use smf_type30::{Class, class};
+
+/// Counts what the books answered to a usage record.
+fn count_accepted(receipt: &mut Receipt, accepted: Accepted)
+    requires { counted receipt.old < 2 ^ 63 }
+    ensures { receipt.new ≡ spec.count_accepted accepted receipt.old }
+{
+    match accepted {
+        Accepted::Kept => receipt.kept += 1,
+        Accepted::Known => receipt.known += 1,
+        Accepted::Unpriced => receipt.unpriced += 1,
+    }
+}
+
+/// Counts a record of a class that the books are not asked about.
+fn count_class(receipt: &mut Receipt, class: Class)
+    requires { counted receipt.old < 2 ^ 63 }
+    ensures { receipt.new ≡ spec.count_class class receipt.old }
+{
+    match class {
+        Class::DumpHeader => receipt.headers += 1,
+        Class::DumpTrailer => receipt.trailers += 1,
+        Class::DataLost => receipt.lost += 1,
+        Class::Other => receipt.other += 1,
+        Class::Continuation => receipt.continued += 1,
+        Class::Damaged(_) => receipt.damaged += 1,
+        Class::Usage => {}
+    }
+}
+
+/// Hands one record to the books where it is usage, and counts it.
+fn handle<N: Naming + Drop>(
+    ledger: &mut PlainLedger<N>,
+    receipt: &mut Receipt,
+    bytes: &[u8],
+) -> Result<(), LedgerFault>
+    requires framed { IsFramed bytes.now }
+    requires few { counted receipt.old < 2 ^ 63 }
+    ensures handled { Answers (λ _. record { receipt = receipt.new; book = book_of ledger.new }) result
+        (handled (N.name_of (naming_of ledger.old)) bytes.now
+        (record { receipt = receipt.old; book = book_of ledger.old })) }
+    ensures refused { OnErr result
+        ((receipt.new ≡ receipt.old) × (book_of ledger.new ≡ book_of ledger.old)) }
+    ensures naming { naming_of ledger.new ≡ naming_of ledger.old }
+    ensures counted { counted receipt.new ≤ counted receipt.old + 1 }
+{
+    match class(bytes) {
+        Class::Usage => {
+            let accepted = ledger.accept(bytes)?;
+            count_accepted(receipt, accepted);
+        }
+        other => count_class(receipt, other),
+    }
+    Ok(())
+}
+
+/// Hands the records of a dump to the books, in order, up to the first that they refuse; where they
+/// refuse none, the receipt has this stop.
+pub fn import_records<N: Naming + Drop>(
+    ledger: &mut PlainLedger<N>,
+    records: &[Vec<u8>],
+    stop: Stop,
+) -> Receipt
+    requires { All IsFramed (texts records.now) }
+    ensures handled { Handles (N.name_of (naming_of ledger.old)) stop (texts records.now) (book_of ledger.old)
+        (record { receipt = result; book = book_of ledger.new }) }
+    ensures naming { naming_of ledger.new ≡ naming_of ledger.old }
+{
+    let mut receipt = Receipt::stopped(Stop::End);
+    for bytes in records {
+        if let Err(fault) = handle(ledger, &mut receipt, bytes) {
+            return receipt.stopped_by(Stop::Ledger(fault));
+        }
+    }
+    receipt.stopped_by(stop)
+}

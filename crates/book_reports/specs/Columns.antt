@@ -1,0 +1,31 @@
+-- Texts in columns, and numbers with decimal places. A text is its bytes.
+use Rattle.std.specs.Prelude.{ℕ, ◌-◌, ◌/◌, ◌%◌, List, ◌++◌, length, replicate, codes}
+use Rattle.std.specs.Fmt.{decimal}
+use Rattle.std.specs.Str.{byte}
+
+abbrev pub line_end : List ℕ
+line_end = codes "\n"
+
+-- so many blanks
+abbrev pub blanks : ℕ → List ℕ
+blanks count = replicate count (byte " ")
+
+-- a text at the left of a column of that width, blanks behind it
+abbrev pub left : ℕ → List ℕ → List ℕ
+left width text = text ++ blanks (width - length text)
+
+-- a text at the right of a column of that width, blanks before it
+abbrev pub right : ℕ → List ℕ → List ℕ
+right width text = blanks (width - length text) ++ text
+
+-- a number in so many digits, zeros before it
+abbrev pub digits_in : ℕ → ℕ → List ℕ
+digits_in width number = replicate (width - length (decimal number)) (byte "0") ++ decimal number
+
+-- hundredths of a second, in seconds
+unfoldable pub seconds_text : ℕ → List ℕ
+seconds_text hundredths = decimal (hundredths / 100) ++ codes "." ++ digits_in 2 (hundredths % 100)
+
+-- ten-thousandths of the money unit, in units
+unfoldable pub amount_text : ℕ → List ℕ
+amount_text amount = decimal (amount / 10_000) ++ codes "." ++ digits_in 4 (amount % 10_000)

@@ -1,0 +1,18 @@
+//! The texts of the office's reports, byte for byte, and how a text is written.
+#![tactic(auto)]
+
+mod columns;
+mod dispute_list;
+mod fault;
+mod output;
+mod period;
+mod receipt_line;
+mod statement;
+#[cfg(test)]
+mod tests;
+
+pub use dispute_list::dispute_list_text;
+pub use fault::ReportFault;
+pub use output::write_text;
+pub use receipt_line::receipt_line_text;
+pub use statement::statement_text;

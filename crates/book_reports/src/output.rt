@@ -1,0 +1,35 @@
+//! How a text is written.
+
+ghost use Rattle.std.specs.Prelude.{◌≡◌, ◌≤◌, ℕ, IfErr, OnErr, OnOk, false, length, take, true};
+ghost use Rattle.std.specs.Io.KnownBytes.{Appends};
+ghost use Rattle.book_core.specs.Sinks.{writer_of, has_failed};
+
+use crate::ReportFault;
+use book_core::Sink;
+use std::io::Write;
+
+/// Writes a text, in as many writes as the writer needs. Behind a write that failed, or that took
+/// nothing, there is no further one: the writer has no more than a front of the text.
+#[tactic(auto, using(crate::proofs::WriteLemmas::taken_more))]
+pub fn write_text<W: Write + Drop>(sink: &mut Sink<W>, text: &str) -> Result<(), ReportFault>
+    requires { has_failed sink.old ≡ false }
+    ensures whole { OnOk result (Appends
+        (W.contents (writer_of sink.old)) (W.contents (writer_of sink.new)) text.now
+        × has_failed sink.new ≡ false) }
+
+    // Nothing but a write that fails, or that takes nothing, keeps a text from being written.
+    ensures fault { IfErr result (λ fault. fault ≡ ReportFault.Write) }
+    ensures failed { OnErr result (has_failed sink.new ≡ true) }
+    ensures front { OnErr result ((n : ℕ) × (n ≤ length text.now) × Appends
+        (W.contents (writer_of sink.old)) (W.contents (writer_of sink.new)) (take n text.now)) }
+{
+    let bytes = text.as_bytes();
+    let mut written = 0;
+    'writes: while written < bytes.len() {
+        match sink.write(&bytes[written..]) {
+            Ok(0) | Err(_) => return Err(ReportFault::Write),
+            Ok(count) => written += count,
+        }
+    }
+    Ok(())
+}
