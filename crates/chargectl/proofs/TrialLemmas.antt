@@ -1,0 +1,57 @@
+-- What makes a trial: new books, the import, and what was written.
+use Rattle.std.proofs.Common.{◌≡◌, ℕ, List, [], Option, Result, Ok, Err, refl, ap, subst}
+use Rattle.std.specs.Prelude.{IfOk}
+use Rattle.std.specs.Io.KnownBytes.{Consumes}
+use Rattle.std.specs.Result.{result_unwrap_or}
+use Rattle.std.proofs.KnownBytes.{Consumes-nil}
+use Rattle.sha2.specs.Sha256.{sha256}
+use Rattle.smf_frames.specs.declared.dump.Layout.{Layout}
+use Rattle.tariff_rules.specs.Terms.{Terms}
+use Rattle.book_core.specs.Books.{Book, flat_book}
+use Rattle.book_core.specs.declared.fault.LedgerFault.{LedgerFault}
+use Rattle.book_core.specs.declared.fault.LedgerFault.TheVariants.{Memory}
+use Rattle.book_import.specs.declared.receipt.Receipt.{Receipt}
+use Rattle.book_import.specs.declared.receipt.Stop.{Stop}
+use Rattle.book_import.specs.declared.receipt.Stop.TheVariants.{Ledger}
+use Rattle.book_import.specs.Imports.{Imported, Imports}
+use Rattle.book_import.specs.Imports.Handles.{out_of_memory}
+use Rattle.book_import.specs.Receipts.{receipt_stopped}
+use Rattle.book_reports.specs.declared.fault.ReportFault.{ReportFault}
+use Rattle.chargectl.specs.Trials.{IsTrial, trial_text}
+use Rattle.chargectl.specs.Writing.{Writes}
+use Rattle.chargectl.proofs.WritingLemmas.{nothing_written}
+
+-- equal answers have equal values
+pub same_value : {A : Type 0} {x y : A} → ◌≡◌ {A = Result A LedgerFault} (Ok x) (Ok y) → x ≡ y
+same_value {x = x} same = ap (λ answer. result_unwrap_or answer x) same
+
+module _ {terms : Terms} {layout : Layout} {cut : Option Stop} where
+  -- new books, the import, and what was written
+  pub is_trial : {had left held holds : Option (List ℕ)} {answer : Result Receipt ReportFault} {book : Book}
+      (imported : Imported) → book ≡ flat_book terms
+      → (bytes : List ℕ) × Consumes had left bytes × Imports sha256 layout cut bytes book imported
+      → Writes (trial_text imported) held holds answer → IfOk answer (λ receipt. receipt ≡ imported.receipt)
+      → IsTrial terms layout cut had left held holds answer
+  is_trial imported new booked written receipt =
+      record {
+        bytes = booked.0;
+        imported = imported;
+        taken = booked.1;
+        booked = subst (λ book. Imports sha256 layout cut booked.0 book imported) new booked.2;
+        written = written;
+        receipt = receipt;
+      }
+
+  -- without memory for new books nothing is read or written
+  pub no_trial : (had held : Option (List ℕ)) (fault : ReportFault)
+      → IsTrial terms layout cut had had held held (Err fault)
+  no_trial had held fault =
+      let imported : Imported = record { receipt = receipt_stopped (Ledger Memory); book = flat_book terms } in
+      record {
+        bytes = [];
+        imported = imported;
+        taken = Consumes-nil had;
+        booked = out_of_memory 0 refl;
+        written = nothing_written Receipt held (trial_text imported) fault;
+        receipt = tt;
+      }

@@ -1,0 +1,16 @@
+use Rattle.std.proofs.Common.{◌∙◌, sym, ap, subst, None}
+use Rattle.chargectl.proofs.TrialLemmas.{same_value}
+use Rattle.book_core.specs.Sinks.{writer_of}
+use Rattle.book_reports.specs.Statements.{statement_text}
+use Rattle.chargectl.specs.Writing.{Writes}
+use Rattle.chargectl.proofs.WritingLemmas.{text_written}
+use Rattle.chargectl.proofs.trial.write_statement.Goals as goal
+
+pub returns-clause-text : goal.returns-clause-text
+returns-clause-text g c =
+    let held = g.W.Write.contents (writer_of c.args.sink.now) in
+    let holds = g.W.Write.contents (writer_of c.write_text.new.sink) in
+    let rows = c.deref.ensures.value ∙ sym (same_value c.in_ok-rows.ensures.rows) in
+    let text = c.as_str.ensures.value ∙ c.in_ok-statement.ensures ∙ ap (statement_text 1 None) rows in
+    subst (λ text. Writes text held holds c.write_text.result) text
+    (text_written _ c.as_str.result.now c.write_text.result c.write_text.ensures.whole c.write_text.ensures.front)

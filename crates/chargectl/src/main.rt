@@ -1,0 +1,36 @@
+//! The program of the chargeback office.
+#![tactic(auto)]
+
+mod message;
+mod program;
+mod status;
+#[cfg(test)]
+mod tests;
+mod trial;
+mod words;
+
+use std::process::ExitCode;
+use std::{env, io};
+
+fn main(rt: HostRuntime) -> ExitCode {
+    let status = match given_words(&rt) {
+        Ok(words) => program::command(
+            rt.alloc(),
+            &words,
+            rt.reader(),
+            io::writer(&rt),
+            &mut rt.stderr(),
+        ),
+        Err(error) => message::words_failed(&mut rt.stderr(), &error),
+    };
+    ExitCode::from(status.code())
+}
+
+/// The words of the command line. An error is want of memory, or that one is not UTF-8.
+fn given_words(rt: &HostRuntime) -> io::Result<Vec<String>> {
+    let mut words = Vec::new(rt.alloc());
+    for word in env::args(rt)? {
+        words.push(word)?;
+    }
+    Ok(words)
+}

@@ -1,0 +1,105 @@
+//! What the program says on standard error, and the status that goes with it.
+
+ghost use Rattle.std.specs.Prelude.{◌≡◌};
+ghost use Rattle.chargectl.specs.Statuses as spec;
+ghost use Rattle.chargectl.specs.Statuses.{report_status, stop_status};
+
+use crate::status::Status;
+use crate::words::PROGRAM;
+use book_core::LedgerFault;
+use book_import::{Receipt, Stop};
+use book_reports::ReportFault;
+use std::io;
+use std::io::{ErrorKind, Write};
+use tariff_rules::TariffFault;
+
+/// The status of a ledger's fault.
+fn ledger_status(fault: LedgerFault) -> Status
+    ensures { result ≡ spec.ledger_status fault }
+{
+    match fault {
+        LedgerFault::Memory => Status::Memory,
+        LedgerFault::Store | LedgerFault::Reopen | LedgerFault::NotBooks => Status::Store,
+        _ => Status::Refused,
+    }
+}
+
+/// One line: a tariff's fault with its number, and the key that is wrong.
+fn say_tariff<E: Write>(errors: &mut E, fault: TariffFault) -> io::Result<()> {
+    let number = fault.number();
+    match fault {
+        TariffFault::Missing(key) | TariffFault::Range(key) => {
+            writeln!(errors, "{PROGRAM}: tariff {number} {key}")
+        }
+        _ => writeln!(errors, "{PROGRAM}: tariff {number}"),
+    }
+}
+
+/// One line: a ledger's fault with its number, and what it carries.
+fn say_ledger<E: Write>(errors: &mut E, fault: LedgerFault) -> io::Result<()> {
+    let number = fault.number();
+    match fault {
+        LedgerFault::TariffRefused(fault) => say_tariff(errors, fault),
+        LedgerFault::WrongPeriod(open) => writeln!(errors, "{PROGRAM}: ledger {number} {open}"),
+        _ => writeln!(errors, "{PROGRAM}: ledger {number}"),
+    }
+}
+
+/// Says that a file, a socket or the output failed. A line that can't be written is let go: the
+/// status tells the same.
+pub fn io_failed<E: Write>(errors: &mut E) -> Status
+    ensures { result ≡ Status.Io }
+{
+    let _ = writeln!(errors, "{PROGRAM}: io");
+    Status::Io
+}
+
+/// Says that memory ran out.
+pub fn out_of_memory<E: Write>(errors: &mut E) -> Status
+    ensures { result ≡ Status.Memory }
+{
+    ledger_refused(errors, LedgerFault::Memory)
+}
+
+/// Says that there was no memory for the words. Words that are not UTF-8 ask for nothing.
+pub fn words_failed<E: Write>(errors: &mut E, error: &io::Error) -> Status {
+    if error.kind() == ErrorKind::OutOfMemory {
+        return out_of_memory(errors);
+    }
+    Status::Usage
+}
+
+/// Says why a ledger refused.
+fn ledger_refused<E: Write>(errors: &mut E, fault: LedgerFault) -> Status
+    ensures { result ≡ spec.ledger_status fault }
+{
+    let _ = say_ledger(errors, fault);
+    ledger_status(fault)
+}
+
+/// Says why a report was not written.
+pub fn report_failed<E: Write>(errors: &mut E, fault: ReportFault) -> Status
+    ensures { result ≡ report_status fault }
+{
+    match fault {
+        ReportFault::Write => io_failed(errors),
+        ReportFault::Memory => out_of_memory(errors),
+        ReportFault::Ledger(fault) => ledger_refused(errors, fault),
+    }
+}
+
+/// Says why a dump was not read to its end, if it was not.
+pub fn import_stopped<E: Write>(errors: &mut E, receipt: &Receipt) -> Status
+    ensures { result ≡ stop_status receipt.now.stop }
+{
+    match receipt.stop {
+        Stop::End => Status::Done,
+        Stop::Frame(fault) => {
+            let number = fault.number();
+            let _ = writeln!(errors, "{PROGRAM}: frame {number}");
+            Status::Refused
+        }
+        Stop::Read | Stop::ReadLimit => io_failed(errors),
+        Stop::Ledger(fault) => ledger_refused(errors, fault),
+    }
+}

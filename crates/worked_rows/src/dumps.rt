@@ -1,0 +1,190 @@
+//! What the books make of a dump, however it is cut.
+
+use crate::office::{import, import_from, new_books, report, trial};
+use crate::readers::{Breaks, InPieces};
+use crate::sample::{SAMPLE, joined, other_step};
+use crate::statements::{ONE_RECORD, TWO_STEPS};
+use book_core::Source;
+use book_import::{Receipt, Stop, import_whole};
+use smf_frames::{FrameFault, Layout};
+use std::alloc::{AllocError, Global};
+use std::test::Fail;
+
+/// The first of three segments of the sample, 60 bytes of data behind its descriptor.
+fn first_segment(alloc: Global) -> Result<Vec<u8>, AllocError> {
+    joined(alloc, &[&[0x00, 0x40, 0x01, 0x00], &SAMPLE[4..64]])
+}
+
+/// The one between, as long.
+fn segment_between(alloc: Global) -> Result<Vec<u8>, AllocError> {
+    joined(alloc, &[&[0x00, 0x40, 0x03, 0x00], &SAMPLE[64..124]])
+}
+
+/// The last one, with 44 bytes of data.
+fn last_segment(alloc: Global) -> Result<Vec<u8>, AllocError> {
+    joined(alloc, &[&[0x00, 0x30, 0x02, 0x00], &SAMPLE[124..]])
+}
+
+/// The receipt of an import that kept one record.
+fn one_kept(stop: Stop) -> Receipt {
+    Receipt {
+        kept: 1,
+        ..Receipt::stopped(stop)
+    }
+}
+
+#[test]
+fn spanned_record(rt: HostRuntime) -> Result<(), Fail> {
+    let alloc = rt.alloc();
+    let (first, between, last) = (
+        first_segment(alloc)?,
+        segment_between(alloc)?,
+        last_segment(alloc)?,
+    );
+    let segments = joined(alloc, &[&first, &between, &last])?;
+    let one_block = joined(alloc, &[&[0x00, 0xAC, 0x00, 0x00], &SAMPLE])?;
+    let two_blocks = joined(
+        alloc,
+        &[
+            &[0x00, 0x84, 0x00, 0x00],
+            &first,
+            &between,
+            &[0x00, 0x34, 0x00, 0x00],
+            &last,
+        ],
+    )?;
+    let cases = [
+        ("three segments", Layout::Rdw, segments.as_slice()),
+        ("one segment in a block", Layout::Bdw, one_block.as_slice()),
+        (
+            "three segments in two blocks",
+            Layout::Bdw,
+            two_blocks.as_slice(),
+        ),
+    ];
+    for (case, layout, dump) in cases {
+        assert_eq!(rt; trial(alloc, dump, layout)?.as_str(), ONE_RECORD, "{case}");
+    }
+    Ok(())
+}
+
+#[test]
+fn torn_end(rt: HostRuntime) -> Result<(), Fail> {
+    let alloc = rt.alloc();
+    let step = other_step(SAMPLE, 2);
+    let mut torn = joined(alloc, &[&step, &first_segment(alloc)?])?;
+    let mut ledger = new_books(alloc)?;
+    let receipt = import(alloc, &torn, &mut ledger);
+    let no_last = Stop::Frame(FrameFault::MissingLast);
+    assert_eq!(rt; receipt, one_kept(no_last), "a first segment");
+
+    torn.pop();
+    let receipt = import(alloc, &torn, &mut new_books(alloc)?);
+    let cut = Stop::Frame(FrameFault::Truncated);
+    assert_eq!(rt; receipt, one_kept(cut), "one byte less");
+
+    let whole = joined(alloc, &[&step, &SAMPLE])?;
+    let receipt = import(alloc, &whole, &mut ledger);
+    let want = Receipt {
+        known: 1,
+        ..one_kept(Stop::End)
+    };
+    assert_eq!(rt; receipt, want, "the whole dump");
+    Ok(())
+}
+
+#[test]
+fn records_before_garbage_are_kept(rt: HostRuntime) -> Result<(), Fail> {
+    let alloc = rt.alloc();
+    let garbage = [0x00, 0x03, 0x00, 0x00, 0x00, 0x00, 0x00, 0x00, 0x00, 0x00];
+    let step = other_step(SAMPLE, 2);
+    let dump = joined(alloc, &[&step, &SAMPLE, &garbage])?;
+    let mut ledger = new_books(alloc)?;
+    let receipt = import(alloc, &dump, &mut ledger);
+    let want = Receipt {
+        kept: 2,
+        ..Receipt::stopped(Stop::Frame(FrameFault::SegmentLength))
+    };
+    assert_eq!(rt; receipt, want);
+    Ok(())
+}
+
+#[test]
+fn a_record_before_half_a_descriptor_is_kept(rt: HostRuntime) -> Result<(), Fail> {
+    let dump = joined(rt.alloc(), &[&SAMPLE, &[0x00, 0xA8, 0x00]])?;
+    let text = trial(rt.alloc(), dump.as_slice(), Layout::Rdw)?;
+    assert!(rt; text.as_str().starts_with("KEPT 1 "), "{text}");
+    assert!(rt; text.as_str().contains(" STOP FRAME 8\n"), "{text}");
+    Ok(())
+}
+
+/// The most data that one record holds.
+const LONGEST: usize = 65_531;
+
+#[test]
+fn longest_record(rt: HostRuntime) -> Result<(), Fail> {
+    let alloc = rt.alloc();
+    let mut data = joined(alloc, &[&SAMPLE[4..]])?;
+    data.resize(LONGEST, 0)?;
+    let (front, back) = data.split_at(32_768);
+    let dump = joined(
+        alloc,
+        &[
+            &[0x80, 0x04, 0x01, 0x00],
+            front,
+            &[0x7F, 0xFF, 0x02, 0x00],
+            back,
+        ],
+    )?;
+    let text = trial(alloc, dump.as_slice(), Layout::Rdw)?;
+    assert_eq!(rt; text.as_str(), ONE_RECORD);
+    Ok(())
+}
+
+#[test]
+fn pieces_make_no_difference(rt: HostRuntime) -> Result<(), Fail> {
+    let alloc = rt.alloc();
+    let dump = joined(
+        alloc,
+        &[
+            &first_segment(alloc)?,
+            &segment_between(alloc)?,
+            &last_segment(alloc)?,
+            &other_step(SAMPLE, 2),
+            &[0x00, 0xA8, 0x00],
+        ],
+    )?;
+    let want = Receipt {
+        kept: 2,
+        ..Receipt::stopped(Stop::Frame(FrameFault::Truncated))
+    };
+    for size in [1, 7, dump.len()] {
+        let mut ledger = new_books(alloc)?;
+        let reader = InPieces::new(&dump, size);
+        let receipt = import_from(alloc, reader, Layout::Rdw, &mut ledger);
+        assert_eq!(rt; receipt, want, "pieces of {size}");
+        assert_eq!(rt;
+            report(alloc, &ledger)?.as_str(),
+            TWO_STEPS,
+            "pieces of {size}"
+        );
+    }
+    Ok(())
+}
+
+#[test]
+fn readers_that_stop(rt: HostRuntime) -> Result<(), Fail> {
+    let alloc = rt.alloc();
+    let mut ledger = new_books(alloc)?;
+    let twice = joined(alloc, &[&SAMPLE, &SAMPLE])?;
+    let mut source = Source::new(InPieces::new(&twice, 100));
+    let receipt = import_whole(alloc, &mut source, Layout::Rdw, 3, &mut ledger);
+    assert_eq!(rt; receipt, one_kept(Stop::ReadLimit));
+    assert_eq!(rt; source.asked(), 3);
+
+    let mut ledger = new_books(alloc)?;
+    let reader = Breaks::behind(&SAMPLE);
+    let receipt = import_from(alloc, reader, Layout::Rdw, &mut ledger);
+    assert_eq!(rt; receipt, one_kept(Stop::Read));
+    Ok(())
+}

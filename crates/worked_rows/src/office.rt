@@ -1,0 +1,80 @@
+//! The office's books under one tariff, and the texts that they give.
+
+use book_core::{Naming, PlainLedger, ShaNames, Sink, Source};
+use book_import::{MAX_READS, Receipt, import_whole};
+use book_reports::{dispute_list_text, receipt_line_text, statement_text, write_text};
+use smf_frames::Layout;
+use std::alloc::Global;
+use std::io::Read;
+use std::test::Fail;
+use tariff_rules::Tariff;
+
+/// Two units of money for a second of CPU time.
+const CPU_RATE: u64 = 20_000;
+
+/// A twentieth of one for 1,000 blocks.
+const EXCP_RATE: u64 = 500;
+
+/// The office's tariff.
+pub fn tariff(alloc: Global) -> Result<Tariff, Fail> {
+    flat(alloc, CPU_RATE, EXCP_RATE)
+}
+
+/// A tariff with no fee for a record.
+pub fn flat(alloc: Global, cpu: u64, excp: u64) -> Result<Tariff, Fail> {
+    Ok(Tariff::flat(alloc, cpu, excp, 0).ok_or("rates above the highest")?)
+}
+
+/// New books under the office's tariff.
+pub fn new_books(alloc: Global) -> Result<PlainLedger<ShaNames>, Fail> {
+    Ok(PlainLedger::flat(alloc, ShaNames, tariff(alloc)?)?)
+}
+
+/// Hands what a reader gives to the books.
+pub fn import_from<R: Read + Drop, N: Naming + Drop>(
+    alloc: Global,
+    reader: R,
+    layout: Layout,
+    ledger: &mut PlainLedger<N>,
+) -> Receipt {
+    let mut source = Source::new(reader);
+    import_whole(alloc, &mut source, layout, MAX_READS, ledger)
+}
+
+/// Hands a dump of segments to the books.
+pub fn import<N: Naming + Drop>(
+    alloc: Global,
+    dump: &[u8],
+    ledger: &mut PlainLedger<N>,
+) -> Receipt {
+    import_from(alloc, dump, Layout::Rdw, ledger)
+}
+
+/// The list of disputes.
+pub fn dispute_list<N: Naming + Drop>(
+    alloc: Global,
+    ledger: &PlainLedger<N>,
+) -> Result<String, Fail> {
+    let disputes = ledger.disputes()?;
+    Ok(dispute_list_text(alloc, &disputes)?)
+}
+
+/// The statement of the one period and behind it the list of disputes, as they are written.
+pub fn report<N: Naming + Drop>(alloc: Global, ledger: &PlainLedger<N>) -> Result<String, Fail> {
+    let rows = ledger.charges(1)?;
+    let statement = statement_text(alloc, 1, None, &rows)?;
+    let disputes = dispute_list(alloc, ledger)?;
+    let mut sink = Sink::new(Vec::new(alloc));
+    write_text(&mut sink, statement.as_str())?;
+    write_text(&mut sink, disputes.as_str())?;
+    Ok(String::from_utf8(sink.into_inner())?)
+}
+
+/// The receipt line of a dump that is handed to new books, and behind it their report.
+pub fn trial<R: Read + Drop>(alloc: Global, reader: R, layout: Layout) -> Result<String, Fail> {
+    let mut ledger = new_books(alloc)?;
+    let receipt = import_from(alloc, reader, layout, &mut ledger);
+    let mut text = receipt_line_text(alloc, &receipt)?;
+    text.push_str(report(alloc, &ledger)?.as_str())?;
+    Ok(text)
+}
