@@ -1,8 +1,7 @@
 -- Records that are handled one after another.
-use Rattle.std.proofs.Common.{◌≡◌, ℕ, ◌+◌, ◌<◌, ◌≤◌, List, [], ◌∷◌, ◌++◌, length, take, drop, get_or, drop-cons, add-one, take_all, sym, ap, subst, ◌∙◌, Ok, Err, Option, Bool, unwrap_or, if◌then◌else◌, append_assoc, append-nil, Vec, Global, ◌⊎◌, inl, inr}
+use Rattle.std.proofs.Common.{◌≡◌, ℕ, ◌+◌, ◌<◌, ◌≤◌, List, [], ◌∷◌, ◌++◌, length, take, drop, get_or, drop-cons, add-one, take_all, sym, ap, subst, ◌∙◌, Ok, Err, Option, append_assoc, append-nil, Vec, Global, ◌⊎◌, inl, inr}
 use Rattle.std.proofs.lemmas.List.{take_more, take-append-drop, get_or-map}
 use Rattle.smf_frames.specs.declared.dump.Layout.{Layout}
-use Rattle.smf_frames.specs.declared.fault.FrameFault.{FrameFault}
 use Rattle.smf_frames.specs.Front.{front}
 use Rattle.smf_frames.specs.Texts.{texts}
 use Rattle.book_core.specs.declared.fault.LedgerFault.{LedgerFault}
@@ -11,7 +10,9 @@ use Rattle.book_core.specs.Records.{Naming}
 use Rattle.book_core.specs.Books.{Book}
 use Rattle.book_import.specs.declared.receipt.Stop.{Stop}
 use Rattle.book_import.specs.declared.receipt.Stop.TheVariants.{Ledger}
-use Rattle.book_import.specs.Imports.{Imported, handle, handle_all, go_on, stop_with, start_of, Handles, whole, out_of_memory, Imports, stop_behind, frame_stop}
+use Rattle.book_import.specs.declared.dump.Dump.{Dump}
+use Rattle.book_import.specs.Dumps.{IsDump, stop_behind}
+use Rattle.book_import.specs.Imports.{Imported, handle, handle_all, go_on, stop_with, start_of, Handles, whole, out_of_memory, Imports}
 use Rattle.book_import.specs.Receipts.{receipt_stopped}
 
 -- the text of the vector at an index
@@ -74,14 +75,10 @@ pub none_handled : (naming : Naming) (records : List (List ℕ)) (before : Book)
     → imported ≡ record { receipt = receipt_stopped (Ledger Memory); book = before } → Handles naming stop records before imported
 none_handled naming records before imported stop is = out_of_memory 0 is
 
--- records of a dump that was split, with the stop that its fault asks for
-pub split_handled : (naming : Naming) (layout : Layout) (cut : Option Stop) (input bytes : List ℕ) (records : List (List ℕ)) (fault : Option FrameFault) (is_broken : Bool) (stop : Stop) (before : Book) (imported : Imported)
-    → input ≡ bytes → records ≡ (front layout input).records → fault ≡ (front layout input).fault → is_broken ≡ (front layout input).is_broken
-    → stop ≡ (if is_broken then frame_stop fault else unwrap_or cut (frame_stop fault))
-    → Handles naming stop records before imported → Imports naming layout cut bytes before imported
-split_handled naming layout cut input bytes records fault is_broken stop before imported same cut_so faulty broken stops handled =
-    let at : stop ≡ stop_behind cut (front layout input) =
-    stops ∙ (λ i. if broken i then frame_stop (faulty i) else unwrap_or cut (frame_stop (faulty i))) in
-    subst (λ text. Imports naming layout cut text before imported) same
-    (subst (λ list. Handles naming (stop_behind cut (front layout input)) list before imported) cut_so
-    (subst (λ s. Handles naming s records before imported) at handled))
+-- the records of a dump that was read, with the stop behind them
+pub dump_handled : (naming : Naming) (layout : Layout) (cut : Option Stop) (bytes : List ℕ) (dump : Dump) (before : Book)
+    (imported : Imported) → IsDump layout cut bytes dump → Handles naming dump.stop (texts dump.records.items) before imported
+    → Imports naming layout cut bytes before imported
+dump_handled naming layout cut bytes dump before imported is handled =
+    subst (λ records. Handles naming (stop_behind cut (front layout bytes)) records before imported) is.records
+    (subst (λ stop. Handles naming stop (texts dump.records.items) before imported) is.stop handled)

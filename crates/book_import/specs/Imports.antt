@@ -1,8 +1,7 @@
 -- What the import of a dump answers, and the book that it leaves.
-use Rattle.std.specs.Prelude.{◌≡◌, ℕ, List, [], ◌∷◌, take, Option, Some, None, unwrap_or, Result, Ok, Err, if◌then◌else◌}
+use Rattle.std.specs.Prelude.{◌≡◌, ℕ, List, [], ◌∷◌, take, Option, None, Result, Ok, Err}
 use Rattle.smf_frames.specs.declared.dump.Layout.{Layout}
-use Rattle.smf_frames.specs.declared.fault.FrameFault.{FrameFault}
-use Rattle.smf_frames.specs.Front.{Front, front}
+use Rattle.smf_frames.specs.Front.{front}
 use Rattle.smf_type30.specs.declared.classes.Class.{Class}
 use Rattle.smf_type30.specs.declared.classes.Class.TheVariants.{Usage}
 use Rattle.smf_type30.specs.Class.{class_of}
@@ -14,7 +13,8 @@ use Rattle.book_core.specs.Books.{Book}
 use Rattle.book_core.specs.Steps.{accept_answer, accept_step}
 use Rattle.book_import.specs.declared.receipt.Receipt.{Receipt}
 use Rattle.book_import.specs.declared.receipt.Stop.{Stop}
-use Rattle.book_import.specs.declared.receipt.Stop.TheVariants.{End, Frame, Ledger}
+use Rattle.book_import.specs.declared.receipt.Stop.TheVariants.{End, Ledger}
+use Rattle.book_import.specs.Dumps.{stop_behind}
 use Rattle.book_import.specs.Receipts.{receipt_stopped, count_class, count_accepted}
 
 -- a receipt, and the book
@@ -56,16 +56,6 @@ pub data Handles (naming : Naming) (stop : Stop) (records : List (List ℕ)) (be
   whole : imported ≡ handle_all naming stop records (start_of before) → Handles naming stop records before imported
   out_of_memory : (count : ℕ) → imported ≡ handle_all naming (Ledger Memory) (take count records) (start_of before)
       → Handles naming stop records before imported
-
--- the stop that a dump's front asks for
-abbrev pub frame_stop : Option FrameFault → Stop
-frame_stop None = End
-frame_stop (Some fault) = Frame fault
-
--- The stop behind the last record. Where the reading was cut short, that stands in place of what the end of the bytes
--- that were read would leave undone, but not of a fault that no more bytes could mend.
-abbrev pub stop_behind : Option Stop → Front → Stop
-stop_behind cut front = if front.is_broken then frame_stop front.fault else unwrap_or cut (frame_stop front.fault)
 
 -- the receipt of a dump that was handed to the books whole, and the book after it
 abbrev pub import_of : Naming → Book → Layout → List ℕ → Imported

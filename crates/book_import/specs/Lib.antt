@@ -1,4 +1,6 @@
--- Read in this order: what a receipt counts, what the import of a dump leaves, why reading stops.
+-- Read in this order: why reading stops, what a dump is that was read, what a receipt counts, and what the import of
+-- a dump leaves.
+pub mod Reading
+pub mod Dumps
 pub mod Receipts
 pub mod Imports
-pub mod Reading
