@@ -1,3 +1,4 @@
 pub mod ColumnLemmas
 pub mod ListLemmas
+pub mod NumberLemmas
 pub mod WriteLemmas

@@ -4,4 +4,5 @@ pub mod Periods
 pub mod Statements
 pub mod DisputeLists
 pub mod ReceiptLines
+pub mod CheckLists
 pub mod Faults

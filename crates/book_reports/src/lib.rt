@@ -1,6 +1,7 @@
 //! The texts of the office's reports, byte for byte, and how a text is written.
 #![tactic(auto)]
 
+mod check_list;
 mod columns;
 mod dispute_list;
 mod fault;
@@ -11,6 +12,7 @@ mod statement;
 #[cfg(test)]
 mod tests;
 
+pub use check_list::check_list_text;
 pub use dispute_list::dispute_list_text;
 pub use fault::ReportFault;
 pub use output::write_text;

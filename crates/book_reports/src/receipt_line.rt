@@ -42,7 +42,7 @@ fn push_others(out: &mut String, receipt: &Receipt) -> Result<(), AllocError>
 }
 
 /// Appends a word and the number of a fault.
-fn push_fault(out: &mut String, word: &str, number: u8) -> Result<(), AllocError>
+pub(crate) fn push_fault(out: &mut String, word: &str, number: u8) -> Result<(), AllocError>
     ensures { OnOk result (string_bytes out.new
         ≡ string_bytes out.old ++ spec.fault_text word.now number) }
 {
@@ -52,7 +52,7 @@ fn push_fault(out: &mut String, word: &str, number: u8) -> Result<(), AllocError
 }
 
 /// Appends why no further record was handled.
-fn push_stop(out: &mut String, stop: Stop) -> Result<(), AllocError>
+pub(crate) fn push_stop(out: &mut String, stop: Stop) -> Result<(), AllocError>
     ensures { OnOk result (string_bytes out.new ≡ string_bytes out.old ++ spec.stop_text stop) }
 {
     match stop {

@@ -4,6 +4,8 @@ ghost use Rattle.std.specs.Prelude.{IfOk};
 ghost use Rattle.smf_text.specs.Day.{IsDay};
 ghost use Rattle.book_core.specs.Disputes.{IsDispute, dispute_shown};
 
+mod check_lists;
+
 use crate::{ReportFault, dispute_list_text, receipt_line_text, statement_text, write_text};
 use book_core::{ChargeRow, Dispute, LedgerFault, Sink, Variant};
 use book_import::{Receipt, Stop};

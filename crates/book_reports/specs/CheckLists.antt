@@ -1,0 +1,46 @@
+-- Lists of a check: of what type and class each record is, and how many there are.
+use Rattle.std.specs.Prelude.{ℕ, ◌+◌, if◌then◌else◌, nat_lt, List, [], ◌∷◌, ◌++◌, length, codes}
+use Rattle.std.specs.Fmt.{decimal}
+use Rattle.smf_frames.specs.declared.header.TheConstants.{HEADER_LEN}
+use Rattle.smf_type30.specs.declared.classes.Class.{Class}
+use Rattle.smf_type30.specs.declared.classes.Class.TheVariants.{DumpHeader, DumpTrailer, DataLost, Other, Continuation, Usage, Damaged}
+use Rattle.smf_type30.specs.Class.{type_of, class_of}
+use Rattle.smf_type30.specs.Damage.{damage_number}
+use Rattle.book_import.specs.declared.receipt.Stop.{Stop}
+use Rattle.book_reports.specs.Columns.{line_end}
+use Rattle.book_reports.specs.ReceiptLines.{fault_text, stop_text}
+
+-- the type of a record, which one without a whole header does not tell
+abbrev pub type_text : List ℕ → List ℕ
+type_text bytes = if nat_lt (length bytes) HEADER_LEN then codes "-" else decimal (type_of bytes)
+
+-- the class of a record; of a damaged one, the number of its damage too
+abbrev pub class_text : Class → List ℕ
+class_text DumpHeader = codes "HEADER"
+class_text DumpTrailer = codes "TRAILER"
+class_text DataLost = codes "LOST"
+class_text Other = codes "OTHER"
+class_text Continuation = codes "CONTINUED"
+class_text Usage = codes "USAGE"
+class_text (Damaged damage) = fault_text (codes "DAMAGED") (damage_number damage)
+
+-- the line of the record of that number
+unfoldable pub record_line : ℕ → List ℕ → List ℕ
+record_line number bytes =
+    decimal number
+    ++ codes " TYPE " ++ type_text bytes
+    ++ codes " " ++ class_text (class_of bytes) ++ line_end
+
+-- the lines of records, of which the first has that number
+abbrev pub record_lines : ℕ → List (List ℕ) → List ℕ
+record_lines number [] = []
+record_lines number (bytes ∷ rest) = record_line number bytes ++ record_lines (number + 1) rest
+
+-- how many records there are, and why there are no more
+abbrev pub last_line : ℕ → Stop → List ℕ
+last_line count stop =
+    codes "RECORDS " ++ decimal count ++ codes " STOP " ++ stop_text stop ++ line_end
+
+-- the lines of the records, numbered from 1, and the last line
+abbrev pub check_list_text : List (List ℕ) → Stop → List ℕ
+check_list_text records stop = record_lines 1 records ++ last_line (length records) stop
