@@ -1,5 +1,5 @@
 -- What makes a trial: new books, the import, and what was written.
-use Rattle.std.proofs.Common.{◌≡◌, ℕ, List, [], Option, Result, Ok, Err, refl, ap, subst}
+use Rattle.std.proofs.Common.{◌≡◌, ℕ, List, [], ◌∷◌, Option, Result, Ok, Err, refl, ap, subst}
 use Rattle.std.specs.Prelude.{IfOk}
 use Rattle.std.specs.Io.KnownBytes.{Consumes}
 use Rattle.std.specs.Result.{result_unwrap_or}
@@ -17,7 +17,8 @@ use Rattle.book_import.specs.Imports.{Imported, Imports}
 use Rattle.book_import.specs.Imports.Handles.{out_of_memory}
 use Rattle.book_import.specs.Receipts.{receipt_stopped}
 use Rattle.book_reports.specs.declared.fault.ReportFault.{ReportFault}
-use Rattle.chargectl.specs.Trials.{IsTrial, trial_text}
+use Rattle.book_reports.specs.ReceiptLines.{receipt_line_text}
+use Rattle.chargectl.specs.Trials.{IsTrial, dispute_text, open_statement, trial_texts}
 use Rattle.chargectl.specs.Writing.{Writes}
 use Rattle.chargectl.proofs.WritingLemmas.{nothing_written}
 
@@ -25,33 +26,37 @@ use Rattle.chargectl.proofs.WritingLemmas.{nothing_written}
 pub same_value : {A : Type 0} {x y : A} → ◌≡◌ {A = Result A LedgerFault} (Ok x) (Ok y) → x ≡ y
 same_value {x = x} same = ap (λ answer. result_unwrap_or answer x) same
 
-module _ {terms : Terms} {layout : Layout} {cut : Option Stop} where
+module _ {terms : Terms} {layout : Layout} {cut : Option Stop} {MayStop : Stop → Type 0} where
   -- new books, the import, and what was written
   pub is_trial : {had left held holds : Option (List ℕ)} {answer : Result Receipt ReportFault} {book : Book}
       (imported : Imported) → book ≡ flat_book terms
       → (bytes : List ℕ) × Consumes had left bytes × Imports sha256 layout cut bytes book imported
-      → Writes (trial_text imported) held holds answer → IfOk answer (λ receipt. receipt ≡ imported.receipt)
-      → IsTrial terms layout cut had left held holds answer
-  is_trial imported new booked written receipt =
+      → MayStop imported.receipt.stop → Writes (trial_texts imported) held holds answer
+      → IfOk answer (λ receipt. receipt ≡ imported.receipt)
+      → IsTrial terms layout cut MayStop had left held holds answer
+  is_trial imported new booked stopped written receipt =
       record {
         bytes = booked.0;
         imported = imported;
         taken = booked.1;
         booked = subst (λ book. Imports sha256 layout cut booked.0 book imported) new booked.2;
+        stopped = stopped;
         written = written;
         receipt = receipt;
       }
 
   -- without memory for new books nothing is read or written
-  pub no_trial : (had held : Option (List ℕ)) (fault : ReportFault)
-      → IsTrial terms layout cut had had held held (Err fault)
-  no_trial had held fault =
+  pub no_trial : (had held : Option (List ℕ)) (fault : ReportFault) → MayStop (Ledger Memory)
+      → IsTrial terms layout cut MayStop had had held held (Err fault)
+  no_trial had held fault stopped =
       let imported : Imported = record { receipt = receipt_stopped (Ledger Memory); book = flat_book terms } in
+      let others = open_statement imported.book ∷ dispute_text imported.book ∷ [] in
       record {
         bytes = [];
         imported = imported;
         taken = Consumes-nil had;
         booked = out_of_memory 0 refl;
-        written = nothing_written Receipt held (trial_text imported) fault;
+        stopped = stopped;
+        written = nothing_written fault held (receipt_line_text imported.receipt) others;
         receipt = tt;
       }

@@ -1,5 +1,5 @@
 -- A trial: a dump that is imported into new books under one tariff, and the three texts that tell of it.
-use Rattle.std.specs.Prelude.{◌≡◌, ℕ, List, ◌++◌, Option, None, Result, IfOk}
+use Rattle.std.specs.Prelude.{◌≡◌, ℕ, List, [], ◌∷◌, Option, None, Result, IfOk}
 use Rattle.std.specs.Io.KnownBytes.{Consumes}
 use Rattle.sha2.specs.Sha256.{sha256}
 use Rattle.smf_frames.specs.declared.dump.Layout.{Layout}
@@ -24,15 +24,18 @@ abbrev pub dispute_text : Book → List ℕ
 dispute_text book = dispute_list_text (disputes_in sha256 book.rulings book.held)
 
 -- the receipt line, the statement and the disputes
-abbrev pub trial_text : Imported → List ℕ
-trial_text imported = receipt_line_text imported.receipt ++ (open_statement imported.book ++ dispute_text imported.book)
+abbrev pub trial_texts : Imported → List (List ℕ)
+trial_texts imported =
+    receipt_line_text imported.receipt ∷ open_statement imported.book ∷ dispute_text imported.book ∷ []
 
--- A trial took these bytes from the reader, imported them, and wrote the text on that, or a front of it where it answers a
--- fault. What the reader had and has left, and what the writer held and holds, is seen where they tell.
-pub record IsTrial (terms : Terms) (layout : Layout) (cut : Option Stop) (had left : Option (List ℕ)) (held holds : Option (List ℕ)) (answer : Result Receipt ReportFault) : Type 0 where
+-- A trial took these bytes from the reader, imported them, and wrote the texts on that, or those before a fault. What the
+-- reader had and has left, and what the writer held and holds, is seen where they tell.
+pub record IsTrial (terms : Terms) (layout : Layout) (cut : Option Stop) (MayStop : Stop → Type 0)
+    (had left held holds : Option (List ℕ)) (answer : Result Receipt ReportFault) : Type 0 where
   pub bytes : List ℕ
   pub imported : Imported
   pub taken : Consumes had left bytes
   pub booked : Imports sha256 layout cut bytes (flat_book terms) imported
-  pub written : Writes (trial_text imported) held holds answer
+  pub stopped : MayStop imported.receipt.stop
+  pub written : Writes (trial_texts imported) held holds answer
   pub receipt : IfOk answer (λ receipt. receipt ≡ imported.receipt)

@@ -1,17 +1,26 @@
 -- What a report leaves in its writer.
-use Rattle.std.specs.Prelude.{◌≡◌, Bool, true, false, ℕ, List, [], ◌++◌, Option, Result, Err, OnOk}
+use Rattle.std.specs.Prelude.{◌≡◌, ◌≢◌, Bool, true, false, ℕ, List, ◌∷◌, ◌++◌, take, Option, Result, Ok, Err}
+use Rattle.std.specs.List.{concat}
 use Rattle.std.specs.Io.KnownBytes.{Appends}
 use Rattle.book_core.specs.declared.fault.LedgerFault.TheVariants as ledger
 use Rattle.book_reports.specs.declared.fault.ReportFault.{ReportFault}
 use Rattle.book_reports.specs.declared.fault.ReportFault.TheVariants.{Write, Memory, Ledger}
 
--- a front of the text was written, where the writer tells; all of it, where there was no fault
-pub record Writes {A : Type 0} (text : List ℕ) (held holds : Option (List ℕ)) (answer : Result A ReportFault) : Type 0 where
-  pub written : List ℕ
-  pub unwritten : List ℕ
-  pub parts : text ≡ written ++ unwritten
-  pub grown : Appends held holds written
-  pub whole : OnOk answer (unwritten ≡ [])
+-- Texts were written one after another, up to a fault: the first of them whole, and of the next so many bytes, which are
+-- none unless a write failed.
+pub record WritesUpTo (fault : ReportFault) (texts : List (List ℕ)) (held holds : Option (List ℕ)) : Type 0 where
+  pub whole : List (List ℕ)
+  pub next : List ℕ
+  pub rest : List (List ℕ)
+  pub count : ℕ
+  pub parts : texts ≡ whole ++ next ∷ rest
+  pub grown : Appends held holds (concat whole ++ take count next)
+  pub unless_write : fault ≢ Write → count ≡ 0
+
+-- Texts were written one after another, where the writer tells: all of them, or those before a fault.
+abbrev pub Writes : {A : Type 0} → List (List ℕ) → Option (List ℕ) → Option (List ℕ) → Result A ReportFault → Type 0
+Writes texts held holds (Ok value) = Appends held holds (concat texts)
+Writes texts held holds (Err fault) = WritesUpTo fault texts held holds
 
 -- the fault is that of the writer
 abbrev pub is_write_fault : {A : Type 0} → Result A ReportFault → Bool

@@ -1,6 +1,7 @@
 //! The program of the chargeback office.
 #![tactic(auto)]
 
+mod check;
 mod message;
 mod program;
 mod status;
@@ -14,13 +15,7 @@ use std::{env, io};
 
 fn main(rt: HostRuntime) -> ExitCode {
     let status = match given_words(&rt) {
-        Ok(words) => program::command(
-            rt.alloc(),
-            &words,
-            rt.reader(),
-            io::writer(&rt),
-            &mut rt.stderr(),
-        ),
+        Ok(words) => program::command(&rt, &words, rt.reader(), io::writer(&rt), &mut rt.stderr()),
         Err(error) => message::words_failed(&mut rt.stderr(), &error),
     };
     ExitCode::from(status.code())

@@ -7,7 +7,7 @@ ghost use Rattle.chargectl.specs.Statuses.{report_status, stop_status};
 use crate::status::Status;
 use crate::words::PROGRAM;
 use book_core::LedgerFault;
-use book_import::{Receipt, Stop};
+use book_import::Stop;
 use book_reports::ReportFault;
 use std::io;
 use std::io::{ErrorKind, Write};
@@ -61,12 +61,21 @@ pub fn out_of_memory<E: Write>(errors: &mut E) -> Status
     ledger_refused(errors, LedgerFault::Memory)
 }
 
-/// Says that there was no memory for the words. Words that are not UTF-8 ask for nothing.
+/// Says that the words could not be taken over: one is not UTF-8, or there was no memory for them.
 pub fn words_failed<E: Write>(errors: &mut E, error: &io::Error) -> Status {
     if error.kind() == ErrorKind::OutOfMemory {
         return out_of_memory(errors);
     }
+    let _ = writeln!(errors, "error: a word is not UTF-8");
     Status::Usage
+}
+
+/// Says that a file could not be opened, or that there was no memory for that.
+pub fn file_failed<E: Write>(errors: &mut E, error: &io::Error) -> Status {
+    if error.kind() == ErrorKind::OutOfMemory {
+        return out_of_memory(errors);
+    }
+    io_failed(errors)
 }
 
 /// Says why a ledger refused.
@@ -89,10 +98,10 @@ pub fn report_failed<E: Write>(errors: &mut E, fault: ReportFault) -> Status
 }
 
 /// Says why a dump was not read to its end, if it was not.
-pub fn import_stopped<E: Write>(errors: &mut E, receipt: &Receipt) -> Status
-    ensures { result ≡ stop_status receipt.now.stop }
+pub fn stopped<E: Write>(errors: &mut E, stop: Stop) -> Status
+    ensures { result ≡ stop_status stop }
 {
-    match receipt.stop {
+    match stop {
         Stop::End => Status::Done,
         Stop::Frame(fault) => {
             let number = fault.number();

@@ -1,6 +1,7 @@
 //! What the program does with its words and streams.
 
-use crate::message::{import_stopped, io_failed, out_of_memory, report_failed};
+use crate::check::check_list;
+use crate::message::{file_failed, io_failed, out_of_memory, report_failed, stopped};
 use crate::status::Status;
 use crate::trial::trial;
 use crate::words::{Request, requested_by};
@@ -9,21 +10,25 @@ use book_import::MAX_READS;
 use clap::error::ErrorKind;
 use smf_frames::Layout;
 use std::alloc::Global;
+use std::fs;
 use std::io::{Read, Write};
+use std::rt::Files;
 use tariff_rules::Tariff;
 
 /// Does what the words ask for, of which the first is the program's name.
-pub fn command<I: Read + Drop, O: Write + Drop, E: Write>(
-    alloc: Global,
+pub fn command<R: Files + AllocGlobal, I: Read + Drop, O: Write + Drop, E: Write>(
+    rt: &R,
     words: &[String],
     input: I,
     output: O,
     errors: &mut E,
 ) -> Status {
+    let alloc = rt.alloc();
     match requested_by(alloc, words) {
         Ok(Some(Request::Trial { layout, tariff })) => {
             run_trial(alloc, layout, tariff, input, output, errors)
         }
+        Ok(Some(Request::Check { file, layout })) => run_check(rt, file, layout, output, errors),
         Ok(None) => Status::Usage,
         Err(error) => refuse(&error, output, errors),
     }
@@ -55,7 +60,26 @@ fn run_trial<I: Read + Drop, O: Write + Drop, E: Write>(
     let mut source = Source::new(input);
     let mut sink = Sink::new(output);
     match trial(alloc, &mut source, layout, MAX_READS, tariff, &mut sink) {
-        Ok(receipt) => import_stopped(errors, &receipt),
+        Ok(receipt) => stopped(errors, receipt.stop),
+        Err(fault) => report_failed(errors, fault),
+    }
+}
+
+fn run_check<R: Files + AllocGlobal, O: Write + Drop, E: Write>(
+    rt: &R,
+    file: &str,
+    layout: Layout,
+    output: O,
+    errors: &mut E,
+) -> Status {
+    let input = match fs::open(rt, file) {
+        Ok(input) => input,
+        Err(error) => return file_failed(errors, &error),
+    };
+    let mut source = Source::new(input);
+    let mut sink = Sink::new(output);
+    match check_list(rt.alloc(), &mut source, layout, MAX_READS, &mut sink) {
+        Ok(stop) => stopped(errors, stop),
         Err(fault) => report_failed(errors, fault),
     }
 }

@@ -1,6 +1,8 @@
-//! What a trial writes, and what the program answers, where its streams fail too.
+//! What a trial and a check write, and what the program answers, where its streams fail too.
 
+mod checks;
 mod commands;
+mod files;
 mod samples;
 mod streams;
 mod trials;

@@ -1,4 +1,4 @@
-ghost use Rattle.std.specs.Prelude.{◌≡◌, ◌+◌, ◌≤◌, ◌^◌, false, true, IfErr, IfOk};
+ghost use Rattle.std.specs.Prelude.{◌≡◌, ◌+◌, ◌∷◌, ◌≤◌, ◌^◌, [], false, true, IfErr};
 ghost use Rattle.book_core.specs.Sinks.{writer_of, has_failed};
 ghost use Rattle.book_core.specs.Sources as sources;
 ghost use Rattle.book_core.specs.PlainBook.{book_of};
@@ -22,7 +22,7 @@ fn write_receipt<W: Write + Drop>(
     sink: &mut Sink<W>,
 ) -> Result<(), ReportFault>
     requires { has_failed sink.old ≡ false }
-    ensures text { Writes (lines.receipt_line_text receipt.now)
+    ensures text { Writes (lines.receipt_line_text receipt.now ∷ [])
         (W.contents (writer_of sink.old)) (W.contents (writer_of sink.new)) result }
     ensures failed { has_failed sink.new ≡ is_write_fault result }
     ensures fault { IfErr result (λ fault. is_write_or_memory fault ≡ true) }
@@ -38,7 +38,7 @@ fn write_statement<W: Write + Drop>(
     sink: &mut Sink<W>,
 ) -> Result<(), ReportFault>
     requires { has_failed sink.old ≡ false }
-    ensures text { Writes (open_statement (book_of ledger.now))
+    ensures text { Writes (open_statement (book_of ledger.now) ∷ [])
         (W.contents (writer_of sink.old)) (W.contents (writer_of sink.new)) result }
     ensures failed { has_failed sink.new ≡ is_write_fault result }
     ensures fault { IfErr result (λ fault. is_write_or_memory fault ≡ true) }
@@ -55,7 +55,7 @@ fn write_disputes<W: Write + Drop>(
     sink: &mut Sink<W>,
 ) -> Result<(), ReportFault>
     requires { has_failed sink.old ≡ false }
-    ensures text { Writes (dispute_text (book_of ledger.now))
+    ensures text { Writes (dispute_text (book_of ledger.now) ∷ [])
         (W.contents (writer_of sink.old)) (W.contents (writer_of sink.new)) result }
     ensures failed { has_failed sink.new ≡ is_write_fault result }
     ensures fault { IfErr result (λ fault. is_write_or_memory fault ≡ true) }
@@ -82,14 +82,12 @@ pub fn trial<R: Read + Drop, W: Write + Drop>(
     requires reads { reads ≤ MAX_READS }
     requires unwritten { has_failed sink.old ≡ false }
 
-    // What was read, booked and written.
-    ensures trial { IsTrial tariff layout (cut_of source.new)
+    // What was read, how far the reading went, what was booked, and what was written.
+    ensures trial { IsTrial tariff layout (cut_of source.new) (ReadsOutFor reads source.old source.new)
         (R.remaining (sources.reader_of source.old)) (R.remaining (sources.reader_of source.new))
         (W.contents (writer_of sink.old)) (W.contents (writer_of sink.new)) result }
 
-    // How far the reading went.
     ensures asked { sources.reads_of source.new ≤ sources.reads_of source.old + reads }
-    ensures read_out { IfOk result (λ receipt. ReadsOutFor reads source.old source.new receipt.stop) }
 
     // A fault is a failed write, or want of memory; Write comes where a write failed, and nowhere
     // else.

@@ -10,9 +10,11 @@ pub const PROGRAM: &str = "chargectl";
 
 /// One command, with its words.
 #[derive(Debug, Drop)]
-pub enum Request {
+pub enum Request<'a> {
     /// Standard input into new books, under one price for all records.
     Trial { layout: Layout, tariff: Tariff },
+    /// What every record of a file is.
+    Check { file: &'a str, layout: Layout },
 }
 
 static LAYOUTS: [&str; 2] = ["rdw", "bdw"];
@@ -64,12 +66,28 @@ fn trial_command<'a>(alloc: Global) -> Result<Command<'a>, Error> {
     )
 }
 
+fn check_command<'a>(alloc: Global) -> Result<Command<'a>, Error> {
+    Ok(
+        Command::new(alloc, "check")
+            .about("Says what each record of a dump is, and why there are no more")
+            .arg(layout_option(alloc)?)?
+            .arg(
+                Arg::new(alloc, "file")
+                    .value_name("FILE")
+                    .help("The dump")
+                    .action(ArgAction::Set)
+                    .required(true),
+            )?,
+    )
+}
+
 fn command_line<'a>(alloc: Global) -> Result<Command<'a>, Error> {
     Ok(
         Command::new(alloc, PROGRAM)
             .about("The books of a chargeback office, read from SMF type 30 records")
             .subcommand_required(true)
-            .subcommand(trial_command(alloc)?)?,
+            .subcommand(trial_command(alloc)?)?
+            .subcommand(check_command(alloc)?)?,
     )
 }
 
@@ -94,13 +112,25 @@ fn tariff_in(alloc: Global, found: &ArgMatches<'_>) -> Option<Tariff> {
     )
 }
 
-/// The command that the words ask for, of which the first is the program's name. None would be a
-/// subcommand, or a rate, that `command_line` does not take.
-pub fn requested_by(alloc: Global, words: &[String]) -> Result<Option<Request>, Error> {
-    let matches = command_line(alloc)?.try_get_matches_from(words)?;
-    let Some(("trial", found)) = matches.subcommand() else {
-        return Ok(None);
-    };
+fn trial_in<'a>(alloc: Global, found: &ArgMatches<'a>) -> Option<Request<'a>> {
     let layout = layout_in(found);
-    Ok(tariff_in(alloc, found).map(|tariff| Request::Trial { layout, tariff }))
+    tariff_in(alloc, found).map(|tariff| Request::Trial { layout, tariff })
+}
+
+fn check_in<'a>(found: &ArgMatches<'a>) -> Option<Request<'a>> {
+    let layout = layout_in(found);
+    found
+        .get_str("file")
+        .map(|file| Request::Check { file, layout })
+}
+
+/// The command that the words ask for, of which the first is the program's name. None would be a
+/// subcommand, a rate or a missing file that `command_line` does not let pass.
+pub fn requested_by<'a>(alloc: Global, words: &'a [String]) -> Result<Option<Request<'a>>, Error> {
+    let matches = command_line(alloc)?.try_get_matches_from(words)?;
+    Ok(match matches.subcommand() {
+        Some(("trial", found)) => trial_in(alloc, found),
+        Some(("check", found)) => check_in(found),
+        _ => None,
+    })
 }

@@ -1,26 +1,27 @@
 use super::samples::{NO_DISPUTES, RECEIPT, STATEMENT, STEP, dump};
 use super::streams::{Pieces, Takes};
-use crate::message::{import_stopped, report_failed};
+use crate::message::{report_failed, stopped, words_failed};
 use crate::program::command;
 use crate::status::Status;
 use book_core::LedgerFault;
-use book_import::{Receipt, Stop};
+use book_import::Stop;
 use book_reports::ReportFault;
 use smf_frames::FrameFault;
-use std::io::Read;
+use std::io;
+use std::io::{ErrorKind, Read};
 use std::test::Fail;
 use tariff_rules::{Key, TariffFault};
 
 /// What the program left.
 #[derive(Drop)]
-struct Left {
-    status: u8,
-    output: Vec<u8>,
-    errors: Vec<u8>,
+pub(super) struct Left {
+    pub(super) status: u8,
+    pub(super) output: Vec<u8>,
+    pub(super) errors: Vec<u8>,
 }
 
 /// Runs the program with these words behind its name.
-fn run<R: Read + Drop>(rt: &HostRuntime, words: &str, input: R) -> Result<Left, Fail> {
+pub(super) fn run<R: Read + Drop>(rt: &HostRuntime, words: &str, input: R) -> Result<Left, Fail> {
     let mut list = Vec::new(rt.alloc());
     list.push(String::from_str(rt.alloc(), "chargectl")?)?;
     for word in words.split_whitespace() {
@@ -28,7 +29,7 @@ fn run<R: Read + Drop>(rt: &HostRuntime, words: &str, input: R) -> Result<Left, 
     }
     let mut output = Vec::new(rt.alloc());
     let mut errors = Vec::new(rt.alloc());
-    let status = command(rt.alloc(), &list, input, &mut output, &mut errors).code();
+    let status = command(rt, &list, input, &mut output, &mut errors).code();
     Ok(Left {
         status,
         output,
@@ -90,6 +91,10 @@ fn other_words_are_refused(rt: HostRuntime) -> Result<(), Fail> {
         "trial --excp 100000001",
         "trial --record 100000001",
         "trial --cpu=-1",
+        "check",
+        "check a.smf b.smf",
+        "check a.smf --layout vbs",
+        "check a.smf --cpu 1",
     ];
     for words in cases {
         let left = run(&rt, words, STEP.as_slice())?;
@@ -102,7 +107,7 @@ fn other_words_are_refused(rt: HostRuntime) -> Result<(), Fail> {
 
 #[test]
 fn help_is_what_was_asked_for(rt: HostRuntime) -> Result<(), Fail> {
-    for words in ["--help", "trial --help"] {
+    for words in ["--help", "trial --help", "check --help"] {
         let left = run(&rt, words, STEP.as_slice())?;
         assert_eq!(rt; left.status, 0, "{words}");
         assert!(rt; !left.output.is_empty(), "{words}");
@@ -142,7 +147,7 @@ fn an_output_that_fails_has_one_line(rt: HostRuntime) -> Result<(), Fail> {
             writes: 1,
         };
         let mut errors = Vec::new(rt.alloc());
-        let status = command(rt.alloc(), &list, STEP.as_slice(), &mut output, &mut errors);
+        let status = command(&rt, &list, STEP.as_slice(), &mut output, &mut errors);
         assert_eq!(rt; status, Status::Io, "{words}");
         assert!(rt;
             errors.as_slice() == b"chargectl: io\n".as_slice(),
@@ -212,9 +217,24 @@ fn each_stop_has_its_line_and_its_status(rt: HostRuntime) -> Result<(), Fail> {
     ];
     for (stop, status, line) in cases {
         let mut errors = Vec::new(rt.alloc());
-        let found = import_stopped(&mut errors, &Receipt::stopped(stop));
+        let found = stopped(&mut errors, stop);
         assert_eq!(rt; found.code(), status, "{stop:?}");
         assert!(rt; errors.as_slice() == line.as_bytes(), "{stop:?}");
+    }
+    Ok(())
+}
+
+#[test]
+fn words_that_could_not_be_taken_over_have_one_line(rt: HostRuntime) -> Result<(), Fail> {
+    let cases = [
+        (ErrorKind::InvalidData, 2, "error: a word is not UTF-8\n"),
+        (ErrorKind::OutOfMemory, 5, "chargectl: ledger 1\n"),
+    ];
+    for (kind, status, line) in cases {
+        let error: io::Error = kind.into();
+        let mut errors = Vec::new(rt.alloc());
+        assert_eq!(rt; words_failed(&mut errors, &error).code(), status, "{line}");
+        assert!(rt; errors.as_slice() == line.as_bytes(), "{line}");
     }
     Ok(())
 }

@@ -41,6 +41,37 @@ pub(super) fn variant() -> [u8; LEN] {
     record
 }
 
+/// The record as that of an interval, which is none of the office's business.
+pub(super) fn interval() -> [u8; LEN] {
+    let mut record = STEP;
+    record[23] = 2;
+    record
+}
+
+/// The record without a processor section: it measures no CPU.
+pub(super) fn continuation() -> [u8; LEN] {
+    let mut record = STEP;
+    record[63] = 0;
+    record
+}
+
+/// A header without more, of a record type.
+pub(super) fn short_record(kind: u8) -> [u8; 18] {
+    [
+        0x00, 0x12, 0x00, 0x00, 0x00, kind, 0x00, 0x2B, 0xF2, 0x00, 0x01, 0x24, 0x03, 0x1F, 0xE2,
+        0xE8, 0xE2, 0xC1,
+    ]
+}
+
+/// The first of the segments of the record, with 60 bytes of its data.
+pub(super) fn first_segment() -> [u8; 64] {
+    let mut segment = [0; 64];
+    segment.copy_from_slice(&STEP[..64]);
+    segment[1] = 64;
+    segment[2] = 1;
+    segment
+}
+
 /// Records one after another, and bytes behind them.
 pub(super) fn dump(
     alloc: Global,
