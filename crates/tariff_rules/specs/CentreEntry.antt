@@ -13,6 +13,7 @@ use Rattle.tariff_rules.specs.declared.fault.TariffFault.TheVariants.{Missing, R
 use Rattle.tariff_rules.specs.declared.key.Key.{Key}
 use Rattle.tariff_rules.specs.declared.key.Key.TheVariants as key
 
+-- an accounting field where there is one, whatever the job is; else the job's name
 abbrev pub field_of : Option Data → Option Data → Result Field TariffFault
 field_of (Some account) job = do
   n ← ok_or (whole_in 1 LAST_ACCOUNT account) (Range key.Account)
@@ -20,7 +21,7 @@ field_of (Some account) job = do
 field_of None (Some job) = Ok Job
 field_of None None = Err (Missing key.Account)
 
--- an accounting field where the table has one, else the job's name
+-- the field that the rule looks at
 unfoldable pub field_at : Members → Result Field TariffFault
 field_at table = field_of (value_at table key.Account) (value_at table key.Job)
 
@@ -35,6 +36,7 @@ abbrev pub prefix_for : Members → Field → Result (List ℕ) TariffFault
 prefix_for table (Account n) = prefix_at table key.Prefix MAX_ACCOUNT_PREFIX
 prefix_for table Job = prefix_at table key.Job MAX_JOB_PREFIX
 
+-- the rule of a table: its centre, then the field, then what that has to begin with
 unfoldable pub centre_rule_of : Members → Result CentreRule TariffFault
 centre_rule_of table = do
   centre ← name_at table

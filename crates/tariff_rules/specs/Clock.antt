@@ -3,7 +3,7 @@ use Rattle.std.specs.Prelude.{ℕ, ◌+◌, ◌-◌, ◌*◌, ◌==◌, ◌&&◌
 use Rattle.std.specs.Char.{is_ascii_digit}
 use Rattle.tariff_rules.specs.declared.clock.TheConstants.{MINUTES_OF_DAY}
 
--- two digits, a colon, two digits
+-- two digits, a colon, whose code is 58, and two digits
 abbrev pub is_clock_text : List ℕ → Bool
 is_clock_text text =
     length text == 5
@@ -11,7 +11,7 @@ is_clock_text text =
     && slice_index text 2 == 58
     && is_ascii_digit (slice_index text 3) && is_ascii_digit (slice_index text 4)
 
--- the number of two digits
+-- the number of two digits; the code of the digit 0 is 48
 abbrev pub two_digits : ℕ → ℕ → ℕ
 two_digits tens ones = 10 * (tens - 48) + (ones - 48)
 

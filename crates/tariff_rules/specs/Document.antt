@@ -46,11 +46,12 @@ read_at table key read = do
   value ← required_at table key
   ok_or (read value) (Range key)
 
+-- a whole number, if it lies in the range
 abbrev pub whole_between : ℕ → ℕ → Option ℤ → Option ℕ
 whole_between least most (Some (pos n)) = if nat_le least n && nat_le n most then Some n else None
 whole_between least most _ = None
 
--- a whole number within its range
+-- what a value says as a whole number in a range
 abbrev pub whole_in : ℕ → ℕ → Data → Option ℕ
 whole_in least most value = whole_between least most (as_integer value)
 
@@ -68,6 +69,7 @@ name_at table = do
   text ← text_at table key.Name
   if is_name text then Ok text else Err Name
 
+-- the entries, in order, as a list
 abbrev pub list_of : Items → List Data
 list_of no_items = []
 list_of (item entry rest) = entry ∷ list_of rest

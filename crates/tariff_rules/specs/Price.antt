@@ -25,6 +25,7 @@ has_weekday weekday rule = list_any (λ day. day == weekday) rule.days
 abbrev pub has_minute : ℕ → ShiftRule → Bool
 has_minute minute rule = nat_le rule.from minute && nat_lt minute rule.to
 
+-- the shift is worked in that minute of that weekday
 abbrev pub has_moment : ℕ → ℕ → ShiftRule → Bool
 has_moment weekday minute rule = has_weekday weekday rule && has_minute minute rule
 
@@ -32,6 +33,7 @@ has_moment weekday minute rule = has_weekday weekday rule && has_minute minute r
 abbrev pub base_shift : Shift
 base_shift = record { name = codes "BASE"; percent = 100 }
 
+-- the shift of the rule that was found, or BASE where none was
 abbrev pub shift_by : Option ShiftRule → Shift
 shift_by None = base_shift
 shift_by (Some rule) = rule.shift
@@ -50,6 +52,7 @@ abbrev pub begins_with : List ℕ → Option (List ℕ) → Bool
 begins_with prefix None = false
 begins_with prefix (Some text) = starts_with nat_eq text prefix
 
+-- the centre may pay for the record
 abbrev pub applies_to : List ℕ → CentreRule → Bool
 applies_to bytes rule = begins_with rule.prefix (text_of bytes rule.field)
 
@@ -57,6 +60,7 @@ applies_to bytes rule = begins_with rule.prefix (text_of bytes rule.field)
 abbrev pub unassigned : List ℕ
 unassigned = codes "UNASSIGNED"
 
+-- the centre of the rule that was found, or UNASSIGNED where none was
 abbrev pub centre_by : Option CentreRule → List ℕ
 centre_by None = unassigned
 centre_by (Some rule) = rule.centre
@@ -70,8 +74,9 @@ abbrev pub rates_for : Terms → ℕ → RatesOf
 rates_for terms subtype = if subtype == STEP_END then terms.step else terms.job
 
 -- What a record costs at a shift's percent, by its CPU time in hundredths of a second and its blocks.
--- The amount is in ten-thousandths of the money unit. It is rounded once, to the nearest, a half
--- upwards.
+-- A price is for a second, for 1,000 blocks and for the record: the parts are a thousand times what
+-- each costs, so that they are added before anything is rounded. The amount is in ten-thousandths of
+-- the money unit, as the prices are. It is rounded once, to the nearest, a half upwards.
 abbrev pub amount_of : RatesOf → ℕ → ℕ → ℕ → ℕ
 amount_of prices percent cpu excp =
     let parts = 10 * cpu * prices.cpu + excp * prices.excp + 1000 * prices.record_fee in

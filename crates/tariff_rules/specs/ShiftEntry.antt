@@ -26,9 +26,11 @@ are_weekdays entries =
     not (length entries == 0) && nat_le (length entries) DAYS_OF_WEEK
     && list_all is_weekday entries
 
+-- the weekdays that they are, in order
 abbrev pub weekdays_of : List Data → Option (List ℕ)
 weekdays_of entries = if are_weekdays entries then Some (filter_map weekday_in entries) else None
 
+-- the weekdays at the key `days`
 unfoldable pub days_at : Members → Result (List ℕ) TariffFault
 days_at table = do
   entries ← read_at table key.Days entries_in
@@ -46,6 +48,7 @@ to_at table from = do
   to ← minute_at table key.To
   if nat_lt from to then Ok to else Err (Range key.To)
 
+-- the rule of a table, by its keys in the order in which they are tested
 unfoldable pub shift_rule_of : Members → Result ShiftRule TariffFault
 shift_rule_of table = do
   name ← name_at table

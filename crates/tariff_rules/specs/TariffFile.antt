@@ -30,15 +30,17 @@ effective_at document = do
   text ← text_at document key.Effective
   ok_or (day_of_text_of text) (Range key.Effective)
 
+-- the shifts as they are, unless one name has two percents among them and BASE
 abbrev pub agreed : List ShiftRule → Result (List ShiftRule) TariffFault
 agreed rules = if has_conflict rules then Err ShiftConflict else Ok rules
 
--- the shifts; that they do not agree is said when each of them was read, and before the centres
+-- the shifts; that they do not agree is said when each of them was read, before the centres are
 unfoldable pub shifts_at : Members → Result (List ShiftRule) TariffFault
 shifts_at document = do
   rules ← rules_at document key.Shift MAX_SHIFTS shift_rule_in
   agreed rules
 
+-- the terms of a document, by its keys in the order in which they are tested
 unfoldable pub terms_of : Members → Result Terms TariffFault
 terms_of document = do
   effective ← effective_at document
@@ -49,11 +51,12 @@ terms_of document = do
   centres ← rules_at document key.Centre MAX_CENTRES centre_rule_in
   Ok (record { effective = effective; step = step; job = job; shifts = shifts; centres = centres })
 
+-- the same, where the text is a document at all
 abbrev pub terms_of_document : Option Members → Result Terms TariffFault
 terms_of_document None = Err Syntax
 terms_of_document (Some document) = terms_of document
 
--- what a text says
+-- what a text says; that it is too long is said before it is read
 abbrev pub terms_in : List ℕ → Result Terms TariffFault
 terms_in text =
     if nat_lt MAX_TEXT (length text) then Err TooMany

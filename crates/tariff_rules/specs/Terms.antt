@@ -14,6 +14,7 @@ pub record RatesOf : Type 0 where
   pub excp : ℕ
   pub record_fee : ℕ
 
+-- three prices, in that order
 abbrev pub rates : ℕ → ℕ → ℕ → RatesOf
 rates cpu excp record_fee = record { cpu = cpu; excp = excp; record_fee = record_fee }
 

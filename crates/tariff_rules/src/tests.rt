@@ -150,3 +150,29 @@ fn the_largest_amount_fits(rt: HostRuntime) -> Result<(), Fail> {
     assert_eq!(rt; priced.amount, 90_194_314_195_000_000);
     Ok(())
 }
+
+#[test]
+fn a_fault_says_what_is_wrong(rt: HostRuntime) -> Result<(), Fail> {
+    let cases = [
+        (TariffFault::Syntax, "the tariff is no TOML document"),
+        (
+            TariffFault::Missing(Key::StepCpu),
+            "the tariff has no key step_cpu",
+        ),
+        (
+            TariffFault::Range(Key::To),
+            "the tariff's key to is out of range",
+        ),
+        (TariffFault::Name, "the tariff has a name of another form"),
+        (
+            TariffFault::ShiftConflict,
+            "the tariff gives one shift two percents",
+        ),
+        (TariffFault::TooMany, "the tariff is too large"),
+        (TariffFault::Memory, "out of memory"),
+    ];
+    for (fault, want) in cases {
+        assert_eq!(rt; format!(in rt.alloc(); "{fault}")?.as_str(), want);
+    }
+    Ok(())
+}
