@@ -15,11 +15,11 @@ use Rattle.std.proofs.lemmas.List.Sums.{length-filter}
 use Rattle.std.proofs.lemmas.Map.Lookups.{exact_bytes}
 use Rattle.std.proofs.lemmas.Simd.{map-map}
 use Rattle.smf_type30.specs.Usage.{identity_of}
-use Rattle.tariff_rules.specs.Terms.{Terms}
 use Rattle.book_core.specs.declared.dispute.Variant.{Variant}
 use Rattle.book_core.specs.Disputes.{by_name, variant_of, identities, records_of, dispute_at, disputes_in}
 use Rattle.book_core.specs.Plain.{Entry, records_in, rulings_under, IsKept, is_alone, variant_at, dispute_among, disputes_among}
 use Rattle.book_core.specs.Records.{Naming, by_bytes, same_bytes}
+use Rattle.book_core.specs.Rulings.{Tariffed}
 use Rattle.book_core.specs.Sets.{set_of, members}
 use Rattle.book_core.proofs.HeldLemmas.{held_in, bytes_of, by_name_total, by_name_exact, records_rise, held-alike, each_priced, each_named}
 use Rattle.book_core.proofs.ListLemmas.{filter-map, filter-agree, filter_map-map, filter_map-defined}
@@ -30,12 +30,12 @@ use Rattle.book_core.proofs.SumsAlike.{list_any-count_by, filter-alike, map-alik
 two_or_more : (n : ℕ) → nat_lt 0 n ≡ true → nat_le 2 n ≡ not (nat_eq n 1)
 two_or_more n some = grind (arith, nat_tests)
 
-module _ {naming : Naming} {terms : List Terms} {entries : List Entry} {total : ℕ}
-    (kept : IsKept naming terms entries total)
+module _ {naming : Naming} {tariffs : List Tariffed} {entries : List Entry} {total : ℕ}
+    (kept : IsKept naming tariffs entries total)
     (rising : IsStrictlySortedBy by_bytes (keys_of entries)) where
   -- the records of an identity, by name, are those of the entries that have it
   records_of-held : (identity : List ℕ)
-      → records_of naming (rulings_under terms) (held_in entries) identity
+      → records_of naming (rulings_under tariffs) (held_in entries) identity
       ≡ map bytes_of (filter (λ entry. same_bytes entry.1.identity identity) entries)
   records_of-held identity =
       let theirs : List ℕ → Bool = λ bytes. same_bytes (identity_of bytes) identity in
@@ -51,7 +51,7 @@ module _ {naming : Naming} {terms : List Terms} {entries : List Entry} {total : 
   -- each entry shows its record as the list of disputes does
   each_shown :
       All (λ (entry : Entry).
-      variant_of naming (rulings_under terms) (bytes_of entry) ≡ Some (variant_at entry)) entries
+      variant_of naming (rulings_under tariffs) (bytes_of entry) ≡ Some (variant_at entry)) entries
   each_shown k d within =
       let name = sym (each_named kept k d within) in
       let price = each_priced kept k d within in
@@ -60,10 +60,10 @@ module _ {naming : Naming} {terms : List Terms} {entries : List Entry} {total : 
 
   -- the dispute of an identity
   dispute_at-held : (identity : List ℕ)
-      → dispute_at naming (rulings_under terms) (held_in entries) identity
+      → dispute_at naming (rulings_under tariffs) (held_in entries) identity
       ≡ dispute_among entries identity
   dispute_at-held identity =
-      let shown : List ℕ → Option Variant = variant_of naming (rulings_under terms) in
+      let shown : List ℕ → Option Variant = variant_of naming (rulings_under tariffs) in
       let own : Entry → Option Variant = λ entry. shown (bytes_of entry) in
       let IsShown : Entry → Type 0 = λ entry. own entry ≡ Some (variant_at entry) in
       let theirs : Entry → Bool = λ entry. same_bytes entry.1.identity identity in
@@ -78,7 +78,7 @@ module _ {naming : Naming} {terms : List Terms} {entries : List Entry} {total : 
   each_disputed :
       All (λ (entry : Entry).
       nat_le 2 (length
-      (records_of naming (rulings_under terms) (held_in entries) entry.1.identity))
+      (records_of naming (rulings_under tariffs) (held_in entries) entry.1.identity))
       ≡ not (is_alone entries entry)) entries
   each_disputed k d within =
       let identity = (get_or entries k d).1.identity in
@@ -92,13 +92,13 @@ module _ {naming : Naming} {terms : List Terms} {entries : List Entry} {total : 
   -- the identities that two or more records have are those of such entries
   identities-held :
       filter (λ identity.
-      nat_le 2 (length (records_of naming (rulings_under terms) (held_in entries) identity)))
-      (identities (rulings_under terms) (held_in entries))
+      nat_le 2 (length (records_of naming (rulings_under tariffs) (held_in entries) identity)))
+      (identities (rulings_under tariffs) (held_in entries))
       ≡ members (set_of by_bytes
       (map (λ entry. entry.1.identity) (filter (λ entry. not (is_alone entries entry)) entries)))
   identities-held =
       let disputed : List ℕ → Bool = λ identity.
-      nat_le 2 (length (records_of naming (rulings_under terms) (held_in entries) identity)) in
+      nat_le 2 (length (records_of naming (rulings_under tariffs) (held_in entries) identity)) in
       let known : Entry → List ℕ = λ entry. entry.1.identity in
       let shared : Entry → Bool = λ entry. not (is_alone entries entry) in
       let of_held : List (List ℕ) = map identity_of (members (held_in entries)) in
@@ -116,5 +116,5 @@ module _ {naming : Naming} {terms : List Terms} {entries : List Entry} {total : 
 
   -- the disputes among the records that are held are those among the entries
   pub disputes_in-held :
-      disputes_in naming (rulings_under terms) (held_in entries) ≡ disputes_among entries
+      disputes_in naming (rulings_under tariffs) (held_in entries) ≡ disputes_among entries
   disputes_in-held = λ i. map (λ identity. dispute_at-held identity i) (identities-held i)

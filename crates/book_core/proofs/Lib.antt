@@ -13,4 +13,5 @@ pub mod KeyedRowLemmas
 pub mod ShownLemmas
 pub mod IdentityLemmas
 pub mod PricingLemmas
+pub mod TariffLemmas
 pub mod AnswerLemmas

@@ -2,7 +2,7 @@
 use Rattle.std.proofs.Common.{◌≡◌, ◌+◌, List, [], ◌∷◌, refl, ap, ◌∙◌, true, false, Bool, cond, not, ◌||◌, ◌&&◌, Option, Some, map, arith}
 use Rattle.std.specs.Prelude.{filter, count_by, All}
 use Rattle.std.specs.Cmp.{IsEquivalence}
-use Rattle.std.specs.List.{list_any, filter_map, cons_option, IsDistinct}
+use Rattle.std.specs.List.{list_all, list_any, filter_map, cons_option, IsDistinct}
 use Rattle.std.proofs.lemmas.List.Elements.{All-nil, All-cons, All-head, All-tail, All-from_recursion}
 use Rattle.std.proofs.lemmas.List.Folds.{list_any_none}
 use Rattle.std.proofs.lemmas.List.Sums.{sum_by-cons}
@@ -57,6 +57,15 @@ module _ {X Y : Type 0} where
       λ i. cons_option (All-head (λ x. h x ≡ Some (f x)) x xs defined i) (rest i)
 
 module _ {X : Type 0} where
+  -- each element passes a test where none fails it
+  pub list_all-not_any : (p : X → Bool) (xs : List X) → list_all p xs ≡ not (list_any (λ x. not (p x)) xs)
+  list_all-not_any p [] = refl
+  list_all-not_any p (x ∷ xs) =
+      elim (p x) as (λ b. (b && list_all p xs) ≡ not (not b || list_any (λ x. not (p x)) xs)) [
+        | true ↦ list_all-not_any p xs
+        | false ↦ refl
+      ]
+
   -- tests that agree on each element agree on whether one passes
   pub list_any-agree : (p q : X → Bool) (xs : List X)
       → All (λ x. p x ≡ q x) xs → list_any p xs ≡ list_any q xs

@@ -1,7 +1,7 @@
 -- Read in this order: sets and records; what the office ruled, and what a record costs by it;
 -- which records are undisputed and charged; the rows, lines and disputes that are read from them;
--- the book and its steps; what a whole history defines, and how often it charges a record. Then
--- faults, what outside readers and writers do, and what a plain ledger holds.
+-- the book and its steps; what a whole history defines, and how often it charges a record; and laws
+-- that follow. Then faults, what outside readers and writers do, and what a plain ledger holds.
 pub mod Sets
 pub mod Records
 pub mod Rulings
@@ -14,6 +14,7 @@ pub mod Steps
 pub mod Answers
 pub mod History
 pub mod Net
+pub mod Laws
 pub mod Faults
 pub mod Marks
 pub mod Sources

@@ -16,7 +16,7 @@ use Rattle.book_core.specs.declared.limits.TheConstants.{MAX_HELD, MAX_TOTAL, MA
 use Rattle.smf_type30.specs.Usage.{day_of}
 use Rattle.book_core.specs.Sets.{members, has, with}
 use Rattle.book_core.specs.Records.{Records, Naming, name_of, same_bytes}
-use Rattle.book_core.specs.Rulings.{Rulings, Tariffed, price_in, prices, last_close}
+use Rattle.book_core.specs.Rulings.{Rulings, Tariffed, with_tariff, price_in, prices, last_close}
 use Rattle.book_core.specs.Charged.{charged_through}
 use Rattle.book_core.specs.Rows.{rows_in}
 use Rattle.book_core.specs.Lines.{ReadLine, lines_in, lines_read}
@@ -93,8 +93,12 @@ tariff_answer book text (Ok terms) = terms_answer book text terms
 -- the book under one tariff more
 abbrev pub put_in_force : Option (List ℕ) → Terms → Book → Book
 put_in_force text terms book =
-    let tariffs = book.rulings.tariffs ++ record { text = text; terms = terms } ∷ [] in
-    record book { rulings = record book.rulings { tariffs = tariffs } }
+    record book { rulings = with_tariff text terms book.rulings }
+
+-- only a tariff that is put in force changes the book
+abbrev pub tariff_step : Result Ruled LedgerFault → List ℕ → Result Terms TariffFault → Book → Book
+tariff_step (Ok Done) text (Ok terms) book = put_in_force (Some text) terms book
+tariff_step answer text said book = book
 
 -- close
 

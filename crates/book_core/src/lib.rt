@@ -1,12 +1,14 @@
 //! The books of a chargeback office: what they mean, and a plain ledger that keeps them in memory.
 #![tactic(auto)]
 
+mod accepted_tariff;
 mod answer;
 mod charge_rows;
 mod dispute;
 mod fault;
 mod held;
 mod identities;
+mod laws;
 mod limits;
 mod naming;
 mod plain;
@@ -19,6 +21,7 @@ mod variant;
 pub use answer::{Accepted, Ruled};
 pub use dispute::{Dispute, Variant};
 pub use fault::LedgerFault;
+pub use laws::earlier_prices_stay;
 pub use limits::{MAX_HELD, MAX_PERIOD, MAX_TOTAL};
 pub use naming::{Naming, ShaNames};
 pub use plain::PlainLedger;

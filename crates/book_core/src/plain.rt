@@ -8,11 +8,12 @@ ghost use Rattle.std.specs.Map.{keys_of};
 ghost use Rattle.std.proofs.Props.{props};
 ghost use Rattle.book_core.specs.Plain.{IsKept};
 
-use crate::answer::Accepted;
+use crate::accepted_tariff::{AcceptedTariff, are_before, has_day_of, has_text};
+use crate::answer::{Accepted, Ruled};
 use crate::charge_rows::charge_rows;
 use crate::dispute::Dispute;
 use crate::fault::LedgerFault;
-use crate::held::HeldRecord;
+use crate::held::{HeldRecord, has_dated};
 use crate::identities::{disputes, undisputed_prices};
 use crate::limits::{MAX_HELD, MAX_TOTAL};
 use crate::naming::Naming;
@@ -57,7 +58,7 @@ fn is_full(count: usize, total: u64, amount: u64) -> bool
 #[derive(Drop)]
 pub struct PlainLedger<N: Naming + Drop> {
     naming: N,
-    tariffs: Vec<Tariff>,
+    tariffs: Vec<AcceptedTariff>,
     held: BTreeMap<[u8; 32], HeldRecord>,
     total: u64,
     alloc: Global,
@@ -66,13 +67,26 @@ pub struct PlainLedger<N: Naming + Drop> {
 }
 
 impl<N: Naming + Drop> PlainLedger<N> {
-    ghost use Rattle.book_core.specs.Books.{flat_book, period_of};
-    ghost use Rattle.book_core.specs.Steps.{accept_answer, accept_step, charges_answer};
-    ghost use Rattle.book_core.specs.Answers.{Answers};
-    ghost use Rattle.book_core.specs.Disputes.{AreDisputes, dispute_shown, disputes_in};
-    ghost use Rattle.std.specs.Prelude.{◌≡◌, IfOk, Ok, map};
+    ghost use Rattle.std.specs.Prelude.{◌≡◌, ℕ, List, IfOk, IsTrue, Ok, map};
+    ghost use Rattle.tariff_rules.specs.TariffFile.{terms_in};
+    ghost use Rattle.book_core.specs.Sets.{has};
+    ghost use Rattle.book_core.specs.Rulings.{price_in};
     ghost use Rattle.book_core.specs.Rows.{AreRows};
+    ghost use Rattle.book_core.specs.Disputes.{AreDisputes, dispute_shown, disputes_in};
+    ghost use Rattle.book_core.specs.Books.{flat_book, new_book};
+    ghost use Rattle.book_core.specs.Steps.{accept_answer, accept_step, charges_answer};
+    ghost use Rattle.book_core.specs.Steps.{tariff_answer, tariff_step};
+    ghost use Rattle.book_core.specs.Answers.{Answers};
+    ghost use Rattle.book_core.specs.Plain.{rulings_under};
     ghost use Rattle.book_core.specs.PlainBook.{book_of, naming_of};
+
+    /// New books, under no tariff yet.
+    pub fn new(alloc: Global, naming: N) -> Result<PlainLedger<N>, AllocError>
+        ensures book { IfOk result (λ ledger. book_of ledger ≡ new_book) }
+        ensures naming { IfOk result (λ ledger. naming_of ledger ≡ naming) }
+    {
+        Ok(PlainLedger::under(alloc, naming, Vec::new(alloc)))
+    }
 
     /// New books under one tariff, which stands for every day from its first on.
     pub fn flat(alloc: Global, naming: N, tariff: Tariff) -> Result<PlainLedger<N>, AllocError>
@@ -80,14 +94,54 @@ impl<N: Naming + Drop> PlainLedger<N> {
         ensures naming { IfOk result (λ ledger. naming_of ledger ≡ naming) }
     {
         let mut tariffs = Vec::with_capacity(alloc, 1)?;
-        tariffs.push(tariff)?;
-        Ok(PlainLedger {
+        tariffs.push(AcceptedTariff { text: None, tariff })?;
+        Ok(PlainLedger::under(alloc, naming, tariffs))
+    }
+
+    /// Books that hold no record, under these tariffs.
+    fn under(alloc: Global, naming: N, tariffs: Vec<AcceptedTariff>) -> PlainLedger<N>
+        ensures book { book_of result ≡ record new_book { rulings = rulings_under tariffs.items } }
+        ensures naming { naming_of result ≡ naming }
+    {
+        PlainLedger {
             naming,
             tariffs,
             held: BTreeMap::new(alloc),
             total: 0,
             alloc,
-        })
+        }
+    }
+
+    /// Hands in a tariff file. Its tariff is in force from its first day on, where that day is later
+    /// than every other tariff's and no record that is held is dated on it or after it. So what
+    /// records that are held cost stays.
+    pub fn tariff(&mut self, text: &str) -> Result<Ruled, LedgerFault>
+        ensures answer { Answers (λ ruled. ruled) result
+            (tariff_answer (book_of self.old) text.now (terms_in text.now)) }
+        ensures book { book_of self.new
+            ≡ tariff_step result text.now (terms_in text.now) (book_of self.old) }
+        ensures naming { naming_of self.new ≡ naming_of self.old }
+        ensures prices { (bytes : List ℕ) → IsTrue (has (book_of self.old).held bytes)
+            → price_in (book_of self.new).rulings bytes
+            ≡ price_in (book_of self.old).rulings bytes }
+    {
+        let alloc = self.alloc;
+        let tariff = Tariff::parse(alloc, text)?;
+        if has_text(&self.tariffs, text) {
+            return Ok(Ruled::Already);
+        }
+        if has_day_of(&self.tariffs, &tariff) {
+            return Err(LedgerFault::TariffExists);
+        }
+        if !are_before(&self.tariffs, &tariff) {
+            return Err(LedgerFault::TariffDate);
+        }
+        if has_dated(&self.held, &tariff) {
+            return Err(LedgerFault::RecordsDated);
+        }
+        let text = Some(String::from_str(alloc, text)?);
+        self.tariffs.push(AcceptedTariff { text, tariff })?;
+        Ok(Ruled::Done)
     }
 
     /// Hands in a record, which is held from now on where it is new, a tariff is in force on its
