@@ -85,9 +85,22 @@ fn last_hundredth_of_a_day(rt: HostRuntime) -> Result<(), Fail> {
 
 #[test]
 fn accounting_fields(rt: HostRuntime) -> Result<(), Fail> {
-    let too_long = with_accounts([0x01, 0xC1, 0x05, 0xC1, 0xC2, 0xC3, 0xC4]);
-    assert_eq!(rt; receipt_for(rt.alloc(), &too_long)?, one_damaged());
-    let whole = with_accounts([0x01, 0xC1, 0x04, 0xC1, 0xC2, 0xC3, 0xC4]);
-    assert_eq!(rt; receipt_for(rt.alloc(), &whole)?, one_kept());
+    let alloc = rt.alloc();
+    let cases = [
+        (
+            "of 1 and 5 bytes",
+            [0x01, 0xC1, 0x05, 0xC1, 0xC2, 0xC3, 0xC4],
+            one_damaged(),
+        ),
+        (
+            "of 1 and 4 bytes",
+            [0x01, 0xC1, 0x04, 0xC1, 0xC2, 0xC3, 0xC4],
+            one_kept(),
+        ),
+    ];
+    for (case, fields, want) in cases {
+        let record = with_accounts(alloc, SAMPLE, 2, &fields)?;
+        assert_eq!(rt; receipt_for(alloc, &record)?, want, "{case}");
+    }
     Ok(())
 }

@@ -30,6 +30,13 @@ pub fn new_books(alloc: Global) -> Result<PlainLedger<ShaNames>, Fail> {
     Ok(PlainLedger::flat(alloc, ShaNames, tariff(alloc)?)?)
 }
 
+/// New books under a tariff file.
+pub fn books_under(alloc: Global, file: &str) -> Result<PlainLedger<ShaNames>, Fail> {
+    let mut ledger = PlainLedger::new(alloc, ShaNames)?;
+    ledger.tariff(file)?;
+    Ok(ledger)
+}
+
 /// Hands what a reader gives to the books.
 pub fn import_from<R: Read + Drop, N: Naming + Drop>(
     alloc: Global,

@@ -7,6 +7,9 @@ use std::alloc::{AllocError, Global};
 /// The sample's length, with its descriptor.
 const LEN: usize = 168;
 
+/// The most bytes of accounting fields that stand behind a sample.
+const MAX_FIELDS: usize = 100;
+
 /// A record of the sample's length.
 pub type Record = [u8; LEN];
 
@@ -111,21 +114,31 @@ pub fn measuring(record: Record, tcb: u32, srb: u32) -> Record {
     )
 }
 
+/// The record with another count of blocks.
+pub fn with_blocks(record: Record, blocks: u32) -> Record {
+    changed(record, 148, &blocks.to_be_bytes())
+}
+
 /// The sample with 12.01 seconds of TCB time in the place of 12.00.
 pub fn variant_1201() -> Record {
     measuring(SAMPLE, 1201, 34)
 }
 
-/// The sample with two accounting fields, which are the bytes behind it.
-pub fn with_accounts(fields: [u8; 7]) -> [u8; 175] {
-    let mut longer = [0; 175];
-    longer[..LEN].copy_from_slice(&SAMPLE);
-    longer[1] = 175;
-    // the triplet: two fields, at 168
-    longer[67] = 168;
-    longer[71] = 2;
-    longer[LEN..].copy_from_slice(&fields);
-    longer
+/// The record with so many accounting fields, which are the bytes behind it.
+pub fn with_accounts(
+    alloc: Global,
+    record: Record,
+    count: u16,
+    fields: &[u8],
+) -> Result<Vec<u8>, AllocError>
+    requires { length fields.now ≤ MAX_FIELDS }
+{
+    let len = (LEN + fields.len()) as u16;
+    let mut front = changed(record, 0, &len.to_be_bytes());
+    // the triplet: behind the record, so many
+    front = changed(front, 64, &(LEN as u32).to_be_bytes());
+    front = changed(front, 70, &count.to_be_bytes());
+    joined(alloc, &[&front, fields])
 }
 
 /// A record of another type, at the sample's time, that is its header alone.
