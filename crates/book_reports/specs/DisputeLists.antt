@@ -10,23 +10,23 @@ use Rattle.book_core.specs.Disputes.{Disputed}
 use Rattle.book_reports.specs.Columns.{line_end, right, amount_text}
 
 -- of an identity the system, its first 4 bytes, and the job, the next 8
-abbrev pub job_text : List ℕ → List ℕ
+unfoldable pub job_text : List ℕ → List ℕ
 job_text identity = show_text (part identity 0 4) ++ codes " " ++ show_text (part identity 4 8)
 
 -- the time and the date at which a reader took in the job, the next 4 bytes each
-abbrev pub reader_text : List ℕ → List ℕ
+unfoldable pub reader_text : List ℕ → List ℕ
 reader_text identity =
     codes " READER " ++ encode_upper (part identity 12 4)
     ++ codes " " ++ encode_upper (part identity 16 4)
 
 -- the subtype of the records and the number of the step, the last 2 bytes each
-abbrev pub step_text : List ℕ → List ℕ
+unfoldable pub step_text : List ℕ → List ℕ
 step_text identity =
     codes " SUBTYPE " ++ decimal (number identity 20 2)
     ++ codes " STEP " ++ decimal (number identity 22 2)
 
 -- the line of an identity
-abbrev pub identity_line : List ℕ → List ℕ
+unfoldable pub identity_line : List ℕ → List ℕ
 identity_line identity = job_text identity ++ reader_text identity ++ step_text identity ++ line_end
 
 -- completion code and termination indicator, 2 bytes each, where the record has them

@@ -22,6 +22,7 @@ fn part(bytes: &[u8], at: usize, count: usize) -> &[u8]
 }
 
 /// Appends the system and the job of an identity.
+#[tactic(auto, unfolding(crate::specs::DisputeLists::job_text))]
 fn push_job(alloc: Global, out: &mut String, identity: &[u8]) -> Result<(), AllocError>
     requires { length identity.now ≡ 24 }
     ensures { OnOk result (string_bytes out.new
@@ -33,6 +34,7 @@ fn push_job(alloc: Global, out: &mut String, identity: &[u8]) -> Result<(), Allo
 }
 
 /// Appends the reader's time and date of an identity.
+#[tactic(auto, unfolding(crate::specs::DisputeLists::reader_text))]
 fn push_reader(alloc: Global, out: &mut String, identity: &[u8]) -> Result<(), AllocError>
     requires { length identity.now ≡ 24 }
     ensures { OnOk result (string_bytes out.new
@@ -45,6 +47,7 @@ fn push_reader(alloc: Global, out: &mut String, identity: &[u8]) -> Result<(), A
 }
 
 /// Appends the subtype and the step number of an identity.
+#[tactic(auto, unfolding(crate::specs::DisputeLists::step_text))]
 fn push_step(out: &mut String, identity: &[u8]) -> Result<(), AllocError>
     requires { length identity.now ≡ 24 }
     ensures { OnOk result (string_bytes out.new
@@ -57,6 +60,7 @@ fn push_step(out: &mut String, identity: &[u8]) -> Result<(), AllocError>
 }
 
 /// Appends the line of an identity.
+#[tactic(auto, unfolding(crate::specs::DisputeLists::identity_line))]
 fn push_identity(alloc: Global, out: &mut String, identity: &[u8]) -> Result<(), AllocError>
     requires { length identity.now ≡ 24 }
     ensures { OnOk result (string_bytes out.new

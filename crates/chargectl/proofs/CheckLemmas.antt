@@ -1,5 +1,5 @@
 -- What makes a check: a dump that was read, and what was written of its list.
-use Rattle.std.proofs.Common.{◌≡◌, ℕ, List, [], ◌∷◌, Option, Result, Err, subst}
+use Rattle.std.proofs.Common.{◌≡◌, ◌≢◌, ℕ, List, [], ◌∷◌, Option, Result, Err, subst}
 use Rattle.std.specs.Prelude.{IfOk}
 use Rattle.std.specs.Io.KnownBytes.{Consumes}
 use Rattle.smf_frames.specs.declared.dump.Layout.{Layout}
@@ -9,6 +9,7 @@ use Rattle.book_import.specs.declared.dump.Dump.{Dump}
 use Rattle.book_import.specs.declared.receipt.Stop.{Stop}
 use Rattle.book_import.specs.Dumps.{IsDump, stop_behind}
 use Rattle.book_reports.specs.declared.fault.ReportFault.{ReportFault}
+use Rattle.book_reports.specs.declared.fault.ReportFault.TheVariants.{Write}
 use Rattle.book_reports.specs.CheckLists.{check_list_text}
 use Rattle.chargectl.specs.Checks.{IsCheck}
 use Rattle.chargectl.specs.Writing.{Writes}
@@ -16,13 +17,13 @@ use Rattle.chargectl.proofs.WritingLemmas.{nothing_written}
 
 module _ {layout : Layout} {cut : Option Stop} where
   -- without memory for the records or their list nothing is written
-  pub no_list : (had left held : Option (List ℕ)) (fault : ReportFault) (bytes : List ℕ) → Consumes had left bytes
-      → IsCheck layout cut had left held held (Err fault)
-  no_list had left held fault bytes taken =
+  pub no_list : (had left held : Option (List ℕ)) (fault : ReportFault) (bytes : List ℕ)
+      → fault ≢ Write → Consumes had left bytes → IsCheck layout cut had left held held (Err fault)
+  no_list had left held fault bytes other taken =
       record {
         bytes = bytes;
         taken = taken;
-        written = nothing_written fault held _ [];
+        written = nothing_written fault held _ [] other;
         stop = tt;
       }
 

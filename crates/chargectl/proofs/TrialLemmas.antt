@@ -1,5 +1,5 @@
 -- What makes a trial: new books, the import, and what was written.
-use Rattle.std.proofs.Common.{◌≡◌, ℕ, List, [], ◌∷◌, Option, Result, Ok, Err, refl, ap, subst}
+use Rattle.std.proofs.Common.{◌≡◌, ◌≢◌, ℕ, List, [], ◌∷◌, Option, Result, Ok, Err, refl, ap, subst}
 use Rattle.std.specs.Prelude.{IfOk}
 use Rattle.std.specs.Io.KnownBytes.{Consumes}
 use Rattle.std.specs.Result.{result_unwrap_or}
@@ -17,6 +17,7 @@ use Rattle.book_import.specs.Imports.{Imported, Imports}
 use Rattle.book_import.specs.Imports.Handles.{out_of_memory}
 use Rattle.book_import.specs.Receipts.{receipt_stopped}
 use Rattle.book_reports.specs.declared.fault.ReportFault.{ReportFault}
+use Rattle.book_reports.specs.declared.fault.ReportFault.TheVariants.{Write}
 use Rattle.book_reports.specs.ReceiptLines.{receipt_line_text}
 use Rattle.chargectl.specs.Trials.{IsTrial, dispute_text, open_statement, trial_texts}
 use Rattle.chargectl.specs.Writing.{Writes}
@@ -46,9 +47,9 @@ module _ {terms : Terms} {layout : Layout} {cut : Option Stop} {MayStop : Stop �
       }
 
   -- without memory for new books nothing is read or written
-  pub no_trial : (had held : Option (List ℕ)) (fault : ReportFault) → MayStop (Ledger Memory)
+  pub no_trial : (had held : Option (List ℕ)) (fault : ReportFault) → fault ≢ Write → MayStop (Ledger Memory)
       → IsTrial terms layout cut MayStop had had held held (Err fault)
-  no_trial had held fault stopped =
+  no_trial had held fault other stopped =
       let imported : Imported = record { receipt = receipt_stopped (Ledger Memory); book = flat_book terms } in
       let others = open_statement imported.book ∷ dispute_text imported.book ∷ [] in
       record {
@@ -57,6 +58,6 @@ module _ {terms : Terms} {layout : Layout} {cut : Option Stop} {MayStop : Stop �
         taken = Consumes-nil had;
         booked = out_of_memory 0 refl;
         stopped = stopped;
-        written = nothing_written fault held (receipt_line_text imported.receipt) others;
+        written = nothing_written fault held (receipt_line_text imported.receipt) others other;
         receipt = tt;
       }

@@ -1,17 +1,26 @@
 -- Texts that are written one after another, up to a fault.
-use Rattle.std.proofs.Common.{◌≡◌, ℕ, ◌≤◌, List, [], ◌∷◌, ◌++◌, length, take, Option, Result, Ok, Err, refl, sym, ap, subst, ◌∙◌, append_assoc, append-nil}
+use Rattle.std.proofs.Common.{◌≡◌, ◌≢◌, ℕ, ◌<◌, List, [], ◌∷◌, ◌++◌, length, take, Option, Result, Ok, Err, refl, sym, ap, subst, ◌∙◌, append_assoc, append-nil}
 use Rattle.std.specs.Prelude.{OnOk, OnErr, IfErr}
 use Rattle.std.specs.List.{concat}
 use Rattle.std.specs.Io.KnownBytes.{Appends}
 use Rattle.std.proofs.KnownBytes.{Appends-nil, Appends-trans}
+use Rattle.book_core.specs.declared.fault.LedgerFault.{LedgerFault}
 use Rattle.book_reports.specs.declared.fault.ReportFault.{ReportFault}
-use Rattle.book_reports.specs.declared.fault.ReportFault.TheVariants.{Write}
+use Rattle.book_reports.specs.declared.fault.ReportFault.TheVariants.{Write, Memory, Ledger}
 use Rattle.chargectl.specs.Writing.{Writes, WritesUpTo}
+
+-- want of memory is no failed write
+pub memory_not_write : {fault : ReportFault} → fault ≡ Memory → fault ≢ Write
+memory_not_write is write = cc
+
+-- nor is a refusal of the books
+pub ledger_not_write : {fault : ReportFault} {refusal : LedgerFault} → fault ≡ Ledger refusal → fault ≢ Write
+ledger_not_write is write = cc
 
 -- what `write_text` leaves
 pub text_written : (F : Type 0) (held holds : Option (List ℕ)) (text : List ℕ) (answer : Result (Unit {0}) ReportFault)
     → OnOk answer (Appends held holds text × F) → IfErr answer (λ fault. fault ≡ Write)
-    → OnErr answer ((n : ℕ) × (n ≤ length text) × Appends held holds (take n text))
+    → OnErr answer ((n : ℕ) × (n < length text) × Appends held holds (take n text))
     → Writes (text ∷ []) held holds answer
 text_written F held holds text (Ok done) whole failed front =
     subst (Appends held holds) (sym (append-nil text)) whole.0
@@ -24,12 +33,13 @@ text_written F held holds text (Err fault) whole failed front =
       parts = refl;
       grown = front.2;
       unless_write = λ other. absurd (other failed);
+      after_write = λ write. front.1;
     }
 
 -- before the first write there is nothing
 pub nothing_written : (fault : ReportFault) (held : Option (List ℕ)) (text : List ℕ) (rest : List (List ℕ))
-    → WritesUpTo fault (text ∷ rest) held held
-nothing_written fault held text rest =
+    → fault ≢ Write → WritesUpTo fault (text ∷ rest) held held
+nothing_written fault held text rest other =
     record {
       whole = [];
       next = text;
@@ -38,6 +48,7 @@ nothing_written fault held text rest =
       parts = refl;
       grown = Appends-nil held;
       unless_write = λ other. refl;
+      after_write = λ write. absurd (other write);
     }
 
 -- where a text failed, no other was begun
@@ -52,6 +63,7 @@ others_unwritten fault others writes =
       parts = ap (λ texts. texts ++ others) writes.parts ∙ append_assoc writes.whole (writes.next ∷ writes.rest) others;
       grown = writes.grown;
       unless_write = writes.unless_write;
+      after_write = writes.after_write;
     }
 
 -- a text whole, and then others
@@ -73,4 +85,5 @@ others_written first others held mid holds (Err fault) one then =
       grown = subst (Appends held holds) (sym (append_assoc first (concat then.whole) (take then.count then.next)))
           (Appends-trans held mid holds first before text then.grown);
       unless_write = then.unless_write;
+      after_write = then.after_write;
     }

@@ -1,5 +1,5 @@
 -- What a report leaves in its writer.
-use Rattle.std.specs.Prelude.{◌≡◌, ◌≢◌, Bool, true, false, ℕ, List, ◌∷◌, ◌++◌, take, Option, Result, Ok, Err}
+use Rattle.std.specs.Prelude.{◌≡◌, ◌≢◌, ◌<◌, Bool, true, false, ℕ, List, length, ◌∷◌, ◌++◌, take, Option, Result, Ok, Err}
 use Rattle.std.specs.List.{concat}
 use Rattle.std.specs.Io.KnownBytes.{Appends}
 use Rattle.book_core.specs.declared.fault.LedgerFault.TheVariants as ledger
@@ -7,7 +7,7 @@ use Rattle.book_reports.specs.declared.fault.ReportFault.{ReportFault}
 use Rattle.book_reports.specs.declared.fault.ReportFault.TheVariants.{Write, Memory, Ledger}
 
 -- Texts were written one after another, up to a fault: the first of them whole, and of the next so many bytes, which are
--- none unless a write failed.
+-- none unless a write failed, and not all where one did.
 pub record WritesUpTo (fault : ReportFault) (texts : List (List ℕ)) (held holds : Option (List ℕ)) : Type 0 where
   pub whole : List (List ℕ)
   pub next : List ℕ
@@ -16,6 +16,7 @@ pub record WritesUpTo (fault : ReportFault) (texts : List (List ℕ)) (held hold
   pub parts : texts ≡ whole ++ next ∷ rest
   pub grown : Appends held holds (concat whole ++ take count next)
   pub unless_write : fault ≢ Write → count ≡ 0
+  pub after_write : fault ≡ Write → count < length next
 
 -- Texts were written one after another, where the writer tells: all of them, or those before a fault.
 abbrev pub Writes : {A : Type 0} → List (List ℕ) → Option (List ℕ) → Option (List ℕ) → Result A ReportFault → Type 0

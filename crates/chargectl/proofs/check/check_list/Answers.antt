@@ -7,19 +7,19 @@ use Rattle.book_reports.specs.declared.fault.ReportFault.{ReportFault}
 use Rattle.book_reports.specs.CheckLists.{check_list_text}
 use Rattle.chargectl.specs.Writing.{WritesUpTo}
 use Rattle.chargectl.proofs.CheckLemmas.{is_check, no_list}
-use Rattle.chargectl.proofs.WritingLemmas.{text_written}
+use Rattle.chargectl.proofs.WritingLemmas.{memory_not_write, text_written}
 use Rattle.chargectl.proofs.check.check_list.Goals as goal
 
 pub returns-in_err-dump-clause-check : goal.returns-in_err-dump-clause-check
 returns-in_err-dump-clause-check g c =
     let failed = err_from_is_err_and c.from_residual.result c.from_residual.ensures.1 in
-    rw failed.1 (no_list _ _ _ failed.0 c.read_dump.ensures.dump.0 c.read_dump.ensures.dump.1)
+    rw failed.1 (no_list _ _ _ failed.0 c.read_dump.ensures.dump.0 (memory_not_write failed.2) c.read_dump.ensures.dump.1)
 
 pub returns-in_err-list-clause-check : goal.returns-in_err-list-clause-check
 returns-in_err-list-clause-check g c =
     let answer = c.from_residual-in_err-list in
     let failed = err_from_is_err_and answer.result answer.ensures.1 in
-    rw failed.1 (no_list _ _ _ failed.0 c.read_dump.ensures.dump.0 c.read_dump.ensures.dump.1)
+    rw failed.1 (no_list _ _ _ failed.0 c.read_dump.ensures.dump.0 (memory_not_write failed.2) c.read_dump.ensures.dump.1)
 
 pub returns-in_err-write_text-clause-check : goal.returns-in_err-write_text-clause-check
 returns-in_err-write_text-clause-check g c =

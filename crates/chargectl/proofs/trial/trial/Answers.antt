@@ -8,13 +8,13 @@ use Rattle.book_reports.specs.declared.fault.ReportFault.{ReportFault}
 use Rattle.book_reports.specs.ReceiptLines.{receipt_line_text}
 use Rattle.chargectl.specs.Trials.{dispute_text, open_statement}
 use Rattle.chargectl.proofs.TrialLemmas.{is_trial, no_trial}
-use Rattle.chargectl.proofs.WritingLemmas.{others_unwritten, others_written}
+use Rattle.chargectl.proofs.WritingLemmas.{memory_not_write, others_unwritten, others_written}
 use Rattle.chargectl.proofs.trial.trial.Goals as goal
 
 pub returns-in_err-ledger-clause-trial : goal.returns-in_err-ledger-clause-trial
 returns-in_err-ledger-clause-trial g c =
     let failed = err_from_is_err_and c.from_residual.result c.from_residual.ensures.1 in
-    rw failed.1 (no_trial _ _ failed.0 (inr refl))
+    rw failed.1 (no_trial _ _ failed.0 (memory_not_write failed.2) (inr refl))
 
 pub returns-in_err-write_receipt-clause-trial : goal.returns-in_err-write_receipt-clause-trial
 returns-in_err-write_receipt-clause-trial g c =

@@ -2,13 +2,13 @@ use Rattle.std.proofs.Common.{◌∙◌, [], ◌∷◌, subst}
 use Rattle.std.proofs.lemmas.Result.{err_from_is_err_and}
 use Rattle.book_core.specs.Sinks.{writer_of}
 use Rattle.chargectl.specs.Writing.{Writes}
-use Rattle.chargectl.proofs.WritingLemmas.{nothing_written, text_written}
+use Rattle.chargectl.proofs.WritingLemmas.{memory_not_write, nothing_written, text_written}
 use Rattle.chargectl.proofs.trial.write_receipt.Goals as goal
 
 pub returns-in_err-line-clause-text : goal.returns-in_err-line-clause-text
 returns-in_err-line-clause-text g c =
     let failed = err_from_is_err_and c.from_residual.result c.from_residual.ensures.1 in
-    rw failed.1 (nothing_written failed.0 _ _ [])
+    rw failed.1 (nothing_written failed.0 _ _ [] (memory_not_write failed.2))
 
 pub returns-clause-text : goal.returns-clause-text
 returns-clause-text g c =
