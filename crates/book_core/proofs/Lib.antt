@@ -11,6 +11,7 @@ pub mod DisputeLemmas
 pub mod GroupLemmas
 pub mod KeyedRowLemmas
 pub mod ShownLemmas
+pub mod RepeatLemmas
 pub mod IdentityLemmas
 pub mod PricingLemmas
 pub mod TariffLemmas

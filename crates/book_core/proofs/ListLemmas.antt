@@ -1,5 +1,5 @@
 -- Lists: what functions give of them, where two functions agree on the elements, and one of a kind.
-use Rattle.std.proofs.Common.{◌≡◌, ◌+◌, List, [], ◌∷◌, refl, ap, ◌∙◌, true, false, Bool, cond, not, ◌||◌, ◌&&◌, Option, Some, map, arith}
+use Rattle.std.proofs.Common.{◌≡◌, ◌+◌, List, [], ◌∷◌, refl, sym, ap, ◌∙◌, true, false, Bool, cond, not, ◌||◌, ◌&&◌, Option, Some, map, arith}
 use Rattle.std.specs.Prelude.{filter, count_by, All}
 use Rattle.std.specs.Cmp.{IsEquivalence}
 use Rattle.std.specs.List.{list_all, list_any, filter_map, cons_option, IsDistinct}
@@ -41,6 +41,15 @@ module _ {X Y : Type 0} where
         | true ↦ ap (λ ys. f x ∷ ys) rest
         | false ↦ rest
       ]
+
+  -- and there are as many of both
+  pub count_by-map : (p : Y → Bool) (f : X → Y) (xs : List X)
+      → count_by p (map f xs) ≡ count_by (λ x. p (f x)) xs
+  count_by-map p f [] = refl
+  count_by-map p f (x ∷ xs) =
+      sum_by-cons (λ y. cond (p y) 1 0) (f x) (map f xs)
+      ∙ ap (λ n. cond (p (f x)) 1 0 + n) (count_by-map p f xs)
+      ∙ sym (sum_by-cons (λ x. cond (p (f x)) 1 0) x xs)
 
   -- what a partial function gives of results is what it gives after the function
   pub filter_map-map : {Z : Type 0} (h : Y → Option Z) (f : X → Y) (xs : List X)

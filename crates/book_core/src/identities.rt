@@ -1,8 +1,9 @@
 //! Which records are alone in their identity, and which are in dispute.
 
-ghost use Rattle.std.specs.Prelude.{◌≡◌, ℕ, List, IfOk, map, filter, count_by, nat_eq};
-ghost use Rattle.std.specs.BTreeMap.{get, values};
-ghost use Rattle.std.specs.Map.{count_at};
+ghost use Rattle.std.specs.Prelude.{◌≡◌, ℕ, List, IfOk, map, filter, count_by, nat_le, not};
+ghost use Rattle.std.specs.BTreeMap.{values};
+ghost use Rattle.std.specs.BTreeSet.{contains};
+ghost use Rattle.std.specs.List.Sorted.{IsSorted};
 ghost use Rattle.book_core.specs.Records.{by_bytes, same_bytes};
 ghost use Rattle.book_core.specs.Plain as spec;
 ghost use Rattle.book_core.specs.Disputes.{dispute_shown};
@@ -12,44 +13,64 @@ use crate::dispute::{Dispute, Variant};
 use crate::held::HeldRecord;
 use crate::variant::variant;
 use std::alloc::{AllocError, Global};
-use std::collections::BTreeMap;
+use std::collections::{BTreeMap, BTreeSet};
 use tariff_rules::Priced;
 
-/// How many records have each identity.
-fn count_identities(
+/// The identity of each record, by name.
+fn identities_of(
     alloc: Global,
     held: &BTreeMap<[u8; 32], HeldRecord>,
-) -> Result<BTreeMap<[u8; 24], u64>, AllocError>
-    ensures { IfOk result (λ counts. (identity : List ℕ) →
-        count_at (get by_bytes counts) identity
-        ≡ count_by (λ entry. same_bytes entry.1.identity identity) held.now.entries) }
+) -> Result<Vec<[u8; 24]>, AllocError>
+    ensures { IfOk result (λ identities.
+        identities.items ≡ map (λ kept. kept.identity) (values held.now)) }
 {
-    let mut counts = BTreeMap::new(alloc);
+    let mut identities = Vec::with_capacity(alloc, held.len())?;
     for kept in held.values() {
-        *counts.entry(kept.identity)?.or_insert(0) += 1;
+        identities.push(kept.identity)?;
     }
-    Ok(counts)
+    Ok(identities)
 }
 
-/// By these counts, the record is alone in its identity.
-fn is_alone(counts: &BTreeMap<[u8; 24], u64>, kept: &HeldRecord) -> bool
-    ensures { result ≡ nat_eq (count_at (get by_bytes counts.now) kept.now.identity) 1 }
+/// The identities that stand twice or more in a sorted list.
+fn repeated(alloc: Global, sorted: &[[u8; 24]]) -> Result<BTreeSet<[u8; 24]>, AllocError>
+    requires { IsSorted by_bytes sorted.now }
+    ensures { IfOk result (λ repeated. (identity : List ℕ) → contains by_bytes repeated identity
+        ≡ nat_le 2 (count_by (λ one. same_bytes one identity) sorted.now)) }
 {
-    counts.get(&kept.identity).copied().unwrap_or(0) == 1
+    let mut repeated = BTreeSet::new(alloc);
+    for pair in sorted.windows(2) {
+        if pair[0] == pair[1] {
+            repeated.insert(pair[0])?;
+        }
+    }
+    Ok(repeated)
 }
 
-/// What the records cost that are alone in their identity by these counts.
+/// The identities that two or more records have.
+fn shared_identities(
+    alloc: Global,
+    held: &BTreeMap<[u8; 32], HeldRecord>,
+) -> Result<BTreeSet<[u8; 24]>, AllocError>
+    ensures { IfOk result (λ shared. (identity : List ℕ) → contains by_bytes shared identity
+        ≡ nat_le 2 (count_by (λ entry. same_bytes entry.1.identity identity) held.now.entries)) }
+{
+    // Sorted, equal identities are neighbours, so that only those are looked up later.
+    let mut identities = identities_of(alloc, held)?;
+    identities.sort_unstable();
+    repeated(alloc, &identities)
+}
+
+/// What the records cost whose identity is not shared.
 fn prices_of_alone(
     alloc: Global,
     held: &BTreeMap<[u8; 32], HeldRecord>,
-    counts: &BTreeMap<[u8; 24], u64>,
+    shared: &BTreeSet<[u8; 24]>,
 ) -> Result<Vec<Priced>, AllocError>
     ensures { IfOk result (λ prices. prices.items ≡ map (λ kept. kept.priced)
-        (filter (λ kept. nat_eq (count_at (get by_bytes counts.now) kept.identity) 1)
-        (values held.now))) }
+        (filter (λ kept. not (contains by_bytes shared.now kept.identity)) (values held.now))) }
 {
     held.values()
-        .filter(|kept| is_alone(counts, kept))
+        .filter(|kept| !shared.contains(&kept.identity))
         .map(|kept| kept.priced)
         .collect(alloc)
 }
@@ -62,8 +83,8 @@ pub(crate) fn undisputed_prices(
     ensures { IfOk result (λ prices. prices.items ≡ map (λ entry. entry.1.priced)
         (filter (spec.is_alone held.now.entries) held.now.entries)) }
 {
-    let counts = count_identities(alloc, held)?;
-    prices_of_alone(alloc, held, &counts)
+    let shared = shared_identities(alloc, held)?;
+    prices_of_alone(alloc, held, &shared)
 }
 
 /// The records that are not alone in their identity: by identity, then by name.
@@ -74,10 +95,10 @@ fn group_disputed(
     ensures { IfOk result (λ groups.
         map group_shown groups.entries ≡ disputes_among held.now.entries) }
 {
-    let counts = count_identities(alloc, held)?;
+    let shared = shared_identities(alloc, held)?;
     let mut groups: BTreeMap<[u8; 24], Vec<Variant>> = BTreeMap::new(alloc);
     for (name, kept) in held {
-        if !is_alone(&counts, kept) {
+        if shared.contains(&kept.identity) {
             groups
                 .entry(kept.identity)?
                 .or_default()
