@@ -1,1 +1,2 @@
 pub mod ImportLemmas
+pub mod LawLemmas

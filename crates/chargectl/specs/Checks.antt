@@ -1,11 +1,10 @@
 -- A check: what every record of a dump is, and why there are no more.
-use Rattle.std.specs.Prelude.{◌≡◌, ◌⊎◌, Bool, true, false, ℕ, List, [], ◌∷◌, Option, Result, Err, IfOk}
+use Rattle.std.specs.Prelude.{◌≡◌, ◌⊎◌, ℕ, List, [], ◌∷◌, Option, Result, Err, IfOk}
 use Rattle.std.specs.Io.KnownBytes.{Consumes}
 use Rattle.smf_frames.specs.declared.dump.Layout.{Layout}
 use Rattle.smf_frames.specs.Front.{front}
 use Rattle.book_core.specs.declared.source.Source.{Source}
 use Rattle.book_import.specs.declared.receipt.Stop.{Stop}
-use Rattle.book_import.specs.declared.receipt.Stop.TheVariants.{Ledger}
 use Rattle.book_import.specs.Dumps.{stop_behind}
 use Rattle.book_import.specs.Reading.{ReadsOut}
 use Rattle.book_reports.specs.declared.fault.ReportFault.{ReportFault}
@@ -26,8 +25,3 @@ pub record IsCheck (layout : Layout) (cut : Option Stop) (had left held holds : 
 -- the reading went on to the input's end, to a failure, or to the last read that was allowed, unless memory ran out
 abbrev pub ReadsOutUnless : {R : Type 0} → ℕ → Source R → Source R → Result Stop ReportFault → Type 0
 ReadsOutUnless reads old new answer = ReadsOut reads old new ⊎ (answer ≡ Err Memory)
-
--- the stop is that of books that refused, or that memory ran out in an import
-abbrev pub is_stop_of_books : Stop → Bool
-is_stop_of_books (Ledger fault) = true
-is_stop_of_books stop = false

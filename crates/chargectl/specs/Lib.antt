@@ -1,5 +1,7 @@
--- Read in this order: what a report leaves in its writer, what a trial and a check are, and the exit statuses.
+-- Read in this order: what a report leaves in its writer, what a trial and a check are, the exit statuses, and laws
+-- that follow.
 pub mod Writing
 pub mod Trials
 pub mod Checks
 pub mod Statuses
+pub mod Laws

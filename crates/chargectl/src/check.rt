@@ -2,7 +2,8 @@ ghost use Rattle.std.specs.Prelude.{◌≡◌, ◌⊎◌, ◌+◌, ◌≤◌, �
 ghost use Rattle.book_core.specs.Sinks.{writer_of, has_failed};
 ghost use Rattle.book_core.specs.Sources as sources;
 ghost use Rattle.book_import.specs.Reading.{cut_of};
-ghost use Rattle.chargectl.specs.Checks.{IsCheck, ReadsOutUnless, is_stop_of_books};
+ghost use Rattle.book_import.specs.Laws.{is_stop_of_books};
+ghost use Rattle.chargectl.specs.Checks.{IsCheck, ReadsOutUnless};
 ghost use Rattle.chargectl.specs.Writing.{is_write_fault};
 
 use book_core::{Sink, Source};

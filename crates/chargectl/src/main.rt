@@ -2,6 +2,7 @@
 #![tactic(auto)]
 
 mod check;
+mod laws;
 mod message;
 mod program;
 mod status;

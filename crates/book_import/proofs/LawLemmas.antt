@@ -1,0 +1,197 @@
+-- What books hold after an import of which they refused no record.
+use Rattle.std.proofs.Common.{◌≡◌, ◌∙◌, ℕ, List, [], ◌∷◌, refl, sym, ap, subst, Bool, true, false, true≢false, cond, ◌&&◌, ◌||◌, Option, Some, None, is_some, Result, Ok, Err}
+use Rattle.std.specs.Prelude.{if◌then◌else◌, filter, IfOk}
+use Rattle.std.specs.FinMap as map
+use Rattle.std.specs.Ordering.{eq_by_cmp}
+use Rattle.std.proofs.Math.Bool.{or-false, or_comm, or_assoc}
+use Rattle.std.proofs.lemmas.Cmp.{nat_list_cmp_total}
+use Rattle.std.proofs.lemmas.Map.Lookups.{exact_bytes}
+use Rattle.std.proofs.lemmas.Map.Views.{tells_apart}
+use Rattle.tariff_rules.specs.declared.priced.Priced.{Priced}
+use Rattle.smf_type30.specs.declared.classes.Class.{Class}
+use Rattle.smf_type30.specs.declared.classes.Class.TheVariants.{Usage}
+use Rattle.smf_type30.specs.Class.{class_of}
+use Rattle.book_core.specs.declared.answer.Accepted.{Accepted}
+use Rattle.book_core.specs.declared.answer.Accepted.TheVariants.{Kept, Known}
+use Rattle.book_core.specs.declared.fault.LedgerFault.{LedgerFault}
+use Rattle.book_core.specs.declared.fault.LedgerFault.TheVariants.{Full, DigestClash}
+use Rattle.book_core.specs.Books.{Book}
+use Rattle.book_core.specs.Records.{Records, Naming, by_bytes}
+use Rattle.book_core.specs.Rulings.{Rulings, price_in}
+use Rattle.book_core.specs.Sets.{set_of, has, those}
+use Rattle.book_core.specs.Steps.{clashes, is_full, accept_priced, keep}
+use Rattle.book_core.proofs.SetLemmas.{has-with, same_set, those-set_of}
+use Rattle.book_import.specs.declared.receipt.Stop.{Stop}
+use Rattle.book_import.specs.Imports.{Imported, after_accept, handle_by, handle, go_on, handle_all, start_of}
+use Rattle.book_import.specs.Laws.{is_class_of_usage, is_priced_usage, priced_usage, RefusesNone, import_of_records, HoldsMore, HoldsWhatCame, OrderMakesNoDifference}
+
+-- two records are one
+abbrev is_same : List ℕ → List ℕ → Bool
+is_same = eq_by_cmp by_bytes
+
+-- A record was handed in: the new book holds it too where it counts, and nothing else is different.
+record HoldsIt (counts : Bool) (bytes : List ℕ) (old new : Book) : Type 0 where
+  held : (other : List ℕ) → has new.held other ≡ (has old.held other || (counts && is_same other bytes))
+  rulings : new.rulings ≡ old.rulings
+  posted : new.posted ≡ old.posted
+  past : new.past ≡ old.past
+
+-- a record that does not count, where the book stays
+stays_without : (bytes : List ℕ) (book : Book) → HoldsIt false bytes book book
+stays_without bytes book =
+    record { held = λ other. sym (or-false (has book.held other)); rulings = refl; posted = refl; past = refl }
+
+-- what is there at a place is there already, where it counts at that place alone
+there_already : (counts same is : Bool) → (same ≡ true → is ≡ true) → is ≡ (is || (counts && same))
+there_already counts same true there = refl
+there_already true true false there = there refl
+there_already true false false there = refl
+there_already false same false there = refl
+
+-- a record that is held already, where the book stays
+stays_with : (counts : Bool) (bytes : List ℕ) (book : Book) → has book.held bytes ≡ true
+    → HoldsIt counts bytes book book
+stays_with counts bytes book holds = record {
+  held = λ other.
+      there_already counts (is_same other bytes) (has book.held other)
+      (λ same. ap (has book.held) (tells_apart exact_bytes other bytes same) ∙ holds);
+  rulings = refl;
+  posted = refl;
+  past = refl;
+}
+
+-- a record that is kept
+is_kept : (bytes : List ℕ) (book : Book) → HoldsIt true bytes book (keep bytes book)
+is_kept bytes book = record {
+  held = λ other.
+      has-with nat_list_cmp_total book.held bytes other ∙ or_comm (is_same other bytes) (has book.held other);
+  rulings = refl;
+  posted = refl;
+  past = refl;
+}
+
+-- the answer to a usage record, by whether it is held, whether its name is another's, and its price
+abbrev answer_by : Book → Bool → Bool → Option Priced → Result Accepted LedgerFault
+answer_by book known clash price =
+    if known then Ok Known else if clash then Err DigestClash else accept_priced book price
+
+-- a usage record that the books do not refuse counts where it has a price
+usage_handled : (bytes : List ℕ) (so_far : Imported) (known clash : Bool) (price : Option Priced)
+    → has so_far.book.held bytes ≡ known
+    → IfOk (after_accept bytes so_far (answer_by so_far.book known clash price))
+    (λ next. HoldsIt (is_some price) bytes so_far.book next.book)
+usage_handled bytes so_far true clash price holds = stays_with (is_some price) bytes so_far.book holds
+usage_handled bytes so_far false true price new = tt
+usage_handled bytes so_far false false None new = stays_without bytes so_far.book
+usage_handled bytes so_far false false (Some priced) new =
+    elim (is_full so_far.book priced.amount) as (λ full.
+    IfOk (after_accept bytes so_far (if full then Err Full else Ok Kept))
+    (λ next. HoldsIt true bytes so_far.book next.book)) [
+      | true ↦ tt
+      | false ↦ is_kept bytes so_far.book
+    ]
+
+-- a record of a class counts where the class is that of usage records, and it has a price
+abbrev counts_by : Class → Rulings → List ℕ → Bool
+counts_by class rulings bytes = is_class_of_usage class && is_some (price_in rulings bytes)
+
+-- a record that the books do not refuse counts where it is usage and has a price
+one_handled : (naming : Naming) (bytes : List ℕ) (so_far : Imported) (class : Class)
+    → IfOk (handle_by naming bytes so_far class)
+    (λ next. HoldsIt (counts_by class so_far.book.rulings bytes) bytes so_far.book next.book)
+one_handled naming bytes so_far Usage =
+    usage_handled bytes so_far (has so_far.book.held bytes) (clashes naming so_far.book.held bytes)
+    (price_in so_far.book.rulings bytes) refl
+one_handled naming bytes so_far class = stays_without bytes so_far.book
+
+-- who is among the priced usage records of a list: its first, if it is one, and those of the rest
+has-first : (rulings : Rulings) (bytes : List ℕ) (rest : List (List ℕ)) (other : List ℕ)
+    → has (priced_usage rulings (bytes ∷ rest)) other
+    ≡ ((is_priced_usage rulings bytes && is_same other bytes) || has (priced_usage rulings rest) other)
+has-first rulings bytes rest other =
+    let passing : List (List ℕ) = filter (is_priced_usage rulings) rest in
+    elim (is_priced_usage rulings bytes) as (λ counts.
+    has (set_of by_bytes (cond counts (bytes ∷ passing) passing)) other
+    ≡ ((counts && is_same other bytes) || has (priced_usage rulings rest) other)) [
+      | true ↦ has-with nat_list_cmp_total (priced_usage rulings rest) bytes other
+      | false ↦ refl
+    ]
+
+-- one record and then the rest: the books hold what came of all of them
+then_rest : (bytes : List ℕ) (rest : List (List ℕ)) {old between new : Book}
+    → HoldsIt (is_priced_usage old.rulings bytes) bytes old between
+    → HoldsMore (priced_usage between.rulings rest) between new
+    → HoldsMore (priced_usage old.rulings (bytes ∷ rest)) old new
+then_rest bytes rest {old} {between} one more = record {
+  held = λ other.
+      more.held other
+      ∙ ap (λ rulings. has between.held other || has (priced_usage rulings rest) other) one.rulings
+      ∙ ap (λ b. b || has (priced_usage old.rulings rest) other) (one.held other)
+      ∙ or_assoc (has old.held other) (is_priced_usage old.rulings bytes && is_same other bytes)
+      (has (priced_usage old.rulings rest) other)
+      ∙ ap (λ b. has old.held other || b) (sym (has-first old.rulings bytes rest other));
+  rulings = more.rulings ∙ one.rulings;
+  posted = more.posted ∙ one.posted;
+  past = more.past ∙ one.past;
+}
+
+-- after no record the books hold what they held
+none_came : (book : Book) → HoldsMore (priced_usage book.rulings []) book book
+none_came book = record {
+  held = λ other.
+      let nothing : has (priced_usage book.rulings []) other ≡ false = ap is_some (map.get-empty by_bytes other) in
+      sym (ap (λ b. has book.held other || b) nothing ∙ or-false (has book.held other));
+  rulings = refl;
+  posted = refl;
+  past = refl;
+}
+
+-- from any point of an import on, the books hold what came, where they refuse no record
+holds_from : (naming : Naming) (stop : Stop) (records : List (List ℕ)) (so_far : Imported)
+    → RefusesNone (handle_all naming stop records so_far)
+    → HoldsMore (priced_usage so_far.book.rulings records) so_far.book (handle_all naming stop records so_far).book
+holds_from naming stop [] so_far unrefused = none_came so_far.book
+holds_from naming stop (bytes ∷ rest) so_far unrefused =
+    let later : Imported → Imported = handle_all naming stop rest in
+    elim (handle naming bytes so_far) as (λ handled.
+    IfOk handled (λ next. HoldsIt (is_priced_usage so_far.book.rulings bytes) bytes so_far.book next.book)
+    → RefusesNone (go_on later so_far handled)
+    → HoldsMore (priced_usage so_far.book.rulings (bytes ∷ rest)) so_far.book (go_on later so_far handled).book) [
+      | Ok next ↦ λ one unrefused. then_rest bytes rest one (holds_from naming stop rest next unrefused)
+      | Err fault ↦ λ one unrefused. absurd (true≢false unrefused)
+    ] (one_handled naming bytes so_far (class_of bytes)) unrefused
+
+-- the law of it
+pub holds_what_came : HoldsWhatCame
+holds_what_came naming before stop records unrefused = holds_from naming stop records (start_of before) unrefused
+
+-- lists with one set have one set of priced usage records
+same_priced : (rulings : Rulings) (records others : List (List ℕ)) → set_of by_bytes records ≡ set_of by_bytes others
+    → priced_usage rulings records ≡ priced_usage rulings others
+same_priced rulings records others same =
+    let priced : List ℕ → Bool = is_priced_usage rulings in
+    sym (those-set_of nat_list_cmp_total exact_bytes priced records)
+    ∙ ap (those priced) same
+    ∙ those-set_of nat_list_cmp_total exact_bytes priced others
+
+-- one book alone holds so much more than another, with nothing else different
+same_book : {records : Records} {before one other : Book} → HoldsMore records before one
+    → HoldsMore records before other → one ≡ other
+same_book {one} {other} first second =
+    let each = λ (bytes : List ℕ). first.held bytes ∙ sym (second.held bytes) in
+    let held = same_set nat_list_cmp_total exact_bytes one.held other.held each in
+    λ i. record {
+      rulings = (first.rulings ∙ sym second.rulings) i;
+      held = held i;
+      posted = (first.posted ∙ sym second.posted) i;
+      past = (first.past ∙ sym second.past) i;
+    }
+
+-- the law of it
+pub order_makes_no_difference : OrderMakesNoDifference
+order_makes_no_difference naming before stop other_stop records others same unrefused other_unrefused =
+    let after : Book = (import_of_records naming before other_stop others).book in
+    let first = holds_what_came naming before stop records unrefused in
+    let second = holds_what_came naming before other_stop others other_unrefused in
+    let priced = sym (same_priced before.rulings records others same) in
+    same_book first (subst (λ came. HoldsMore came before after) priced second)
