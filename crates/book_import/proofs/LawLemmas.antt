@@ -1,5 +1,5 @@
 -- What books hold after an import of which they refused no record.
-use Rattle.std.proofs.Common.{◌≡◌, ◌∙◌, ℕ, List, [], ◌∷◌, refl, sym, ap, subst, Bool, true, false, true≢false, cond, ◌&&◌, ◌||◌, Option, Some, None, is_some, Result, Ok, Err}
+use Rattle.std.proofs.Common.{◌≡◌, ◌∙◌, ℕ, List, [], ◌∷◌, ◌++◌, refl, sym, ap, subst, append-nil, Bool, true, false, true≢false, cond, ◌&&◌, ◌||◌, Option, Some, None, is_some, Result, Ok, Err}
 use Rattle.std.specs.Prelude.{if◌then◌else◌, filter, IfOk}
 use Rattle.std.specs.FinMap as map
 use Rattle.std.specs.Ordering.{eq_by_cmp}
@@ -23,7 +23,7 @@ use Rattle.book_core.specs.Steps.{clashes, is_full, accept_priced, keep}
 use Rattle.book_core.proofs.SetLemmas.{has-with, same_set, those-set_of}
 use Rattle.book_import.specs.declared.receipt.Stop.{Stop}
 use Rattle.book_import.specs.Imports.{Imported, after_accept, handle_by, handle, go_on, handle_all, start_of}
-use Rattle.book_import.specs.Laws.{is_class_of_usage, is_priced_usage, priced_usage, RefusesNone, import_of_records, HoldsMore, HoldsWhatCame, OrderMakesNoDifference}
+use Rattle.book_import.specs.Laws.{is_class_of_usage, is_priced_usage, priced_usage, RefusesNone, import_of_records, HoldsMore, HoldsWhatCame, Batch, records_of, book_after, RefuseNone, CutsMakeNoDifference}
 
 -- two records are one
 abbrev is_same : List ℕ → List ℕ → Bool
@@ -165,6 +165,48 @@ holds_from naming stop (bytes ∷ rest) so_far unrefused =
 pub holds_what_came : HoldsWhatCame
 holds_what_came naming before stop records unrefused = holds_from naming stop records (start_of before) unrefused
 
+-- who is among the priced usage records of two lists
+has-both : (rulings : Rulings) (records later : List (List ℕ)) (other : List ℕ)
+    → has (priced_usage rulings (records ++ later)) other
+    ≡ (has (priced_usage rulings records) other || has (priced_usage rulings later) other)
+has-both rulings [] later other =
+    let nothing : has (priced_usage rulings []) other ≡ false = ap is_some (map.get-empty by_bytes other) in
+    sym (ap (λ b. b || has (priced_usage rulings later) other) nothing)
+has-both rulings (bytes ∷ rest) later other =
+    let this = is_priced_usage rulings bytes && is_same other bytes in
+    has-first rulings bytes (rest ++ later) other
+    ∙ ap (λ b. this || b) (has-both rulings rest later other)
+    ∙ sym (or_assoc this (has (priced_usage rulings rest) other) (has (priced_usage rulings later) other))
+    ∙ ap (λ b. b || has (priced_usage rulings later) other) (sym (has-first rulings bytes rest other))
+
+-- a batch and then others: the books hold what came of all of them
+then_later : (records later : List (List ℕ)) {old between new : Book}
+    → HoldsMore (priced_usage old.rulings records) old between
+    → HoldsMore (priced_usage between.rulings later) between new
+    → HoldsMore (priced_usage old.rulings (records ++ later)) old new
+then_later records later {old} {between} one more = record {
+  held = λ other.
+      more.held other
+      ∙ ap (λ rulings. has between.held other || has (priced_usage rulings later) other) one.rulings
+      ∙ ap (λ b. b || has (priced_usage old.rulings later) other) (one.held other)
+      ∙ or_assoc (has old.held other) (has (priced_usage old.rulings records) other)
+      (has (priced_usage old.rulings later) other)
+      ∙ ap (λ b. has old.held other || b) (sym (has-both old.rulings records later other));
+  rulings = more.rulings ∙ one.rulings;
+  posted = more.posted ∙ one.posted;
+  past = more.past ∙ one.past;
+}
+
+-- after batches of which none was refused a record, the books hold what came of all of them
+holds_batches : (naming : Naming) (before : Book) (batches : List Batch) → RefuseNone naming before batches
+    → HoldsMore (priced_usage before.rulings (records_of batches)) before (book_after naming before batches)
+holds_batches naming before [] unrefused = none_came before
+holds_batches naming before (batch ∷ later) unrefused =
+    let imported = import_of_records naming before batch.stop batch.records in
+    then_later batch.records (records_of later)
+    (holds_what_came naming before batch.stop batch.records unrefused.0)
+    (holds_batches naming imported.book later unrefused.1)
+
 -- lists with one set have one set of priced usage records
 same_priced : (rulings : Rulings) (records others : List (List ℕ)) → set_of by_bytes records ≡ set_of by_bytes others
     → priced_usage rulings records ≡ priced_usage rulings others
@@ -188,10 +230,23 @@ same_book {one} {other} first second =
     }
 
 -- the law of it
-pub order_makes_no_difference : OrderMakesNoDifference
-order_makes_no_difference naming before stop other_stop records others same unrefused other_unrefused =
-    let after : Book = (import_of_records naming before other_stop others).book in
-    let first = holds_what_came naming before stop records unrefused in
-    let second = holds_what_came naming before other_stop others other_unrefused in
-    let priced = sym (same_priced before.rulings records others same) in
+pub cuts_make_no_difference : CutsMakeNoDifference
+cuts_make_no_difference naming before batches others same unrefused other_unrefused =
+    let after : Book = book_after naming before others in
+    let first = holds_batches naming before batches unrefused in
+    let second = holds_batches naming before others other_unrefused in
+    let priced = sym (same_priced before.rulings (records_of batches) (records_of others) same) in
     same_book first (subst (λ came. HoldsMore came before after) priced second)
+
+-- the same of two dumps, each in one import
+pub one_import_each : (naming : Naming) (before : Book) (stop other_stop : Stop) (records others : List (List ℕ))
+    → set_of by_bytes records ≡ set_of by_bytes others
+    → RefusesNone (import_of_records naming before stop records)
+    → RefusesNone (import_of_records naming before other_stop others)
+    → (import_of_records naming before stop records).book ≡ (import_of_records naming before other_stop others).book
+one_import_each naming before stop other_stop records others same unrefused other_unrefused =
+    let batch : Batch = record { records = records; stop = stop } in
+    let other_batch : Batch = record { records = others; stop = other_stop } in
+    cuts_make_no_difference naming before (batch ∷ []) (other_batch ∷ [])
+    (ap (set_of by_bytes) (append-nil records) ∙ same ∙ sym (ap (set_of by_bytes) (append-nil others)))
+    (unrefused, tt) (other_unrefused, tt)

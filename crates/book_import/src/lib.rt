@@ -9,7 +9,7 @@ mod records;
 mod whole;
 
 pub use dump::{Dump, read_dump};
-pub use laws::{books_hold_what_came, order_makes_no_difference};
+pub use laws::{books_hold_what_came, cuts_make_no_difference};
 pub use reading::MAX_READS;
 pub use receipt::{Receipt, Stop};
 pub use whole::import_whole;

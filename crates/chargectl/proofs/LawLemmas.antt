@@ -12,7 +12,7 @@ use Rattle.book_import.specs.Dumps.{stop_behind}
 use Rattle.book_import.specs.Imports.{Imported, Handles, handle, handle_all, go_on, start_of}
 use Rattle.book_import.specs.Imports.Handles.{whole, out_of_memory}
 use Rattle.book_import.specs.Laws.{is_stop_of_books, RefusesNone, import_of_records}
-use Rattle.book_import.proofs.LawLemmas.{order_makes_no_difference}
+use Rattle.book_import.proofs.LawLemmas.{one_import_each}
 use Rattle.chargectl.specs.Trials.{dispute_text, open_statement}
 use Rattle.chargectl.specs.Laws.{SameRecordsSameTexts}
 
@@ -47,7 +47,7 @@ same_records_same_texts terms layout other_layout cut other_cut bytes others imp
     let first = all_handled sha256 stop dump.records (flat_book terms) imported one.booked one.unrefused in
     let second = all_handled sha256 other_stop other_dump.records (flat_book terms) other two.booked two.unrefused in
     let between =
-    order_makes_no_difference sha256 (flat_book terms) stop other_stop dump.records other_dump.records same
+    one_import_each sha256 (flat_book terms) stop other_stop dump.records other_dump.records same
     (subst RefusesNone first one.unrefused) (subst RefusesNone second two.unrefused) in
     let books : imported.book ≡ other.book =
     ap (λ (one : Imported). one.book) first ∙ between ∙ sym (ap (λ (one : Imported). one.book) second) in
