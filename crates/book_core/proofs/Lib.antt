@@ -1,4 +1,5 @@
--- Lists and sets first; then entries of a map, and what those of a plain ledger hold, charge and dispute.
+-- Lists and sets first; then entries of a map, and what those of a plain ledger hold, charge and dispute; last, whole
+-- histories.
 pub mod ListLemmas
 pub mod SumsAlike
 pub mod SetLemmas
@@ -16,3 +17,9 @@ pub mod IdentityLemmas
 pub mod PricingLemmas
 pub mod TariffLemmas
 pub mod AnswerLemmas
+pub mod CallLemmas
+pub mod HistoryLemmas
+pub mod OnceLemmas
+pub mod PastLemmas
+pub mod StepLemmas
+pub mod OrderLemmas

@@ -21,7 +21,9 @@ mod variant;
 pub use answer::{Accepted, Ruled};
 pub use dispute::{Dispute, Variant};
 pub use fault::LedgerFault;
-pub use laws::earlier_prices_stay;
+pub use laws::{
+    books_follow_history, calls_go_forward, charged_once, earlier_prices_stay, order_is_free,
+};
 pub use limits::{MAX_HELD, MAX_PERIOD, MAX_TOTAL};
 pub use naming::{Naming, ShaNames};
 pub use plain::PlainLedger;
