@@ -2,7 +2,7 @@
 
 ghost use Rattle.std.specs.Prelude.{IfOk};
 ghost use Rattle.smf_text.specs.Day.{IsDay};
-ghost use Rattle.book_core.specs.Disputes.{IsDispute, dispute_shown};
+ghost use Rattle.book_model.specs.Disputes.{IsDispute, dispute_shown};
 
 mod check_lists;
 

@@ -1,6 +1,6 @@
 ghost use Rattle.std.specs.Prelude.{◌≡◌, ◌+◌, ◌∷◌, ◌≤◌, ◌^◌, [], false, true, IfErr};
-ghost use Rattle.book_core.specs.Sinks.{writer_of, has_failed};
-ghost use Rattle.book_core.specs.Sources as sources;
+ghost use Rattle.streams.specs.Sinks.{writer_of, has_failed};
+ghost use Rattle.streams.specs.Sources as sources;
 ghost use Rattle.book_core.specs.PlainBook.{book_of};
 ghost use Rattle.book_import.specs.Reading.{ReadsOutFor, cut_of};
 ghost use Rattle.book_reports.specs.ReceiptLines as lines;

@@ -1,7 +1,7 @@
 use Rattle.std.proofs.Common.{[], ◌∷◌, refl, inr, Result, Ok, Err}
 use Rattle.std.proofs.lemmas.Result.{err_from_is_err_and}
 use Rattle.book_core.specs.PlainBook.{book_of}
-use Rattle.book_core.specs.Sinks.{writer_of}
+use Rattle.streams.specs.Sinks.{writer_of}
 use Rattle.book_import.specs.declared.receipt.Receipt.{Receipt}
 use Rattle.book_import.specs.Imports.{Imported}
 use Rattle.book_reports.specs.declared.fault.ReportFault.{ReportFault}

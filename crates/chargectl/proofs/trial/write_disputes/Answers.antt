@@ -1,8 +1,8 @@
 use Rattle.std.proofs.Common.{◌∙◌, [], ◌∷◌, sym, ap, subst, map}
 use Rattle.chargectl.proofs.TrialLemmas.{same_value}
-use Rattle.book_core.specs.Disputes.{dispute_shown}
+use Rattle.book_model.specs.Disputes.{dispute_shown}
 use Rattle.std.proofs.lemmas.Result.{err_from_is_err_and}
-use Rattle.book_core.specs.Sinks.{writer_of}
+use Rattle.streams.specs.Sinks.{writer_of}
 use Rattle.book_reports.specs.DisputeLists.{dispute_list_text}
 use Rattle.chargectl.specs.Writing.{Writes}
 use Rattle.chargectl.proofs.WritingLemmas.{ledger_not_write, memory_not_write, nothing_written, text_written}

@@ -1,6 +1,6 @@
 use Rattle.std.proofs.Common.{◌∙◌, [], ◌∷◌, subst}
 use Rattle.std.proofs.lemmas.Result.{err_from_is_err_and}
-use Rattle.book_core.specs.Sinks.{writer_of}
+use Rattle.streams.specs.Sinks.{writer_of}
 use Rattle.chargectl.specs.Writing.{Writes}
 use Rattle.chargectl.proofs.WritingLemmas.{memory_not_write, nothing_written, text_written}
 use Rattle.chargectl.proofs.trial.write_receipt.Goals as goal

@@ -1,7 +1,7 @@
 use Rattle.std.proofs.Common.{◌∙◌, [], ◌∷◌, sym, ap, subst, None}
 use Rattle.chargectl.proofs.TrialLemmas.{same_value}
 use Rattle.std.proofs.lemmas.Result.{err_from_is_err_and}
-use Rattle.book_core.specs.Sinks.{writer_of}
+use Rattle.streams.specs.Sinks.{writer_of}
 use Rattle.book_reports.specs.Statements.{statement_text}
 use Rattle.chargectl.specs.Writing.{Writes}
 use Rattle.chargectl.proofs.WritingLemmas.{ledger_not_write, memory_not_write, nothing_written, text_written}
