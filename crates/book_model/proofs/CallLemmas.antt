@@ -9,11 +9,11 @@ use Rattle.book_model.specs.declared.answer.Ruled.{Ruled}
 use Rattle.book_model.specs.declared.answer.Ruled.TheVariants.{Done, Already}
 use Rattle.book_model.specs.declared.fault.LedgerFault.{LedgerFault}
 use Rattle.book_model.specs.declared.fault.LedgerFault.TheVariants.{TariffDate, TariffExists, RecordsDated, WrongPeriod, NotLater, Full}
-use Rattle.book_model.specs.declared.limits.TheConstants.{MAX_PERIOD}
+use Rattle.book_model.specs.Limits.{last_period}
 use Rattle.book_model.specs.Books.{Book, open_number}
 use Rattle.book_model.specs.Laws.{IsAfterLastClose, CallsGoForward}
 use Rattle.book_model.specs.Rulings.{last_close}
-use Rattle.book_model.specs.Steps.{has_text, is_effective, is_later, has_dated, terms_answer, is_closed, close_answer}
+use Rattle.book_model.specs.Ruling.{has_text, is_effective, is_later, has_dated, terms_answer, is_closed, is_early, close_answer}
 
 -- the answer by what each test gives, in their order
 abbrev pub by_tests : Bool → Bool → Bool → Bool → Result Ruled LedgerFault
@@ -25,7 +25,7 @@ by_tests told there before dated =
     else Ok Done
 
 -- a tariff that is put in force passed the test of its day
-passes : (told there later dated : Bool) → by_tests told there later dated ≡ Ok Done → later ≡ true
+pub passes : (told there later dated : Bool) → by_tests told there later dated ≡ Ok Done → later ≡ true
 passes true there later dated is = cc
 passes false true later dated is = cc
 passes false false true dated is = refl
@@ -78,7 +78,7 @@ close_done : (book : Book) (number : ℕ) (day : ℤ) → close_answer book numb
 close_done book number day is =
     after_last (last_close book.rulings) day
     (closes_late (open_number book) (is_closed number day book.rulings) (number == open_number book)
-    (option_map_or (λ close. not (int_lt close day)) (last_close book.rulings) false) (number == MAX_PERIOD) is)
+    (is_early day book.rulings) (number == last_period) is)
 
 -- the law of it
 pub calls_go_forward : CallsGoForward
