@@ -134,7 +134,7 @@ through_dated rulings day held bytes there =
     (passes_those (λ b. undisputed b && is_dated_by day b) held bytes there))
 
 -- the records of a period are held where what was charged before it and at its end is
-period_held : (held : Records) (last : Option ℤ) (before charged : Records)
+pub period_held : (held : Records) (last : Option ℤ) (before charged : Records)
     → ((bytes : List ℕ) → has before bytes ≡ true → has held bytes ≡ true)
     → ((bytes : List ℕ) → has charged bytes ≡ true → has held bytes ≡ true)
     → AreHeld held (period_by last before charged)
