@@ -1,5 +1,6 @@
 -- Histories that calls made.
-use Rattle.std.proofs.Common.{◌≡◌, ℕ, List, [], ◌∷◌, refl, sym, ap, ◌∙◌, subst, true, Bool, not, Some, None, Ok}
+use Rattle.std.proofs.Common.{◌≡◌, ℕ, List, [], ◌∷◌, refl, sym, ap, ◌∙◌, subst, true, Bool, not}
+use Rattle.std.proofs.Common.{Some, None, Ok}
 use Rattle.std.specs.Prelude.{ℤ, int_lt, not}
 use Rattle.std.specs.List.{list_any, list_all}
 use Rattle.std.specs.Option.{option_map, option_map_or}
@@ -12,7 +13,8 @@ use Rattle.book_model.specs.History.{rulings, tariffs, book_after}
 use Rattle.book_model.specs.Laws.{LatestIsLast}
 use Rattle.book_model.specs.Records.{Naming}
 use Rattle.book_model.specs.Ruling.{has_text, is_effective, is_later, has_dated, terms_answer}
-use Rattle.book_model.specs.Rulings.{Rulings, Tariffed, are_rising, with_tariff, with_close, last_close}
+use Rattle.book_model.specs.Rulings.{Rulings, Tariffed, are_rising, with_tariff, with_close}
+use Rattle.book_model.specs.Rulings.{last_close}
 use Rattle.book_model.specs.Sound.{IsSound}
 use Rattle.book_model.proofs.CallLemmas.{passes}
 use Rattle.book_model.proofs.LatestLemmas.{rising-behind, begun-last}
@@ -38,14 +40,16 @@ sound_after naming (TariffAccepted (Some text) terms ∷ older) answered =
     steps_stay_sound.tariff naming (book_after older) text terms
     (sound_after naming older answered.1) answered.0
 sound_after naming (TariffAccepted None terms ∷ older) answered =
-    subst (λ history. IsSound naming (book_after (TariffAccepted None terms ∷ history))) (sym answered)
+    subst (λ history. IsSound naming (book_after (TariffAccepted None terms ∷ history)))
+    (sym answered)
     (steps_stay_sound.flat naming terms)
 sound_after naming (PeriodClosed day ∷ older) answered =
     steps_stay_sound.close naming (book_after older) (open_number (book_after older)) day
     (sound_after naming older answered.1) answered.0
 
 -- a tariff that comes into force begins later than every other one
-begins_later : (book : Book) (text : List ℕ) (terms : Terms) → terms_answer book text terms ≡ Ok Done
+begins_later : (book : Book) (text : List ℕ) (terms : Terms)
+    → terms_answer book text terms ≡ Ok Done
     → list_all (λ tariff. int_lt tariff.terms.effective terms.effective) book.rulings.tariffs ≡ true
 begins_later book text terms done =
     let day : ℤ = terms.effective in

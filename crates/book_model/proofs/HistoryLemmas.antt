@@ -1,5 +1,8 @@
--- The closes of a history: their days, the history before each of them, and what each of them charged.
-use Rattle.std.proofs.Common.{◌≡◌, ℕ, zero, suc, ◌≤◌, ◌<◌, List, [], ◌∷◌, length, Option, Some, None, refl, ap, sym, ◌∙◌, arith, get_or, Bool, true, false, true≢false, not, ◌&&◌, is_some}
+-- The closes of a history: their days, the history before each of them, and what each of them
+-- charged.
+use Rattle.std.proofs.Common.{◌≡◌, ℕ, zero, suc, ◌≤◌, ◌<◌, List, [], ◌∷◌, length, Option, Some}
+use Rattle.std.proofs.Common.{None, refl, ap, sym, ◌∙◌, arith, get_or, Bool, true, false}
+use Rattle.std.proofs.Common.{true≢false, not, ◌&&◌, is_some}
 use Rattle.std.specs.Prelude.{ℤ, pos, slice_get, int_lt}
 use Rattle.std.specs.FinMap as map
 use Rattle.std.specs.List.{last_or}
@@ -10,13 +13,16 @@ use Rattle.std.proofs.Math.Seq.{take-length, take-append_seam}
 use Rattle.std.proofs.lemmas.Map.Lookups.{exact_bytes}
 use Rattle.std.proofs.lemmas.Option.{slice_get_past, slice_get-get_or}
 use Rattle.smf_type30.specs.Usage.{day_of}
-use Rattle.book_model.specs.Charged.{is_undisputed, is_dated_by, is_dated_after, charged_now, charged_by}
+use Rattle.book_model.specs.Charged.{is_undisputed, is_dated_by, is_dated_after, charged_now}
+use Rattle.book_model.specs.Charged.{charged_by}
 use Rattle.book_model.specs.Events.{Event, RecordKept, TariffAccepted, PeriodClosed}
-use Rattle.book_model.specs.History.{rulings, closes, kept, tariffs, before_close, day_of_close, held_before, charged_in}
+use Rattle.book_model.specs.History.{rulings, closes, kept, tariffs, before_close, day_of_close}
+use Rattle.book_model.specs.History.{held_before, charged_in}
 use Rattle.book_model.specs.Records.{Records, by_bytes}
 use Rattle.book_model.specs.Rulings.{Rulings, Tariffed, rulings_before, last_close}
 use Rattle.book_model.specs.Sets.{set_of, has}
-use Rattle.book_model.proofs.ListLemmas.{slice_get-front, slice_get-behind, last_or-behind, last_or-is}
+use Rattle.book_model.proofs.ListLemmas.{slice_get-front, slice_get-behind, last_or-behind}
+use Rattle.book_model.proofs.ListLemmas.{last_or-is}
 use Rattle.book_model.proofs.SetLemmas.{has-those}
 
 -- all records that are held at the end of a history
@@ -31,17 +37,20 @@ has_day (suc k) history some came =
     (get_or (closes history) k (pos 0), slice_get-get_or (closes history) k (pos 0) (omega arith))
 
 -- a close that did not come has none
-pub no_day : (k : ℕ) (history : List Event) → length (closes history) < k → day_of_close k history ≡ None
+pub no_day : (k : ℕ) (history : List Event) → length (closes history) < k
+    → day_of_close k history ≡ None
 no_day zero history after = refl
 no_day (suc k) history after = slice_get_past (closes history) k (omega arith)
 
 -- the history before a close that did not come is all of it
-pub before_all : (k : ℕ) (history : List Event) → length (closes history) < k → before_close k history ≡ history
+pub before_all : (k : ℕ) (history : List Event) → length (closes history) < k
+    → before_close k history ≡ history
 before_all k [] after = refl
 before_all k (event ∷ older) after = rw (lt-ltb (length (closes (event ∷ older))) k after)
 
 -- so all records are held then
-pub held_all : (k : ℕ) (history : List Event) → length (closes history) < k → held_before k history ≡ held_after history
+pub held_all : (k : ℕ) (history : List Event) → length (closes history) < k
+    → held_before k history ≡ held_after history
 held_all k history after = ap (λ before. set_of by_bytes (kept before)) (before_all k history after)
 
 -- all rulings stood before a close that comes next
@@ -70,20 +79,25 @@ not_late false true held is = absurd (true≢false (sym is))
 
 -- what a close charges is dated no later than it
 charged_not_after : (rulings : Rulings) (day : ℤ) (held : Records) (bytes : List ℕ)
-    → has (charged_by rulings (Some day) held) bytes ≡ true → is_dated_after (Some day) bytes ≡ false
+    → has (charged_by rulings (Some day) held) bytes ≡ true → is_dated_after (Some day) bytes
+    ≡ false
 charged_not_after rulings day held bytes is =
-    let passes : List ℕ → Bool = λ other. is_undisputed rulings held other && is_dated_by day other in
+    let passes : List ℕ
+    → Bool = λ other. is_undisputed rulings held other && is_dated_by day other in
     not_late (is_undisputed rulings held bytes) (int_lt day (day_of bytes)) (has held bytes)
     (sym (has-those nat_list_cmp_total exact_bytes passes held bytes) ∙ is)
 
 -- nothing is charged before the first period
-pub none_charged : (history : List Event) (bytes : List ℕ) → has (charged_in zero history) bytes ≡ false
+pub none_charged : (history : List Event) (bytes : List ℕ) → has (charged_in zero history) bytes
+    ≡ false
 none_charged history bytes = ap is_some (map.get-empty by_bytes bytes)
 
 -- so what was charged at the end of a period is not dated after the close that ended it
 pub charged_not_late : (k : ℕ) (history : List Event) (bytes : List ℕ) → k ≤ length (closes history)
-    → has (charged_in k history) bytes ≡ true → is_dated_after (day_of_close k history) bytes ≡ false
-charged_not_late zero history bytes came is = absurd (true≢false (sym is ∙ none_charged history bytes))
+    → has (charged_in k history) bytes ≡ true → is_dated_after (day_of_close k history) bytes
+    ≡ false
+charged_not_late zero history bytes came is =
+    absurd (true≢false (sym is ∙ none_charged history bytes))
 charged_not_late (suc k) history bytes came is =
     let day = has_day (suc k) history (omega arith) came in
     let held : Records = held_before (suc k) history in
@@ -98,13 +112,15 @@ pub closed_once_more : (day : ℤ) (older : List Event)
 closed_once_more day older = omega (arith, length-append (closes older) (day ∷ []))
 
 -- an event takes away no close
-closes_stay : (event : Event) (older : List Event) → length (closes older) ≤ length (closes (event ∷ older))
+closes_stay : (event : Event) (older : List Event)
+    → length (closes older) ≤ length (closes (event ∷ older))
 closes_stay (RecordKept bytes) older = omega arith
 closes_stay (TariffAccepted text terms) older = omega arith
 closes_stay (PeriodClosed day) older = omega (arith, closed_once_more day older)
 
 -- right after a close, it is the last one
-pub last_closed : (day : ℤ) (older : List Event) → last_close (rulings (PeriodClosed day ∷ older)) ≡ Some day
+pub last_closed : (day : ℤ) (older : List Event) → last_close (rulings (PeriodClosed day ∷ older))
+    ≡ Some day
 last_closed day older = last_or-behind None (closes older) day
 
 -- and its day is that of its number
@@ -118,7 +134,8 @@ day_at zero days = None
 day_at (suc k) days = slice_get days k
 
 -- the day of a close by the list of days
-day_of_close-at : (k : ℕ) (history : List Event) → day_of_close k history ≡ day_at k (closes history)
+day_of_close-at : (k : ℕ) (history : List Event)
+    → day_of_close k history ≡ day_at k (closes history)
 day_of_close-at zero history = refl
 day_of_close-at (suc k) history = refl
 
@@ -130,7 +147,8 @@ last-at (day ∷ days) = last_or-is day days
 -- the last close is the one with the number of all closes
 pub last_close-is : (history : List Event)
     → last_close (rulings history) ≡ day_of_close (length (closes history)) history
-last_close-is history = last-at (closes history) ∙ sym (day_of_close-at (length (closes history)) history)
+last_close-is history = last-at (closes history)
+    ∙ sym (day_of_close-at (length (closes history)) history)
 
 -- an event changes no day of a close before it
 pub day_stays : (k : ℕ) (event : Event) (older : List Event) → k ≤ length (closes older)
@@ -164,7 +182,8 @@ ruled_stays : (k : ℕ) (event : Event) (older : List Event) → k ≤ length (c
 ruled_stays k (RecordKept bytes) older came = refl
 ruled_stays k (TariffAccepted text terms) older came = refl
 ruled_stays k (PeriodClosed day) older came =
-    ap (λ days. record (rulings older) { closes = days }) (take-append-le k (closes older) (day ∷ []) came)
+    ap (λ days. record (rulings older) { closes = days })
+    (take-append-le k (closes older) (day ∷ []) came)
 
 -- so an event does not change who was charged at the end of a period before it
 pub charged_stays : (k : ℕ) (event : Event) (older : List Event) → k ≤ length (closes older)
@@ -183,4 +202,5 @@ charged_stays (suc k) event older came =
 pub rulings_closed : (day : ℤ) (older : List Event)
     → rulings_before (length (closes older)) (rulings (PeriodClosed day ∷ older)) ≡ rulings older
 rulings_closed day older =
-    ap (λ days. record (rulings older) { closes = days }) (take-append_seam (closes older) (day ∷ []))
+    ap (λ days. record (rulings older) { closes = days })
+    (take-append_seam (closes older) (day ∷ []))

@@ -1,5 +1,6 @@
 -- Tariffs that stand in the order of their first days: the latest that has begun is the last.
-use Rattle.std.proofs.Common.{◌≡◌, ℕ, List, [], ◌∷◌, ◌++◌, refl, sym, ap, ◌∙◌, cond, true, false, Bool, ◌&&◌, Option, Some, None, arith}
+use Rattle.std.proofs.Common.{◌≡◌, ℕ, List, [], ◌∷◌, ◌++◌, refl, sym, ap, ◌∙◌, cond, true, false}
+use Rattle.std.proofs.Common.{Bool, ◌&&◌, Option, Some, None, arith}
 use Rattle.std.specs.Prelude.{ℤ, int_lt, filter, find, reverse}
 use Rattle.std.specs.Option.{option_map, option_map_or, option_or}
 use Rattle.std.specs.List.{list_all}
@@ -8,7 +9,8 @@ use Rattle.std.proofs.lemmas.List.Folds.{find-append}
 use Rattle.smf_type30.specs.Usage.{day_of}
 use Rattle.tariff_rules.specs.Price.{price_by}
 use Rattle.tariff_rules.specs.declared.priced.Priced.{Priced}
-use Rattle.book_model.specs.Rulings.{Tariffed, later_of, latest, are_rising, has_begun, in_force, price_under}
+use Rattle.book_model.specs.Rulings.{Tariffed, later_of, latest, are_rising, has_begun, in_force}
+use Rattle.book_model.specs.Rulings.{price_under}
 use Rattle.book_model.proofs.RecordSets.{first_of, second_of}
 
 -- the first tariff begins before the other
@@ -33,7 +35,8 @@ rising-behind (tariff ∷ tariffs) later rise before =
     let others = second_of (list_all (precedes tariff) tariffs) (are_rising tariffs) rise in
     let early = list_all (λ one. precedes one later) tariffs in
     let first = first_of (precedes tariff later) early before in
-    let rest = rising-behind tariffs later others (second_of (precedes tariff later) early before) in
+    let rest = rising-behind tariffs later others
+    (second_of (precedes tariff later) early before) in
     let all = all-behind (precedes tariff) tariffs later own first in
     (λ i. all i && rest i)
 
@@ -41,7 +44,8 @@ rising-behind (tariff ∷ tariffs) later rise before =
 later-passes : (q : Tariffed → Bool) (one other : Tariffed) → q one ≡ true → q other ≡ true
     → q (later_of one other) ≡ true
 later-passes q one other first second =
-    elim (precedes one other) as (λ b. q (cond b other one) ≡ true) [ true ↦ second | false ↦ first ]
+    elim (precedes one other) as (λ b. q (cond b other one) ≡ true)
+    [ true ↦ second | false ↦ first ]
 
 -- the same of one, and of another if there is one
 either-passes : (q : Tariffed → Bool) (one : Tariffed) (other : Option Tariffed) → q one ≡ true
@@ -57,10 +61,12 @@ latest-passes p q [] found all is = cc
 latest-passes p q (tariff ∷ tariffs) found all is =
     let own = first_of (q tariff) (list_all q tariffs) all in
     let others = second_of (q tariff) (list_all q tariffs) all in
-    elim (p tariff) as (λ b. latest (cond b (tariff ∷ filter p tariffs) (filter p tariffs)) ≡ Some found
+    elim (p tariff) as (λ b. latest (cond b (tariff ∷ filter p tariffs) (filter p tariffs))
+    ≡ Some found
     → q found ≡ true) [
       | true ↦ λ is.
-          let latest_one : Tariffed = option_map_or (later_of tariff) (latest (filter p tariffs)) tariff in
+          let latest_one : Tariffed =
+          option_map_or (later_of tariff) (latest (filter p tariffs)) tariff in
           let same : latest_one ≡ found = cc in
           ap q (sym same)
           ∙ either-passes q tariff (latest (filter p tariffs)) own
@@ -93,7 +99,8 @@ latest-last p (tariff ∷ tariffs) rise =
     let step : latest (filter p (tariff ∷ tariffs)) ≡ option_or found (find p (tariff ∷ [])) =
     elim (p tariff) as (λ b. latest (cond b (tariff ∷ filter p tariffs) (filter p tariffs))
     ≡ option_or found (cond b (Some tariff) None)) [
-      | true ↦ first-latest tariff found (λ later at. latest-passes p (precedes tariff) tariffs later own at)
+      | true ↦ first-latest tariff found
+          (λ later at. latest-passes p (precedes tariff) tariffs later own at)
       | false ↦ sym (or-none found)
     ] in
     step
@@ -119,7 +126,8 @@ priced_by-found bytes None = refl
 priced_by-found bytes (Some tariff) = refl
 
 -- what a record costs by the last tariff that has begun on its day
-pub price_under-found : (tariffs : List Tariffed) (bytes : List ℕ) (day : ℤ) (found : Option Tariffed)
+pub price_under-found : (tariffs : List Tariffed) (bytes : List ℕ) (day : ℤ)
+    (found : Option Tariffed)
     → are_rising tariffs ≡ true → day ≡ day_of bytes
     → found ≡ find (has_begun day) (reverse tariffs)
     → price_under tariffs bytes ≡ option_map (λ tariff. price_by tariff.terms bytes) found

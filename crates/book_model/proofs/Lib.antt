@@ -1,4 +1,5 @@
--- Lists and sets first; then what tariffs are in force and what records cost; what calls answer; sound
+-- Lists and sets first; then what tariffs are in force and what records cost; what calls answer;
+-- sound
 -- books; and last, whole histories.
 pub mod ListLemmas
 pub mod SumsAlike

@@ -3,7 +3,8 @@ use Rattle.std.proofs.Common.{◌≡◌, ℕ, zero, suc, List, [], ◌∷◌, �
 use Rattle.std.specs.Prelude.{slice_get}
 use Rattle.book_model.specs.Charged.{charged_by}
 use Rattle.book_model.specs.Events.{Event}
-use Rattle.book_model.specs.History.{closes, rulings, day_of_close, held_before, charged_in, periods, book_of}
+use Rattle.book_model.specs.History.{closes, rulings, day_of_close, held_before, charged_in}
+use Rattle.book_model.specs.History.{periods, book_of}
 use Rattle.book_model.specs.Laws.{OrderIsFree}
 use Rattle.book_model.specs.Periods.{period_by}
 use Rattle.book_model.specs.Rulings.{Rulings, rulings_before}
@@ -19,13 +20,15 @@ module _ (one other : List Event) (ruled : rulings one ≡ rulings other)
   -- so the same is charged at the end of each period
   same_charged : (k : ℕ) → charged_in k one ≡ charged_in k other
   same_charged zero = refl
-  same_charged (suc k) = λ i. charged_by (rulings_before k (ruled i)) (same_day (suc k) i) (held (suc k) i)
+  same_charged (suc k) = λ i. charged_by (rulings_before k (ruled i)) (same_day (suc k) i)
+      (held (suc k) i)
 
   -- and the periods are the same
   same_periods : (k : ℕ) → periods k one ≡ periods k other
   same_periods zero = refl
   same_periods (suc k) =
-      λ i. same_periods k i ++ period_by (same_day k i) (same_charged k i) (same_charged (suc k) i) ∷ []
+      λ i. same_periods k i ++ period_by (same_day k i) (same_charged k i) (same_charged (suc k) i)
+      ∷ []
 
   -- so the histories define the same book
   same_defined : book_of one ≡ book_of other

@@ -1,5 +1,6 @@
 -- Prices by the tariff in force: the latest that has begun.
-use Rattle.std.proofs.Common.{◌≡◌, ℕ, List, [], ◌∷◌, ◌++◌, refl, sym, ap, cond, true, false, Bool, not, Option, Some, None, arith}
+use Rattle.std.proofs.Common.{◌≡◌, ℕ, List, [], ◌∷◌, ◌++◌, refl, sym, ap, cond, true, false, Bool}
+use Rattle.std.proofs.Common.{not, Option, Some, None, arith}
 use Rattle.std.specs.Prelude.{ℤ, int_lt, filter}
 use Rattle.std.specs.Option.{option_map}
 use Rattle.std.proofs.lemmas.Cmp.{nat_list_cmp_total}
@@ -28,7 +29,8 @@ begun-behind : (day : ℤ) (tariffs : List Tariffed) (later : Tariffed) → has_
     → filter (has_begun day) (tariffs ++ later ∷ []) ≡ filter (has_begun day) tariffs
 begun-behind day [] later after = ap (λ b. cond b (later ∷ []) []) after
 begun-behind day (tariff ∷ tariffs) later after =
-    ap (λ rest. cond (has_begun day tariff) (tariff ∷ rest) rest) (begun-behind day tariffs later after)
+    ap (λ rest. cond (has_begun day tariff) (tariff ∷ rest) rest)
+    (begun-behind day tariffs later after)
 
 -- so it changes no price of a record of that day
 pub price_in-behind : (rulings : Rulings) (text : Option (List ℕ)) (terms : Terms) (bytes : List ℕ)
@@ -37,11 +39,13 @@ pub price_in-behind : (rulings : Rulings) (text : Option (List ℕ)) (terms : Te
 price_in-behind rulings text terms bytes after =
     ap (λ begun. option_map (λ terms. price_by terms bytes)
     (option_map (λ (tariff : Tariffed). tariff.terms) (latest begun)))
-    (begun-behind (day_of bytes) rulings.tariffs (record { text = text; terms = terms }) (ap not after))
+    (begun-behind (day_of bytes) rulings.tariffs (record { text = text; terms = terms })
+    (ap not after))
 
 -- the law of it
 pub earlier_prices_stay : EarlierPricesStay
-earlier_prices_stay rulings text terms bytes before = price_in-behind rulings text terms bytes (grind arith)
+earlier_prices_stay rulings text terms bytes before = price_in-behind rulings text terms bytes
+    (grind arith)
 
 -- what is not false is true
 not_false : (b : Bool) → not b ≡ false → b ≡ true

@@ -1,5 +1,6 @@
 -- New books are sound, and each event that a call makes leaves them so.
-use Rattle.std.proofs.Common.{◌≡◌, ℕ, List, [], ◌∷◌, refl, sym, ap, ◌∙◌, true, false, true≢false, Bool, not, ◌&&◌, ◌||◌, Option, Some, None, Ok, Err, is_some, arith}
+use Rattle.std.proofs.Common.{◌≡◌, ℕ, List, [], ◌∷◌, refl, sym, ap, ◌∙◌, true, false, true≢false}
+use Rattle.std.proofs.Common.{Bool, not, ◌&&◌, ◌||◌, Option, Some, None, Ok, Err, is_some, arith}
 use Rattle.std.proofs.Math.Bool.{or-true}
 use Rattle.std.specs.Prelude.{ℤ, int_lt, IsSome, if◌then◌else◌}
 use Rattle.std.specs.FinMap as fin
@@ -28,7 +29,8 @@ use Rattle.book_model.specs.Sound.{IsSound, AreHeld, AreDatedBy}
 use Rattle.book_model.proofs.CallLemmas.{by_tests}
 use Rattle.book_model.proofs.ListLemmas.{last_or-behind}
 use Rattle.book_model.proofs.PricingLemmas.{held_prices_stay}
-use Rattle.book_model.proofs.RecordSets.{is, is_itself, has_with, one_or, in_those, passes_those, second_of, not_true}
+use Rattle.book_model.proofs.RecordSets.{is, is_itself, has_with, one_or, in_those, passes_those}
+use Rattle.book_model.proofs.RecordSets.{second_of, not_true}
 use Rattle.book_model.proofs.SetLemmas.{fails_too, same_bytes-by_cmp}
 
 -- nothing is in the empty set
@@ -155,10 +157,12 @@ close_sound naming book day sound =
     let passes : List ℕ → Bool =
     λ bytes. is_undisputed book.rulings book.held bytes && is_dated_by day bytes in
     let charged : Records = charged_through book.rulings day book.held in
-    let now = λ (bytes : List ℕ) (there : has charged bytes ≡ true). in_those passes book.held bytes there in
+    let now = λ (bytes : List ℕ) (there : has charged bytes ≡ true).
+    in_those passes book.held bytes there in
     let standing : Period → Type 0 = AreHeld book.held in
     let ended : Period = period_by (last_close book.rulings) book.posted charged in
-    let held = period_held book.held (last_close book.rulings) book.posted charged sound.posted now in
+    let held =
+    period_held book.held (last_close book.rulings) book.posted charged sound.posted now in
     record {
       named = sound.named;
       priced = sound.priced;
@@ -191,7 +195,8 @@ tariff_sound : (naming : Naming) (book : Book) (text : List ℕ) (terms : Terms)
     → IsSound naming (put_in_force (Some text) terms book)
 tariff_sound naming book text terms sound done =
     let tariffs = book.rulings.tariffs in
-    let early = undated (list_any (has_text text) tariffs) (list_any (is_effective terms.effective) tariffs)
+    let early = undated (list_any (has_text text) tariffs)
+    (list_any (is_effective terms.effective) tariffs)
     (is_later terms.effective book.rulings) (has_dated terms.effective book.held) done in
     record {
       named = sound.named;

@@ -1,20 +1,24 @@
 -- Each event makes of the book that a history defines the one that the longer history defines.
-use Rattle.std.proofs.Common.{◌≡◌, ℕ, suc, List, [], ◌∷◌, ◌++◌, length, Option, refl, sym, ap, ◌∙◌, arith}
+use Rattle.std.proofs.Common.{◌≡◌, ℕ, suc, List, [], ◌∷◌, ◌++◌, length, Option, refl, sym, ap, ◌∙◌}
+use Rattle.std.proofs.Common.{arith}
 use Rattle.std.specs.Prelude.{ℤ}
 use Rattle.tariff_rules.specs.Terms.{Terms}
 use Rattle.book_model.specs.Books.{Book}
 use Rattle.book_model.specs.Charged.{charged_through, charged_by}
 use Rattle.book_model.specs.Events.{Event, RecordKept, TariffAccepted, PeriodClosed, after}
-use Rattle.book_model.specs.History.{rulings, closes, held_before, charged_in, period_after, periods, book_of}
+use Rattle.book_model.specs.History.{rulings, closes, held_before, charged_in, period_after}
+use Rattle.book_model.specs.History.{periods, book_of}
 use Rattle.book_model.specs.Laws.{BooksFollowHistory}
 use Rattle.book_model.specs.Rulings.{last_close}
 use Rattle.book_model.specs.Sets.{with}
-use Rattle.book_model.proofs.HistoryLemmas.{held_all, closed_once_more, day_closed, last_close-is, day_stays, held_stays, charged_stays, rulings_closed}
+use Rattle.book_model.proofs.HistoryLemmas.{held_all, closed_once_more, day_closed, last_close-is}
+use Rattle.book_model.proofs.HistoryLemmas.{day_stays, held_stays, charged_stays, rulings_closed}
 use Rattle.book_model.specs.Periods.{period_by}
 use Rattle.book_model.proofs.PastLemmas.{periods_stay}
 
 -- a book by its parts
-pub same_book : {a b : Book} → a.rulings ≡ b.rulings → a.held ≡ b.held → a.posted ≡ b.posted → a.past ≡ b.past → a ≡ b
+pub same_book : {a b : Book} → a.rulings ≡ b.rulings → a.held ≡ b.held → a.posted ≡ b.posted
+    → a.past ≡ b.past → a ≡ b
 same_book ruled held posted past =
     λ i. record { rulings = ruled i; held = held i; posted = posted i; past = past i }
 
@@ -32,12 +36,14 @@ after_kept bytes older =
 
 -- a tariff that is put in force is one of the rulings, and nothing else changes
 after_tariff : (text : Option (List ℕ)) (terms : Terms) (older : List Event)
-    → after (TariffAccepted text terms) (book_of older) ≡ book_of (TariffAccepted text terms ∷ older)
+    → after (TariffAccepted text terms) (book_of older)
+    ≡ book_of (TariffAccepted text terms ∷ older)
 after_tariff text terms older =
     let event : Event = TariffAccepted text terms in
     let all : ℕ = length (closes older) in
     same_book refl
-    (held_all (suc all) older (omega arith) ∙ sym (held_all (suc all) (event ∷ older) (omega arith)))
+    (held_all (suc all) older (omega arith)
+    ∙ sym (held_all (suc all) (event ∷ older) (omega arith)))
     (sym (charged_stays all event older (omega arith)))
     (sym (periods_stay all event older (omega arith)))
 

@@ -1,5 +1,6 @@
 -- What is answered to a record that is handed in.
-use Rattle.std.specs.Prelude.{ℕ, Bool, ◌+◌, ◌||◌, nat_lt, nat_le, if◌then◌else◌, List, length, sum_by, Option, Some, None, Result, Ok, Err}
+use Rattle.std.specs.Prelude.{ℕ, Bool, ◌+◌, ◌||◌, nat_lt, nat_le, if◌then◌else◌, List, length}
+use Rattle.std.specs.Prelude.{sum_by, Option, Some, None, Result, Ok, Err}
 use Rattle.std.specs.List.{list_any}
 use Rattle.tariff_rules.specs.declared.priced.Priced.{Priced}
 use Rattle.book_model.specs.declared.fault.LedgerFault.{LedgerFault}

@@ -1,5 +1,6 @@
 -- The book: what a ledger is seen as, however it is kept.
-use Rattle.std.specs.Prelude.{ℕ, ◌+◌, ◌-◌, ◌==◌, if◌then◌else◌, List, [], ◌++◌, ◌∷◌, length, Option, Some, None, slice_get}
+use Rattle.std.specs.Prelude.{ℕ, ◌+◌, ◌-◌, ◌==◌, if◌then◌else◌, List, [], ◌++◌, ◌∷◌, length, Option}
+use Rattle.std.specs.Prelude.{Some, None, slice_get}
 use Rattle.std.specs.FinMap as map
 use Rattle.tariff_rules.specs.Terms.{Terms}
 use Rattle.book_model.specs.Records.{Records}

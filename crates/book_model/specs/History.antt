@@ -1,5 +1,6 @@
 -- What a whole history defines. A history is the list of the events, the newest first.
-use Rattle.std.specs.Prelude.{ℕ, zero, suc, nat_lt, if◌then◌else◌, List, [], ◌∷◌, ◌++◌, length, Option, None, ℤ, slice_get}
+use Rattle.std.specs.Prelude.{ℕ, zero, suc, nat_lt, if◌then◌else◌, List, [], ◌∷◌, ◌++◌, length}
+use Rattle.std.specs.Prelude.{Option, None, ℤ, slice_get}
 use Rattle.std.specs.FinMap as map
 use Rattle.book_model.specs.Sets.{set_of}
 use Rattle.book_model.specs.Records.{Records, by_bytes}

@@ -1,12 +1,14 @@
 -- Laws of the books, which follow from the definitions alone.
-use Rattle.std.specs.Prelude.{◌≡◌, ℕ, true, List, Option, Some, MatchOption, Ok, find, reverse, ℤ, ◌<ℤ◌}
+use Rattle.std.specs.Prelude.{◌≡◌, ℕ, true, List, Option, Some, MatchOption, Ok, find, reverse, ℤ}
+use Rattle.std.specs.Prelude.{◌<ℤ◌}
 use Rattle.std.specs.Option.{option_map}
 use Rattle.tariff_rules.specs.Terms.{Terms}
 use Rattle.smf_type30.specs.Usage.{day_of}
 use Rattle.book_model.specs.declared.answer.Accepted.TheVariants.{Kept}
 use Rattle.book_model.specs.declared.answer.Ruled.TheVariants.{Done}
 use Rattle.book_model.specs.Records.{Naming}
-use Rattle.book_model.specs.Rulings.{Rulings, Tariffed, price_in, with_tariff, are_rising, has_begun, in_force, last_close}
+use Rattle.book_model.specs.Rulings.{Rulings, Tariffed, price_in, with_tariff, are_rising}
+use Rattle.book_model.specs.Rulings.{has_begun, in_force, last_close}
 use Rattle.book_model.specs.Books.{Book, new_book, flat_book}
 use Rattle.book_model.specs.Events.{Event, keep, put_in_force, close}
 use Rattle.book_model.specs.Accept.{accept_answer}
@@ -54,7 +56,8 @@ pub record StepsStaySound : Type 0 where
       → accept_answer naming book bytes ≡ Ok Kept → IsSound naming (keep bytes book)
   pub tariff :
       (naming : Naming) (book : Book) (text : List ℕ) (terms : Terms) → IsSound naming book
-      → terms_answer book text terms ≡ Ok Done → IsSound naming (put_in_force (Some text) terms book)
+      → terms_answer book text terms ≡ Ok Done
+      → IsSound naming (put_in_force (Some text) terms book)
   pub close :
       (naming : Naming) (book : Book) (number : ℕ) (day : ℤ) → IsSound naming book
       → close_answer book number day ≡ Ok Done → IsSound naming (close day book)

@@ -1,4 +1,5 @@
--- What the definitions say of each call on a book: its answer, and the one event that it is, or none.
+-- What the definitions say of each call on a book: its answer, and the one event that it is, or
+-- none.
 use Rattle.std.specs.Prelude.{ℕ, ℤ, List, Option, Some, None, Result, Ok}
 use Rattle.std.specs.Option.{ok_or, option_map}
 use Rattle.tariff_rules.specs.Terms.{Terms}

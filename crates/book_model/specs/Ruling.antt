@@ -1,12 +1,15 @@
 -- What is answered to a ruling of the office: a tariff, a close.
-use Rattle.std.specs.Prelude.{ℕ, Bool, ◌==◌, ◌-◌, ◌&&◌, not, if◌then◌else◌, List, slice_get, Result, Ok, Err, ℤ, int_lt, true, false}
+use Rattle.std.specs.Prelude.{ℕ, Bool, ◌==◌, ◌-◌, ◌&&◌, not, if◌then◌else◌, List, slice_get, Result}
+use Rattle.std.specs.Prelude.{Ok, Err, ℤ, int_lt, true, false}
 use Rattle.std.specs.List.{list_any}
 use Rattle.std.specs.Ordering.{int_eq}
 use Rattle.std.specs.Option.{option_map_or}
 use Rattle.tariff_rules.specs.Terms.{Terms}
 use Rattle.tariff_rules.specs.declared.fault.TariffFault.{TariffFault}
 use Rattle.book_model.specs.declared.fault.LedgerFault.{LedgerFault}
-use Rattle.book_model.specs.declared.fault.LedgerFault.TheVariants.{Full, TariffDate, TariffExists, RecordsDated, WrongPeriod, NotLater, TariffRefused}
+use Rattle.book_model.specs.declared.fault.LedgerFault.TheVariants.{Full, TariffDate, TariffExists}
+use Rattle.book_model.specs.declared.fault.LedgerFault.TheVariants.{RecordsDated, WrongPeriod}
+use Rattle.book_model.specs.declared.fault.LedgerFault.TheVariants.{NotLater, TariffRefused}
 use Rattle.book_model.specs.declared.answer.Ruled.{Ruled}
 use Rattle.book_model.specs.declared.answer.Ruled.TheVariants.{Done, Already}
 use Rattle.smf_type30.specs.Usage.{day_of}

@@ -1,5 +1,6 @@
 -- What the office ruled: its tariffs and its closes; and what a record costs by them.
-use Rattle.std.specs.Prelude.{ℕ, Bool, true, not, ◌&&◌, if◌then◌else◌, List, [], ◌∷◌, ◌++◌, filter, take, Option, Some, None, ℤ, int_lt}
+use Rattle.std.specs.Prelude.{ℕ, Bool, true, not, ◌&&◌, if◌then◌else◌, List, [], ◌∷◌, ◌++◌, filter}
+use Rattle.std.specs.Prelude.{take, Option, Some, None, ℤ, int_lt}
 use Rattle.std.specs.Option.{option_map, option_map_or}
 use Rattle.std.specs.List.{filter_map, last_or, list_all}
 use Rattle.tariff_rules.specs.Terms.{Terms}
@@ -63,7 +64,8 @@ in_force day tariffs =
 
 -- what a record costs by the tariff in force on its day, if there is one
 abbrev pub price_under : List Tariffed → List ℕ → Option Priced
-price_under tariffs bytes = option_map (λ terms. price_by terms bytes) (in_force (day_of bytes) tariffs)
+price_under tariffs bytes = option_map (λ terms. price_by terms bytes)
+    (in_force (day_of bytes) tariffs)
 
 abbrev pub price_in : Rulings → List ℕ → Option Priced
 price_in rulings bytes = price_under rulings.tariffs bytes

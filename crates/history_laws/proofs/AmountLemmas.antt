@@ -30,7 +30,8 @@ module _ (rulings : Rulings) where
 
   -- what a set costs is the sum of what its members do
   total_over : (records : Records) → total_of rulings records ≡ over worth records
-  total_over records = sum_by-filter_map (λ priced. priced.amount) (price_in rulings) (members records)
+  total_over records = sum_by-filter_map (λ priced. priced.amount) (price_in rulings)
+      (members records)
 
   -- nothing costs nothing
   total_none : total_of rulings map.empty ≡ 0
@@ -38,7 +39,8 @@ module _ (rulings : Rulings) where
 
   -- what the rows and plus lines of a period come to, and what its minus lines do
   abbrev given : Period → ℕ
-  given period = sum_by (λ row. row.amount) (rows_for rulings period.counted) + total_of rulings period.added
+  given period =
+      sum_by (λ row. row.amount) (rows_for rulings period.counted) + total_of rulings period.added
 
   abbrev taken : Period → ℕ
   taken period = total_of rulings period.taken
@@ -59,12 +61,16 @@ module _ (rulings : Rulings) where
 
   -- all periods
   pub all_balance : (history : List Event)
-      → rows_amount rulings (all_periods (book_after history)) + added_amount rulings (all_periods (book_after history))
-      ≡ total_of rulings (charged_of (book_after history)) + taken_amount rulings (all_periods (book_after history))
+      → rows_amount rulings (all_periods (book_after history)) + added_amount rulings
+      (all_periods (book_after history))
+      ≡ total_of rulings (charged_of (book_after history)) + taken_amount rulings
+      (all_periods (book_after history))
   all_balance history =
       let periods : List Period = all_periods (book_after history) in
       let both =
-      sum_by-plus (λ (period : Period). sum_by (λ row. row.amount) (rows_for rulings period.counted)) (λ period. total_of rulings period.added) periods in
+      sum_by-plus
+      (λ (period : Period). sum_by (λ row. row.amount) (rows_for rulings period.counted))
+      (λ period. total_of rulings period.added) periods in
       let all = all_nets given taken (total_of rulings) total_none period_balances history in
       omega arith
 

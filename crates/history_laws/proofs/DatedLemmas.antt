@@ -1,5 +1,6 @@
 -- What a period counts is late, and what it adds is early.
-use Rattle.std.proofs.Common.{◌≡◌, ℕ, zero, suc, ◌<◌, List, [], ◌∷◌, ◌++◌, length, refl, sym, ap, ◌∙◌, subst, true, false, not, Option, Some, arith}
+use Rattle.std.proofs.Common.{◌≡◌, ℕ, zero, suc, ◌<◌, List, [], ◌∷◌, ◌++◌, length, refl, sym, ap}
+use Rattle.std.proofs.Common.{◌∙◌, subst, true, false, not, Option, Some, arith}
 use Rattle.std.specs.Prelude.{slice_get, nat_lt, ℤ}
 use Rattle.std.proofs.lemmas.Bool.{ltb-true, ltb-false}
 use Rattle.std.proofs.lemmas.List.{length-append}
@@ -8,7 +9,8 @@ use Rattle.book_model.specs.Periods.{Period}
 use Rattle.book_model.specs.Books.{open_period}
 use Rattle.book_model.specs.Charged.{charged_now, is_dated_after}
 use Rattle.book_model.specs.Events.{Event}
-use Rattle.book_model.specs.History.{closes, rulings, day_of_close, held_before, charged_in, period_after, periods, book_after, book_of}
+use Rattle.book_model.specs.History.{closes, rulings, day_of_close, held_before, charged_in}
+use Rattle.book_model.specs.History.{period_after, periods, book_after, book_of}
 use Rattle.book_model.specs.Records.{Records}
 use Rattle.book_model.specs.Sets.{without}
 use Rattle.book_model.proofs.HistoryLemmas.{charged_open, held_all, last_close-is}
@@ -28,7 +30,8 @@ periods_long (suc n) history =
     omega arith
 
 -- each of the first periods stands in its place
-period_at : (n k : ℕ) (history : List Event) (period : Period) → slice_get (periods n history) k ≡ Some period
+period_at : (n k : ℕ) (history : List Event) (period : Period) → slice_get (periods n history) k
+    ≡ Some period
     → period_after k history ≡ period
 period_at zero k history period there = cc
 period_at (suc n) k history period there =
@@ -45,22 +48,27 @@ period_at (suc n) k history period there =
           let more = ltb-false k n behind in
           let place : k ≡ length front = omega arith in
           let number : k ≡ n = omega arith in
-          let is : Some own ≡ Some period = sym (slice_get-behind front own) ∙ ap (slice_get (front ++ own ∷ [])) (sym place) ∙ there in
+          let is : Some own ≡ Some period = sym (slice_get-behind front own)
+          ∙ ap (slice_get (front ++ own ∷ [])) (sym place) ∙ there in
           let same : own ≡ period = cc in
           ap (λ m. period_after m history) number ∙ same
     ] refl
 
 -- the open period is the one after all closes
-open_is : (history : List Event) → open_period (book_of history) ≡ period_after (length (closes history)) history
+open_is : (history : List Event)
+    → open_period (book_of history) ≡ period_after (length (closes history)) history
 open_is history =
     let n : ℕ = length (closes history) in
     let after : n < suc n = omega arith in
-    let charged : charged_now (rulings history) (held_before (suc n) history) ≡ charged_in (suc n) history =
-    ap (charged_now (rulings history)) (held_all (suc n) history after) ∙ sym (charged_open history) in
+    let charged : charged_now (rulings history) (held_before (suc n) history)
+    ≡ charged_in (suc n) history =
+    ap (charged_now (rulings history)) (held_all (suc n) history after)
+    ∙ sym (charged_open history) in
     λ i. period_by (last_close-is history i) (charged_in n history) (charged i)
 
 -- so all periods are the first ones of the history
-all_are : (history : List Event) → all_periods (book_after history) ≡ periods (suc (length (closes history))) history
+all_are : (history : List Event) → all_periods (book_after history)
+    ≡ periods (suc (length (closes history))) history
 all_are history =
     ap all_periods (books_follow_history history)
     ∙ ap (λ own. periods (length (closes history)) history ++ own ∷ []) (open_is history)
@@ -77,6 +85,7 @@ dated last before charged = record {
 -- the law of it
 pub dated_right : DatedRight
 dated_right history k period there =
-    let place = period_at (suc (length (closes history))) k history period (ap (λ all. slice_get all k) (sym (all_are history)) ∙ there) in
+    let place = period_at (suc (length (closes history))) k history period
+    (ap (λ all. slice_get all k) (sym (all_are history)) ∙ there) in
     subst (AreDated (day_of_close k history)) place
     (dated (day_of_close k history) (charged_in k history) (charged_in (suc k) history))

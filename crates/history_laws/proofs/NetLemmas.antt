@@ -1,5 +1,6 @@
 -- A record is charged once net, or nets to nothing.
-use Rattle.std.proofs.Common.{◌≡◌, ℕ, ◌+◌, ◌≤◌, List, refl, ap, ◌∙◌, true, false, true≢false, Bool, is_some, not, ◌&&◌, arith}
+use Rattle.std.proofs.Common.{◌≡◌, ℕ, ◌+◌, ◌≤◌, List, refl, ap, ◌∙◌, true, false, true≢false, Bool}
+use Rattle.std.proofs.Common.{is_some, not, ◌&&◌, arith}
 use Rattle.std.specs.Prelude.{ℤ, Option}
 use Rattle.std.specs.FinMap as map
 use Rattle.book_model.specs.Periods.{Period}
@@ -18,7 +19,8 @@ use Rattle.history_laws.specs.Laws.{ChargedOnce, PostedOnce, NamedOnce}
 use Rattle.history_laws.proofs.PeriodLemmas.{past_nets, all_nets, all_hold}
 use Rattle.history_laws.proofs.SumLemmas.{net, sum_by-plus}
 
--- A record is charged before a period or not, at its end or not, and dated after the close before it or
+-- A record is charged before a period or not, at its end or not, and dated after the close before
+-- it or
 -- not: its row, plus line and minus line make the difference.
 by_cases : (before now late : Bool) → (before ≡ true → late ≡ false)
     → (one_if (late && now) + one_if (not late && (not before && now))) + one_if before
@@ -65,19 +67,25 @@ module _ (bytes : List ℕ) where
   past_times history =
       let periods : List Period = (book_after history).past in
       let both =
-      sum_by-plus (λ (period : Period). one_if (has period.counted bytes)) (λ period. one_if (has period.added bytes)) periods in
-      let past = past_nets given taken (λ records. one_if (has records bytes)) none one_period history in
+      sum_by-plus (λ (period : Period). one_if (has period.counted bytes))
+      (λ period. one_if (has period.added bytes)) periods in
+      let past =
+      past_nets given taken (λ records. one_if (has records bytes)) none one_period history in
       omega arith
 
   -- all periods
   all_times : (history : List Event)
-      → times_counted (all_periods (book_after history)) bytes + times_added (all_periods (book_after history)) bytes
-      ≡ one_if (has (charged_of (book_after history)) bytes) + times_taken (all_periods (book_after history)) bytes
+      → times_counted (all_periods (book_after history)) bytes + times_added
+      (all_periods (book_after history)) bytes
+      ≡ one_if (has (charged_of (book_after history)) bytes) + times_taken
+      (all_periods (book_after history)) bytes
   all_times history =
       let periods : List Period = all_periods (book_after history) in
       let both =
-      sum_by-plus (λ (period : Period). one_if (has period.counted bytes)) (λ period. one_if (has period.added bytes)) periods in
-      let all = all_nets given taken (λ records. one_if (has records bytes)) none one_period history in
+      sum_by-plus (λ (period : Period). one_if (has period.counted bytes))
+      (λ period. one_if (has period.added bytes)) periods in
+      let all =
+      all_nets given taken (λ records. one_if (has records bytes)) none one_period history in
       omega arith
 
 -- the law of it
@@ -96,7 +104,8 @@ posted_once history bytes =
 
 -- one of the three at most
 one_of : (before now late : Bool)
-    → one_if (late && now) + one_if (not late && (not before && now)) + one_if (not now && before) ≤ 1
+    → one_if (late && now) + one_if (not late && (not before && now)) + one_if (not now && before) ≤
+    1
 one_of true true true = omega arith
 one_of true true false = omega arith
 one_of true false true = omega arith
@@ -107,7 +116,8 @@ one_of false false true = omega arith
 one_of false false false = omega arith
 
 -- a period does one of the three at most
-names_once : (last : Option ℤ) (before charged : Records) → NamesOnce (period_by last before charged)
+names_once : (last : Option ℤ) (before charged : Records)
+    → NamesOnce (period_by last before charged)
 names_once last before charged bytes =
     let late : List ℕ → Bool = is_dated_after last in
     let fresh : List ℕ → Bool = λ b. not (has before b) in

@@ -1,5 +1,6 @@
 -- What the periods of a history give and take, each by what is charged before it and at its end.
-use Rattle.std.proofs.Common.{◌≡◌, ℕ, ◌+◌, List, [], ◌∷◌, ◌++◌, sym, ap, ◌∙◌, true, false, true≢false, Bool, ◌&&◌, Option, None, is_some, arith}
+use Rattle.std.proofs.Common.{◌≡◌, ℕ, ◌+◌, List, [], ◌∷◌, ◌++◌, sym, ap, ◌∙◌, true, false}
+use Rattle.std.proofs.Common.{true≢false, Bool, ◌&&◌, Option, None, is_some, arith}
 use Rattle.std.specs.Prelude.{All, sum_by, ℤ, int_lt}
 use Rattle.std.specs.FinMap as map
 use Rattle.std.proofs.lemmas.List.Elements.{All-nil, All-cons, All-append}
@@ -24,7 +25,8 @@ use Rattle.book_model.proofs.SoundLemmas.{through_dated}
 -- what was charged at the last close is not dated after it
 pub posted_dated : (history : List Event)
     → AreDatedBy (last_close (book_after history).rulings) (book_after history).posted
-posted_dated [] bytes there = absurd (true≢false (sym there ∙ ap is_some (map.get-empty by_bytes bytes)))
+posted_dated [] bytes there =
+    absurd (true≢false (sym there ∙ ap is_some (map.get-empty by_bytes bytes)))
 posted_dated (RecordKept new ∷ older) bytes there = posted_dated older bytes there
 posted_dated (TariffAccepted text terms ∷ older) bytes there = posted_dated older bytes there
 posted_dated (PeriodClosed day ∷ older) bytes there =
@@ -32,7 +34,8 @@ posted_dated (PeriodClosed day ∷ older) bytes there =
     ap (λ close. is_dated_after close bytes) (last_or-behind None book.rulings.closes day)
     ∙ through_dated book.rulings day book.held bytes there
 
--- If each period gives and takes the difference of what stands charged before it and at its end, then all
+-- If each period gives and takes the difference of what stands charged before it and at its end,
+-- then all
 -- periods give what stands charged now, and what they take.
 module _ (given taken : Period → ℕ) (standing : Records → ℕ) (none : standing map.empty ≡ 0)
     (one_period : (last : Option ℤ) (before charged : Records) → AreDatedBy last before
@@ -64,16 +67,19 @@ module _ (given taken : Period → ℕ) (standing : Records → ℕ) (none : sta
       let all_given = sum_by_push given book.past current in
       let all_taken = sum_by_push taken book.past current in
       let before = past_nets history in
-      let period = one_period (last_close book.rulings) book.posted charged (posted_dated history) in
+      let period = one_period (last_close book.rulings) book.posted charged
+      (posted_dated history) in
       omega arith
 
 -- what holds of each period that some sets of records make holds of all periods
-module _ (P : Period → Type 0) (one : (last : Option ℤ) (before charged : Records) → P (period_by last before charged)) where
+module _ (P : Period → Type 0)
+    (one : (last : Option ℤ) (before charged : Records) → P (period_by last before charged)) where
   one_more : (periods : List Period) (last : Option ℤ) (before charged : Records) → All P periods
       → All P (periods ++ period_by last before charged ∷ [])
   one_more periods last before charged all =
       let period : Period = period_by last before charged in
-      All-append P periods (period ∷ []) all (All-cons P period [] (one last before charged) (All-nil P))
+      All-append P periods (period ∷ []) all
+      (All-cons P period [] (one last before charged) (All-nil P))
 
   past_hold : (history : List Event) → All P (book_after history).past
   past_hold [] = All-nil P
@@ -81,7 +87,8 @@ module _ (P : Period → Type 0) (one : (last : Option ℤ) (before charged : Re
   past_hold (TariffAccepted text terms ∷ older) = past_hold older
   past_hold (PeriodClosed day ∷ older) =
       let book : Book = book_after older in
-      one_more book.past (last_close book.rulings) book.posted (charged_through book.rulings day book.held) (past_hold older)
+      one_more book.past (last_close book.rulings) book.posted
+      (charged_through book.rulings day book.held) (past_hold older)
 
   pub all_hold : (history : List Event) → All P (all_periods (book_after history))
   all_hold history =

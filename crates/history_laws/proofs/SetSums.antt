@@ -1,5 +1,6 @@
 -- Sums over the sets of a period.
-use Rattle.std.proofs.Common.{◌≡◌, ℕ, ◌+◌, List, refl, sym, ap, ◌∙◌, true, false, Bool, not, ◌&&◌, Option, arith}
+use Rattle.std.proofs.Common.{◌≡◌, ℕ, ◌+◌, List, refl, sym, ap, ◌∙◌, true, false, Bool, not, ◌&&◌}
+use Rattle.std.proofs.Common.{Option, arith}
 use Rattle.std.specs.Prelude.{sum_by, ℤ}
 use Rattle.std.proofs.lemmas.Cmp.{nat_list_cmp_total}
 use Rattle.std.proofs.lemmas.List.Filters.{sum_by-filter_both}
@@ -18,7 +19,8 @@ module _ (f : List ℕ → ℕ) where
   over records = sum_by f (members records)
 
   -- a set in two parts
-  split : (p : List ℕ → Bool) (s : Records) → over (those p s) + over (those (λ b. not (p b)) s) ≡ over s
+  split : (p : List ℕ → Bool) (s : Records) → over (those p s) + over (those (λ b. not (p b)) s)
+      ≡ over s
   split p s =
       let one = ap (sum_by f) (members-those nat_list_cmp_total exact_bytes p s) in
       let other = ap (sum_by f) (members-those nat_list_cmp_total exact_bytes (λ b. not (p b)) s) in
@@ -33,7 +35,8 @@ module _ (f : List ℕ → ℕ) where
   stayed false true late old = refl
   stayed false false late old = refl
 
-  -- What a period counts and adds, and what stood before it, is what stands at its end and what it takes.
+  -- What a period counts and adds, and what stood before it, is what stands at its end and what it
+  -- takes.
   pub one_period : (last : Option ℤ) (before charged : Records) → AreDatedBy last before
       → (over (period_by last before charged).counted + over (period_by last before charged).added)
       + over before
@@ -48,7 +51,8 @@ module _ (f : List ℕ → ℕ) where
       let by_standing = split stood (those early charged) in
       let added = ap over (those-those fresh early charged) in
       let by_end = split stands before in
-      let both = ap over (same_records (those stood (those early charged)) (those stands before) (λ b.
+      let both =
+      ap over (same_records (those stood (those early charged)) (those stands before) (λ b.
       has_those stood (those early charged) b
       ∙ ap (λ t. stood b && t) (has_those early charged b)
       ∙ stayed (stood b) (stands b) (late b) (old b)

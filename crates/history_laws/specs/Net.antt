@@ -28,4 +28,5 @@ one_if test = if test then 1 else 0
 abbrev pub NamesOnce : Period → Type 0
 NamesOnce period =
     (bytes : List ℕ)
-    → one_if (has period.counted bytes) + one_if (has period.added bytes) + one_if (has period.taken bytes) ≤ 1
+    → one_if (has period.counted bytes) + one_if (has period.added bytes)
+    + one_if (has period.taken bytes) ≤ 1

@@ -1,4 +1,5 @@
--- Other definitions of a period, which are wrong: with each of them the law of the net count is false.
+-- Other definitions of a period, which are wrong: with each of them the law of the net count is
+-- false.
 use Rattle.std.specs.Prelude.{◌≡◌, ℕ, List, [], ◌∷◌, ◌++◌, Option, ℤ, pos}
 use Rattle.book_model.specs.Periods.{Period}
 use Rattle.book_model.specs.Books.{Book}
@@ -11,7 +12,8 @@ use Rattle.book_model.specs.Rulings.{last_close}
 use Rattle.book_model.specs.Sets.{set_of, has, without}
 use Rattle.history_laws.specs.Net.{net_count, one_if}
 
--- how a period is made: of the close before it, what that close charged, and what is charged at its end
+-- how a period is made: of the close before it, what that close charged, and what is charged at its
+-- end
 abbrev pub Making : Type 0
 Making = Option ℤ → Records → Records → Period
 
