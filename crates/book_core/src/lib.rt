@@ -5,14 +5,15 @@ mod accepted_tariff;
 mod charge_rows;
 mod held;
 mod identities;
+mod limits;
 mod plain;
 mod pricing;
 mod variant;
 
 pub use book_model::{
-    Accepted, ChargeRow, Dispute, LedgerFault, MAX_HELD, MAX_PERIOD, MAX_TOTAL, Naming, RowKey,
-    Ruled, ShaNames, Variant,
+    Accepted, ChargeRow, Dispute, LedgerFault, Line, Naming, RowKey, Ruled, ShaNames, Variant,
 };
+pub use limits::{MAX_COST, MAX_HELD};
 pub use plain::PlainLedger;
 pub use streams::{Sink, Source};
 

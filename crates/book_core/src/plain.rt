@@ -13,8 +13,9 @@ use crate::accepted_tariff::{AcceptedTariff, are_before, has_day_of, has_text};
 use crate::charge_rows::charge_rows;
 use crate::held::{HeldRecord, has_dated};
 use crate::identities::{disputes, undisputed_prices};
+use crate::limits::{MAX_COST, MAX_HELD};
 use crate::pricing::price_in;
-use book_model::{Accepted, ChargeRow, Dispute, LedgerFault, MAX_HELD, MAX_TOTAL, Naming, Ruled};
+use book_model::{Accepted, ChargeRow, Dispute, LedgerFault, Naming, Ruled};
 use smf_type30::Type30;
 use std::alloc::{AllocError, Global};
 use std::collections::BTreeMap;
@@ -47,7 +48,7 @@ fn is_full(count: usize, total: u64, amount: u64) -> bool
     requires amount { amount ≤ MAX_AMOUNT }
     ensures { result ≡ (nat_le most_held count || nat_lt most_cost (total + amount)) }
 {
-    count >= MAX_HELD || total + amount > MAX_TOTAL
+    count >= MAX_HELD || total + amount > MAX_COST
 }
 
 /// Books that are kept in memory: records by their names, and every list computed from them anew.

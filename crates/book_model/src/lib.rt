@@ -6,7 +6,6 @@ mod answer;
 mod dispute;
 mod fault;
 mod laws;
-mod limits;
 mod line;
 mod naming;
 mod row;
@@ -18,7 +17,6 @@ pub use laws::{
     books_follow_history, calls_go_forward, earlier_prices_stay, latest_is_last, order_is_free,
     steps_stay_sound,
 };
-pub use limits::{MAX_HELD, MAX_PERIOD, MAX_TOTAL};
 pub use line::Line;
 pub use naming::{Naming, ShaNames};
 pub use row::{ChargeRow, RowKey};
