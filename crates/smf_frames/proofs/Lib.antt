@@ -4,7 +4,7 @@
 pub mod Numbers
 pub mod Steps
 pub mod Ways
-pub mod Kept
+pub mod SoFar
 pub mod Ends
 pub mod Joins
 pub mod Cuts
