@@ -90,7 +90,8 @@ fn stopped(
 /// Cuts a dump into its records: each is the joined data of its segments, behind a descriptor of
 /// its own. A dump that stops being lawful gives the records before that, and says why.
 pub fn split(alloc: Global, layout: Layout, bytes: &[u8]) -> Result<Split, AllocError>
-    // By the public standard: the records of the longest front, and what stands behind it.
+    // By the public standard: the records of the longest prefix that is whole records, and why there
+    // are no more.
     ensures longest { IfOk result (λ s. IsFront layout bytes.now (front_of s)) }
     ensures only { IfOk result (λ s.
         (other : Front) → IsFront layout bytes.now other → other ≡ front_of s) }
