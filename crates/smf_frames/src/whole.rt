@@ -57,9 +57,15 @@ fn join(
         text_in after ≡ spec.begun_after (text_in begun) segment.now) }
 {
     let (_, data) = segment.split_at(DESCRIPTOR_LEN);
+    let goes_on = kind_of(segment).goes_on();
+    if begun.is_none() && !goes_on {
+        // The segment is all of its record: its data are copied once.
+        records.push(record_with(alloc, data)?)?;
+        return Ok(None);
+    }
     let mut joined = begun.unwrap_or(Vec::new(alloc));
     joined.extend_from_slice(data)?;
-    if kind_of(segment).goes_on() {
+    if goes_on {
         return Ok(Some(joined));
     }
     records.push(record_with(alloc, &joined)?)?;
