@@ -7,7 +7,9 @@ pub mod Ways
 pub mod SoFar
 pub mod Ends
 pub mod Joins
+pub mod BegunGroups
 pub mod Cuts
+pub mod LongerTexts
 pub mod Grown
 pub mod Fronts
 pub mod Lasting

@@ -1,4 +1,5 @@
-ghost use Rattle.std.specs.Prelude.{◌≡◌, ◌+◌, ◌-◌, ◌≤◌, ◌++◌, All, IfOk, IsTrue, OnOk, is_some, length, unwrap_or};
+ghost use Rattle.std.specs.Prelude.{◌≡◌, ◌+◌, ◌-◌, ◌≤◌, ◌++◌, All, IfOk, IsTrue, OnOk};
+ghost use Rattle.std.specs.Prelude.{is_some, length, unwrap_or};
 ghost use Rattle.smf_frames.specs.Segment.{descriptor_len};
 ghost use Rattle.smf_frames.specs.Framed.{most_data, IsFramed};
 ghost use Rattle.smf_frames.specs.Faults.{descriptor_fault, fault_at};
