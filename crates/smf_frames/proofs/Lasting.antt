@@ -1,14 +1,18 @@
 -- A fault at a descriptor stays, and the front before it, whatever bytes follow.
-use Rattle.std.proofs.Common.{◌≡◌, ℕ, ◌≤◌, Bool, true, false, cond, nat_lt, nat_le, List, [], ◌++◌, length, refl, sym, ap, ◌∙◌, arith, length-append, append_assoc, Option, Some, None}
+use Rattle.std.proofs.Common.{◌≡◌, ℕ, ◌≤◌, Bool, true, false, cond, nat_lt, nat_le, List, [], ◌++◌}
+use Rattle.std.proofs.Common.{length, refl, sym, ap, ◌∙◌, arith, length-append, append_assoc}
+use Rattle.std.proofs.Common.{Option, Some, None}
 use Rattle.std.specs.Prelude.{is_some, IsTrue}
 use Rattle.std.specs.Option.{option_or}
 use Rattle.std.proofs.lemmas.Bool.{cond-true, ltb-false, le-ltb}
 use Rattle.smf_frames.specs.declared.dump.Layout.{Layout}
 use Rattle.smf_frames.specs.declared.fault.FrameFault.{FrameFault}
-use Rattle.smf_frames.specs.declared.fault.FrameFault.TheVariants.{SegmentCrossesBlock, ExtendedBlock, BlockLength}
+use Rattle.smf_frames.specs.declared.fault.FrameFault.TheVariants.{SegmentCrossesBlock}
+use Rattle.smf_frames.specs.declared.fault.FrameFault.TheVariants.{ExtendedBlock, BlockLength}
 use Rattle.smf_frames.specs.declared.next.Next.TheVariants.{Stops}
 use Rattle.smf_frames.specs.Segment.{named_len, kind_of}
-use Rattle.smf_frames.specs.Faults.{lacks_room, is_block_due, block_fault, segment_fault, descriptor_fault, end_fault, fault_at}
+use Rattle.smf_frames.specs.Faults.{lacks_room, is_block_due, block_fault, segment_fault}
+use Rattle.smf_frames.specs.Faults.{descriptor_fault, end_fault, fault_at}
 use Rattle.smf_frames.specs.Longest.{Front}
 use Rattle.smf_frames.specs.Front.{start, data_len, behind, stopped, front}
 use Rattle.smf_frames.proofs.Numbers.{names_same}
@@ -76,11 +80,11 @@ front_lasts layout text more broken =
     let begun : Option ℕ = data_len led.last.begun in
     let left : Option ℕ = led.last.left in
     let cut = way_cut led.way in
-    let behind_is : cut.front ++ (led.rest ++ more) ≡ text ++ more =
-    sym (append_assoc cut.front led.rest more) ∙ ap (λ b. b ++ more) (sym cut.parts) in
+    let behind_is : cut.prefix ++ (led.rest ++ more) ≡ text ++ more =
+    sym (append_assoc cut.prefix led.rest more) ∙ ap (λ b. b ++ more) (sym cut.parts) in
     let way : Way layout start (text ++ more) led.records led.last (led.rest ++ more) =
     way_same behind_is cut.made (sym cut.is)
-    (cut_way layout cut.front (led.rest ++ more) cut.more cut.begun cut.left cut.cut) in
+    (cut_way layout cut.prefix (led.rest ++ more) cut.more cut.begun cut.left cut.cut) in
     let here : is_some (descriptor_fault layout begun left led.rest) ≡ true =
     sym (ap (λ (f : Front). f.is_broken) (front_led layout text led)) ∙ broken in
     let stays = descriptor_stays layout begun left led.rest more here in

@@ -4,10 +4,12 @@
 pub mod Numbers
 pub mod Steps
 pub mod Ways
-pub mod Kept
+pub mod SoFar
 pub mod Ends
 pub mod Joins
+pub mod BegunGroups
 pub mod Cuts
+pub mod LongerTexts
 pub mod Grown
 pub mod Fronts
 pub mod Lasting

@@ -1,16 +1,22 @@
 -- What the tests show of a step that a reader takes, and the other way round.
-use Rattle.std.proofs.Common.{◌≡◌, ℕ, ◌+◌, ◌-◌, ◌≤◌, ◌<◌, Bool, true, false, not, ◌&&◌, cond, nat_lt, List, length, refl, sym, ap, ◌∙◌, Option, Some, None}
+use Rattle.std.proofs.Common.{◌≡◌, ℕ, ◌+◌, ◌-◌, ◌≤◌, ◌<◌, Bool, true, false, not, ◌&&◌, cond}
+use Rattle.std.proofs.Common.{nat_lt, List, length, refl, sym, ap, ◌∙◌, Option, Some, None}
 use Rattle.std.specs.Prelude.{is_some, is_none, unwrap_or}
 use Rattle.std.proofs.lemmas.Bool.{ltb-false, leb-false, le-ltb, lt-leb}
-use Rattle.smf_frames.specs.declared.framed.TheConstants.{MAX_DATA}
 use Rattle.smf_frames.specs.declared.dump.Layout.{Layout}
 use Rattle.smf_frames.specs.declared.dump.Layout.TheVariants.{Rdw, Bdw}
 use Rattle.smf_frames.specs.declared.fault.FrameFault.{FrameFault}
-use Rattle.smf_frames.specs.declared.fault.FrameFault.TheVariants.{SegmentLength, BlockLength, ExtendedBlock, SegmentCrossesBlock, OrphanSegment, MissingLast, RecordTooLong}
+use Rattle.smf_frames.specs.declared.fault.FrameFault.TheVariants.{SegmentLength, BlockLength}
+use Rattle.smf_frames.specs.declared.fault.FrameFault.TheVariants.{ExtendedBlock}
+use Rattle.smf_frames.specs.declared.fault.FrameFault.TheVariants.{SegmentCrossesBlock}
+use Rattle.smf_frames.specs.declared.fault.FrameFault.TheVariants.{OrphanSegment, MissingLast}
+use Rattle.smf_frames.specs.declared.fault.FrameFault.TheVariants.{RecordTooLong}
 use Rattle.smf_frames.specs.declared.next.Next.TheVariants.{Stops, Block, Segment}
 use Rattle.smf_frames.specs.Number.{number}
+use Rattle.smf_frames.specs.Framed.{most_data}
 use Rattle.smf_frames.specs.Segment.{named_len, kind_of, begins_record}
-use Rattle.smf_frames.specs.Faults.{is_block_due, lacks_room, crosses_block, is_too_long, block_fault, segment_fault, descriptor_fault}
+use Rattle.smf_frames.specs.Faults.{is_block_due, lacks_room, crosses_block, is_too_long}
+use Rattle.smf_frames.specs.Faults.{block_fault, segment_fault, descriptor_fault}
 use Rattle.smf_frames.specs.Front.{next_of}
 
 -- a segment of this length that a reader takes: no test speaks against it, and it is there
@@ -24,7 +30,7 @@ pub record TakesSegment (layout : Layout) (begun left : Option ℕ) (bytes : Lis
   pub fits : crosses_block left len ≡ false
   pub joins : (is_none begun && not (begins_record (kind_of bytes))) ≡ false
   pub begins : (is_some begun && begins_record (kind_of bytes)) ≡ false
-  pub short : unwrap_or begun 0 + (len - 4) ≤ MAX_DATA
+  pub short : unwrap_or begun 0 + (len - 4) ≤ most_data
   pub there : len ≤ length bytes
 
 -- the same of the descriptor of a block of this length
@@ -119,7 +125,7 @@ takes_segment layout begun left bytes len taken =
       fits = ap (crosses_block left) (sym named) ∙ parts.1;
       joins = parts.2;
       begins = parts.3;
-      short = ltb-false MAX_DATA (unwrap_or begun 0 + (len - 4))
+      short = ltb-false most_data (unwrap_or begun 0 + (len - 4))
           (ap (is_too_long begun) (sym named) ∙ parts.4);
       there = ltb-false (length bytes) len (ap (nat_lt (length bytes)) (sym named) ∙ tests.3);
     }
@@ -151,7 +157,7 @@ pub segment_taken : (layout : Layout) (begun left : Option ℕ) (bytes : List �
 segment_taken layout begun left bytes len takes =
     let there : nat_lt (length bytes) 4 ≡ false = le-ltb (length bytes) 4 takes.four in
     let short : is_too_long begun len ≡ false =
-    le-ltb MAX_DATA (unwrap_or begun 0 + (len - 4)) takes.short in
+    le-ltb most_data (unwrap_or begun 0 + (len - 4)) takes.short in
     let passes : descriptor_fault layout begun left bytes ≡ None =
     rw (
       takes.room,

@@ -10,7 +10,7 @@ pub const MAX_DATA: usize = 65_531;
 
 /// The record with that data.
 pub fn record_with(alloc: Global, joined: &[u8]) -> Result<Vec<u8>, AllocError>
-    requires { length joined.now ≤ MAX_DATA }
+    requires { length joined.now ≤ spec.most_data }
     ensures { IfOk result (λ made. made.items ≡ spec.record_with joined.now) }
 {
     let len = DESCRIPTOR_LEN + joined.len();

@@ -1,5 +1,7 @@
-ghost use Rattle.std.specs.Prelude.{◌≡◌, ◌+◌, ◌-◌, ◌≤◌, ◌++◌, All, IfOk, IsTrue, OnOk, is_some, length, unwrap_or};
-ghost use Rattle.smf_frames.specs.Framed.{IsFramed};
+ghost use Rattle.std.specs.Prelude.{◌≡◌, ◌+◌, ◌-◌, ◌≤◌, ◌++◌, All, IfOk, IsTrue, OnOk};
+ghost use Rattle.std.specs.Prelude.{is_some, length, unwrap_or};
+ghost use Rattle.smf_frames.specs.Segment.{descriptor_len};
+ghost use Rattle.smf_frames.specs.Framed.{most_data, IsFramed};
 ghost use Rattle.smf_frames.specs.Faults.{descriptor_fault, fault_at};
 ghost use Rattle.smf_frames.specs.Longest.{Front, IsFront};
 ghost use Rattle.smf_frames.specs.Front as spec;
@@ -8,7 +10,7 @@ ghost use Rattle.smf_frames.specs.Texts.{texts, text_in, front_of};
 use crate::descriptor::{DESCRIPTOR_LEN, kind_of};
 use crate::dump::{Layout, Split};
 use crate::fault::{descriptor_fault, end_fault};
-use crate::framed::{MAX_DATA, record_with};
+use crate::framed::record_with;
 use crate::next::{Next, next_of};
 use std::alloc::{AllocError, Global};
 
@@ -47,18 +49,24 @@ fn join(
     begun: Option<Vec<u8>>,
     segment: &[u8],
 ) -> Result<Option<Vec<u8>>, AllocError>
-    requires whole { DESCRIPTOR_LEN ≤ length segment.now }
+    requires whole { descriptor_len ≤ length segment.now }
     requires short { unwrap_or (spec.data_len (text_in begun)) 0
-        + (length segment.now - 4) ≤ MAX_DATA }
+        + (length segment.now - descriptor_len) ≤ most_data }
     ensures records { OnOk result (texts records.new.items
         ≡ texts records.old.items ++ spec.completed (text_in begun) segment.now) }
     ensures begun { IfOk result (λ after.
         text_in after ≡ spec.begun_after (text_in begun) segment.now) }
 {
     let (_, data) = segment.split_at(DESCRIPTOR_LEN);
+    let goes_on = kind_of(segment).goes_on();
+    if begun.is_none() && !goes_on {
+        // The segment is all of its record: its data are copied once.
+        records.push(record_with(alloc, data)?)?;
+        return Ok(None);
+    }
     let mut joined = begun.unwrap_or(Vec::new(alloc));
     joined.extend_from_slice(data)?;
-    if kind_of(segment).goes_on() {
+    if goes_on {
         return Ok(Some(joined));
     }
     records.push(record_with(alloc, &joined)?)?;
@@ -73,7 +81,7 @@ fn stopped(
     left: Option<usize>,
     rest: &[u8],
 ) -> Split
-    requires { unwrap_or begun 0 ≤ MAX_DATA }
+    requires { unwrap_or begun 0 ≤ most_data }
     ensures records { result.records ≡ records }
     ensures fault { result.fault ≡ fault_at layout begun left rest.now }
     ensures broken { result.is_broken ≡ is_some (descriptor_fault layout begun left rest.now) }
@@ -89,7 +97,8 @@ fn stopped(
 /// Cuts a dump into its records: each is the joined data of its segments, behind a descriptor of
 /// its own. A dump that stops being lawful gives the records before that, and says why.
 pub fn split(alloc: Global, layout: Layout, bytes: &[u8]) -> Result<Split, AllocError>
-    // By the public standard: the records of the longest front, and what stands behind it.
+    // By the public standard: the records of the longest prefix that is whole records, and why there
+    // are no more.
     ensures longest { IfOk result (λ s. IsFront layout bytes.now (front_of s)) }
     ensures only { IfOk result (λ s.
         (other : Front) → IsFront layout bytes.now other → other ≡ front_of s) }
