@@ -1,11 +1,11 @@
 -- The days of the years from 1900 to 2099.
-use Rattle.std.proofs.Common.{◌≡◌, ℕ, ◌+◌, ◌≤◌, refl, ap, arith, pos, inl, inr}
+use Rattle.std.proofs.Common.{◌≡◌, ℕ, ◌+◌, ◌≤◌, refl, ap, arith, pos, ◌+ℤ◌, inl, inr}
 use Rattle.std.proofs.lemmas.Bool.{cases_lt}
 use Rattle.jiff_core.specs.Calendar.{day_count, days_of_years, days_of_months, days_in_year}
 use Rattle.jiff_core.proofs.SignedLemmas.{signed_arith}
 use Rattle.jiff_core.proofs.MarchLemmas.{days_of_years-march_days}
 use Rattle.jiff_core.proofs.CalendarLemmas.{day_count-later_year, days_from_civil-day_count}
-use Rattle.smf_text.specs.Day.{IsDay, nth_day_of}
+use Rattle.smf_text.specs.Day.{IsDay, first_day, last_day, day_of_date, nth_day_of}
 
 -- the days before a year are those of the years from -10000 on
 day_count-first : (year years : ℕ) → year + 10000 ≡ years
@@ -26,6 +26,16 @@ day_count-2100 =
     let first = day_count-first 2100 12100 refl in
     let closed = days_of_years-march_days 12100 in
     omega (arith, first, closed)
+
+-- 1900-01-01 is the first day
+pub first_day_is : day_of_date 1900 1 1 ≡ first_day
+first_day_is =
+    omega (arith, signed_arith, day_count-1900, days_from_civil-day_count (pos 1900) 1 1)
+
+-- 2100-01-01 is the day behind the last
+pub next_century : day_of_date 2100 1 1 ≡ last_day +ℤ pos 1
+next_century =
+    omega (arith, signed_arith, day_count-2100, days_from_civil-day_count (pos 2100) 1 1)
 
 -- a year of these two centuries begins no earlier than the first
 day_count-since_1900 : (year : ℕ) → 1900 ≤ year → 4_346_386 ≤ day_count (pos year) 1 1
