@@ -31,7 +31,8 @@ last_begun_found begins first zero day begun not_next = record {
   not_next = let same : first + 0 + 1 ≡ first + 1 = omega arith in rw same at not_next;
 }
 last_begun_found begins first (suc more) day begun not_next =
-    go (le_z (begins (first + suc more)) day) refl (last_begun_found begins first more day begun) where
+    let earlier = last_begun_found begins first more day begun in
+    go (le_z (begins (first + suc more)) day) refl earlier where
       go : (b : Bool) → le_z (begins (first + suc more)) day ≡ b
           → (day <ℤ begins (first + more + 1)
           → IsLastBegun begins first (first + more) day (last_begun begins first more day))
@@ -63,14 +64,16 @@ next_year : (year : ℕ)
     → day_of_date (year + 1) 1 1 ≡ day_of_date year 1 1 +ℤ pos (days_in_year (pos year))
 next_year year =
     let next =
-    day_count-next_year (pos year) (pos (year + 1)) (omega (arith, signed_arith)) (omega (arith, signed_arith)) in
+    day_count-next_year (pos year) (pos (year + 1))
+    (omega (arith, signed_arith)) (omega (arith, signed_arith)) in
     let this_is = days_from_civil-day_count (pos year) 1 1 in
     let next_is = days_from_civil-day_count (pos (year + 1)) 1 1 in
     omega (arith, signed_arith, next, this_is, next_is)
 
 -- the next month begins as many days later as the month has
 next_month : (year month : ℕ) → 1 ≤ month
-    → day_of_date year (month + 1) 1 ≡ day_of_date year month 1 +ℤ pos (days_in_month (pos year) month)
+    → day_of_date year (month + 1) 1
+    ≡ day_of_date year month 1 +ℤ pos (days_in_month (pos year) month)
 next_month year month first =
     let next = day_count-next_month (pos year) month first in
     let this_is = days_from_civil-day_count (pos year) month 1 in
@@ -102,14 +105,16 @@ pub record IsDateOf (date : CalendarDate) (day : ℤ) : Type 0 where
 -- so is the date that a day has in a month that has begun, with the next one later
 date_in_month : (year month : ℕ) (day : ℤ) → year ≤ 2099
     → IsLastBegun (λ month. day_of_date year month 1) 1 12 day month
-    → IsDateOf record { year = year; month = month; day = int_gap (day_of_date year month 1) day + 1 } day
+    → IsDateOf
+    record { year = year; month = month; day = int_gap (day_of_date year month 1) day + 1 } day
 date_in_month year month day last found =
     let days = int_gap (day_of_date year month 1) day in
     let gap = gap_is (day_of_date year month 1) day found.begun in
     let next = next_month year month found.early in
     let within : days < days_in_month (pos year) month =
     omega (arith, signed_arith, gap, next, found.not_next) in
-    let moved = days_from_civil-day (pos year) month (days + 1) 1 (omega arith) (omega arith) in record {
+    let moved =
+    days_from_civil-day (pos year) month (days + 1) 1 (omega arith) (omega arith) in record {
       civil = (is_year year last, (found.early, found.late), (omega arith, omega (arith, within)));
       day_is = omega (arith, signed_arith, gap, moved);
     }

@@ -18,7 +18,11 @@ date_text-spells : (date : CalendarDate)
 unfolding day_spelled_by
 date_text-spells date =
     let year_is : 100 * (date.year / 100) + date.year % 100 ≡ date.year = omega arith in
-    rw (two_digits_spell (date.year / 100), two_digits_spell (date.year % 100), two_digits_spell date.month, two_digits_spell date.day, year_is) refl
+    let century = two_digits_spell (date.year / 100) in
+    let of_century = two_digits_spell (date.year % 100) in
+    let month = two_digits_spell date.month in
+    let day = two_digits_spell date.day in
+    rw (century, of_century, month, day, year_is) refl
 
 -- the text of a day spells it
 day_text_of-spells : (day : ℤ) → IsDay day → day_spelled_by (day_text_of day) ≡ day

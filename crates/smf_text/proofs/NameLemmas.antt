@@ -18,11 +18,13 @@ name_character_is_ascii c h = grind (arith, nat_tests)
 pub name_is_utf8 : (text : List ℕ) → IsName text → IsUtf8 text
 name_is_utf8 text h =
     let characters = AllPass-from_list_all is_name_character text (and_parts _ _ h).1 in
-    IsUtf8-from_ascii text (IsAscii-from_all text (λ k d within. name_character_is_ascii _ (characters k d within)))
+    IsUtf8-from_ascii text
+    (IsAscii-from_all text (λ k d within. name_character_is_ascii _ (characters k d within)))
 
 -- a text at the front of zeros is kept as a name is
 pub padded_at_front : (text front letters : List ℕ) → IsName text → front ≡ text
-    → letters ≡ replicate longest_name 0 → IsPadded (front ++ drop (length text) letters) (length text)
+    → letters ≡ replicate longest_name 0
+    → IsPadded (front ++ drop (length text) letters) (length text)
 padded_at_front text front letters h e zeros =
     let is : front ++ drop (length text) letters ≡ padded text =
     rw (e, zeros, drop-replicate) refl in

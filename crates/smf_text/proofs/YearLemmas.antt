@@ -42,7 +42,8 @@ day_count-since_1900 : (year : ℕ) → 1900 ≤ year → 4_346_386 ≤ day_coun
 day_count-since_1900 year early = elim (cases_lt 1900 year) [
   | inl lt ↦
       let later =
-      day_count-later_year (pos 1900) (pos year) (omega (arith, signed_arith)) (omega (arith, signed_arith)) in
+      day_count-later_year (pos 1900) (pos year)
+      (omega (arith, signed_arith)) (omega (arith, signed_arith)) in
       omega (arith, later, day_count-1900)
   | inr ge ↦
       let is : year ≡ 1900 = omega arith in
@@ -55,7 +56,8 @@ pub nth_day_is_day : (year n : ℕ) → 1900 ≤ year → year ≤ 2099 → 1 �
     → IsDay (nth_day_of year n)
 nth_day_is_day year n early late first last =
     let before =
-    day_count-later_year (pos year) (pos 2100) (omega (arith, signed_arith)) (omega (arith, signed_arith)) in
+    day_count-later_year (pos year) (pos 2100)
+    (omega (arith, signed_arith)) (omega (arith, signed_arith)) in
     let after = day_count-since_1900 year early in
     let number = days_from_civil-day_count (pos year) 1 1 in (
       omega (arith, signed_arith, before, after, number, day_count-2100),

@@ -77,8 +77,8 @@ two_digits_at text i = 10 * (slice_index text i - 48) + (slice_index text (i + 1
 -- the day that the digits of a text `YYYY-MM-DD` spell
 unfoldable pub day_spelled_by : List ℕ → ℤ
 day_spelled_by text =
-    day_of_date
-    (100 * two_digits_at text 0 + two_digits_at text 2) (two_digits_at text 5) (two_digits_at text 8)
+    let year = 100 * two_digits_at text 0 + two_digits_at text 2 in
+    day_of_date year (two_digits_at text 5) (two_digits_at text 8)
 
 -- the day from 1900-01-01 to 2099-12-31 whose text this is: the one that its digits spell, if the
 -- text is that day's

@@ -49,7 +49,8 @@ has_digits halves = list_all (λ half. nat_le half 9) (take sign_at halves)
 
 -- a 0, and then a century that is known
 abbrev pub has_century : List ℕ → Bool
-has_century halves = slice_index halves 0 == 0 && nat_le (slice_index halves century_at) last_century
+has_century halves =
+    slice_index halves 0 == 0 && nat_le (slice_index halves century_at) last_century
 
 -- the year, of c and yy
 abbrev pub year_of : List ℕ → ℕ
