@@ -1,5 +1,5 @@
 -- The digits of a day's text spell the day.
-use Rattle.std.proofs.Common.{◌≡◌, ℕ, ◌+◌, ◌-◌, ◌*◌, ◌/◌, ◌%◌, ◌&&◌, ◌↔◌, Bool, true, false, if◌then◌else◌, List, refl, sym, ap, ◌∙◌, arith, inl, inr, Option, None, Some, IfSome, ℤ, ◌≤ℤ◌}
+use Rattle.std.proofs.Common.{◌≡◌, ℕ, ◌+◌, ◌-◌, ◌*◌, ◌/◌, ◌%◌, ◌&&◌, ◌↔◌, Bool, true, false, List, refl, sym, ap, ◌∙◌, arith, inl, inr, Option, None, Some, IfSome, ℤ, ◌≤ℤ◌}
 use Rattle.std.proofs.lemmas.Bool.{and_parts, cases_Bool}
 use Rattle.std.proofs.lemmas.Slice.Eq.{bytes_eq-Decides}
 use Rattle.std.specs.Int.Signed.{le_z}

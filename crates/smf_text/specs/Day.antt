@@ -14,14 +14,14 @@ first_year = 1900
 abbrev pub last_year : ℕ
 last_year = 2099
 
--- its first day, 1900-01-01, and its last, 2099-12-31
+-- the first day that it knows, 1900-01-01, and the last, 2099-12-31
 abbrev pub first_day : ℤ
 first_day = neg_ℤ (pos 25_567)
 
 abbrev pub last_day : ℤ
 last_day = pos 47_481
 
--- a day from the first to the last
+-- a day from 1900-01-01 to 2099-12-31
 abbrev pub IsDay : ℤ → Type 0
 IsDay day = IsBetween first_day last_day day
 
@@ -37,7 +37,7 @@ day_of_date year month day = days_from_civil (pos year) month day
 abbrev pub nth_day_of : ℕ → ℕ → ℤ
 nth_day_of year n = day_of_date year 1 1 +ℤ pos (n - 1)
 
--- the day of the week, from 1 for Monday to 7 for Sunday
+-- the day of the week, from 1 for Monday to 7 for Sunday (day 0 was a Thursday)
 unfoldable pub weekday_of : ℤ → ℕ
 weekday_of day = weekday_number day + 1
 
@@ -70,7 +70,7 @@ date_text date = pad4 date.year ++ codes "-" ++ pad2 date.month ++ codes "-" ++ 
 unfoldable pub day_text_of : ℤ → List ℕ
 day_text_of day = date_text (date_of day)
 
--- the number that the two decimal digits at an offset spell
+-- the number that the two decimal digits at an offset spell (in ASCII the digit 0 is 48)
 abbrev pub two_digits_at : List ℕ → ℕ → ℕ
 two_digits_at text i = 10 * (slice_index text i - 48) + (slice_index text (i + 1) - 48)
 
