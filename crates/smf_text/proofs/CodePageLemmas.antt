@@ -71,7 +71,8 @@ equal_options (Some x) (Some y) h = ap Some (eqb-true x y h)
 -- the first entry with a character stands where the runs have it
 finds : ℕ → Bool
 finds character =
-    nat_eq character 0 || option_eq nat_eq (position (λ other. nat_eq other character) PAGE) (byte_in runs character)
+    nat_eq character 0
+    || option_eq nat_eq (position (λ other. nat_eq other character) PAGE) (byte_in runs character)
 
 -- so it is for each character but 0, which has no place
 finds_everywhere : all_below finds 256 ≡ true
@@ -83,7 +84,8 @@ pub position-PAGE : (character : ℕ) → character < 256 → character ≢ 0
     → position (λ other. nat_eq other character) PAGE ≡ byte_of character
 unfolding finds byte_of
 position-PAGE character h other =
-    equal_options _ _ (rw (ne_eqb character 0 other) at (all_below_holds finds 256 character finds_everywhere h))
+    let found = all_below_holds finds 256 character finds_everywhere h in
+    equal_options _ _ (rw (ne_eqb character 0 other) at found)
 
 -- the character 0 has no byte
 pub byte_of-zero : (character : ℕ) → character ≡ 0 → None ≡ byte_of character
@@ -93,7 +95,8 @@ byte_of-zero character is = rw is refl
 -- the byte of a character stands for it
 returns_to : ℕ → Bool
 returns_to character =
-    option_map_or (λ byte. option_eq nat_eq (char_in runs byte) (Some character)) (byte_in runs character) true
+    option_map_or
+    (λ byte. option_eq nat_eq (char_in runs byte) (Some character)) (byte_in runs character) true
 
 -- so it is for each character
 returns_everywhere : all_below returns_to 256 ≡ true

@@ -21,8 +21,8 @@ pub text-spelled : (text : List ℕ) (century year month day : ℕ) → length t
     → pad2 year ≡ get_or text 2 0 ∷ get_or text 3 0 ∷ []
     → pad2 month ≡ get_or text 5 0 ∷ get_or text 6 0 ∷ []
     → pad2 day ≡ get_or text 8 0 ∷ get_or text 9 0 ∷ [] → text ≡ spelled century year month day
-text-spelled (c1 ∷ c2 ∷ y1 ∷ y2 ∷ h1 ∷ m1 ∷ m2 ∷ h2 ∷ d1 ∷ d2 ∷ []) century year month day long first second c y m d =
-    cc
+text-spelled (c1 ∷ c2 ∷ y1 ∷ y2 ∷ h1 ∷ m1 ∷ m2 ∷ h2 ∷ d1 ∷ d2 ∷ [])
+    century year month day long first second c y m d = cc
 text-spelled _ century year month day long first second c y m d = absurd (omega arith)
 
 -- two digits spell one number
@@ -64,7 +64,11 @@ spelled_parts date text century year month day e since same = go date.year refl 
       let c_is : n / 100 ≡ century = pad2_injective _ _ (cc) in
       let y_is : n % 100 ≡ year = pad2_injective _ _ (cc) in
       let n_is : n ≡ 100 * century + year = omega arith in
-      record { year_is = is ∙ ap pos n_is; month_is = pad2_injective _ _ (cc); day_is = pad2_injective _ _ (cc) }
+      record {
+        year_is = is ∙ ap pos n_is;
+        month_is = pad2_injective _ _ (cc);
+        day_is = pad2_injective _ _ (cc);
+      }
   go (negsuc n) is since = absurd (omega (arith, signed_arith))
 
 -- a date with the text of a day is that day's
@@ -75,9 +79,11 @@ epoch_day-from_text date day h since same =
     let year = (date_of day).year in
     let text_is = sym (date_text-jiff_date_of day h) ∙ date_text-spelled found year refl in
     let parts =
-    spelled_parts date (day_text_of day) (year / 100) (year % 100) found.month found.day text_is since same in
+    spelled_parts date (day_text_of day) (year / 100) (year % 100) found.month found.day
+    text_is since same in
     let year_is : 100 * (year / 100) + year % 100 ≡ year = omega arith in
-    epoch_day_same date found (parts.year_is ∙ ap pos year_is) parts.month_is parts.day_is ∙ epoch_day-jiff_date_of day h
+    epoch_day_same date found (parts.year_is ∙ ap pos year_is) parts.month_is parts.day_is
+    ∙ epoch_day-jiff_date_of day h
 
 -- a text that no date has is no day's
 pub no_day : (text : List ℕ) → ((date : Date) → pos 0 ≤ℤ date.year → date_text date ≢ text)

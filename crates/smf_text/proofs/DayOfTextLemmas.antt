@@ -1,78 +1,78 @@
--- The first day that has a text is the only one.
-use Rattle.std.proofs.Common.{◌≡◌, ◌≢◌, ℕ, zero, suc, ◌↔◌, Bool, true, false, if◌then◌else◌, List, refl, sym, ap, ◌∙◌, true≢false, arith, Option, None, Some, IfSome, ℤ, pos, ◌+ℤ◌, ◌≤ℤ◌, ◌<ℤ◌}
+-- The digits of a day's text spell the day.
+use Rattle.std.proofs.Common.{◌≡◌, ℕ, ◌+◌, ◌-◌, ◌*◌, ◌/◌, ◌%◌, ◌&&◌, ◌↔◌, Bool, true, false, List, refl, sym, ap, ◌∙◌, arith, inl, inr, Option, None, Some, IfSome, ℤ, ◌≤ℤ◌}
+use Rattle.std.proofs.lemmas.Bool.{and_parts, cases_Bool}
 use Rattle.std.proofs.lemmas.Slice.Eq.{bytes_eq-Decides}
-use Rattle.std.proofs.lemmas.Int.{by_lt_z}
+use Rattle.std.specs.Int.Signed.{le_z}
 use Rattle.std.specs.Str.{bytes_eq}
 use Rattle.jiff_core.proofs.SignedLemmas.{signed_arith}
-use Rattle.smf_text.specs.declared.day.TheConstants.{FIRST_DAY}
-use Rattle.smf_text.specs.Day.{IsDay, day_text_of, first_with_text, day_of_text_of}
+use Rattle.smf_text.specs.Day.{CalendarDate, IsDay, first_day, last_day, is_day, day_of_date, date_of, date_text, day_text_of, day_spelled_by, day_of_text_of}
+use Rattle.smf_text.proofs.DateLemmas.{date_of_found}
 
--- a day that is found is among the days looked at, and has the text
-record IsFound (left : ℕ) (first found : ℤ) (text : List ℕ) : Type 0 where
-  early : first ≤ℤ found
-  late : found <ℤ (first +ℤ pos left)
-  same : day_text_of found ≡ text
+-- two digits spell their number
+two_digits_spell : (n : ℕ) → 10 * (48 + n / 10 - 48) + (48 + n % 10 - 48) ≡ n
+two_digits_spell n = omega arith
 
--- what the walk finds is found
-first_with_text-some : (left : ℕ) (first found : ℤ) (text : List ℕ)
-    → first_with_text left first text ≡ Some found → IsFound left first found text
-unfolding first_with_text
-first_with_text-some zero first found text e = cc
-first_with_text-some (suc left) first found text e =
-    go (bytes_eq (day_text_of first) text) refl (first_with_text-some left (first +ℤ pos 1) found text) e where
-      go : (b : Bool) → bytes_eq (day_text_of first) text ≡ b
-          → (first_with_text left (first +ℤ pos 1) text ≡ Some found → IsFound left (first +ℤ pos 1) found text)
-          → (if b then Some first else first_with_text left (first +ℤ pos 1) text) ≡ Some found
-          → IsFound (suc left) first found text
-      go true same later e =
-          let is : first ≡ found = cc in
-          record {
-            early = omega (arith, signed_arith, is);
-            late = omega (arith, signed_arith, is);
-            same = ap day_text_of (sym is) ∙ (bytes_eq-Decides (day_text_of first) text).0 same;
-          }
-      go false other later e =
-          let h = later e in
-          record {
-            early = omega (arith, signed_arith, h.early);
-            late = omega (arith, signed_arith, h.late);
-            same = h.same;
-          }
+-- the text of a date spells its day
+date_text-spells : (date : CalendarDate)
+    → day_spelled_by (date_text date) ≡ day_of_date date.year date.month date.day
+unfolding day_spelled_by
+date_text-spells date =
+    let year_is : 100 * (date.year / 100) + date.year % 100 ≡ date.year = omega arith in
+    let century = two_digits_spell (date.year / 100) in
+    let of_century = two_digits_spell (date.year % 100) in
+    let month = two_digits_spell date.month in
+    let day = two_digits_spell date.day in
+    rw (century, of_century, month, day, year_is) refl
 
--- where it finds none, no day looked at has the text
-first_with_text-none : (left : ℕ) (first day : ℤ) (text : List ℕ)
-    → first_with_text left first text ≡ None → first ≤ℤ day → day <ℤ (first +ℤ pos left)
-    → day_text_of day ≢ text
-unfolding first_with_text
-first_with_text-none zero first day text e early late same = absurd (omega (arith, signed_arith))
-first_with_text-none (suc left) first day text e early late same =
-    go (bytes_eq (day_text_of first) text) refl (first_with_text-none left (first +ℤ pos 1) day text) e where
-      go : (b : Bool) → bytes_eq (day_text_of first) text ≡ b
-          → (first_with_text left (first +ℤ pos 1) text ≡ None → (first +ℤ pos 1) ≤ℤ day
-          → day <ℤ ((first +ℤ pos 1) +ℤ pos left) → day_text_of day ≢ text)
-          → (if b then Some first else first_with_text left (first +ℤ pos 1) text) ≡ None → ⊥
-      go true _ later e = cc
-      go false other later e =
-          by_lt_z first day
-          (λ lt. later e (omega (arith, signed_arith)) (omega (arith, signed_arith)) same)
-          (λ ge. let is : first ≡ day = omega (arith, signed_arith) in
-          let equal = (bytes_eq-Decides (day_text_of first) text).1 (ap day_text_of is ∙ same) in
-          true≢false (sym equal ∙ other))
+-- the text of a day spells it
+day_text_of-spells : (day : ℤ) → IsDay day → day_spelled_by (day_text_of day) ≡ day
+unfolding day_text_of
+day_text_of-spells day h = date_text-spells (date_of day) ∙ (date_of_found day h).day_is
 
--- an option that is the day whose text this is, is what the walk finds
+-- a number that is not below another passes the test
+le_z-passes : (a b : ℤ) → a ≤ℤ b → le_z a b ≡ true
+le_z-passes a b h = go (le_z a b) refl where
+  go : (test : Bool) → le_z a b ≡ test → test ≡ true
+  go true is = refl
+  go false is = absurd (omega (arith, signed_arith, is))
+
+-- a day passes the test
+is_day-passes : (day : ℤ) → IsDay day → is_day day ≡ true
+is_day-passes day h = rw (le_z-passes _ _ h.0, le_z-passes _ _ h.1) refl
+
+-- what passes the test is a day
+is_day-holds : (day : ℤ) → is_day day ≡ true → IsDay day
+is_day-holds day is =
+    let parts = and_parts (le_z first_day day) (le_z day last_day) is in
+    (omega (arith, signed_arith, parts.0), omega (arith, signed_arith, parts.1))
+
+-- a day is the one whose text this is
+day_of_text_of-some : (text : List ℕ) (day : ℤ) → IsDay day → text ≡ day_text_of day
+    → Some day ≡ day_of_text_of text
+unfolding day_of_text_of
+day_of_text_of-some text day h is =
+    let spelled : day_spelled_by text ≡ day = ap day_spelled_by is ∙ day_text_of-spells day h in
+    let same = (bytes_eq-Decides (day_text_of day) text).1 (sym is) in
+    rw (spelled, is_day-passes day h, same) refl
+
+-- an option that is the day whose text this is, is the day that the text spells
 pub the_day_found : (text : List ℕ) (r : Option ℤ)
     → ((day : ℤ) → IsDay day → ((r ≡ Some day) ↔ (text ≡ day_text_of day))) → IfSome r IsDay
     → r ≡ day_of_text_of text
 unfolding day_of_text_of
-the_day_found text r exact is_day = go r (first_with_text 73_049 FIRST_DAY text) refl refl where
-  go : (answer found : Option ℤ) → r ≡ answer → first_with_text 73_049 FIRST_DAY text ≡ found
-      → r ≡ first_with_text 73_049 FIRST_DAY text
-  go answer (Some day) r_is e =
-      let h = first_with_text-some 73_049 FIRST_DAY day text e in
-      let within : IsDay day = (h.early, omega (arith, signed_arith, h.late)) in
-      (exact day within).1 (sym h.same) ∙ sym e
-  go None None r_is e = r_is ∙ sym e
-  go (Some day) None r_is e =
-      let within : IsDay day = rw r_is at is_day in
-      let late : day <ℤ (FIRST_DAY +ℤ pos 73_049) = omega (arith, signed_arith, within.1) in
-      absurd (first_with_text-none 73_049 FIRST_DAY day text e within.0 late (sym ((exact day within).0 r_is)))
+the_day_found text r exact is_day_of = go r refl where
+  go : (answer : Option ℤ) → r ≡ answer → r ≡ day_of_text_of text
+  go (Some day) is =
+      let within : IsDay day = rw is at is_day_of in
+      is ∙ day_of_text_of-some text day within ((exact day within).0 is)
+  go None is =
+      let day = day_spelled_by text in
+      let test = is_day day && bytes_eq (day_text_of day) text in
+      is ∙ elim (cases_Bool test) [
+        | inl passes ↦
+            let parts = and_parts (is_day day) (bytes_eq (day_text_of day) text) passes in
+            let same = (bytes_eq-Decides (day_text_of day) text).0 parts.1 in
+            let found = (exact day (is_day-holds day parts.0)).1 (sym same) in
+            cc
+        | inr fails ↦ rw fails refl
+      ]

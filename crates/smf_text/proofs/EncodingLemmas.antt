@@ -38,4 +38,5 @@ pub map-char_of-page_bytes : (text : List ℕ) → is_in_page text ≡ true
 map-char_of-page_bytes [] h bytes = refl
 map-char_of-page_bytes (character ∷ rest) h bytes =
     let parts = and_parts (is_some (byte_of character)) (is_in_page rest) h in
-    rw (char_of-byte character (bytes 0) parts.0, map-char_of-page_bytes rest parts.1 (λ i. bytes (suc i))) refl
+    let behind = map-char_of-page_bytes rest parts.1 (λ i. bytes (suc i)) in
+    rw (char_of-byte character (bytes 0) parts.0, behind) refl

@@ -123,7 +123,8 @@ show_text-injective (x ∷ xs) (y ∷ ys) long a b e =
       go : (p q : Bool) → list_all is_blank (x ∷ xs) ≡ p → list_all is_blank (y ∷ ys) ≡ q
           → (show_text xs ≡ show_text ys → xs ≡ ys) → (x ∷ xs) ≡ (y ∷ ys)
       go true true is_x is_y rest =
-          blanks_are (x ∷ xs) is_x ∙ ap (λ n. replicate n 0x40) long ∙ sym (blanks_are (y ∷ ys) is_y)
+          blanks_are (x ∷ xs) is_x ∙ ap (λ n. replicate n 0x40) long
+          ∙ sym (blanks_are (y ∷ ys) is_y)
       go true false is_x is_y rest =
           absurd (some_shown y (show_text ys) (b 0)
           (sym (show_text-blanks (x ∷ xs) is_x) ∙ e ∙ show_text-cons y ys is_y))

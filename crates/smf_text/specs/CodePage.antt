@@ -61,11 +61,14 @@ blank = 0x40
 abbrev pub backslash : ℕ
 backslash = 0xE0
 
--- a backslash and the two digits of a byte, in capitals
+-- the hexadecimal digit of a half-byte, in capitals
+abbrev pub hexadecimal_digit : ℕ → ℕ
+hexadecimal_digit half = slice_index (codes "0123456789ABCDEF") half
+
+-- a backslash and the two digits of a byte
 abbrev pub hexadecimal : ℕ → List ℕ
-hexadecimal byte = codes "\\" ++ digit (byte / 16) ∷ digit (byte % 16) ∷ [] where
-  digit : ℕ → ℕ
-  digit half = slice_index (codes "0123456789ABCDEF") half
+hexadecimal byte =
+    codes "\\" ++ hexadecimal_digit (byte / 16) ∷ hexadecimal_digit (byte % 16) ∷ []
 
 -- a byte as it is shown: in hexadecimal the backslash and what has no character, else its character
 abbrev pub show_byte : ℕ → List ℕ

@@ -1,20 +1,52 @@
--- Days, counted from 1970-01-01 in the Gregorian calendar.
-use Rattle.std.specs.Prelude.{ℕ, zero, suc, ◌+◌, ◌-◌, nat_lt, if◌then◌else◌, List, ◌++◌, codes, bytes_eq, Option, None, Some, ℤ, pos, ◌+ℤ◌, ◌-ℤ◌, unsigned_abs}
-use Rattle.jiff_core.specs.Calendar.{IsBetween, days_in_month, days_in_year, days_from_civil, weekday_number}
+-- Days, counted from 1970-01-01 in the Gregorian calendar. The calendar is the kit's: the days of
+-- years and of months before a date, where every fourth year is a leap year, but of the centuries
+-- only every fourth.
+use Rattle.std.specs.Prelude.{ℕ, zero, suc, ◌+◌, ◌-◌, ◌*◌, ◌&&◌, if◌then◌else◌, Bool, List, ◌++◌, codes, slice_index, bytes_eq, Option, None, Some, ℤ, pos, neg_ℤ, ◌+ℤ◌}
+use Rattle.std.specs.Int.{int_gap}
+use Rattle.std.specs.Int.Signed.{le_z}
+use Rattle.jiff_core.specs.Calendar.{IsBetween, days_from_civil, weekday_number}
 use Rattle.jiff_fmt.specs.Text.{pad2, pad4}
-use Rattle.smf_text.specs.declared.day.TheConstants.{FIRST_DAY, LAST_DAY}
+
+-- the first year that this product knows, and the last (the office's rule)
+abbrev pub first_year : ℕ
+first_year = 1900
+
+abbrev pub last_year : ℕ
+last_year = 2099
+
+-- the first day that it knows, 1900-01-01, and the last, 2099-12-31
+abbrev pub first_day : ℤ
+first_day = neg_ℤ (pos 25_567)
+
+abbrev pub last_day : ℤ
+last_day = pos 47_481
 
 -- a day from 1900-01-01 to 2099-12-31
 abbrev pub IsDay : ℤ → Type 0
-IsDay day = IsBetween FIRST_DAY LAST_DAY day
+IsDay day = IsBetween first_day last_day day
+
+-- the same, as a test
+abbrev pub is_day : ℤ → Bool
+is_day day = le_z first_day day && le_z day last_day
+
+-- the day of a year, a month and a day of the month
+abbrev pub day_of_date : ℕ → ℕ → ℕ → ℤ
+day_of_date year month day = days_from_civil (pos year) month day
 
 -- the nth day of a year, from 1
 abbrev pub nth_day_of : ℕ → ℕ → ℤ
-nth_day_of year n = days_from_civil (pos year) 1 1 +ℤ pos (n - 1)
+nth_day_of year n = day_of_date year 1 1 +ℤ pos (n - 1)
 
--- the day of the week, from 1 for Monday to 7 for Sunday
+-- the day of the week, from 1 for Monday to 7 for Sunday (day 0 was a Thursday)
 unfoldable pub weekday_of : ℤ → ℕ
 weekday_of day = weekday_number day + 1
+
+-- the last that has begun by a day, of a first year or month and so many behind it
+unfoldable pub last_begun : (ℕ → ℤ) → ℕ → ℕ → ℤ → ℕ
+last_begun begins first zero day = first
+last_begun begins first (suc more) day =
+    if le_z (begins (first + suc more)) day then first + suc more
+    else last_begun begins first more day
 
 -- a date as people write it
 pub record CalendarDate : Type 0 where
@@ -22,25 +54,13 @@ pub record CalendarDate : Type 0 where
   pub month : ℕ
   pub day : ℕ
 
--- the date so many days after the first of a month: in that month, or in one of so many behind it
-unfoldable pub date_in_months : ℕ → ℕ → ℕ → ℕ → CalendarDate
-date_in_months zero year month days = record { year = year; month = month; day = days + 1 }
-date_in_months (suc left) year month days =
-    let length = days_in_month (pos year) month in
-    if nat_lt days length then record { year = year; month = month; day = days + 1 }
-    else date_in_months left year (month + 1) (days - length)
-
--- the date so many days after 1 January of a year: in that year, or in one of so many behind it
-unfoldable pub date_in_years : ℕ → ℕ → ℕ → CalendarDate
-date_in_years zero year days = date_in_months 11 year 1 days
-date_in_years (suc left) year days =
-    let length = days_in_year (pos year) in
-    if nat_lt days length then date_in_months 11 year 1 days
-    else date_in_years left (year + 1) (days - length)
-
--- the date of a day from 1900-01-01 to 2099-12-31
+-- the date of a day: the last year that has begun, its last month that has begun, and the days
+-- since that month began, from 1
 unfoldable pub date_of : ℤ → CalendarDate
-date_of day = date_in_years (2099 - 1900) 1900 (unsigned_abs (day -ℤ FIRST_DAY))
+date_of day =
+    let year = last_begun (λ year. day_of_date year 1 1) first_year (last_year - first_year) day in
+    let month = last_begun (λ month. day_of_date year month 1) 1 11 day in
+    record { year = year; month = month; day = int_gap (day_of_date year month 1) day + 1 }
 
 -- a date as `YYYY-MM-DD`
 abbrev pub date_text : CalendarDate → List ℕ
@@ -50,13 +70,19 @@ date_text date = pad4 date.year ++ codes "-" ++ pad2 date.month ++ codes "-" ++ 
 unfoldable pub day_text_of : ℤ → List ℕ
 day_text_of day = date_text (date_of day)
 
--- the first of so many days from a day on whose text this is
-unfoldable pub first_with_text : ℕ → ℤ → List ℕ → Option ℤ
-first_with_text zero day text = None
-first_with_text (suc left) day text =
-    if bytes_eq (day_text_of day) text then Some day
-    else first_with_text left (day +ℤ pos 1) text
+-- the number that the two decimal digits at an offset spell (in ASCII the digit 0 is 48)
+abbrev pub two_digits_at : List ℕ → ℕ → ℕ
+two_digits_at text i = 10 * (slice_index text i - 48) + (slice_index text (i + 1) - 48)
 
--- the day from 1900-01-01 to 2099-12-31 whose text this is
+-- the day that the digits of a text `YYYY-MM-DD` spell
+unfoldable pub day_spelled_by : List ℕ → ℤ
+day_spelled_by text =
+    let year = 100 * two_digits_at text 0 + two_digits_at text 2 in
+    day_of_date year (two_digits_at text 5) (two_digits_at text 8)
+
+-- the day from 1900-01-01 to 2099-12-31 whose text this is: the one that its digits spell, if the
+-- text is that day's
 unfoldable pub day_of_text_of : List ℕ → Option ℤ
-day_of_text_of text = first_with_text (unsigned_abs (LAST_DAY -ℤ FIRST_DAY) + 1) FIRST_DAY text
+day_of_text_of text =
+    let day = day_spelled_by text in
+    if is_day day && bytes_eq (day_text_of day) text then Some day else None

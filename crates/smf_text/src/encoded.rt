@@ -1,6 +1,6 @@
 //! Texts as bytes of the page.
 
-ghost use Rattle.std.specs.Prelude.{◌≡◌, ◌≤◌, ◌++◌, drop, length, map, Some, OnOk, OnErr};
+ghost use Rattle.std.specs.Prelude.{◌≡◌, ◌++◌, drop, length, map, Some, OnOk, OnErr};
 ghost use Rattle.smf_text.specs.CodePage.{char_of};
 ghost use Rattle.smf_text.specs.Encoding as spec;
 ghost use Rattle.smf_text.specs.Encoding.{encode_of, page_bytes};

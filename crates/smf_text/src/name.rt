@@ -27,13 +27,13 @@ pub struct Name {
 
 impl Model for Name {
     ghost use Rattle.std.specs.Prelude.{ℕ, List, take, length};
-    ghost use Rattle.smf_text.specs.Names.{IsKept, padded};
+    ghost use Rattle.smf_text.specs.Names.{IsPadded, padded};
 
     ghost Value = { List ℕ };
 
     ghost view = { λ name. take name.len name.letters };
 
-    ghost invariant = { λ name. IsKept name.letters name.len };
+    ghost invariant = { λ name. IsPadded name.letters name.len };
 
     ghost inverse = { λ text. record { letters = padded text; len = length text } };
 

@@ -1,13 +1,37 @@
 //! Packed dates, `0cyydddF`, a half-byte each (SA38-0667).
 
 ghost use Rattle.std.specs.Prelude.{◌≡◌, ◌≤◌, IsTrue, IfOk, pos, slice_index};
-ghost use Rattle.jiff_core.specs.Calendar.{IsEpochDay, days_from_civil, days_in_year as days_in_year_of};
-ghost use Rattle.smf_text.specs.Day.{IsDay, nth_day_of};
+ghost use Rattle.jiff_core.specs.Calendar.{IsEpochDay, days_in_year as days_in_year_of};
+ghost use Rattle.smf_text.specs.Day.{IsDay, day_of_date, first_year, last_year, nth_day_of};
 ghost use Rattle.smf_text.specs.PackedDate as spec;
 
 use jiff::civil;
 use jiff_core::civil::days_in_year;
 use thiserror::Error;
+
+/// Where the half-byte of the century stands.
+const CENTURY_AT: usize = 1;
+
+/// Where the two half-bytes of the year stand.
+const YEAR_AT: usize = 2;
+
+/// Where the three half-bytes of the day of the year stand.
+const DAY_AT: usize = 4;
+
+/// Where the sign stands.
+const SIGN_AT: usize = 7;
+
+/// The year that centuries are counted from.
+const BASE_YEAR: u16 = 1900;
+
+/// The last century that is known: 20yy.
+const LAST_CENTURY: u8 = 1;
+
+/// The sign that the manual gives.
+const SIGN: u8 = 0xF;
+
+/// The sign that some writers use.
+const OTHER_SIGN: u8 = 0xC;
 
 /// Why four bytes are no packed date. Where several reasons apply, the first of these is given.
 #[derive(Clone, Copy, Debug, PartialEq, Eq, Error)]
@@ -57,41 +81,44 @@ fn half_bytes(bytes: &[u8; 4]) -> [u8; 8]
     ]
 }
 
-/// The year, from 1900 on: the second half-byte counts the centuries, the next two are the last
-/// digits of the year.
+/// The year: the second half-byte counts the centuries from 1900 on, the next two are the last
+/// digits.
 fn year_of(halves: &[u8; 8]) -> u16
     ensures { result ≡ spec.year_of halves.now }
 {
-    1900 + 100 * halves[1] as u16 + 10 * halves[2] as u16 + halves[3] as u16
+    BASE_YEAR
+        + 100 * halves[CENTURY_AT] as u16
+        + 10 * halves[YEAR_AT] as u16
+        + halves[YEAR_AT + 1] as u16
 }
 
 /// The day of the year, from 1.
 fn day_of_year(halves: &[u8; 8]) -> u16
     ensures { result ≡ spec.day_of_year halves.now }
 {
-    100 * halves[4] as u16 + 10 * halves[5] as u16 + halves[6] as u16
+    100 * halves[DAY_AT] as u16 + 10 * halves[DAY_AT + 1] as u16 + halves[DAY_AT + 2] as u16
 }
 
 /// Whether each half-byte but the sign is a decimal digit.
 fn has_digits(halves: &[u8; 8]) -> bool
     ensures exact { result ≡ spec.has_digits halves.now }
-    ensures year { IsTrue result → spec.year_of halves.now ≤ 2899 }
-    ensures late { IsTrue result → slice_index halves.now 1 ≤ 1 → spec.year_of halves.now ≤ 2099 }
+    ensures late { IsTrue result → slice_index halves.now spec.century_at ≤ spec.last_century
+        → spec.year_of halves.now ≤ last_year }
 {
-    halves[..7].iter().all(|half| *half <= 9)
+    halves[..SIGN_AT].iter().all(|half| *half <= 9)
 }
 
 /// Whether the century is 19 or 20.
 fn has_century(halves: &[u8; 8]) -> bool
     ensures exact { result ≡ spec.has_century halves.now }
-    ensures century { IsTrue result → slice_index halves.now 1 ≤ 1 }
+    ensures century { IsTrue result → slice_index halves.now spec.century_at ≤ spec.last_century }
 {
-    halves[0] == 0 && halves[1] <= 1
+    halves[0] == 0 && halves[CENTURY_AT] <= LAST_CENTURY
 }
 
 /// Whether the year has the day of the year.
 fn has_day_of_year(halves: &[u8; 8]) -> bool
-    requires { spec.year_of halves.now ≤ 2899 }
+    requires { spec.year_of halves.now ≤ last_year }
     ensures exact { result ≡ spec.has_day_of_year halves.now }
     ensures first { IsTrue result → 1 ≤ spec.day_of_year halves.now }
     ensures last { IsTrue result
@@ -105,13 +132,13 @@ fn has_day_of_year(halves: &[u8; 8]) -> bool
 fn has_sign(halves: &[u8; 8]) -> bool
     ensures { result ≡ spec.has_sign halves.now }
 {
-    halves[7] == 0xF || halves[7] == 0xC
+    halves[SIGN_AT] == SIGN || halves[SIGN_AT] == OTHER_SIGN
 }
 
 /// 1 January of a year.
-fn first_day(year: u16) -> i32
-    requires { year ≤ 2899 }
-    ensures exact { result ≡ days_from_civil (pos year) 1 1 }
+fn new_year(year: u16) -> i32
+    requires { year ≤ last_year }
+    ensures exact { result ≡ day_of_date year 1 1 }
     ensures bound { IsEpochDay result }
 {
     civil::date(year as i16, 1, 1)
@@ -121,14 +148,14 @@ fn first_day(year: u16) -> i32
 
 /// The nth day of a year, from 1.
 fn nth_day(year: u16, n: u16) -> i32
-    requires early { 1900 ≤ year }
-    requires late { year ≤ 2099 }
+    requires early { first_year ≤ year }
+    requires late { year ≤ last_year }
     requires first { 1 ≤ n }
     requires last { n ≤ days_in_year_of (pos year) }
     ensures exact { result ≡ nth_day_of year n }
     ensures day { IsDay result }
 {
-    first_day(year) + (n as i32 - 1)
+    new_year(year) + (n as i32 - 1)
 }
 
 /// The day of a packed date, in days since 1970-01-01, or the first test that it fails.

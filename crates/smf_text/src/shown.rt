@@ -1,8 +1,8 @@
 //! Bytes of the page as people read them.
 
-ghost use Rattle.std.specs.Prelude.{◌≡◌, ℕ, ◌<◌, List, [], ◌∷◌, ◌++◌, IfOk, OnOk, All, length, slice_index, codes, string_bytes};
+ghost use Rattle.std.specs.Prelude.{◌≡◌, ℕ, ◌<◌, List, [], ◌∷◌, ◌++◌, IfOk, OnOk, All, length, string_bytes};
 ghost use Rattle.smf_text.specs.CodePage as spec;
-ghost use Rattle.smf_text.specs.CodePage.{hexadecimal, show_byte, show_text};
+ghost use Rattle.smf_text.specs.CodePage.{hexadecimal, hexadecimal_digit, show_byte, show_text};
 
 use crate::code_page::character_of;
 use std::alloc::{AllocError, Global};
@@ -20,7 +20,7 @@ const DIGITS: [u8; 16] = *b"0123456789ABCDEF";
 fn push_digit(text: &mut String, digit: u8) -> Result<(), AllocError>
     requires { digit < 16 }
     ensures { OnOk result (string_bytes text.new
-        ≡ string_bytes text.old ++ slice_index (codes "0123456789ABCDEF") digit ∷ []) }
+        ≡ string_bytes text.old ++ hexadecimal_digit digit ∷ []) }
 {
     text.push(char::from(DIGITS[digit as usize]))
 }

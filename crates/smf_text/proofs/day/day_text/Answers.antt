@@ -10,5 +10,6 @@ returns c =
     let fits : FitsSigned w32 c.args.day = c.ranges.day in
     let date_is = simp to_z-of_z at c.date_of.ensures in
     let is =
-    ap date_text c.from_plain-date.ensures ∙ date_text-day_text_of c.args.day c.date_of.result c.requires date_is in
+    ap date_text c.from_plain-date.ensures
+    ∙ date_text-day_text_of c.args.day c.date_of.result c.requires date_is in
     IfOk-weaker c.format.result _ _ (λ text e. e ∙ is) c.format.ensures.ok

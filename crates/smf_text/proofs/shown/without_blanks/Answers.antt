@@ -15,6 +15,7 @@ returns c =
     let keeps = without_blanks-keeps c.args.bytes.now c.loop-end.end c.loop-end.invariant.0 in
     let is = c.loop-end.invariant.1 in
     elim c.loop-end-test.branch [
-      | then-loop-end-test+else-bytes-end-eq-BLANK w ↦ sym (keeps (λ some. w.if-bytes-end-eq-BLANK.false)) ∙ is
+      | then-loop-end-test+else-bytes-end-eq-BLANK w ↦
+          sym (keeps (λ some. w.if-bytes-end-eq-BLANK.false)) ∙ is
       | else-loop-end-test w ↦ sym (keeps (λ some. absurd (omega arith))) ∙ is
     ]
