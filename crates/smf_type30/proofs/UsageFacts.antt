@@ -3,7 +3,7 @@ use Rattle.std.proofs.Common.{◌≡◌, ◌≢◌, ◌≤◌, ◌<◌, ◌==◌
 use Rattle.std.proofs.lemmas.Bool.{ltb-true, ltb-false, eqb-true, eqb-false, not-false, or_cases, and_from, not_from_false, cond-false, ne_eqb}
 use Rattle.smf_frames.specs.declared.header.TheConstants.{HEADER_LEN}
 use Rattle.smf_frames.specs.Header.{header_of}
-use Rattle.smf_type30.specs.declared.layout.TheConstants.{DUMP_HEADER, DUMP_TRAILER, DATA_LOST, WORK, STEP_END, JOB_END, SUBTYPE_END, TRIPLETS_END, HUNDREDTHS_PER_DAY, IDENTIFICATION, PROCESSOR, IO_ACTIVITY, COMPLETION}
+use Rattle.smf_type30.specs.Layout.{dump_header, dump_trailer, data_lost, work, step_end, job_end, subtype_end, triplets_end, hundredths_per_day, identification, processor, io_activity, completion}
 use Rattle.smf_type30.specs.declared.classes.Class.TheVariants.{Usage}
 use Rattle.smf_type30.specs.declared.damage.Damage.{Damage}
 use Rattle.smf_type30.specs.Section.{fits, count_of}
@@ -13,19 +13,19 @@ use Rattle.smf_type30.specs.Class.{class_of, damage_of, usage_unless, type_of, h
 -- the date, the time and each section are as they should be
 pub record Undamaged (bytes : List ℕ) : Type 0 where
   pub date : has_date bytes ≡ true
-  pub time : (header_of bytes).time < HUNDREDTHS_PER_DAY
-  pub identified : count_of bytes IDENTIFICATION ≢ 0
-  pub identification : fits bytes IDENTIFICATION ≡ true
-  pub processor : fits bytes PROCESSOR ≡ true
-  pub io_activity : fits bytes IO_ACTIVITY ≡ true
-  pub completion : fits bytes COMPLETION ≡ true
+  pub time : (header_of bytes).time < hundredths_per_day
+  pub identified : count_of bytes identification ≢ 0
+  pub identification : fits bytes identification ≡ true
+  pub processor : fits bytes processor ≡ true
+  pub io_activity : fits bytes io_activity ≡ true
+  pub completion : fits bytes completion ≡ true
   pub accounts : is_some (accounts_of bytes) ≡ true
 
 -- the record has the triplets, is one of work, and undamaged
 pub record UsageFacts (bytes : List ℕ) : Type 0 where
-  pub long : TRIPLETS_END ≤ length bytes
-  pub subtype : (subtype_of bytes ≡ STEP_END) ⊎ (subtype_of bytes ≡ JOB_END)
-  pub processing : count_of bytes PROCESSOR ≢ 0
+  pub long : triplets_end ≤ length bytes
+  pub subtype : (subtype_of bytes ≡ step_end) ⊎ (subtype_of bytes ≡ job_end)
+  pub processing : count_of bytes processor ≢ 0
   pub work : measures_work bytes ≡ true
   pub parts : Undamaged bytes
 
@@ -63,11 +63,11 @@ unfolding damage_of
 undamaged bytes none =
     let date = passed (not (has_date bytes)) _ _ _ (λ e. cc) none in
     let time = passed (not (has_time bytes)) _ _ _ (λ e. cc) date.below in
-    let there = passed (count_of bytes IDENTIFICATION == 0) _ _ _ (λ e. cc) time.below in
-    let identification = passed (not (fits bytes IDENTIFICATION)) _ _ _ (λ e. cc) there.below in
-    let processor = passed (not (fits bytes PROCESSOR)) _ _ _ (λ e. cc) identification.below in
-    let io_activity = passed (not (fits bytes IO_ACTIVITY)) _ _ _ (λ e. cc) processor.below in
-    let completion = passed (not (fits bytes COMPLETION)) _ _ _ (λ e. cc) io_activity.below in
+    let there = passed (count_of bytes identification == 0) _ _ _ (λ e. cc) time.below in
+    let identification = passed (not (fits bytes identification)) _ _ _ (λ e. cc) there.below in
+    let processor = passed (not (fits bytes processor)) _ _ _ (λ e. cc) identification.below in
+    let io_activity = passed (not (fits bytes io_activity)) _ _ _ (λ e. cc) processor.below in
+    let completion = passed (not (fits bytes completion)) _ _ _ (λ e. cc) io_activity.below in
     let accounts = passed (is_none (accounts_of bytes)) _ _ _ (λ e. cc) completion.below in
     record {
       date = not-false _ date.failed;
@@ -87,8 +87,8 @@ no_damage (Some damage) e = cc
 
 -- what the test of the subtype means
 step_or_job : (bytes : List ℕ)
-    → (subtype_of bytes == STEP_END || subtype_of bytes == JOB_END) ≡ true
-    → (subtype_of bytes ≡ STEP_END) ⊎ (subtype_of bytes ≡ JOB_END)
+    → (subtype_of bytes == step_end || subtype_of bytes == job_end) ≡ true
+    → (subtype_of bytes ≡ step_end) ⊎ (subtype_of bytes ≡ job_end)
 step_or_job bytes e = elim (or_cases _ _ e) [
   | inl step ↦ inl (eqb-true _ _ step)
   | inr job ↦ inr (eqb-true _ _ job)
@@ -99,15 +99,15 @@ pub usage_facts : (bytes : List ℕ) → IsUsage bytes → UsageFacts bytes
 unfolding class_of measures_work
 usage_facts bytes usage =
     let header = passed (nat_lt (length bytes) HEADER_LEN) _ _ _ (λ e. cc) usage in
-    let dump_header = passed (type_of bytes == DUMP_HEADER) _ _ _ (λ e. cc) header.below in
-    let dump_trailer = passed (type_of bytes == DUMP_TRAILER) _ _ _ (λ e. cc) dump_header.below in
-    let data_lost = passed (type_of bytes == DATA_LOST) _ _ _ (λ e. cc) dump_trailer.below in
-    let type = held (type_of bytes == WORK) _ _ _ (λ e. cc) data_lost.below in
-    let long_header = passed (nat_lt (length bytes) SUBTYPE_END) _ _ _ (λ e. cc) type.gives in
-    let charged = subtype_of bytes == STEP_END || subtype_of bytes == JOB_END in
+    let dump_header = passed (type_of bytes == dump_header) _ _ _ (λ e. cc) header.below in
+    let dump_trailer = passed (type_of bytes == dump_trailer) _ _ _ (λ e. cc) dump_header.below in
+    let data_lost = passed (type_of bytes == data_lost) _ _ _ (λ e. cc) dump_trailer.below in
+    let type = held (type_of bytes == work) _ _ _ (λ e. cc) data_lost.below in
+    let long_header = passed (nat_lt (length bytes) subtype_end) _ _ _ (λ e. cc) type.gives in
+    let charged = subtype_of bytes == step_end || subtype_of bytes == job_end in
     let subtype = passed (not charged) _ _ _ (λ e. cc) long_header.below in
-    let long = passed (nat_lt (length bytes) TRIPLETS_END) _ _ _ (λ e. cc) subtype.below in
-    let processor = passed (count_of bytes PROCESSOR == 0) _ _ _ (λ e. cc) long.below in
+    let long = passed (nat_lt (length bytes) triplets_end) _ _ _ (λ e. cc) subtype.below in
+    let processor = passed (count_of bytes processor == 0) _ _ _ (λ e. cc) long.below in
     let ends = and_from _ _ type.holds (not-false _ subtype.failed) in
     record {
       long = ltb-false _ _ long.failed;
@@ -122,35 +122,35 @@ pub usage_measures_work : (bytes : List ℕ) → IsUsage bytes → measures_work
 usage_measures_work bytes usage = (usage_facts bytes usage).work
 
 -- the facts one by one, for the calls on a usage record
-pub usage_long : (bytes : List ℕ) → IsUsage bytes → TRIPLETS_END ≤ length bytes
+pub usage_long : (bytes : List ℕ) → IsUsage bytes → triplets_end ≤ length bytes
 usage_long bytes usage = (usage_facts bytes usage).long
 
 pub usage_subtype : (bytes : List ℕ) → IsUsage bytes
-    → (subtype_of bytes ≡ STEP_END) ⊎ (subtype_of bytes ≡ JOB_END)
+    → (subtype_of bytes ≡ step_end) ⊎ (subtype_of bytes ≡ job_end)
 usage_subtype bytes usage = (usage_facts bytes usage).subtype
 
-pub usage_processing : (bytes : List ℕ) → IsUsage bytes → count_of bytes PROCESSOR ≢ 0
+pub usage_processing : (bytes : List ℕ) → IsUsage bytes → count_of bytes processor ≢ 0
 usage_processing bytes usage = (usage_facts bytes usage).processing
 
 pub usage_date : (bytes : List ℕ) → IsUsage bytes → has_date bytes ≡ true
 usage_date bytes usage = (usage_facts bytes usage).parts.date
 
-pub usage_time : (bytes : List ℕ) → IsUsage bytes → (header_of bytes).time < HUNDREDTHS_PER_DAY
+pub usage_time : (bytes : List ℕ) → IsUsage bytes → (header_of bytes).time < hundredths_per_day
 usage_time bytes usage = (usage_facts bytes usage).parts.time
 
-pub usage_identified : (bytes : List ℕ) → IsUsage bytes → count_of bytes IDENTIFICATION ≢ 0
+pub usage_identified : (bytes : List ℕ) → IsUsage bytes → count_of bytes identification ≢ 0
 usage_identified bytes usage = (usage_facts bytes usage).parts.identified
 
-pub usage_identification : (bytes : List ℕ) → IsUsage bytes → fits bytes IDENTIFICATION ≡ true
+pub usage_identification : (bytes : List ℕ) → IsUsage bytes → fits bytes identification ≡ true
 usage_identification bytes usage = (usage_facts bytes usage).parts.identification
 
-pub usage_processor : (bytes : List ℕ) → IsUsage bytes → fits bytes PROCESSOR ≡ true
+pub usage_processor : (bytes : List ℕ) → IsUsage bytes → fits bytes processor ≡ true
 usage_processor bytes usage = (usage_facts bytes usage).parts.processor
 
-pub usage_io_activity : (bytes : List ℕ) → IsUsage bytes → fits bytes IO_ACTIVITY ≡ true
+pub usage_io_activity : (bytes : List ℕ) → IsUsage bytes → fits bytes io_activity ≡ true
 usage_io_activity bytes usage = (usage_facts bytes usage).parts.io_activity
 
-pub usage_completion : (bytes : List ℕ) → IsUsage bytes → fits bytes COMPLETION ≡ true
+pub usage_completion : (bytes : List ℕ) → IsUsage bytes → fits bytes completion ≡ true
 usage_completion bytes usage = (usage_facts bytes usage).parts.completion
 
 pub usage_accounts : (bytes : List ℕ) → IsUsage bytes → is_some (accounts_of bytes) ≡ true

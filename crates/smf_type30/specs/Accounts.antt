@@ -1,6 +1,6 @@
 -- The accounting fields of a work record (SA38-0667, type 30, accounting section).
 use Rattle.std.specs.Prelude.{ℕ, zero, suc, ◌-◌, ◌==◌, nat_lt, if◌then◌else◌, List, [], ◌∷◌, length, take, drop, Option, Some, None, option_map, option_and_then, slice_get}
-use Rattle.smf_type30.specs.declared.layout.TheConstants.{ACCOUNTING}
+use Rattle.smf_type30.specs.Layout.{accounting}
 use Rattle.smf_type30.specs.Section.{offset_of, count_of}
 
 -- so many fields at the front of a text, each a length byte and that many bytes; none where they do
@@ -14,7 +14,7 @@ fields_in (suc count) (len ∷ text) =
 
 -- the fields that the triplet counts, from its offset on
 unfoldable pub accounts_of : List ℕ → Option (List (List ℕ))
-accounts_of bytes = fields_in (count_of bytes ACCOUNTING) (drop (offset_of bytes ACCOUNTING) bytes)
+accounts_of bytes = fields_in (count_of bytes accounting) (drop (offset_of bytes accounting) bytes)
 
 -- the field behind n others
 abbrev pub nth_of : Option (List (List ℕ)) → ℕ → Option (List ℕ)

@@ -1,5 +1,5 @@
 ghost use Rattle.std.specs.Prelude.{◌≡◌, ◌≤◌, length, drop, is_some, IsNone, IsSome, IfSome, option_copied};
-ghost use Rattle.smf_type30.specs.declared.layout.TheConstants.{ACCOUNTING, TRIPLETS_END};
+ghost use Rattle.smf_type30.specs.Layout.{accounting, triplets_end};
 ghost use Rattle.smf_type30.specs.Section.{offset_of};
 ghost use Rattle.smf_type30.specs.Accounts.{fields_in, nth_of, accounts_of, account_of};
 ghost use Rattle.smf_type30.specs.Walk.{BeginsWith, BeginsWithNone, EndsBefore, LeavesRest};
@@ -44,8 +44,8 @@ fn nth_field(count: u16, text: &[u8], n: u16) -> Option<&[u8]>
 
 /// A record from its first accounting field on.
 fn from_accounts(bytes: &[u8]) -> &[u8]
-    requires { TRIPLETS_END ≤ length bytes.now }
-    ensures { result.now ≡ drop (offset_of bytes.now ACCOUNTING) bytes.now }
+    requires { triplets_end ≤ length bytes.now }
+    ensures { result.now ≡ drop (offset_of bytes.now accounting) bytes.now }
 {
     bytes.get(offset(bytes, ACCOUNTING)..).unwrap_or_default()
 }
@@ -53,7 +53,7 @@ fn from_accounts(bytes: &[u8]) -> &[u8]
 /// Tells whether the accounting fields lie inside the record.
 #[tactic(auto, unfolding(crate::specs::Accounts::accounts_of))]
 pub fn has_accounts(bytes: &[u8]) -> bool
-    requires { TRIPLETS_END ≤ length bytes.now }
+    requires { triplets_end ≤ length bytes.now }
     ensures { result ≡ is_some (accounts_of bytes.now) }
 {
     skip_fields(count(bytes, ACCOUNTING), from_accounts(bytes)).is_some()
@@ -62,7 +62,7 @@ pub fn has_accounts(bytes: &[u8]) -> bool
 /// Accounting field n, the first being 1.
 #[tactic(auto, unfolding(crate::specs::Accounts::accounts_of, crate::specs::Accounts::account_of))]
 pub fn account(bytes: &[u8], n: u16) -> Option<&[u8]>
-    requires long { TRIPLETS_END ≤ length bytes.now }
+    requires long { triplets_end ≤ length bytes.now }
     requires fields { IsSome (accounts_of bytes.now) }
     ensures { option_copied result ≡ account_of bytes.now n }
 {

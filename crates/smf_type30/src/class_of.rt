@@ -1,6 +1,6 @@
 ghost use Rattle.std.specs.Prelude.{◌≡◌, ◌≤◌, length};
 ghost use Rattle.smf_frames.specs.declared.header.TheConstants.{HEADER_LEN};
-ghost use Rattle.smf_type30.specs.declared.layout.TheConstants.{TRIPLETS_END};
+ghost use Rattle.smf_type30.specs.Layout.{triplets_end};
 ghost use Rattle.smf_type30.specs.Class as spec;
 
 use crate::accounts::has_accounts;
@@ -34,7 +34,7 @@ fn has_time(bytes: &[u8]) -> bool
 /// The first damage of a work record that measures CPU time.
 #[tactic(auto, unfolding(crate::specs::Class::damage_of))]
 pub fn first_damage(bytes: &[u8]) -> Option<Damage>
-    requires { TRIPLETS_END ≤ length bytes.now }
+    requires { triplets_end ≤ length bytes.now }
     ensures { result ≡ spec.damage_of bytes.now }
 {
     if !has_date(bytes) {

@@ -2,7 +2,7 @@ ghost use Rattle.std.specs.Prelude.{◌≡◌, ◌≤◌, ◌<◌, ◌+◌, ◌-
 ghost use Rattle.smf_text.specs.Day.{IsDay};
 ghost use Rattle.smf_text.specs.PackedDate.{packed_day_of};
 ghost use Rattle.smf_frames.specs.Header.{header_of};
-ghost use Rattle.smf_type30.specs.declared.layout.TheConstants.{HUNDREDTHS_PER_DAY, IDENTIFICATION, JOB_END, STEP_END, TRIPLETS_END};
+ghost use Rattle.smf_type30.specs.Layout.{hundredths_per_day, identification, job_end, step_end, triplets_end};
 ghost use Rattle.smf_type30.specs.Section.{part_in};
 ghost use Rattle.smf_type30.specs.Usage as spec;
 ghost use Rattle.smf_type30.specs.Class.{IsUsage, measures_work, read_fault};
@@ -54,7 +54,7 @@ impl<'a> Type30<'a> {
     /// its triplets do, whatever its type.
     #[tactic(auto, unfolding(crate::specs::Class::class_of, crate::specs::Class::measures_work))]
     pub fn read(bytes: &'a [u8]) -> Result<Type30<'a>, Damage>
-        requires { TRIPLETS_END ≤ length bytes.now → IsTrue (measures_work bytes.now) }
+        requires { triplets_end ≤ length bytes.now → IsTrue (measures_work bytes.now) }
         ensures usage { IsOk result ↔ IsUsage bytes.now }
         ensures value { IfOk result (λ usage. usage ≡ bytes.now) }
         ensures damage { IfErr result (λ damage. read_fault bytes.now ≡ Some damage) }
@@ -72,7 +72,7 @@ impl<'a> Type30<'a> {
     #[tactic(auto, using(crate::proofs::UsageFacts::usage), unfolding(crate::specs::Usage::subtype_of))]
     pub fn subtype(&self) -> u16
         ensures value { result ≡ spec.subtype_of self.now }
-        ensures either { (result ≡ STEP_END) ⊎ (result ≡ JOB_END) }
+        ensures either { (result ≡ step_end) ⊎ (result ≡ job_end) }
         ensures usage { IsUsage self.now }
     {
         number2(self.bytes, SUBTYPE.offset)
@@ -100,7 +100,7 @@ impl<'a> Type30<'a> {
         ensures day { result.day ≡ spec.day_of self.now }
         ensures time { result.time ≡ spec.time_of self.now }
         ensures is_day { IsDay result.day }
-        ensures is_time { result.time < HUNDREDTHS_PER_DAY }
+        ensures is_time { result.time < hundredths_per_day }
     {
         let header = self.header();
         Moment {
@@ -182,7 +182,7 @@ impl<'a> Type30<'a> {
     fn header(&self) -> Header
         ensures value { result ≡ header_of self.now }
         ensures date { IsOk (packed_day_of result.date) }
-        ensures time { result.time < HUNDREDTHS_PER_DAY }
+        ensures time { result.time < hundredths_per_day }
     {
         Header::read(self.bytes).unwrap()
     }
@@ -190,8 +190,8 @@ impl<'a> Type30<'a> {
     /// A field of the identification section.
     #[tactic(auto, using(crate::proofs::UsageFacts::usage))]
     fn identified(&self, field: Field) -> &'a [u8]
-        requires { field.offset + field.len ≤ IDENTIFICATION.least }
-        ensures value { result.now ≡ part_in self.now IDENTIFICATION field }
+        requires { field.offset + field.len ≤ identification.least }
+        ensures value { result.now ≡ part_in self.now identification field }
         ensures len { length result.now ≡ field.len }
     {
         &lend(self.bytes, IDENTIFICATION)[field.offset..field.offset + field.len]
