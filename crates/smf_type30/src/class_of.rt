@@ -73,7 +73,7 @@ fn class_of_work(bytes: &[u8]) -> Class
     if bytes.len() < SUBTYPE_END {
         return Class::Damaged(Damage::Short);
     }
-    let subtype = number2(bytes, SUBTYPE.offset);
+    let subtype = number2(bytes, SUBTYPE);
     if !(subtype == STEP_END || subtype == JOB_END) {
         return Class::Other;
     }

@@ -3,7 +3,7 @@ ghost use Rattle.smf_type30.specs.Lent.{Lends};
 ghost use Rattle.smf_type30.specs.Section.{HasTriplet};
 ghost use Rattle.smf_type30.specs.Section as spec;
 
-use crate::layout::Section;
+use crate::layout::{Field, Section};
 use crate::number::{number2, number4};
 
 /// The offset that a section's triplet tells.
@@ -11,7 +11,11 @@ pub fn offset(bytes: &[u8], section: Section) -> usize
     requires { HasTriplet bytes.now section }
     ensures { result ≡ spec.offset_of bytes.now section }
 {
-    number4(bytes, section.triplet) as usize
+    let field = Field {
+        offset: section.triplet,
+        len: 4,
+    };
+    number4(bytes, field) as usize
 }
 
 /// The length that a section's triplet tells.
@@ -19,7 +23,11 @@ pub fn len(bytes: &[u8], section: Section) -> u16
     requires { HasTriplet bytes.now section }
     ensures { result ≡ spec.length_of bytes.now section }
 {
-    number2(bytes, section.triplet + 4)
+    let field = Field {
+        offset: section.triplet + 4,
+        len: 2,
+    };
+    number2(bytes, field)
 }
 
 /// The number that a section's triplet tells, 0 where the section is absent.
@@ -27,7 +35,11 @@ pub fn count(bytes: &[u8], section: Section) -> u16
     requires { HasTriplet bytes.now section }
     ensures { result ≡ spec.count_of bytes.now section }
 {
-    number2(bytes, section.triplet + 6)
+    let field = Field {
+        offset: section.triplet + 6,
+        len: 2,
+    };
+    number2(bytes, field)
 }
 
 /// Tells whether a section is absent, or long enough and inside the record.

@@ -12,10 +12,10 @@ use crate::class_of::first_damage;
 use crate::damage::Damage;
 use crate::layout::{
     BLOCKS, COMPLETION, Field, IDENTIFICATION, IO_ACTIVITY, JOB_END, JOB_ID, JOB_NAME, PROCESSOR,
-    PROGRAM_NAME, READER_START, SRB_TIME, STEP_NUMBER, SUBTYPE, SUBTYPE_END, TCB_TIME,
+    PROGRAM_NAME, READER_START, SRB_TIME, STEP_NUMBER, SUBTYPE, TCB_TIME,
     TRIPLETS_END,
 };
-use crate::number::{number2, number4};
+use crate::number::{number2, number4, part};
 use crate::section::{count, lend};
 use smf_frames::Header;
 use smf_text::packed_day;
@@ -75,7 +75,7 @@ impl<'a> Type30<'a> {
         ensures either { (result ≡ step_end) ⊎ (result ≡ job_end) }
         ensures usage { IsUsage self.now }
     {
-        number2(self.bytes, SUBTYPE.offset)
+        number2(self.bytes, SUBTYPE)
     }
 
     /// The identity of the work: system, job name, reader's time and date, subtype, and the step
@@ -84,13 +84,12 @@ impl<'a> Type30<'a> {
     pub fn identity(&self) -> [u8; 24]
         ensures value { result ≡ spec.identity_of self.now }
     {
-        let subtype = &self.bytes[SUBTYPE.offset..SUBTYPE_END];
         let mut identity = [0; 24];
         put(&mut identity, 0..4, &self.header().system);
         put(&mut identity, 4..12, self.job());
         put(&mut identity, 12..20, self.identified(READER_START));
-        put(&mut identity, 20..22, subtype);
-        put(&mut identity, 22..24, &self.step());
+        put(&mut identity, 20..22, part(self.bytes, SUBTYPE));
+        put(&mut identity, 22..24, self.step());
         identity
     }
 
@@ -116,8 +115,8 @@ impl<'a> Type30<'a> {
         ensures bound { result < 2 ^ 33 }
     {
         let processor = lend(self.bytes, PROCESSOR);
-        u64::from(number4(processor, TCB_TIME.offset))
-            + u64::from(number4(processor, SRB_TIME.offset))
+        u64::from(number4(processor, TCB_TIME))
+            + u64::from(number4(processor, SRB_TIME))
     }
 
     /// The blocks transferred, the EXCP count: 0 without an I/O activity section.
@@ -128,7 +127,7 @@ impl<'a> Type30<'a> {
         if count(self.bytes, IO_ACTIVITY) == 0 {
             return 0;
         }
-        number4(lend(self.bytes, IO_ACTIVITY), BLOCKS.offset)
+        number4(lend(self.bytes, IO_ACTIVITY), BLOCKS)
     }
 
     /// The name of the job, in EBCDIC.
@@ -194,18 +193,18 @@ impl<'a> Type30<'a> {
         ensures value { result.now ≡ part_in self.now identification field }
         ensures len { length result.now ≡ field.len }
     {
-        &lend(self.bytes, IDENTIFICATION)[field.offset..field.offset + field.len]
+        part(lend(self.bytes, IDENTIFICATION), field)
     }
 
     /// The step number, 0 for a job.
-    fn step(&self) -> [u8; 2]
-        ensures { result ≡ spec.step_of self.now }
+    fn step(&self) -> &[u8]
+        ensures value { result.now ≡ spec.step_of self.now }
+        ensures len { length result.now ≡ 2 }
     {
         if self.subtype() == JOB_END {
-            return [0, 0];
+            return &[0, 0];
         }
-        let step = self.identified(STEP_NUMBER);
-        [step[0], step[1]]
+        self.identified(STEP_NUMBER)
     }
 }
 

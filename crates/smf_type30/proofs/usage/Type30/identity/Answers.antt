@@ -13,5 +13,5 @@ returns c =
       value =
           five_parts _ _ _ _ _ _ _ _ _ _ (omega arith)
           c.put.ensures c.put-2.ensures c.put-3.ensures c.put-4.ensures c.put-5.ensures
-          ∙ rw (header, job, reader, c.self.view_is, c.step.ensures);
+          ∙ rw (header, job, reader, c.part.ensures.value, c.self.view_is, c.step.ensures.value);
     }
