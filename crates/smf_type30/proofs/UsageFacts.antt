@@ -1,6 +1,8 @@
 -- What the class of a usage record tells of it: it passes every test of the ladders.
-use Rattle.std.proofs.Common.{◌≡◌, ◌≢◌, ◌≤◌, ◌<◌, ◌==◌, ◌⊎◌, inl, inr, ℕ, List, length, nat_lt, Bool, true, false, not, ◌||◌, cond, Option, Some, None, is_none, is_some, refl, sym}
+use Rattle.std.proofs.Common.{◌≡◌, ◌≢◌, ◌≤◌, ◌<◌, ◌==◌, ◌⊎◌, inl, inr, ℕ, List, length, nat_lt, Bool, true, false, not, ◌||◌, cond, Option, Some, None, is_none, is_some, is_err, refl, sym}
 use Rattle.std.proofs.lemmas.Bool.{ltb-true, ltb-false, eqb-true, eqb-false, not-false, or_cases, and_from, not_from_false, cond-false, ne_eqb}
+use Rattle.std.specs.Option.{option_or}
+use Rattle.smf_text.specs.PackedDate.{packed_day_of}
 use Rattle.smf_frames.specs.declared.header.TheConstants.{HEADER_LEN}
 use Rattle.smf_frames.specs.Header.{header_of}
 use Rattle.smf_type30.specs.Layout.{dump_header, dump_trailer, data_lost, work, step_end, job_end, subtype_end, triplets_end, hundredths_per_day, identification, processor, io_activity, completion}
@@ -8,11 +10,11 @@ use Rattle.smf_type30.specs.declared.classes.Class.TheVariants.{Usage}
 use Rattle.smf_type30.specs.declared.damage.Damage.{Damage}
 use Rattle.smf_type30.specs.Section.{fits, count_of}
 use Rattle.smf_type30.specs.Usage.{subtype_of, accounts_of}
-use Rattle.smf_type30.specs.Class.{class_of, damage_of, usage_unless, type_of, has_date, has_time, IsUsage, measures_work}
+use Rattle.smf_type30.specs.Class.{class_of, damage_of, usage_unless, type_of, header_damage, section_damage, IsUsage, measures_work}
 
 -- the date, the time and each section are as they should be
 pub record Undamaged (bytes : List ℕ) : Type 0 where
-  pub date : has_date bytes ≡ true
+  pub date : is_err (packed_day_of (header_of bytes).date) ≡ false
   pub time : (header_of bytes).time < hundredths_per_day
   pub identified : count_of bytes identification ≢ 0
   pub identification : fits bytes identification ≡ true
@@ -57,26 +59,40 @@ is_some-there : {A : Type 0} (o : Option A) → is_none o ≡ false → is_some 
 is_some-there None e = cc
 is_some-there (Some x) e = refl
 
--- the ladder of damages
+-- where neither of two is there, the one is not there
+neither_first : {A : Type 0} (first second : Option A) → option_or first second ≡ None → first ≡ None
+neither_first None second e = refl
+neither_first (Some x) second e = cc
+
+-- nor is the other
+neither_second : {A : Type 0} (first second : Option A) → option_or first second ≡ None
+    → second ≡ None
+neither_second None second e = e
+neither_second (Some x) second e = cc
+
+-- the ladders of damages
 undamaged : (bytes : List ℕ) → damage_of bytes ≡ None → Undamaged bytes
 unfolding damage_of
 undamaged bytes none =
-    let date = passed (not (has_date bytes)) _ _ _ (λ e. cc) none in
-    let time = passed (not (has_time bytes)) _ _ _ (λ e. cc) date.below in
-    let there = passed (count_of bytes identification == 0) _ _ _ (λ e. cc) time.below in
-    let identification = passed (not (fits bytes identification)) _ _ _ (λ e. cc) there.below in
-    let processor = passed (not (fits bytes processor)) _ _ _ (λ e. cc) identification.below in
-    let io_activity = passed (not (fits bytes io_activity)) _ _ _ (λ e. cc) processor.below in
-    let completion = passed (not (fits bytes completion)) _ _ _ (λ e. cc) io_activity.below in
-    let accounts = passed (is_none (accounts_of bytes)) _ _ _ (λ e. cc) completion.below in
+    let header = header_of bytes in
+    let whole = neither_first (header_damage header) (section_damage bytes) none in
+    let fitting = neither_second (header_damage header) (section_damage bytes) none in
+    let date = passed (is_err (packed_day_of header.date)) _ _ _ (λ e. cc) whole in
+    let time = passed (not (nat_lt header.time hundredths_per_day)) _ _ _ (λ e. cc) date.below in
+    let there = passed (count_of bytes identification == 0) _ _ _ (λ e. cc) fitting in
+    let identified = passed (not (fits bytes identification)) _ _ _ (λ e. cc) there.below in
+    let processed = passed (not (fits bytes processor)) _ _ _ (λ e. cc) identified.below in
+    let transferred = passed (not (fits bytes io_activity)) _ _ _ (λ e. cc) processed.below in
+    let completed = passed (not (fits bytes completion)) _ _ _ (λ e. cc) transferred.below in
+    let accounts = passed (is_none (accounts_of bytes)) _ _ _ (λ e. cc) completed.below in
     record {
-      date = not-false _ date.failed;
+      date = date.failed;
       time = ltb-true _ _ (not-false _ time.failed);
       identified = eqb-false _ _ there.failed;
-      identification = not-false _ identification.failed;
-      processor = not-false _ processor.failed;
-      io_activity = not-false _ io_activity.failed;
-      completion = not-false _ completion.failed;
+      identification = not-false _ identified.failed;
+      processor = not-false _ processed.failed;
+      io_activity = not-false _ transferred.failed;
+      completion = not-false _ completed.failed;
       accounts = is_some-there _ accounts.failed;
     }
 
@@ -132,7 +148,8 @@ usage_subtype bytes usage = (usage_facts bytes usage).subtype
 pub usage_processing : (bytes : List ℕ) → IsUsage bytes → count_of bytes processor ≢ 0
 usage_processing bytes usage = (usage_facts bytes usage).processing
 
-pub usage_date : (bytes : List ℕ) → IsUsage bytes → has_date bytes ≡ true
+pub usage_date : (bytes : List ℕ) → IsUsage bytes
+    → is_err (packed_day_of (header_of bytes).date) ≡ false
 usage_date bytes usage = (usage_facts bytes usage).parts.date
 
 pub usage_time : (bytes : List ℕ) → IsUsage bytes → (header_of bytes).time < hundredths_per_day

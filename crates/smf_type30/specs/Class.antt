@@ -1,7 +1,9 @@
 -- The class of a record: what it is for the office (SA38-0667, types 2, 3, 7 and 30).
-use Rattle.std.specs.Prelude.{◌≡◌, ℕ, ◌==◌, ◌&&◌, ◌||◌, not, Bool, nat_lt, if◌then◌else◌, List, length, Option, Some, None, is_ok, is_none}
+use Rattle.std.specs.Prelude.{◌≡◌, ℕ, ◌==◌, ◌&&◌, ◌||◌, not, Bool, nat_lt, if◌then◌else◌, List, length, Option, Some, None, is_err, is_none}
+use Rattle.std.specs.Option.{option_or}
 use Rattle.smf_text.specs.PackedDate.{packed_day_of}
 use Rattle.smf_frames.specs.declared.header.TheConstants.{HEADER_LEN}
+use Rattle.smf_frames.specs.declared.header.Header.{Header}
 use Rattle.smf_frames.specs.Header.{header_of}
 use Rattle.smf_type30.specs.Layout.{dump_header, dump_trailer, data_lost, work, step_end, job_end, subtype_end, triplets_end, hundredths_per_day, identification, processor, io_activity, completion}
 use Rattle.smf_type30.specs.declared.classes.Class.{Class}
@@ -14,26 +16,28 @@ use Rattle.smf_type30.specs.Usage.{subtype_of, accounts_of}
 abbrev pub type_of : List ℕ → ℕ
 type_of bytes = (header_of bytes).kind
 
--- the header's date is a day
-abbrev pub has_date : List ℕ → Bool
-has_date bytes = is_ok (packed_day_of (header_of bytes).date)
+-- the first damage of a header: its date is no day, or its time no time of day
+abbrev pub header_damage : Header → Option Damage
+header_damage header =
+    if is_err (packed_day_of header.date) then Some Date
+    else if not (nat_lt header.time hundredths_per_day) then Some Time
+    else None
 
--- the header's time is a time of day
-abbrev pub has_time : List ℕ → Bool
-has_time bytes = nat_lt (header_of bytes).time hundredths_per_day
-
--- the first damage of a work record that measures CPU time
-unfoldable pub damage_of : List ℕ → Option Damage
-damage_of bytes =
-    if not (has_date bytes) then Some Date
-    else if not (has_time bytes) then Some Time
-    else if count_of bytes identification == 0 then Some NoIdentification
+-- the first damage of the sections: the record has to have an identification section, and any other
+-- section that is there fits
+abbrev pub section_damage : List ℕ → Option Damage
+section_damage bytes =
+    if count_of bytes identification == 0 then Some NoIdentification
     else if not (fits bytes identification) then Some Identification
     else if not (fits bytes processor) then Some Processor
     else if not (fits bytes io_activity) then Some InputOutput
     else if not (fits bytes completion) then Some Completion
     else if is_none (accounts_of bytes) then Some Accounting
     else None
+
+-- the first damage of a work record that measures CPU time: of its header, or else of its sections
+unfoldable pub damage_of : List ℕ → Option Damage
+damage_of bytes = option_or (header_damage (header_of bytes)) (section_damage bytes)
 
 abbrev pub usage_unless : Option Damage → Class
 usage_unless None = Usage

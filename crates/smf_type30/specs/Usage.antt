@@ -50,8 +50,12 @@ step_of bytes =
     if subtype_of bytes == job_end then 0 ∷ 0 ∷ []
     else part_in bytes identification step_number
 
--- what names a piece of work: the system, the job's name, its reader's time and date, the subtype
--- and the step number
+-- the bytes of an identity, by the office's rule
+abbrev pub identity_length : ℕ
+identity_length = 24
+
+-- what names a piece of work, by the office's rule: the system, the job's name, its reader's time and
+-- date, the subtype and the step number. Two records of one identity are taken for the same work
 unfoldable pub identity_of : List ℕ → List ℕ
 identity_of bytes =
     (header_of bytes).system

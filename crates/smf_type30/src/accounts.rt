@@ -68,5 +68,9 @@ pub fn account(bytes: &[u8], n: u16) -> Option<&[u8]>
     ensures { option_copied result ≡ account_of bytes.now n }
 {
     let others = n.checked_sub(1)?;
-    nth_field(count(bytes, ACCOUNTING), from_section(bytes, ACCOUNTING), others)
+    nth_field(
+        count(bytes, ACCOUNTING),
+        from_section(bytes, ACCOUNTING),
+        others,
+    )
 }
