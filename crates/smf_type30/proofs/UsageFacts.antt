@@ -1,16 +1,20 @@
 -- What the class of a usage record tells of it: it passes every test of the ladders.
-use Rattle.std.proofs.Common.{◌≡◌, ◌≢◌, ◌≤◌, ◌<◌, ◌==◌, ◌⊎◌, inl, inr, ℕ, List, length, nat_lt, Bool, true, false, not, ◌||◌, cond, Option, Some, None, is_none, is_some, is_err, refl, sym}
+use Rattle.std.proofs.Common.{◌≡◌, ◌≢◌, ◌≤◌, ◌<◌, ◌==◌, ◌⊎◌, inl, inr, ℕ, List, length, nat_lt, Bool, true, false, not, ◌||◌, cond, Option, Some, None, is_none, is_some, is_err, refl, sym, ap}
 use Rattle.std.proofs.lemmas.Bool.{ltb-true, ltb-false, eqb-true, eqb-false, not-false, or_cases, and_from, not_from_false, cond-false, ne_eqb}
 use Rattle.std.specs.Option.{option_or}
 use Rattle.smf_text.specs.PackedDate.{packed_day_of}
 use Rattle.smf_frames.specs.declared.header.TheConstants.{HEADER_LEN}
+use Rattle.smf_frames.specs.declared.header.Header.{Header}
 use Rattle.smf_frames.specs.Header.{header_of}
 use Rattle.smf_type30.specs.Layout.{dump_header, dump_trailer, data_lost, work, step_end, job_end, subtype_end, triplets_end, hundredths_per_day, identification, processor, io_activity, completion}
-use Rattle.smf_type30.specs.declared.classes.Class.TheVariants.{Usage}
+use Rattle.smf_type30.specs.declared.classes.Class.TheVariants.{Usage, Damaged}
 use Rattle.smf_type30.specs.declared.damage.Damage.{Damage}
+use Rattle.smf_type30.specs.declared.damage.Damage.TheVariants.{Accounting}
+use Rattle.smf_type30.specs.Accounts.{AreAccounts, HasNoAccounts}
 use Rattle.smf_type30.specs.Section.{fits, count_of}
 use Rattle.smf_type30.specs.Usage.{subtype_of, accounts_of}
 use Rattle.smf_type30.specs.Class.{class_of, damage_of, usage_unless, type_of, header_damage, section_damage, IsUsage, measures_work}
+use Rattle.smf_type30.proofs.AccountLemmas.{accounts_found}
 
 -- the date, the time and each section are as they should be
 pub record Undamaged (bytes : List ℕ) : Type 0 where
@@ -132,6 +136,66 @@ usage_facts bytes usage =
       work = and_from _ _ ends (not_from_false _ processor.failed);
       parts = undamaged bytes (no_damage _ processor.below);
     }
+
+-- no header has the damage of accounting fields
+not_of_header : (header : Header) → header_damage header ≡ Some Accounting → ⊥
+not_of_header header e =
+    let date = passed (is_err (packed_day_of header.date)) _ _ _ (λ e. cc) e in
+    let time = passed (not (nat_lt header.time hundredths_per_day)) _ _ _ (λ e. cc) date.below in
+    let none = time.below in
+    cc
+
+-- of two damages that of accounting fields is the other where it is not the one
+other : (first second : Option Damage) → (first ≡ Some Accounting → ⊥)
+    → option_or first second ≡ Some Accounting → second ≡ Some Accounting
+other None second not_first e = e
+other (Some damage) second not_first e = absurd (not_first e)
+
+-- the ladder of the sections' damages, where it ends at the accounting fields
+accounts_missing : (bytes : List ℕ) → section_damage bytes ≡ Some Accounting
+    → is_none (accounts_of bytes) ≡ true
+accounts_missing bytes e =
+    let there = passed (count_of bytes identification == 0) _ _ _ (λ e. cc) e in
+    let identified = passed (not (fits bytes identification)) _ _ _ (λ e. cc) there.below in
+    let processed = passed (not (fits bytes processor)) _ _ _ (λ e. cc) identified.below in
+    let transferred = passed (not (fits bytes io_activity)) _ _ _ (λ e. cc) processed.below in
+    let completed = passed (not (fits bytes completion)) _ _ _ (λ e. cc) transferred.below in
+    (held (is_none (accounts_of bytes)) _ _ _ (λ e. cc) completed.below).holds
+
+-- what is damaged has that damage
+of_damage : (found : Option Damage) (damage : Damage) → usage_unless found ≡ Damaged damage
+    → found ≡ Some damage
+of_damage None damage e = cc
+of_damage (Some other) damage e = cc
+
+-- the ladder of classes, where it ends at the accounting fields
+accounting_damage : (bytes : List ℕ) → class_of bytes ≡ Damaged Accounting
+    → damage_of bytes ≡ Some Accounting
+unfolding class_of
+accounting_damage bytes e =
+    let header = passed (nat_lt (length bytes) HEADER_LEN) _ _ _ (λ e. cc) e in
+    let dump_header = passed (type_of bytes == dump_header) _ _ _ (λ e. cc) header.below in
+    let dump_trailer = passed (type_of bytes == dump_trailer) _ _ _ (λ e. cc) dump_header.below in
+    let data_lost = passed (type_of bytes == data_lost) _ _ _ (λ e. cc) dump_trailer.below in
+    let type = held (type_of bytes == work) _ _ _ (λ e. cc) data_lost.below in
+    let long_header = passed (nat_lt (length bytes) subtype_end) _ _ _ (λ e. cc) type.gives in
+    let charged = subtype_of bytes == step_end || subtype_of bytes == job_end in
+    let subtype = passed (not charged) _ _ _ (λ e. cc) long_header.below in
+    let long = passed (nat_lt (length bytes) triplets_end) _ _ _ (λ e. cc) subtype.below in
+    let measured = passed (count_of bytes processor == 0) _ _ _ (λ e. cc) long.below in
+    of_damage _ _ measured.below
+
+-- a record with that damage has no accounting fields
+pub no_accounts : (bytes : List ℕ) → class_of bytes ≡ Damaged Accounting
+    → HasNoAccounts bytes
+unfolding damage_of
+no_accounts bytes e fields are =
+    let damage = accounting_damage bytes e in
+    let sections = other _ (section_damage bytes) (not_of_header (header_of bytes)) damage in
+    let missing = accounts_missing bytes sections in
+    let found = accounts_found bytes fields are in
+    let some : is_none (accounts_of bytes) ≡ false = ap is_none found in
+    cc
 
 -- a usage record can be read
 pub usage_measures_work : (bytes : List ℕ) → IsUsage bytes → measures_work bytes ≡ true

@@ -43,7 +43,8 @@ abbrev pub usage_unless : Option Damage → Class
 usage_unless None = Usage
 usage_unless (Some damage) = Damaged damage
 
--- the class of a record of type 30, which measures no CPU time where its processor number is 0
+-- the class of a record of type 30. One that measures no CPU time, as the number of its processor
+-- sections is 0, is a continuation: a word of this project, which does not ask what it goes on with
 abbrev pub class_of_work : List ℕ → Class
 class_of_work bytes =
     if nat_lt (length bytes) subtype_end then Damaged Short

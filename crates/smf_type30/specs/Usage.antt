@@ -11,11 +11,12 @@ pub use Rattle.smf_type30.specs.Accounts.{accounts_of, account_of}
 unfoldable pub subtype_of : List ℕ → ℕ
 subtype_of bytes = number bytes subtype.offset subtype.len
 
--- the day, by the header; of no use where its date is none
+-- the day on which a usage record was moved into the SMF buffer, by its header. Of other records,
+-- whose date may be no day, this word is not used
 unfoldable pub day_of : List ℕ → ℤ
 day_of bytes = result_unwrap_or (packed_day_of (header_of bytes).date) (pos 0)
 
--- the time of day, by the header, in hundredths of a second
+-- the time of day at which it was moved there, by its header, in hundredths of a second
 unfoldable pub time_of : List ℕ → ℕ
 time_of bytes = (header_of bytes).time
 
@@ -28,7 +29,7 @@ program_of bytes = part_in bytes identification program_name
 unfoldable pub job_id_of : List ℕ → List ℕ
 job_id_of bytes = part_in bytes identification job_id
 
--- the CPU time, in hundredths of a second
+-- the CPU time, under task control blocks and under service request blocks, in hundredths of a second
 unfoldable pub cpu_of : List ℕ → ℕ
 cpu_of bytes = number_in bytes processor tcb_time + number_in bytes processor srb_time
 

@@ -1,7 +1,9 @@
 ghost use Rattle.std.specs.Prelude.{◌≡◌, ◌≤◌, length, IsTrue};
 ghost use Rattle.smf_frames.specs.declared.header.TheConstants.{HEADER_LEN};
 ghost use Rattle.smf_frames.specs.Header.{header_of};
-ghost use Rattle.smf_type30.specs.declared.classes.Class.TheVariants.{Usage};
+ghost use Rattle.smf_type30.specs.declared.classes.Class.TheVariants.{Usage, Damaged};
+ghost use Rattle.smf_type30.specs.declared.damage.Damage.TheVariants.{Accounting};
+ghost use Rattle.smf_type30.specs.Accounts.{HasNoAccounts};
 ghost use Rattle.smf_type30.specs.Layout.{triplets_end};
 ghost use Rattle.smf_type30.specs.Class as spec;
 
@@ -77,6 +79,7 @@ fn class_of_work(bytes: &[u8], header: &Header) -> Class
 pub fn class(bytes: &[u8]) -> Class
     ensures class { result ≡ spec.class_of bytes.now }
     ensures work { result ≡ Usage → IsTrue (spec.measures_work bytes.now) }
+    ensures accounts { result ≡ Damaged Accounting → HasNoAccounts bytes.now }
 {
     let Some(header) = Header::read(bytes) else {
         return Class::Damaged(Damage::Short);

@@ -3,6 +3,7 @@ ghost use Rattle.smf_text.specs.Day.{IsDay};
 ghost use Rattle.smf_text.specs.PackedDate.{packed_day_of};
 ghost use Rattle.smf_frames.specs.Header.{header_of};
 ghost use Rattle.smf_type30.specs.Layout.{hundredths_per_day, identification, job_end, job_id, job_name, program_name, step_end, step_number, triplets_end};
+ghost use Rattle.smf_type30.specs.Accounts.{IsAccount};
 ghost use Rattle.smf_type30.specs.Section.{part_in};
 ghost use Rattle.smf_type30.specs.Usage as spec;
 ghost use Rattle.smf_type30.specs.Class.{IsUsage, measures_work, read_fault};
@@ -169,6 +170,7 @@ impl<'a> Type30<'a> {
     #[tactic(auto, using(crate::proofs::UsageFacts::usage))]
     pub fn account(&self, n: u16) -> Option<&'a [u8]>
         ensures value { option_copied result ≡ spec.account_of self.now n }
+        ensures field { IsAccount self.now n (option_copied result) }
     {
         accounts::account(self.bytes, n)
     }
