@@ -64,7 +64,8 @@ is_some-there None e = cc
 is_some-there (Some x) e = refl
 
 -- where neither of two is there, the one is not there
-neither_first : {A : Type 0} (first second : Option A) → option_or first second ≡ None → first ≡ None
+neither_first : {A : Type 0} (first second : Option A) → option_or first second ≡ None
+    → first ≡ None
 neither_first None second e = refl
 neither_first (Some x) second e = cc
 

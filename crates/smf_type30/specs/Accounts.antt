@@ -9,8 +9,8 @@ abbrev pub text_of : List (List ℕ) → List ℕ
 text_of [] = []
 text_of (field ∷ fields) = length field ∷ field ++ text_of fields
 
--- the accounting fields of a record are as many as the triplet counts, and from the triplet's offset
--- on the record begins with them
+-- the accounting fields of a record: as many as the triplet counts, with which the text begins that
+-- stands from the triplet's offset on
 pub record AreAccounts (bytes : List ℕ) (fields : List (List ℕ)) : Type 0 where
   pub number : length fields ≡ count_of bytes accounting
   pub rest : List ℕ

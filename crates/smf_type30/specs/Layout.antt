@@ -1,12 +1,12 @@
 -- Where a record of type 30 has its fields, and what stands in them (SA38-0667: standard SMF record
 -- header, record type 30). An offset counts from the start of the record's descriptor, and inside a
--- section from the start of the section. The code has each of these numbers again, as a constant.
+-- section from the start of the section. The code has numbers of its own, proved to be these.
 use Rattle.std.specs.Prelude.{ℕ}
 use Rattle.smf_type30.specs.declared.layout.Field.{Field}
 use Rattle.smf_type30.specs.declared.layout.Section.{Section}
 
--- record types (standard header, SMF30RTY): the first record of a dump, the last one, lost data, and
--- common address space work
+-- record types (standard header, SMF30RTY): of the first record of a dump, of the last one, of lost
+-- data, and of common address space work
 abbrev pub dump_header : ℕ
 dump_header = 2
 
@@ -89,15 +89,15 @@ outcome = record { offset = 0; len = 4 }
 abbrev pub processor : Section
 processor = record { triplet = 56; least = 12 }
 
--- its CPU time under task control blocks, in hundredths of a second (SMF30CPT)
+-- its CPU times under task control blocks and under service request blocks, in hundredths of a second
+-- (SMF30CPT, SMF30CPS)
 abbrev pub tcb_time : Field
 tcb_time = record { offset = 4; len = 4 }
 
--- its CPU time under service request blocks, in hundredths of a second (SMF30CPS)
 abbrev pub srb_time : Field
 srb_time = record { offset = 8; len = 4 }
 
--- accounting section (triplet SMF30AOF, SMF30ALN, SMF30AON): the triplet's number counts the fields,
--- and its length is not read, which is a rule of this project
+-- accounting section (triplet SMF30AOF, SMF30ALN, SMF30AON): the number counts the fields; that the
+-- length is not read, and no field has to be there, is a rule of this project
 abbrev pub accounting : Section
 accounting = record { triplet = 64; least = 0 }

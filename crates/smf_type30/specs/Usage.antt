@@ -29,7 +29,8 @@ program_of bytes = part_in bytes identification program_name
 unfoldable pub job_id_of : List ℕ → List ℕ
 job_id_of bytes = part_in bytes identification job_id
 
--- the CPU time, under task control blocks and under service request blocks, in hundredths of a second
+-- the CPU time, under task control blocks and under service request blocks together, in hundredths
+-- of a second
 unfoldable pub cpu_of : List ℕ → ℕ
 cpu_of bytes = number_in bytes processor tcb_time + number_in bytes processor srb_time
 
@@ -55,8 +56,8 @@ step_of bytes =
 abbrev pub identity_length : ℕ
 identity_length = 24
 
--- what names a piece of work, by the office's rule: the system, the job's name, its reader's time and
--- date, the subtype and the step number. Two records of one identity are taken for the same work
+-- what names a piece of work, by the office's rule: the system, the job's name, its reader's time
+-- and date, the subtype and the step number. Two records of one identity are taken for the same work
 unfoldable pub identity_of : List ℕ → List ℕ
 identity_of bytes =
     (header_of bytes).system
