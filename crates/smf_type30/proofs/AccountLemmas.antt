@@ -5,8 +5,8 @@ use Rattle.std.proofs.lemmas.Bool.{ltb-false, le-ltb}
 use Rattle.std.proofs.lemmas.List.{take-append-drop, length-take-le}
 use Rattle.std.proofs.lemmas.Option.{same_Some}
 use Rattle.smf_type30.specs.Layout.{accounting}
-use Rattle.smf_type30.specs.Section.{offset_of, count_of}
-use Rattle.smf_type30.specs.Accounts.{text_of, AreAccounts, IsAccount, fields_in, nth_of, accounts_of, account_of}
+use Rattle.smf_type30.specs.Section.{count_of}
+use Rattle.smf_type30.specs.Accounts.{text_of, AreAccounts, IsAccount, fields_in, accounts_of, account_of}
 
 -- so many fields, with which a text begins
 record Begins (count : ℕ) (text : List ℕ) (fields : List (List ℕ)) : Type 0 where

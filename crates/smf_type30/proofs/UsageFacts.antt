@@ -10,7 +10,7 @@ use Rattle.smf_type30.specs.Layout.{dump_header, dump_trailer, data_lost, work, 
 use Rattle.smf_type30.specs.declared.classes.Class.TheVariants.{Usage, Damaged}
 use Rattle.smf_type30.specs.declared.damage.Damage.{Damage}
 use Rattle.smf_type30.specs.declared.damage.Damage.TheVariants.{Accounting}
-use Rattle.smf_type30.specs.Accounts.{AreAccounts, HasNoAccounts}
+use Rattle.smf_type30.specs.Accounts.{HasNoAccounts}
 use Rattle.smf_type30.specs.Section.{fits, count_of}
 use Rattle.smf_type30.specs.Usage.{subtype_of, accounts_of}
 use Rattle.smf_type30.specs.Class.{class_of, damage_of, usage_unless, type_of, header_damage, section_damage, IsUsage, measures_work}

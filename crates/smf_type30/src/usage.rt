@@ -1,7 +1,5 @@
 ghost use Rattle.std.specs.Prelude.{◌≡◌, ◌≤◌, ◌<◌, ◌+◌, ◌-◌, ◌^◌, ◌↔◌, ◌⊎◌, ◌++◌, length, take, IsTrue, IsOk, IfOk, IfErr, Some, option_copied};
 ghost use Rattle.smf_text.specs.Day.{IsDay};
-ghost use Rattle.smf_text.specs.PackedDate.{packed_day_of};
-ghost use Rattle.smf_frames.specs.Header.{header_of};
 ghost use Rattle.smf_type30.specs.Layout.{hundredths_per_day, identification, job_end, job_id, job_name, program_name, step_end, step_number, triplets_end};
 ghost use Rattle.smf_type30.specs.Accounts.{IsAccount};
 ghost use Rattle.smf_type30.specs.Section.{part_in};
