@@ -13,6 +13,7 @@ use Rattle.smf_type30.specs.declared.damage.Damage.TheVariants.{Short, Date, Tim
 use Rattle.smf_type30.specs.Section.{fits, count_of}
 use Rattle.smf_type30.specs.Usage.{subtype_of, accounts_of}
 
+-- the record's type, by its header
 abbrev pub type_of : List ℕ → ℕ
 type_of bytes = (header_of bytes).kind
 
@@ -39,6 +40,7 @@ section_damage bytes =
 unfoldable pub damage_of : List ℕ → Option Damage
 damage_of bytes = option_or (header_damage (header_of bytes)) (section_damage bytes)
 
+-- a record is usage where it has no damage
 abbrev pub usage_unless : Option Damage → Class
 usage_unless None = Usage
 usage_unless (Some damage) = Damaged damage
@@ -53,7 +55,7 @@ class_of_work bytes =
     else if count_of bytes processor == 0 then Continuation
     else usage_unless (damage_of bytes)
 
--- the class of a record
+-- the class of a record, the first that applies; a short record is one that lacks a whole header
 unfoldable pub class_of : List ℕ → Class
 class_of bytes =
     if nat_lt (length bytes) HEADER_LEN then Damaged Short
