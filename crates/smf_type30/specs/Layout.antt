@@ -89,8 +89,8 @@ outcome = record { offset = 0; len = 4 }
 abbrev pub processor : Section
 processor = record { triplet = 56; least = 12 }
 
--- its CPU times under task control blocks and under service request blocks, in hundredths of a second
--- (SMF30CPT, SMF30CPS)
+-- its CPU times under task control blocks and under service request blocks, in hundredths of a
+-- second (SMF30CPT, SMF30CPS)
 abbrev pub tcb_time : Field
 tcb_time = record { offset = 4; len = 4 }
 

@@ -57,7 +57,8 @@ abbrev pub identity_length : ℕ
 identity_length = 24
 
 -- what names a piece of work, by the office's rule: the system, the job's name, its reader's time
--- and date, the subtype and the step number. Two records of one identity are taken for the same work
+-- and date, the subtype and the step number. Two records of one identity are taken for the same
+-- work
 unfoldable pub identity_of : List ℕ → List ℕ
 identity_of bytes =
     (header_of bytes).system
