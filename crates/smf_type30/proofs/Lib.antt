@@ -1,3 +1,4 @@
+pub mod AccountLemmas
 pub mod FieldLemmas
 pub mod IdentityLemmas
 pub mod SectionLemmas

@@ -1,31 +1,37 @@
 -- What the class of a usage record tells of it: it passes every test of the ladders.
-use Rattle.std.proofs.Common.{◌≡◌, ◌≢◌, ◌≤◌, ◌<◌, ◌==◌, ◌⊎◌, inl, inr, ℕ, List, length, nat_lt, Bool, true, false, not, ◌||◌, cond, Option, Some, None, is_none, is_some, refl, sym}
+use Rattle.std.proofs.Common.{◌≡◌, ◌≢◌, ◌≤◌, ◌<◌, ◌==◌, ◌⊎◌, inl, inr, ℕ, List, length, nat_lt, Bool, true, false, not, ◌||◌, cond, Option, Some, None, is_none, is_some, is_err, refl, sym, ap}
 use Rattle.std.proofs.lemmas.Bool.{ltb-true, ltb-false, eqb-true, eqb-false, not-false, or_cases, and_from, not_from_false, cond-false, ne_eqb}
+use Rattle.std.specs.Option.{option_or}
+use Rattle.smf_text.specs.PackedDate.{packed_day_of}
 use Rattle.smf_frames.specs.declared.header.TheConstants.{HEADER_LEN}
+use Rattle.smf_frames.specs.declared.header.Header.{Header}
 use Rattle.smf_frames.specs.Header.{header_of}
-use Rattle.smf_type30.specs.declared.layout.TheConstants.{DUMP_HEADER, DUMP_TRAILER, DATA_LOST, WORK, STEP_END, JOB_END, SUBTYPE_END, TRIPLETS_END, HUNDREDTHS_PER_DAY, IDENTIFICATION, PROCESSOR, IO_ACTIVITY, COMPLETION}
-use Rattle.smf_type30.specs.declared.classes.Class.TheVariants.{Usage}
+use Rattle.smf_type30.specs.Layout.{dump_header, dump_trailer, data_lost, work, step_end, job_end, subtype_end, triplets_end, hundredths_per_day, identification, processor, io_activity, completion}
+use Rattle.smf_type30.specs.declared.classes.Class.TheVariants.{Usage, Damaged}
 use Rattle.smf_type30.specs.declared.damage.Damage.{Damage}
+use Rattle.smf_type30.specs.declared.damage.Damage.TheVariants.{Accounting}
+use Rattle.smf_type30.specs.Accounts.{HasNoAccounts}
 use Rattle.smf_type30.specs.Section.{fits, count_of}
 use Rattle.smf_type30.specs.Usage.{subtype_of, accounts_of}
-use Rattle.smf_type30.specs.Class.{class_of, damage_of, usage_unless, type_of, has_date, has_time, IsUsage, measures_work}
+use Rattle.smf_type30.specs.Class.{class_of, damage_of, usage_unless, type_of, header_damage, section_damage, IsUsage, measures_work}
+use Rattle.smf_type30.proofs.AccountLemmas.{accounts_found}
 
 -- the date, the time and each section are as they should be
 pub record Undamaged (bytes : List ℕ) : Type 0 where
-  pub date : has_date bytes ≡ true
-  pub time : (header_of bytes).time < HUNDREDTHS_PER_DAY
-  pub identified : count_of bytes IDENTIFICATION ≢ 0
-  pub identification : fits bytes IDENTIFICATION ≡ true
-  pub processor : fits bytes PROCESSOR ≡ true
-  pub io_activity : fits bytes IO_ACTIVITY ≡ true
-  pub completion : fits bytes COMPLETION ≡ true
+  pub date : is_err (packed_day_of (header_of bytes).date) ≡ false
+  pub time : (header_of bytes).time < hundredths_per_day
+  pub identified : count_of bytes identification ≢ 0
+  pub identification : fits bytes identification ≡ true
+  pub processor : fits bytes processor ≡ true
+  pub io_activity : fits bytes io_activity ≡ true
+  pub completion : fits bytes completion ≡ true
   pub accounts : is_some (accounts_of bytes) ≡ true
 
 -- the record has the triplets, is one of work, and undamaged
 pub record UsageFacts (bytes : List ℕ) : Type 0 where
-  pub long : TRIPLETS_END ≤ length bytes
-  pub subtype : (subtype_of bytes ≡ STEP_END) ⊎ (subtype_of bytes ≡ JOB_END)
-  pub processing : count_of bytes PROCESSOR ≢ 0
+  pub long : triplets_end ≤ length bytes
+  pub subtype : (subtype_of bytes ≡ step_end) ⊎ (subtype_of bytes ≡ job_end)
+  pub processing : count_of bytes processor ≢ 0
   pub work : measures_work bytes ≡ true
   pub parts : Undamaged bytes
 
@@ -57,26 +63,41 @@ is_some-there : {A : Type 0} (o : Option A) → is_none o ≡ false → is_some 
 is_some-there None e = cc
 is_some-there (Some x) e = refl
 
--- the ladder of damages
+-- where neither of two is there, the one is not there
+neither_first : {A : Type 0} (first second : Option A) → option_or first second ≡ None
+    → first ≡ None
+neither_first None second e = refl
+neither_first (Some x) second e = cc
+
+-- nor is the other
+neither_second : {A : Type 0} (first second : Option A) → option_or first second ≡ None
+    → second ≡ None
+neither_second None second e = e
+neither_second (Some x) second e = cc
+
+-- the ladders of damages
 undamaged : (bytes : List ℕ) → damage_of bytes ≡ None → Undamaged bytes
 unfolding damage_of
 undamaged bytes none =
-    let date = passed (not (has_date bytes)) _ _ _ (λ e. cc) none in
-    let time = passed (not (has_time bytes)) _ _ _ (λ e. cc) date.below in
-    let there = passed (count_of bytes IDENTIFICATION == 0) _ _ _ (λ e. cc) time.below in
-    let identification = passed (not (fits bytes IDENTIFICATION)) _ _ _ (λ e. cc) there.below in
-    let processor = passed (not (fits bytes PROCESSOR)) _ _ _ (λ e. cc) identification.below in
-    let io_activity = passed (not (fits bytes IO_ACTIVITY)) _ _ _ (λ e. cc) processor.below in
-    let completion = passed (not (fits bytes COMPLETION)) _ _ _ (λ e. cc) io_activity.below in
-    let accounts = passed (is_none (accounts_of bytes)) _ _ _ (λ e. cc) completion.below in
+    let header = header_of bytes in
+    let whole = neither_first (header_damage header) (section_damage bytes) none in
+    let fitting = neither_second (header_damage header) (section_damage bytes) none in
+    let date = passed (is_err (packed_day_of header.date)) _ _ _ (λ e. cc) whole in
+    let time = passed (not (nat_lt header.time hundredths_per_day)) _ _ _ (λ e. cc) date.below in
+    let there = passed (count_of bytes identification == 0) _ _ _ (λ e. cc) fitting in
+    let identified = passed (not (fits bytes identification)) _ _ _ (λ e. cc) there.below in
+    let processed = passed (not (fits bytes processor)) _ _ _ (λ e. cc) identified.below in
+    let transferred = passed (not (fits bytes io_activity)) _ _ _ (λ e. cc) processed.below in
+    let completed = passed (not (fits bytes completion)) _ _ _ (λ e. cc) transferred.below in
+    let accounts = passed (is_none (accounts_of bytes)) _ _ _ (λ e. cc) completed.below in
     record {
-      date = not-false _ date.failed;
+      date = date.failed;
       time = ltb-true _ _ (not-false _ time.failed);
       identified = eqb-false _ _ there.failed;
-      identification = not-false _ identification.failed;
-      processor = not-false _ processor.failed;
-      io_activity = not-false _ io_activity.failed;
-      completion = not-false _ completion.failed;
+      identification = not-false _ identified.failed;
+      processor = not-false _ processed.failed;
+      io_activity = not-false _ transferred.failed;
+      completion = not-false _ completed.failed;
       accounts = is_some-there _ accounts.failed;
     }
 
@@ -87,8 +108,8 @@ no_damage (Some damage) e = cc
 
 -- what the test of the subtype means
 step_or_job : (bytes : List ℕ)
-    → (subtype_of bytes == STEP_END || subtype_of bytes == JOB_END) ≡ true
-    → (subtype_of bytes ≡ STEP_END) ⊎ (subtype_of bytes ≡ JOB_END)
+    → (subtype_of bytes == step_end || subtype_of bytes == job_end) ≡ true
+    → (subtype_of bytes ≡ step_end) ⊎ (subtype_of bytes ≡ job_end)
 step_or_job bytes e = elim (or_cases _ _ e) [
   | inl step ↦ inl (eqb-true _ _ step)
   | inr job ↦ inr (eqb-true _ _ job)
@@ -99,15 +120,15 @@ pub usage_facts : (bytes : List ℕ) → IsUsage bytes → UsageFacts bytes
 unfolding class_of measures_work
 usage_facts bytes usage =
     let header = passed (nat_lt (length bytes) HEADER_LEN) _ _ _ (λ e. cc) usage in
-    let dump_header = passed (type_of bytes == DUMP_HEADER) _ _ _ (λ e. cc) header.below in
-    let dump_trailer = passed (type_of bytes == DUMP_TRAILER) _ _ _ (λ e. cc) dump_header.below in
-    let data_lost = passed (type_of bytes == DATA_LOST) _ _ _ (λ e. cc) dump_trailer.below in
-    let type = held (type_of bytes == WORK) _ _ _ (λ e. cc) data_lost.below in
-    let long_header = passed (nat_lt (length bytes) SUBTYPE_END) _ _ _ (λ e. cc) type.gives in
-    let charged = subtype_of bytes == STEP_END || subtype_of bytes == JOB_END in
+    let dump_header = passed (type_of bytes == dump_header) _ _ _ (λ e. cc) header.below in
+    let dump_trailer = passed (type_of bytes == dump_trailer) _ _ _ (λ e. cc) dump_header.below in
+    let data_lost = passed (type_of bytes == data_lost) _ _ _ (λ e. cc) dump_trailer.below in
+    let type = held (type_of bytes == work) _ _ _ (λ e. cc) data_lost.below in
+    let long_header = passed (nat_lt (length bytes) subtype_end) _ _ _ (λ e. cc) type.gives in
+    let charged = subtype_of bytes == step_end || subtype_of bytes == job_end in
     let subtype = passed (not charged) _ _ _ (λ e. cc) long_header.below in
-    let long = passed (nat_lt (length bytes) TRIPLETS_END) _ _ _ (λ e. cc) subtype.below in
-    let processor = passed (count_of bytes PROCESSOR == 0) _ _ _ (λ e. cc) long.below in
+    let long = passed (nat_lt (length bytes) triplets_end) _ _ _ (λ e. cc) subtype.below in
+    let processor = passed (count_of bytes processor == 0) _ _ _ (λ e. cc) long.below in
     let ends = and_from _ _ type.holds (not-false _ subtype.failed) in
     record {
       long = ltb-false _ _ long.failed;
@@ -117,40 +138,101 @@ usage_facts bytes usage =
       parts = undamaged bytes (no_damage _ processor.below);
     }
 
+-- no header has the damage of accounting fields
+not_of_header : (header : Header) → header_damage header ≡ Some Accounting → ⊥
+not_of_header header e =
+    let date = passed (is_err (packed_day_of header.date)) _ _ _ (λ e. cc) e in
+    let time = passed (not (nat_lt header.time hundredths_per_day)) _ _ _ (λ e. cc) date.below in
+    let none = time.below in
+    cc
+
+-- of two damages that of accounting fields is the other where it is not the one
+other : (first second : Option Damage) → (first ≡ Some Accounting → ⊥)
+    → option_or first second ≡ Some Accounting → second ≡ Some Accounting
+other None second not_first e = e
+other (Some damage) second not_first e = absurd (not_first e)
+
+-- the ladder of the sections' damages, where it ends at the accounting fields
+accounts_missing : (bytes : List ℕ) → section_damage bytes ≡ Some Accounting
+    → is_none (accounts_of bytes) ≡ true
+accounts_missing bytes e =
+    let there = passed (count_of bytes identification == 0) _ _ _ (λ e. cc) e in
+    let identified = passed (not (fits bytes identification)) _ _ _ (λ e. cc) there.below in
+    let processed = passed (not (fits bytes processor)) _ _ _ (λ e. cc) identified.below in
+    let transferred = passed (not (fits bytes io_activity)) _ _ _ (λ e. cc) processed.below in
+    let completed = passed (not (fits bytes completion)) _ _ _ (λ e. cc) transferred.below in
+    (held (is_none (accounts_of bytes)) _ _ _ (λ e. cc) completed.below).holds
+
+-- what is damaged has that damage
+of_damage : (found : Option Damage) (damage : Damage) → usage_unless found ≡ Damaged damage
+    → found ≡ Some damage
+of_damage None damage e = cc
+of_damage (Some other) damage e = cc
+
+-- the ladder of classes, where it ends at the accounting fields
+accounting_damage : (bytes : List ℕ) → class_of bytes ≡ Damaged Accounting
+    → damage_of bytes ≡ Some Accounting
+unfolding class_of
+accounting_damage bytes e =
+    let header = passed (nat_lt (length bytes) HEADER_LEN) _ _ _ (λ e. cc) e in
+    let dump_header = passed (type_of bytes == dump_header) _ _ _ (λ e. cc) header.below in
+    let dump_trailer = passed (type_of bytes == dump_trailer) _ _ _ (λ e. cc) dump_header.below in
+    let data_lost = passed (type_of bytes == data_lost) _ _ _ (λ e. cc) dump_trailer.below in
+    let type = held (type_of bytes == work) _ _ _ (λ e. cc) data_lost.below in
+    let long_header = passed (nat_lt (length bytes) subtype_end) _ _ _ (λ e. cc) type.gives in
+    let charged = subtype_of bytes == step_end || subtype_of bytes == job_end in
+    let subtype = passed (not charged) _ _ _ (λ e. cc) long_header.below in
+    let long = passed (nat_lt (length bytes) triplets_end) _ _ _ (λ e. cc) subtype.below in
+    let measured = passed (count_of bytes processor == 0) _ _ _ (λ e. cc) long.below in
+    of_damage _ _ measured.below
+
+-- a record with that damage has no accounting fields
+pub no_accounts : (bytes : List ℕ) → class_of bytes ≡ Damaged Accounting
+    → HasNoAccounts bytes
+unfolding damage_of
+no_accounts bytes e fields are =
+    let damage = accounting_damage bytes e in
+    let sections = other _ (section_damage bytes) (not_of_header (header_of bytes)) damage in
+    let missing = accounts_missing bytes sections in
+    let found = accounts_found bytes fields are in
+    let some : is_none (accounts_of bytes) ≡ false = ap is_none found in
+    cc
+
 -- a usage record can be read
 pub usage_measures_work : (bytes : List ℕ) → IsUsage bytes → measures_work bytes ≡ true
 usage_measures_work bytes usage = (usage_facts bytes usage).work
 
 -- the facts one by one, for the calls on a usage record
-pub usage_long : (bytes : List ℕ) → IsUsage bytes → TRIPLETS_END ≤ length bytes
+pub usage_long : (bytes : List ℕ) → IsUsage bytes → triplets_end ≤ length bytes
 usage_long bytes usage = (usage_facts bytes usage).long
 
 pub usage_subtype : (bytes : List ℕ) → IsUsage bytes
-    → (subtype_of bytes ≡ STEP_END) ⊎ (subtype_of bytes ≡ JOB_END)
+    → (subtype_of bytes ≡ step_end) ⊎ (subtype_of bytes ≡ job_end)
 usage_subtype bytes usage = (usage_facts bytes usage).subtype
 
-pub usage_processing : (bytes : List ℕ) → IsUsage bytes → count_of bytes PROCESSOR ≢ 0
+pub usage_processing : (bytes : List ℕ) → IsUsage bytes → count_of bytes processor ≢ 0
 usage_processing bytes usage = (usage_facts bytes usage).processing
 
-pub usage_date : (bytes : List ℕ) → IsUsage bytes → has_date bytes ≡ true
+pub usage_date : (bytes : List ℕ) → IsUsage bytes
+    → is_err (packed_day_of (header_of bytes).date) ≡ false
 usage_date bytes usage = (usage_facts bytes usage).parts.date
 
-pub usage_time : (bytes : List ℕ) → IsUsage bytes → (header_of bytes).time < HUNDREDTHS_PER_DAY
+pub usage_time : (bytes : List ℕ) → IsUsage bytes → (header_of bytes).time < hundredths_per_day
 usage_time bytes usage = (usage_facts bytes usage).parts.time
 
-pub usage_identified : (bytes : List ℕ) → IsUsage bytes → count_of bytes IDENTIFICATION ≢ 0
+pub usage_identified : (bytes : List ℕ) → IsUsage bytes → count_of bytes identification ≢ 0
 usage_identified bytes usage = (usage_facts bytes usage).parts.identified
 
-pub usage_identification : (bytes : List ℕ) → IsUsage bytes → fits bytes IDENTIFICATION ≡ true
+pub usage_identification : (bytes : List ℕ) → IsUsage bytes → fits bytes identification ≡ true
 usage_identification bytes usage = (usage_facts bytes usage).parts.identification
 
-pub usage_processor : (bytes : List ℕ) → IsUsage bytes → fits bytes PROCESSOR ≡ true
+pub usage_processor : (bytes : List ℕ) → IsUsage bytes → fits bytes processor ≡ true
 usage_processor bytes usage = (usage_facts bytes usage).parts.processor
 
-pub usage_io_activity : (bytes : List ℕ) → IsUsage bytes → fits bytes IO_ACTIVITY ≡ true
+pub usage_io_activity : (bytes : List ℕ) → IsUsage bytes → fits bytes io_activity ≡ true
 usage_io_activity bytes usage = (usage_facts bytes usage).parts.io_activity
 
-pub usage_completion : (bytes : List ℕ) → IsUsage bytes → fits bytes COMPLETION ≡ true
+pub usage_completion : (bytes : List ℕ) → IsUsage bytes → fits bytes completion ≡ true
 usage_completion bytes usage = (usage_facts bytes usage).parts.completion
 
 pub usage_accounts : (bytes : List ℕ) → IsUsage bytes → is_some (accounts_of bytes) ≡ true

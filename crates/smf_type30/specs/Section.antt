@@ -1,9 +1,14 @@
 -- The sections of a work record (SA38-0667, type 30). A triplet in the header tells where a section
 -- stands in the record (4 bytes), how long it is (2) and how many there are (2).
-use Rattle.std.specs.Prelude.{ℕ, ◌+◌, ◌==◌, ◌&&◌, ◌||◌, Bool, nat_le, List, length}
+use Rattle.std.specs.Prelude.{ℕ, ◌+◌, ◌≤◌, ◌==◌, ◌&&◌, ◌||◌, Bool, nat_le, List, length}
 use Rattle.smf_frames.specs.Number.{number, part}
 use Rattle.smf_type30.specs.declared.layout.Field.{Field}
 use Rattle.smf_type30.specs.declared.layout.Section.{Section}
+use Rattle.smf_type30.specs.Layout.{triplet_length}
+
+-- the record is long enough to have the section's triplet
+abbrev pub HasTriplet : List ℕ → Section → Type 0
+HasTriplet bytes section = section.triplet + triplet_length ≤ length bytes
 
 abbrev pub offset_of : List ℕ → Section → ℕ
 offset_of bytes section = number bytes section.triplet 4

@@ -1,10 +1,10 @@
 ghost use Rattle.std.specs.Prelude.{◌≡◌, ◌≤◌, length, drop, is_some, IsNone, IsSome, IfSome, option_copied};
-ghost use Rattle.smf_type30.specs.declared.layout.TheConstants.{ACCOUNTING, TRIPLETS_END};
-ghost use Rattle.smf_type30.specs.Section.{offset_of};
+ghost use Rattle.smf_type30.specs.Layout.{triplets_end};
+ghost use Rattle.smf_type30.specs.Section.{HasTriplet, offset_of};
 ghost use Rattle.smf_type30.specs.Accounts.{fields_in, nth_of, accounts_of, account_of};
 ghost use Rattle.smf_type30.specs.Walk.{BeginsWith, BeginsWithNone, EndsBefore, LeavesRest};
 
-use crate::layout::ACCOUNTING;
+use crate::layout::{ACCOUNTING, Section};
 use crate::section::{count, offset};
 
 /// The first field of a text, a length byte and that many bytes, and what follows it.
@@ -42,30 +42,35 @@ fn nth_field(count: u16, text: &[u8], n: u16) -> Option<&[u8]>
     Some(field)
 }
 
-/// A record from its first accounting field on.
-fn from_accounts(bytes: &[u8]) -> &[u8]
-    requires { TRIPLETS_END ≤ length bytes.now }
-    ensures { result.now ≡ drop (offset_of bytes.now ACCOUNTING) bytes.now }
+/// A record from a section on, in which no field has to be: nothing where it begins outside.
+fn from_section(bytes: &[u8], section: Section) -> &[u8]
+    requires triplet { HasTriplet bytes.now section }
+    requires no_field { section.least ≡ 0 }
+    ensures { result.now ≡ drop (offset_of bytes.now section) bytes.now }
 {
-    bytes.get(offset(bytes, ACCOUNTING)..).unwrap_or_default()
+    bytes.get(offset(bytes, section)..).unwrap_or_default()
 }
 
 /// Tells whether the accounting fields lie inside the record.
 #[tactic(auto, unfolding(crate::specs::Accounts::accounts_of))]
 pub fn has_accounts(bytes: &[u8]) -> bool
-    requires { TRIPLETS_END ≤ length bytes.now }
+    requires { triplets_end ≤ length bytes.now }
     ensures { result ≡ is_some (accounts_of bytes.now) }
 {
-    skip_fields(count(bytes, ACCOUNTING), from_accounts(bytes)).is_some()
+    skip_fields(count(bytes, ACCOUNTING), from_section(bytes, ACCOUNTING)).is_some()
 }
 
 /// Accounting field n, the first being 1.
 #[tactic(auto, unfolding(crate::specs::Accounts::accounts_of, crate::specs::Accounts::account_of))]
 pub fn account(bytes: &[u8], n: u16) -> Option<&[u8]>
-    requires long { TRIPLETS_END ≤ length bytes.now }
+    requires long { triplets_end ≤ length bytes.now }
     requires fields { IsSome (accounts_of bytes.now) }
     ensures { option_copied result ≡ account_of bytes.now n }
 {
     let others = n.checked_sub(1)?;
-    nth_field(count(bytes, ACCOUNTING), from_accounts(bytes), others)
+    nth_field(
+        count(bytes, ACCOUNTING),
+        from_section(bytes, ACCOUNTING),
+        others,
+    )
 }

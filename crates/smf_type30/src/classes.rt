@@ -11,11 +11,11 @@ pub enum Class {
     DataLost,
     /// Is of no concern: another type, or another subtype of type 30.
     Other,
-    /// Goes on with the work of another record, and measures no CPU time: it is counted and never
-    /// charged.
+    /// Measures no CPU time, for want of a processor section: a word of this project. It is counted
+    /// and never charged.
     Continuation,
     /// Measures the work of a step or of a job.
     Usage,
-    /// Cannot be read: a record of type 30, or one too short to have a type.
+    /// Cannot be read: a record of type 30, or one that lacks a whole header.
     Damaged(Damage),
 }

@@ -5,8 +5,9 @@ use thiserror::Error;
 /// What is wrong with a record. Where more than one thing is, the first in this order is told.
 #[derive(Clone, Copy, Debug, PartialEq, Eq, Error)]
 pub enum Damage {
-    /// The record ends before its header does, or before the last triplet that is read.
-    #[error("the record ends inside its header")]
+    /// The record lacks a whole header: it ends before its standard header does, or, where it is of
+    /// type 30, before its subtype or the last triplet that is read.
+    #[error("the record lacks a whole header")]
     Short,
     /// The header's date is no date.
     #[error("the header has no date")]

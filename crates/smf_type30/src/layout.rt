@@ -82,9 +82,6 @@ pub const COMPLETION: Section = Section {
     least: 4,
 };
 
-/// The completion code and the termination indicator.
-pub const OUTCOME: Field = Field { offset: 0, len: 4 };
-
 /// The section that measures CPU time.
 pub const PROCESSOR: Section = Section {
     triplet: 56,

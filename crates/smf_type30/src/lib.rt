@@ -6,6 +6,7 @@ mod class_of;
 mod classes;
 mod damage;
 mod layout;
+mod moment;
 mod number;
 mod section;
 mod usage;
@@ -14,7 +15,8 @@ pub use class_of::class;
 pub use classes::Class;
 pub use damage::Damage;
 pub use layout::{HUNDREDTHS_PER_DAY, JOB_END, STEP_END};
-pub use usage::{Moment, Type30};
+pub use moment::Moment;
+pub use usage::Type30;
 
 #[cfg(test)]
 mod samples;

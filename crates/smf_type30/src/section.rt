@@ -1,37 +1,50 @@
-ghost use Rattle.std.specs.Prelude.{◌≡◌, ◌≢◌, ◌+◌, ◌≤◌, length, IsTrue};
+ghost use Rattle.std.specs.Prelude.{◌≡◌, ◌≢◌, IsTrue};
 ghost use Rattle.smf_type30.specs.Lent.{Lends};
+ghost use Rattle.smf_type30.specs.Section.{HasTriplet};
 ghost use Rattle.smf_type30.specs.Section as spec;
 
-use crate::layout::Section;
+use crate::layout::{Field, Section};
 use crate::number::{number2, number4};
 
 /// The offset that a section's triplet tells.
 pub fn offset(bytes: &[u8], section: Section) -> usize
-    requires { section.triplet + 8 ≤ length bytes.now }
+    requires { HasTriplet bytes.now section }
     ensures { result ≡ spec.offset_of bytes.now section }
 {
-    number4(bytes, section.triplet) as usize
+    let field = Field {
+        offset: section.triplet,
+        len: 4,
+    };
+    number4(bytes, field) as usize
 }
 
 /// The length that a section's triplet tells.
 pub fn len(bytes: &[u8], section: Section) -> u16
-    requires { section.triplet + 8 ≤ length bytes.now }
+    requires { HasTriplet bytes.now section }
     ensures { result ≡ spec.length_of bytes.now section }
 {
-    number2(bytes, section.triplet + 4)
+    let field = Field {
+        offset: section.triplet + 4,
+        len: 2,
+    };
+    number2(bytes, field)
 }
 
 /// The number that a section's triplet tells, 0 where the section is absent.
 pub fn count(bytes: &[u8], section: Section) -> u16
-    requires { section.triplet + 8 ≤ length bytes.now }
+    requires { HasTriplet bytes.now section }
     ensures { result ≡ spec.count_of bytes.now section }
 {
-    number2(bytes, section.triplet + 6)
+    let field = Field {
+        offset: section.triplet + 6,
+        len: 2,
+    };
+    number2(bytes, field)
 }
 
 /// Tells whether a section is absent, or long enough and inside the record.
 pub fn fits(bytes: &[u8], section: Section) -> bool
-    requires { section.triplet + 8 ≤ length bytes.now }
+    requires { HasTriplet bytes.now section }
     ensures { result ≡ spec.fits bytes.now section }
 {
     let len = len(bytes, section);
@@ -41,7 +54,7 @@ pub fn fits(bytes: &[u8], section: Section) -> bool
 
 /// A section that is there, lent from its record.
 pub fn lend(bytes: &[u8], section: Section) -> &[u8]
-    requires triplet { section.triplet + 8 ≤ length bytes.now }
+    requires triplet { HasTriplet bytes.now section }
     requires there { spec.count_of bytes.now section ≢ 0 }
     requires fits { IsTrue (spec.fits bytes.now section) }
     ensures { Lends bytes.now section result.now }

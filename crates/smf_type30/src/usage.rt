@@ -1,60 +1,51 @@
 ghost use Rattle.std.specs.Prelude.{◌≡◌, ◌≤◌, ◌<◌, ◌+◌, ◌-◌, ◌^◌, ◌↔◌, ◌⊎◌, ◌++◌, length, take, IsTrue, IsOk, IfOk, IfErr, Some, option_copied};
 ghost use Rattle.smf_text.specs.Day.{IsDay};
-ghost use Rattle.smf_text.specs.PackedDate.{packed_day_of};
-ghost use Rattle.smf_frames.specs.Header.{header_of};
-ghost use Rattle.smf_type30.specs.declared.layout.TheConstants.{HUNDREDTHS_PER_DAY, IDENTIFICATION, JOB_END, STEP_END, TRIPLETS_END};
+ghost use Rattle.smf_type30.specs.Layout.{hundredths_per_day, identification, job_end, job_id, job_name, program_name, step_end, step_number, triplets_end};
+ghost use Rattle.smf_type30.specs.Accounts.{IsAccount};
 ghost use Rattle.smf_type30.specs.Section.{part_in};
 ghost use Rattle.smf_type30.specs.Usage as spec;
 ghost use Rattle.smf_type30.specs.Class.{IsUsage, measures_work, read_fault};
 
 use crate::accounts;
-use crate::class_of::first_damage;
+use crate::class_of::section_damage;
 use crate::damage::Damage;
 use crate::layout::{
     BLOCKS, COMPLETION, Field, IDENTIFICATION, IO_ACTIVITY, JOB_END, JOB_ID, JOB_NAME, PROCESSOR,
-    PROGRAM_NAME, READER_START, SRB_TIME, STEP_NUMBER, SUBTYPE, SUBTYPE_END, TCB_TIME,
-    TRIPLETS_END,
+    PROGRAM_NAME, READER_START, SRB_TIME, STEP_NUMBER, SUBTYPE, TCB_TIME, TRIPLETS_END,
 };
-use crate::number::{number2, number4};
+use crate::moment::{Moment, moment_in};
+use crate::number::{number2, number4, part};
 use crate::section::{count, lend};
 use smf_frames::Header;
-use smf_text::packed_day;
 use std::marker::Model;
 use std::ops::Range;
-
-/// When a record was written.
-#[derive(Clone, Copy, Debug, PartialEq, Eq)]
-pub struct Moment {
-    /// The day, counted from 1970-01-01.
-    pub day: i32,
-    /// The time of day, in hundredths of a second since midnight.
-    pub time: u32,
-}
 
 /// A record that measures the work of a step or a job, and lends its fields.
 #[derive(Drop)]
 pub struct Type30<'a> {
     bytes: &'a [u8],
+    system: [u8; 4],
+    moment: Moment,
 }
 
 impl<'a> Model for Type30<'a> {
     ghost use Rattle.std.specs.Prelude.{List, ℕ};
-    ghost use Rattle.smf_type30.specs.Class.{IsUsage};
+    ghost use Rattle.smf_type30.specs.Lent.{IsRead};
 
     ghost Value = { List ℕ };
 
     ghost view = { λ usage. usage.bytes.now };
 
-    ghost invariant = { λ usage. IsUsage usage.bytes.now };
+    ghost invariant = { λ usage. IsRead usage.bytes.now usage.system usage.moment };
 }
 
 impl<'a> Type30<'a> {
     /// Reads a record, its descriptor included, that measures work if it is long enough to tell.
     /// One that is no usage record is answered with its damage: with `Short` where it ends before
     /// its triplets do, whatever its type.
-    #[tactic(auto, unfolding(crate::specs::Class::class_of, crate::specs::Class::measures_work))]
+    #[tactic(auto, unfolding(crate::specs::Class::class_of, crate::specs::Class::measures_work, crate::specs::Class::damage_of))]
     pub fn read(bytes: &'a [u8]) -> Result<Type30<'a>, Damage>
-        requires { TRIPLETS_END ≤ length bytes.now → IsTrue (measures_work bytes.now) }
+        requires { triplets_end ≤ length bytes.now → IsTrue (measures_work bytes.now) }
         ensures usage { IsOk result ↔ IsUsage bytes.now }
         ensures value { IfOk result (λ usage. usage ≡ bytes.now) }
         ensures damage { IfErr result (λ damage. read_fault bytes.now ≡ Some damage) }
@@ -62,9 +53,29 @@ impl<'a> Type30<'a> {
         if bytes.len() < TRIPLETS_END {
             return Err(Damage::Short);
         }
-        match first_damage(bytes) {
-            None => Ok(Type30 { bytes }),
-            Some(damage) => Err(damage),
+        let header = Header::read(bytes).unwrap();
+        let moment = moment_in(&header)?;
+        if let Some(damage) = section_damage(bytes) {
+            return Err(damage);
+        }
+        Ok(Type30 {
+            bytes,
+            system: header.system,
+            moment,
+        })
+    }
+
+    /// The fields of a record of class Usage, which is not tested again.
+    #[tactic(auto, using(crate::proofs::UsageFacts::usage))]
+    pub fn of_usage(bytes: &'a [u8]) -> Type30<'a>
+        requires { IsUsage bytes.now }
+        ensures { result ≡ bytes.now }
+    {
+        let header = Header::read(bytes).unwrap();
+        Type30 {
+            bytes,
+            system: header.system,
+            moment: moment_in(&header).unwrap(),
         }
     }
 
@@ -72,41 +83,37 @@ impl<'a> Type30<'a> {
     #[tactic(auto, using(crate::proofs::UsageFacts::usage), unfolding(crate::specs::Usage::subtype_of))]
     pub fn subtype(&self) -> u16
         ensures value { result ≡ spec.subtype_of self.now }
-        ensures either { (result ≡ STEP_END) ⊎ (result ≡ JOB_END) }
+        ensures either { (result ≡ step_end) ⊎ (result ≡ job_end) }
         ensures usage { IsUsage self.now }
     {
-        number2(self.bytes, SUBTYPE.offset)
+        number2(self.bytes, SUBTYPE)
     }
 
     /// The identity of the work: system, job name, reader's time and date, subtype, and the step
-    /// number, which is 0 for a job. Two records of one identity tell of the same work.
+    /// number, which is 0 for a job. Two records of one identity are taken for the same work.
     #[tactic(auto, using(crate::proofs::UsageFacts::usage))]
     pub fn identity(&self) -> [u8; 24]
         ensures value { result ≡ spec.identity_of self.now }
+        ensures len { length (spec.identity_of self.now) ≡ spec.identity_length }
     {
-        let subtype = &self.bytes[SUBTYPE.offset..SUBTYPE_END];
         let mut identity = [0; 24];
-        put(&mut identity, 0..4, &self.header().system);
+        put(&mut identity, 0..4, &self.system);
         put(&mut identity, 4..12, self.job());
         put(&mut identity, 12..20, self.identified(READER_START));
-        put(&mut identity, 20..22, subtype);
-        put(&mut identity, 22..24, &self.step());
+        put(&mut identity, 20..22, part(self.bytes, SUBTYPE));
+        put(&mut identity, 22..24, self.step());
         identity
     }
 
-    /// When the record was written.
-    #[tactic(auto, unfolding(crate::specs::Usage::day_of, crate::specs::Usage::time_of))]
+    /// When the record was moved into the SMF buffer, by its header.
+    #[tactic(auto, using(crate::proofs::UsageFacts::usage), unfolding(crate::specs::Usage::day_of, crate::specs::Usage::time_of))]
     pub fn moment(&self) -> Moment
         ensures day { result.day ≡ spec.day_of self.now }
         ensures time { result.time ≡ spec.time_of self.now }
         ensures is_day { IsDay result.day }
-        ensures is_time { result.time < HUNDREDTHS_PER_DAY }
+        ensures is_time { result.time < hundredths_per_day }
     {
-        let header = self.header();
-        Moment {
-            day: packed_day(&header.date).unwrap(),
-            time: header.time,
-        }
+        self.moment
     }
 
     /// The CPU time, under TCBs and SRBs, in hundredths of a second.
@@ -116,8 +123,7 @@ impl<'a> Type30<'a> {
         ensures bound { result < 2 ^ 33 }
     {
         let processor = lend(self.bytes, PROCESSOR);
-        u64::from(number4(processor, TCB_TIME.offset))
-            + u64::from(number4(processor, SRB_TIME.offset))
+        u64::from(number4(processor, TCB_TIME)) + u64::from(number4(processor, SRB_TIME))
     }
 
     /// The blocks transferred, the EXCP count: 0 without an I/O activity section.
@@ -128,14 +134,14 @@ impl<'a> Type30<'a> {
         if count(self.bytes, IO_ACTIVITY) == 0 {
             return 0;
         }
-        number4(lend(self.bytes, IO_ACTIVITY), BLOCKS.offset)
+        number4(lend(self.bytes, IO_ACTIVITY), BLOCKS)
     }
 
     /// The name of the job, in EBCDIC.
     #[tactic(auto, unfolding(crate::specs::Usage::job_of))]
     pub fn job(&self) -> &'a [u8]
         ensures value { result.now ≡ spec.job_of self.now }
-        ensures len { length result.now ≡ 8 }
+        ensures len { length result.now ≡ job_name.len }
     {
         self.identified(JOB_NAME)
     }
@@ -144,7 +150,7 @@ impl<'a> Type30<'a> {
     #[tactic(auto, unfolding(crate::specs::Usage::program_of))]
     pub fn program(&self) -> &'a [u8]
         ensures value { result.now ≡ spec.program_of self.now }
-        ensures len { length result.now ≡ 8 }
+        ensures len { length result.now ≡ program_name.len }
     {
         self.identified(PROGRAM_NAME)
     }
@@ -153,7 +159,7 @@ impl<'a> Type30<'a> {
     #[tactic(auto, unfolding(crate::specs::Usage::job_id_of))]
     pub fn job_id(&self) -> &'a [u8]
         ensures value { result.now ≡ spec.job_id_of self.now }
-        ensures len { length result.now ≡ 8 }
+        ensures len { length result.now ≡ job_id.len }
     {
         self.identified(JOB_ID)
     }
@@ -162,6 +168,7 @@ impl<'a> Type30<'a> {
     #[tactic(auto, using(crate::proofs::UsageFacts::usage))]
     pub fn account(&self, n: u16) -> Option<&'a [u8]>
         ensures value { option_copied result ≡ spec.account_of self.now n }
+        ensures field { IsAccount self.now n (option_copied result) }
     {
         accounts::account(self.bytes, n)
     }
@@ -177,35 +184,25 @@ impl<'a> Type30<'a> {
         lend(self.bytes, COMPLETION).first_chunk().copied()
     }
 
-    /// The standard header.
-    #[tactic(auto, using(crate::proofs::UsageFacts::usage))]
-    fn header(&self) -> Header
-        ensures value { result ≡ header_of self.now }
-        ensures date { IsOk (packed_day_of result.date) }
-        ensures time { result.time < HUNDREDTHS_PER_DAY }
-    {
-        Header::read(self.bytes).unwrap()
-    }
-
     /// A field of the identification section.
     #[tactic(auto, using(crate::proofs::UsageFacts::usage))]
     fn identified(&self, field: Field) -> &'a [u8]
-        requires { field.offset + field.len ≤ IDENTIFICATION.least }
-        ensures value { result.now ≡ part_in self.now IDENTIFICATION field }
+        requires { field.offset + field.len ≤ identification.least }
+        ensures value { result.now ≡ part_in self.now identification field }
         ensures len { length result.now ≡ field.len }
     {
-        &lend(self.bytes, IDENTIFICATION)[field.offset..field.offset + field.len]
+        part(lend(self.bytes, IDENTIFICATION), field)
     }
 
     /// The step number, 0 for a job.
-    fn step(&self) -> [u8; 2]
-        ensures { result ≡ spec.step_of self.now }
+    fn step(&self) -> &[u8]
+        ensures value { result.now ≡ spec.step_of self.now }
+        ensures len { length result.now ≡ step_number.len }
     {
         if self.subtype() == JOB_END {
-            return [0, 0];
+            return &[0, 0];
         }
-        let step = self.identified(STEP_NUMBER);
-        [step[0], step[1]]
+        self.identified(STEP_NUMBER)
     }
 }
 

@@ -1,5 +1,5 @@
 use Rattle.std.proofs.Common.{◌∙◌, ap, Some, lit≤}
-use Rattle.smf_type30.specs.declared.layout.TheConstants.{OUTCOME}
+use Rattle.smf_type30.specs.Layout.{outcome}
 use Rattle.smf_type30.specs.Usage.{completion_of}
 use Rattle.smf_type30.proofs.SectionLemmas.{option_copied-first_chunk}
 use Rattle.smf_type30.proofs.UsageFacts.{present}
@@ -12,6 +12,6 @@ returns c =
       value = rw (← c.self.view_is)
           (c.copied.ensures
           ∙ option_copied-first_chunk _ _ _ c.lend.ensures.long c.first_chunk.ensures.cases
-          ∙ ap Some (c.lend.ensures.parts OUTCOME (lit≤ tt))
+          ∙ ap Some (c.lend.ensures.parts outcome (lit≤ tt))
           ∙ present _ _ _ (λ e. c.if-count-eq0.false (c.count.ensures ∙ e)));
     }

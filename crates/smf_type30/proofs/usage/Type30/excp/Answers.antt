@@ -1,5 +1,5 @@
 use Rattle.std.proofs.Common.{◌∙◌, lit≤}
-use Rattle.smf_type30.specs.declared.layout.TheConstants.{BLOCKS}
+use Rattle.smf_type30.specs.Layout.{blocks}
 use Rattle.smf_type30.specs.Usage.{excp_of}
 use Rattle.smf_type30.proofs.UsageFacts.{present}
 use Rattle.smf_type30.proofs.usage.Type30.excp.Goals as goal
@@ -10,6 +10,6 @@ returns c =
     record {
       value = rw (← c.self.view_is)
           (c.number4.ensures
-          ∙ c.lend.ensures.numbers BLOCKS (lit≤ tt)
+          ∙ c.lend.ensures.numbers blocks (lit≤ tt)
           ∙ present _ _ _ (λ e. c.if-count-eq0.false (c.count.ensures ∙ e)));
     }
