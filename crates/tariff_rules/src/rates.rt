@@ -12,10 +12,6 @@ use std::marker::Model;
 /// The highest rate, in ten-thousandths of the money unit.
 pub const MAX_RATE: u64 = 100_000_000;
 
-/// What 2^33 hundredths of a second and 2^32 blocks cost at the highest rates and percent, in
-/// ten-thousandths of the money unit: no record costs more.
-pub const MAX_AMOUNT: u64 = 90_194_314_216_000_000;
-
 /// The parts of a ten-thousandth of the money unit, in which the price's formula counts.
 const WHOLE_PARTS: u128 = 100_000;
 
