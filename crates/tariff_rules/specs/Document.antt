@@ -4,12 +4,12 @@ use Rattle.std.specs.Prelude.{length, Option, Some, None, Result, Ok, Err, Match
 use Rattle.std.specs.Global.{Global}
 use Rattle.std.specs.Option.{ok_or, option_map}
 use Rattle.smf_text.specs.Names.{is_name}
-use Rattle.toml.specs.Data.{as_array, as_integer, as_str, Data, get_member, item, Items, Members}
-use Rattle.toml.specs.Data.{no_items}
+use Rattle.toml.specs.Data.{as_array, as_integer, as_str, get_member}
+use Rattle.toml.specs.Data.{Data, item, Items, Members, no_items}
 use Rattle.tariff_rules.specs.Faults.{key_text}
 use Rattle.tariff_rules.specs.declared.fault.TariffFault.{TariffFault}
-use Rattle.tariff_rules.specs.declared.fault.TariffFault.TheVariants.{Memory, Missing, Name, Range}
-use Rattle.tariff_rules.specs.declared.fault.TariffFault.TheVariants.{TooMany}
+use Rattle.tariff_rules.specs.declared.fault.TariffFault.TheVariants.{Memory, Missing, Name}
+use Rattle.tariff_rules.specs.declared.fault.TariffFault.TheVariants.{Range, TooMany}
 use Rattle.tariff_rules.specs.declared.key.Key.{Key}
 use Rattle.tariff_rules.specs.declared.key.Key.TheVariants as key
 

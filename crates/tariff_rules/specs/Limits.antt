@@ -10,10 +10,6 @@ most_rate = 100_000_000
 abbrev pub most_percent : ℕ
 most_percent = 1000
 
--- the percent of BASE, which charges the rates as they are
-abbrev pub base_percent : ℕ
-base_percent = 100
-
 -- the first day that a tariff can have, 1900-01-01: 25,567 days before 1970-01-01
 abbrev pub first_day : ℤ
 first_day = negsuc 25_566

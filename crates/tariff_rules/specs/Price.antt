@@ -1,12 +1,12 @@
 -- What a record of usage costs by a tariff.
-use Rattle.std.specs.Prelude.{ℕ, ◌+◌, ◌*◌, ◌/◌, ◌≤◌, ◌<◌, ◌^◌, ◌==◌, ◌&&◌, Bool, false, nat_eq}
-use Rattle.std.specs.Prelude.{nat_le, nat_lt, if◌then◌else◌, List, codes, find, Option, Some, None}
-use Rattle.std.specs.Prelude.{ℤ}
+use Rattle.std.specs.Prelude.{◌+◌, ◌*◌, ◌/◌, ◌≤◌, ◌<◌, ◌^◌, ◌==◌, ◌&&◌, if◌then◌else◌}
+use Rattle.std.specs.Prelude.{ℕ, nat_eq, nat_le, nat_lt, ℤ, Bool, false, List, codes, find}
+use Rattle.std.specs.Prelude.{Option, Some, None}
 use Rattle.std.specs.List.{list_any, starts_with}
 use Rattle.smf_text.specs.Day.{IsDay, weekday_of}
 use Rattle.smf_text.specs.Names.{IsName}
 use Rattle.smf_type30.specs.Usage.{account_of, cpu_of, day_of, excp_of, job_of, subtype_of, time_of}
-use Rattle.tariff_rules.specs.Limits.{base_percent, most_percent, most_rate}
+use Rattle.tariff_rules.specs.Limits.{most_percent, most_rate}
 use Rattle.tariff_rules.specs.Terms.{CentreRule, rates_of, RatesOf, ShiftRule, Terms}
 use Rattle.tariff_rules.specs.declared.centre.Field.{Field}
 use Rattle.tariff_rules.specs.declared.centre.Field.TheVariants.{Account, Job}
@@ -32,6 +32,10 @@ has_minute minute rule = nat_le rule.from minute && nat_lt minute rule.to
 -- the shift is worked in that minute of that weekday
 abbrev pub has_moment : ℕ → ℕ → ShiftRule → Bool
 has_moment weekday minute rule = has_weekday weekday rule && has_minute minute rule
+
+-- the percent that charges the rates as they are
+abbrev pub base_percent : ℕ
+base_percent = 100
 
 -- the shift of the moments that no rule has
 abbrev pub base_shift : Shift

@@ -1,12 +1,12 @@
 -- What an entry of a tariff file's array of shifts says.
-use Rattle.std.specs.Prelude.{ℕ, ◌==◌, ◌&&◌, not, Bool, nat_le, nat_lt, if◌then◌else◌, List, length}
-use Rattle.std.specs.Prelude.{is_some, Option, Some, None, Result, Ok, Err}
+use Rattle.std.specs.Prelude.{ℕ, ◌==◌, ◌&&◌, not, Bool, nat_le, nat_lt, if◌then◌else◌}
+use Rattle.std.specs.Prelude.{List, length, is_some, Option, Some, None, Result, Ok, Err}
 use Rattle.std.specs.List.{filter_map, list_all}
 use Rattle.std.specs.Option.{ok_or}
 use Rattle.toml.specs.Data.{as_table, Data, Members}
 use Rattle.tariff_rules.specs.Clock.{minute_of_text}
-use Rattle.tariff_rules.specs.Document.{◌>>=◌, entries_in, name_at, read_at, text_at, whole_at}
-use Rattle.tariff_rules.specs.Document.{whole_in}
+use Rattle.tariff_rules.specs.Document.{◌>>=◌, entries_in, name_at, read_at, text_at}
+use Rattle.tariff_rules.specs.Document.{whole_at, whole_in}
 use Rattle.tariff_rules.specs.Limits.{days_per_week, most_percent}
 use Rattle.tariff_rules.specs.Terms.{ShiftRule}
 use Rattle.tariff_rules.specs.declared.fault.TariffFault.{TariffFault}

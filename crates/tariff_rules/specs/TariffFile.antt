@@ -1,7 +1,7 @@
 -- What a tariff file says: the terms of its TOML document, or the first fault in the order of the
 -- keys.
-use Rattle.std.specs.Prelude.{ℕ, nat_lt, if◌then◌else◌, List, length, Result, Ok, Err, Option, Some}
-use Rattle.std.specs.Prelude.{None, ℤ}
+use Rattle.std.specs.Prelude.{ℕ, nat_lt, ℤ, if◌then◌else◌, List, length}
+use Rattle.std.specs.Prelude.{Option, Some, None, Result, Ok, Err}
 use Rattle.std.specs.Option.{ok_or}
 use Rattle.smf_text.specs.Day.{day_of_text_of}
 use Rattle.toml.specs.Data.{as_table, Members}

@@ -17,7 +17,7 @@ use std::marker::Model;
 /// The highest percent that a shift charges.
 pub const MAX_PERCENT: u16 = 1000;
 
-/// The percent of the shift that no rule has.
+/// The percent that charges the rates as they are.
 const BASE_PERCENT: u16 = 100;
 
 /// The hundredths of a second of a minute.
@@ -32,7 +32,7 @@ pub(crate) struct Shift {
 }
 
 impl Shift {
-    /// The shift of the moments that no rule has: it charges the rates as they are.
+    /// The shift of the moments that no rule has.
     fn base() -> Shift
         ensures { result ≡ spec.base_shift }
     {
