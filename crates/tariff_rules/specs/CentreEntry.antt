@@ -3,11 +3,11 @@ use Rattle.std.specs.Prelude.{ℕ, List, Option, Some, None, Result, Ok, Err}
 use Rattle.std.specs.Option.{ok_or}
 use Rattle.toml.specs.Data.{as_table, Data, Members}
 use Rattle.tariff_rules.specs.Document.{◌>>=◌, name_at, text_at, value_at, whole_in}
+use Rattle.tariff_rules.specs.Limits.{last_account, most_account_prefix, most_job_prefix}
 use Rattle.tariff_rules.specs.Prefix.{prefix_of}
 use Rattle.tariff_rules.specs.Terms.{CentreRule}
 use Rattle.tariff_rules.specs.declared.centre.Field.{Field}
 use Rattle.tariff_rules.specs.declared.centre.Field.TheVariants.{Account, Job}
-use Rattle.tariff_rules.specs.declared.centre.entry.TheConstants.{LAST_ACCOUNT, MAX_ACCOUNT_PREFIX, MAX_JOB_PREFIX}
 use Rattle.tariff_rules.specs.declared.fault.TariffFault.{TariffFault}
 use Rattle.tariff_rules.specs.declared.fault.TariffFault.TheVariants.{Missing, Range}
 use Rattle.tariff_rules.specs.declared.key.Key.{Key}
@@ -16,7 +16,7 @@ use Rattle.tariff_rules.specs.declared.key.Key.TheVariants as key
 -- an accounting field where there is one, whatever the job is; else the job's name
 abbrev pub field_of : Option Data → Option Data → Result Field TariffFault
 field_of (Some account) job = do
-  n ← ok_or (whole_in 1 LAST_ACCOUNT account) (Range key.Account)
+  n ← ok_or (whole_in 1 last_account account) (Range key.Account)
   Ok (Account n)
 field_of None (Some job) = Ok Job
 field_of None None = Err (Missing key.Account)
@@ -33,8 +33,8 @@ prefix_at table key most = do
 
 -- what the field has to begin with
 abbrev pub prefix_for : Members → Field → Result (List ℕ) TariffFault
-prefix_for table (Account n) = prefix_at table key.Prefix MAX_ACCOUNT_PREFIX
-prefix_for table Job = prefix_at table key.Job MAX_JOB_PREFIX
+prefix_for table (Account n) = prefix_at table key.Prefix most_account_prefix
+prefix_for table Job = prefix_at table key.Job most_job_prefix
 
 -- the rule of a table: its centre, then the field, then what that has to begin with
 unfoldable pub centre_rule_of : Members → Result CentreRule TariffFault

@@ -1,12 +1,15 @@
 -- What the tables of a tariff file have at their keys, by the TOML document that the file is.
-use Rattle.std.specs.Prelude.{◌≡◌, ◌≢◌, ℕ, ◌&&◌, nat_le, nat_lt, if◌then◌else◌, List, [], ◌∷◌, length, Option, Some, None, Result, Ok, Err, MatchResult, Vec, ℤ, pos}
+use Rattle.std.specs.Prelude.{◌≡◌, ◌≢◌, ℕ, ◌&&◌, nat_le, nat_lt, if◌then◌else◌, List, [], ◌∷◌}
+use Rattle.std.specs.Prelude.{length, Option, Some, None, Result, Ok, Err, MatchResult, Vec, ℤ, pos}
 use Rattle.std.specs.Global.{Global}
 use Rattle.std.specs.Option.{ok_or, option_map}
 use Rattle.smf_text.specs.Names.{is_name}
-use Rattle.toml.specs.Data.{as_array, as_integer, as_str, Data, get_member, item, Items, Members, no_items}
+use Rattle.toml.specs.Data.{as_array, as_integer, as_str, get_member}
+use Rattle.toml.specs.Data.{Data, item, Items, Members, no_items}
 use Rattle.tariff_rules.specs.Faults.{key_text}
 use Rattle.tariff_rules.specs.declared.fault.TariffFault.{TariffFault}
-use Rattle.tariff_rules.specs.declared.fault.TariffFault.TheVariants.{Memory, Missing, Name, Range, TooMany}
+use Rattle.tariff_rules.specs.declared.fault.TariffFault.TheVariants.{Memory, Missing, Name}
+use Rattle.tariff_rules.specs.declared.fault.TariffFault.TheVariants.{Range, TooMany}
 use Rattle.tariff_rules.specs.declared.key.Key.{Key}
 use Rattle.tariff_rules.specs.declared.key.Key.TheVariants as key
 

@@ -1,5 +1,7 @@
--- Read in this order: what a tariff says, and what a record costs by it. Then the file: its faults
--- and keys, what its tables have at a key, its shifts and its centres, and the whole of it.
+-- Read in this order: the office's limits, what a tariff says, and what a record costs by it. Then
+-- the file: its faults and keys, what its tables have at a key, its shifts and its centres, and the
+-- whole of it.
+pub mod Limits
 pub mod Terms
 pub mod Price
 pub mod Faults

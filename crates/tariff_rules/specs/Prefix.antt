@@ -1,5 +1,6 @@
 -- What a record's field has to begin with.
-use Rattle.std.specs.Prelude.{ℕ, ◌==◌, ◌&&◌, not, Bool, nat_le, if◌then◌else◌, List, length, Option, Some, None}
+use Rattle.std.specs.Prelude.{ℕ, ◌==◌, ◌&&◌, not, Bool, nat_le, if◌then◌else◌}
+use Rattle.std.specs.Prelude.{List, length, Option, Some, None}
 use Rattle.smf_text.specs.Encoding.{is_in_page, page_bytes}
 
 -- one to so many characters of code page 037, which has the 95 printable ones of ASCII

@@ -1,21 +1,22 @@
 -- What an entry of a tariff file's array of shifts says.
-use Rattle.std.specs.Prelude.{ℕ, ◌==◌, ◌&&◌, not, Bool, nat_le, nat_lt, if◌then◌else◌, List, length, is_some, Option, Some, None, Result, Ok, Err}
+use Rattle.std.specs.Prelude.{ℕ, ◌==◌, ◌&&◌, not, Bool, nat_le, nat_lt, if◌then◌else◌}
+use Rattle.std.specs.Prelude.{List, length, is_some, Option, Some, None, Result, Ok, Err}
 use Rattle.std.specs.List.{filter_map, list_all}
 use Rattle.std.specs.Option.{ok_or}
 use Rattle.toml.specs.Data.{as_table, Data, Members}
 use Rattle.tariff_rules.specs.Clock.{minute_of_text}
-use Rattle.tariff_rules.specs.Document.{◌>>=◌, entries_in, name_at, read_at, text_at, whole_at, whole_in}
+use Rattle.tariff_rules.specs.Document.{◌>>=◌, entries_in, name_at, read_at, text_at}
+use Rattle.tariff_rules.specs.Document.{whole_at, whole_in}
+use Rattle.tariff_rules.specs.Limits.{days_per_week, most_percent}
 use Rattle.tariff_rules.specs.Terms.{ShiftRule}
 use Rattle.tariff_rules.specs.declared.fault.TariffFault.{TariffFault}
 use Rattle.tariff_rules.specs.declared.fault.TariffFault.TheVariants.{Range}
 use Rattle.tariff_rules.specs.declared.key.Key.{Key}
 use Rattle.tariff_rules.specs.declared.key.Key.TheVariants as key
-use Rattle.tariff_rules.specs.declared.shift.TheConstants.{MAX_PERCENT}
-use Rattle.tariff_rules.specs.declared.shift.entry.TheConstants.{DAYS_OF_WEEK}
 
 -- a weekday, Monday 1 to Sunday 7
 abbrev pub weekday_in : Data → Option ℕ
-weekday_in value = whole_in 1 DAYS_OF_WEEK value
+weekday_in value = whole_in 1 days_per_week value
 
 abbrev pub is_weekday : Data → Bool
 is_weekday value = is_some (weekday_in value)
@@ -23,7 +24,7 @@ is_weekday value = is_some (weekday_in value)
 -- one to seven of them, of which some may be the same
 abbrev pub are_weekdays : List Data → Bool
 are_weekdays entries =
-    not (length entries == 0) && nat_le (length entries) DAYS_OF_WEEK
+    not (length entries == 0) && nat_le (length entries) days_per_week
     && list_all is_weekday entries
 
 -- the weekdays that they are, in order
@@ -55,7 +56,7 @@ shift_rule_of table = do
   days ← days_at table
   from ← minute_at table key.From
   to ← to_at table from
-  percent ← whole_at table key.Percent 0 MAX_PERCENT
+  percent ← whole_at table key.Percent 0 most_percent
   Ok (record {
     shift = record { name = name; percent = percent };
     days = days;

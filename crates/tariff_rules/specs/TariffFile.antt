@@ -1,28 +1,30 @@
--- What a tariff file says: the terms of its TOML document, or the first fault in the order of the keys.
-use Rattle.std.specs.Prelude.{ℕ, nat_lt, if◌then◌else◌, List, length, Result, Ok, Err, Option, Some, None, ℤ}
+-- What a tariff file says: the terms of its TOML document, or the first fault in the order of the
+-- keys.
+use Rattle.std.specs.Prelude.{ℕ, nat_lt, ℤ, if◌then◌else◌, List, length}
+use Rattle.std.specs.Prelude.{Option, Some, None, Result, Ok, Err}
 use Rattle.std.specs.Option.{ok_or}
 use Rattle.smf_text.specs.Day.{day_of_text_of}
 use Rattle.toml.specs.Data.{as_table, Members}
 use Rattle.toml.specs.Parse.{parse_document}
 use Rattle.tariff_rules.specs.CentreEntry.{centre_rule_in}
 use Rattle.tariff_rules.specs.Document.{◌>>=◌, read_at, rules_at, text_at, whole_at}
+use Rattle.tariff_rules.specs.Limits.{most_centres, most_rate, most_shifts, most_text}
 use Rattle.tariff_rules.specs.ShiftConflict.{has_conflict}
 use Rattle.tariff_rules.specs.ShiftEntry.{shift_rule_in}
-use Rattle.tariff_rules.specs.Terms.{rates, RatesOf, ShiftRule, Terms}
+use Rattle.tariff_rules.specs.Terms.{rates_of, RatesOf, ShiftRule, Terms}
 use Rattle.tariff_rules.specs.declared.fault.TariffFault.{TariffFault}
-use Rattle.tariff_rules.specs.declared.fault.TariffFault.TheVariants.{Range, ShiftConflict, Syntax, TooMany}
+use Rattle.tariff_rules.specs.declared.fault.TariffFault.TheVariants.{Range, ShiftConflict, Syntax}
+use Rattle.tariff_rules.specs.declared.fault.TariffFault.TheVariants.{TooMany}
 use Rattle.tariff_rules.specs.declared.key.Key.{Key}
 use Rattle.tariff_rules.specs.declared.key.Key.TheVariants as key
-use Rattle.tariff_rules.specs.declared.rates.TheConstants.{MAX_RATE}
-use Rattle.tariff_rules.specs.declared.tariff.file.TheConstants.{MAX_CENTRES, MAX_SHIFTS, MAX_TEXT}
 
--- the prices of one kind of record, by their keys
+-- the rates of one kind of record, by their keys
 unfoldable pub rates_at : Members → Key → Key → Key → Result RatesOf TariffFault
 rates_at table cpu_key excp_key record_key = do
-  cpu ← whole_at table cpu_key 0 MAX_RATE
-  excp ← whole_at table excp_key 0 MAX_RATE
-  record_fee ← whole_at table record_key 0 MAX_RATE
-  Ok (rates cpu excp record_fee)
+  cpu ← whole_at table cpu_key 0 most_rate
+  excp ← whole_at table excp_key 0 most_rate
+  record_fee ← whole_at table record_key 0 most_rate
+  Ok (rates_of cpu excp record_fee)
 
 -- the first day
 unfoldable pub effective_at : Members → Result ℤ TariffFault
@@ -37,7 +39,7 @@ agreed rules = if has_conflict rules then Err ShiftConflict else Ok rules
 -- the shifts; that they do not agree is said when each of them was read, before the centres are
 unfoldable pub shifts_at : Members → Result (List ShiftRule) TariffFault
 shifts_at document = do
-  rules ← rules_at document key.Shift MAX_SHIFTS shift_rule_in
+  rules ← rules_at document key.Shift most_shifts shift_rule_in
   agreed rules
 
 -- the terms of a document, by its keys in the order in which they are tested
@@ -48,7 +50,7 @@ terms_of document = do
   step ← rates_at table key.StepCpu key.StepExcp key.StepRecord
   job ← rates_at table key.JobCpu key.JobExcp key.JobRecord
   shifts ← shifts_at document
-  centres ← rules_at document key.Centre MAX_CENTRES centre_rule_in
+  centres ← rules_at document key.Centre most_centres centre_rule_in
   Ok (record { effective = effective; step = step; job = job; shifts = shifts; centres = centres })
 
 -- the same, where the text is a document at all
@@ -59,5 +61,5 @@ terms_of_document (Some document) = terms_of document
 -- what a text says; that it is too long is said before it is read
 abbrev pub terms_in : List ℕ → Result Terms TariffFault
 terms_in text =
-    if nat_lt MAX_TEXT (length text) then Err TooMany
+    if nat_lt most_text (length text) then Err TooMany
     else terms_of_document (parse_document text)

@@ -4,14 +4,20 @@ ghost use Rattle.std.specs.Prelude.{◌≡◌, ◌≤◌};
 ghost use Rattle.std.specs.Char.{IsAsciiDigit};
 ghost use Rattle.tariff_rules.specs.Clock as spec;
 
+/// The characters of `HH:MM`.
+const CLOCK_LENGTH: usize = 5;
+
+/// The minutes of an hour.
+const MINUTES_PER_HOUR: u32 = 60;
+
 /// The minutes of a day.
-const MINUTES_OF_DAY: u32 = 24 * 60;
+const MINUTES_PER_DAY: u32 = 1440;
 
 /// Whether the text is two digits, a colon, and two digits.
 fn is_clock_text(text: &[u8]) -> bool
     ensures { result ≡ spec.is_clock_text text.now }
 {
-    text.len() == 5
+    text.len() == CLOCK_LENGTH
         && text[0].is_ascii_digit()
         && text[1].is_ascii_digit()
         && text[2] == b':'
@@ -37,8 +43,8 @@ pub(crate) fn minute_of_text(text: &[u8]) -> Option<u32>
         return None;
     }
     let minute = two_digits(text[3], text[4]);
-    let whole = 60 * two_digits(text[0], text[1]) + minute;
-    if minute < 60 && whole <= MINUTES_OF_DAY {
+    let whole = MINUTES_PER_HOUR * two_digits(text[0], text[1]) + minute;
+    if minute < MINUTES_PER_HOUR && whole <= MINUTES_PER_DAY {
         Some(whole)
     } else {
         None

@@ -16,7 +16,7 @@ mod tariff;
 pub use fault::TariffFault;
 pub use key::Key;
 pub use priced::{Priced, price};
-pub use rates::{MAX_AMOUNT, MAX_RATE};
+pub use rates::MAX_RATE;
 pub use shift::MAX_PERCENT;
 pub use tariff::{MAX_CENTRES, MAX_SHIFTS, MAX_TEXT, Tariff};
 

@@ -1,9 +1,9 @@
-//! Prices, and the amount that they make of what a record measures.
+//! Rates, and the amount that they make of what a record measures.
 
 ghost use Rattle.std.specs.Prelude.{◌≡◌, ◌≤◌, ◌<◌, ◌^◌, ◌↔◌, IsSome, IfSome};
-ghost use Rattle.tariff_rules.specs.Price.{amount_of};
-ghost use Rattle.tariff_rules.specs.Terms.{AreRates, rates};
-ghost use Rattle.tariff_rules.specs.declared.shift.TheConstants.{MAX_PERCENT};
+ghost use Rattle.tariff_rules.specs.Limits.{most_percent};
+ghost use Rattle.tariff_rules.specs.Price.{amount_of, most_amount};
+ghost use Rattle.tariff_rules.specs.Terms.{AreRates, rates_of};
 
 mod table;
 
@@ -12,11 +12,19 @@ use std::marker::Model;
 /// The highest rate, in ten-thousandths of the money unit.
 pub const MAX_RATE: u64 = 100_000_000;
 
-/// What 2^33 hundredths of a second and 2^32 blocks cost at the highest rates and percent, in
-/// ten-thousandths of the money unit: no record costs more.
-pub const MAX_AMOUNT: u64 = 90_194_314_216_000_000;
+/// The parts of a ten-thousandth of the money unit, in which the price's formula counts.
+const WHOLE_PARTS: u128 = 100_000;
 
-/// The prices of one kind of record, in ten-thousandths of the money unit: of a CPU second, of
+/// Half of these, from which on an amount is rounded upwards.
+const HALF_PARTS: u128 = 50_000;
+
+/// The parts that a hundredth of a second has, at one percent, by the rate of a CPU second.
+const HUNDREDTH_PARTS: u128 = 10;
+
+/// The parts that a record has, at one percent, by its own rate.
+const RECORD_PARTS: u128 = 1000;
+
+/// The rates of one kind of record, in ten-thousandths of the money unit: of a CPU second, of
 /// 1,000 blocks, of the record itself.
 #[derive(Clone, Copy, Debug)]
 pub(crate) struct Rates {
@@ -26,22 +34,22 @@ pub(crate) struct Rates {
 }
 
 impl Model for Rates {
-    ghost use Rattle.tariff_rules.specs.Terms.{AreRates, rates, RatesOf};
+    ghost use Rattle.tariff_rules.specs.Terms.{AreRates, rates_of, RatesOf};
 
     ghost Value = { RatesOf };
 
-    ghost view = { λ r. rates r.cpu r.excp r.record_fee };
+    ghost view = { λ r. rates_of r.cpu r.excp r.record_fee };
 
-    ghost invariant = { λ r. AreRates (rates r.cpu r.excp r.record_fee) };
+    ghost invariant = { λ r. AreRates (rates_of r.cpu r.excp r.record_fee) };
 
     ghost inverse = { λ r. record { cpu = r.cpu; excp = r.excp; record_fee = r.record_fee } };
 }
 
 impl Rates {
-    /// The rates with these prices, or `None` where one is above the highest.
+    /// The three rates, or `None` where one is above the highest.
     pub(crate) fn new(cpu: u64, excp: u64, record_fee: u64) -> Option<Rates>
-        ensures succeeds { IsSome result ↔ AreRates (rates cpu excp record_fee) }
-        ensures value { IfSome result (λ made. made ≡ rates cpu excp record_fee) }
+        ensures succeeds { IsSome result ↔ AreRates (rates_of cpu excp record_fee) }
+        ensures value { IfSome result (λ made. made ≡ rates_of cpu excp record_fee) }
     {
         if cpu > MAX_RATE || excp > MAX_RATE || record_fee > MAX_RATE {
             return None;
@@ -56,15 +64,15 @@ impl Rates {
     /// What a record costs at a shift's percent, in ten-thousandths of the money unit. Its CPU time
     /// is in hundredths of a second.
     pub(crate) fn amount(self, percent: u16, cpu: u64, excp: u32) -> u64
-        requires percent { percent ≤ MAX_PERCENT }
+        requires percent { percent ≤ most_percent }
         requires cpu { cpu ≤ 2 ^ 33 }
         ensures value { result ≡ amount_of self percent cpu excp }
-        ensures bound { result ≤ MAX_AMOUNT }
+        ensures bound { result ≤ most_amount }
     {
-        // The parts are brought to one denominator, so that the price is rounded once.
-        let parts = 10 * u128::from(cpu) * u128::from(self.cpu)
+        // All is added in parts before it is rounded, so that the price is rounded once.
+        let parts = HUNDREDTH_PARTS * u128::from(cpu) * u128::from(self.cpu)
             + u128::from(excp) * u128::from(self.excp)
-            + 1000 * u128::from(self.record_fee);
-        ((parts * u128::from(percent) + 50_000) / 100_000) as u64
+            + RECORD_PARTS * u128::from(self.record_fee);
+        ((parts * u128::from(percent) + HALF_PARTS) / WHOLE_PARTS) as u64
     }
 }

@@ -17,6 +17,9 @@ use std::marker::Model;
 /// The highest percent that a shift charges.
 pub const MAX_PERCENT: u16 = 1000;
 
+/// The percent that charges the rates as they are.
+const BASE_PERCENT: u16 = 100;
+
 /// The hundredths of a second of a minute.
 const HUNDREDTHS_PER_MINUTE: u32 = 6000;
 
@@ -24,18 +27,18 @@ const HUNDREDTHS_PER_MINUTE: u32 = 6000;
 #[derive(Clone, Copy, Debug)]
 pub(crate) struct Shift {
     pub(crate) name: Name,
-    /// In percent of the prices.
+    /// In percent of the rates.
     pub(crate) percent: u16,
 }
 
 impl Shift {
-    /// The shift of the moments that no rule has: it charges the prices as they are.
+    /// The shift of the moments that no rule has.
     fn base() -> Shift
         ensures { result ≡ spec.base_shift }
     {
         Shift {
             name: Name::of("BASE").unwrap(),
-            percent: 100,
+            percent: BASE_PERCENT,
         }
     }
 }

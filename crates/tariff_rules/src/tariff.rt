@@ -4,7 +4,7 @@ ghost use Rattle.std.specs.Prelude.{◌≡◌, ◌↔◌, IsSome, IfSome};
 ghost use Rattle.smf_text.specs.Day.{IsDay};
 ghost use Rattle.smf_text.specs.Names.{IsName};
 ghost use Rattle.tariff_rules.specs.Price as spec;
-ghost use Rattle.tariff_rules.specs.Terms.{AreRates, IsShift, flat_terms, rates};
+ghost use Rattle.tariff_rules.specs.Terms.{AreRates, IsShift, flat_terms, rates_of};
 
 mod file;
 
@@ -45,17 +45,19 @@ impl Model for Tariff {
 }
 
 impl Tariff {
-    /// The tariff with one price for steps and jobs, in force on every day, without rules; `None`
-    /// where a rate is above the highest. Its lists of rules are empty, so it takes no memory.
+    /// The tariff with the same rates for steps and jobs, in force on every day, without rules;
+    /// `None` where a rate is above the highest. Its lists of rules are empty, so it takes no
+    /// memory.
     pub fn flat(alloc: Global, cpu: u64, excp: u64, record_fee: u64) -> Option<Tariff>
-        ensures succeeds { IsSome result ↔ AreRates (rates cpu excp record_fee) }
-        ensures value { IfSome result (λ tariff. tariff ≡ flat_terms (rates cpu excp record_fee)) }
+        ensures succeeds { IsSome result ↔ AreRates (rates_of cpu excp record_fee) }
+        ensures value { IfSome result
+            (λ tariff. tariff ≡ flat_terms (rates_of cpu excp record_fee)) }
     {
-        let prices = Rates::new(cpu, excp, record_fee)?;
+        let rates = Rates::new(cpu, excp, record_fee)?;
         Some(Tariff {
             effective: FIRST_DAY,
-            step: prices,
-            job: prices,
+            step: rates,
+            job: rates,
             shifts: Vec::new(alloc),
             centres: Vec::new(alloc),
         })
@@ -69,7 +71,7 @@ impl Tariff {
         self.effective
     }
 
-    /// The prices for records of a subtype.
+    /// The rates for records of a subtype.
     pub(crate) fn rates_for(&self, subtype: u16) -> Rates
         ensures { result ≡ spec.rates_for self.now subtype }
     {

@@ -16,13 +16,13 @@ use std::alloc::{AllocError, Global};
 use toml::{Table, Value};
 
 /// The number of weekdays.
-const DAYS_OF_WEEK: usize = 7;
+const DAYS_PER_WEEK: usize = 7;
 
 /// A weekday, Monday 1 to Sunday 7.
 fn weekday_in(value: &Value) -> Option<u8>
     ensures { result ≡ spec.weekday_in (view value.now) }
 {
-    match whole_in(value, 1, DAYS_OF_WEEK as u64) {
+    match whole_in(value, 1, DAYS_PER_WEEK as u64) {
         Some(day) => Some(day as u8),
         None => None,
     }
@@ -45,7 +45,7 @@ fn all_weekdays(entries: &[Value]) -> bool
 fn are_weekdays(entries: &[Value]) -> bool
     ensures { result ≡ spec.are_weekdays (map view entries.now) }
 {
-    !entries.is_empty() && entries.len() <= DAYS_OF_WEEK && all_weekdays(entries)
+    !entries.is_empty() && entries.len() <= DAYS_PER_WEEK && all_weekdays(entries)
 }
 
 /// The weekdays among the entries, in order.
