@@ -10,8 +10,8 @@ use Rattle.book_model.specs.Records.{Naming}
 use Rattle.book_model.specs.Books.{Book}
 use Rattle.book_import.specs.declared.receipt.Stop.{Stop}
 use Rattle.book_import.specs.declared.receipt.Stop.TheVariants.{Ledger}
-use Rattle.book_import.specs.declared.dump.Dump.{Dump}
-use Rattle.book_import.specs.Dumps.{IsDump, stop_behind}
+use Rattle.book_import.specs.declared.dump.ReadDump.{ReadDump}
+use Rattle.book_import.specs.Dumps.{IsReadDump, stop_behind}
 use Rattle.book_import.specs.Imports.{Imported, handle, handle_all, go_on, stop_with, start_of, Handles, whole, out_of_memory, Imports}
 use Rattle.book_import.specs.Receipts.{receipt_stopped}
 
@@ -76,8 +76,8 @@ pub none_handled : (naming : Naming) (records : List (List ℕ)) (before : Book)
 none_handled naming records before imported stop is = out_of_memory 0 is
 
 -- the records of a dump that was read, with the stop behind them
-pub dump_handled : (naming : Naming) (layout : Layout) (cut : Option Stop) (bytes : List ℕ) (dump : Dump) (before : Book)
-    (imported : Imported) → IsDump layout cut bytes dump → Handles naming dump.stop (texts dump.records.items) before imported
+pub dump_handled : (naming : Naming) (layout : Layout) (cut : Option Stop) (bytes : List ℕ) (dump : ReadDump) (before : Book)
+    (imported : Imported) → IsReadDump layout cut bytes dump → Handles naming dump.stop (texts dump.records.items) before imported
     → Imports naming layout cut bytes before imported
 dump_handled naming layout cut bytes dump before imported is handled =
     subst (λ records. Handles naming (stop_behind cut (front layout bytes)) records before imported) is.records

@@ -23,7 +23,7 @@ use Rattle.book_model.specs.Steps.{clashes, is_full, accept_priced, keep}
 use Rattle.book_model.proofs.SetLemmas.{has-with, same_set, those-set_of}
 use Rattle.book_import.specs.declared.receipt.Stop.{Stop}
 use Rattle.book_import.specs.Imports.{Imported, after_accept, handle_by, handle, go_on, handle_all, start_of}
-use Rattle.book_import.specs.Laws.{is_class_of_usage, is_priced_usage, priced_usage, RefusesNone, import_of_records, HoldsMore, HoldsWhatCame, Batch, records_of, book_after, RefuseNone, CutsMakeNoDifference}
+use Rattle.book_import.specs.Laws.{is_class_of_usage, is_priced_usage, priced_usage, IsUnrefused, import_of_records, HoldsMore, HoldsWhatCame, Batch, all_records, book_after_batches, AreUnrefused, CutsMakeNoDifference}
 
 -- two records are one
 abbrev is_same : List ℕ → List ℕ → Bool
@@ -148,14 +148,14 @@ none_came book = record {
 
 -- from any point of an import on, the books hold what came, where they refuse no record
 holds_from : (naming : Naming) (stop : Stop) (records : List (List ℕ)) (so_far : Imported)
-    → RefusesNone (handle_all naming stop records so_far)
+    → IsUnrefused (handle_all naming stop records so_far)
     → HoldsMore (priced_usage so_far.book.rulings records) so_far.book (handle_all naming stop records so_far).book
 holds_from naming stop [] so_far unrefused = none_came so_far.book
 holds_from naming stop (bytes ∷ rest) so_far unrefused =
     let later : Imported → Imported = handle_all naming stop rest in
     elim (handle naming bytes so_far) as (λ handled.
     IfOk handled (λ next. HoldsIt (is_priced_usage so_far.book.rulings bytes) bytes so_far.book next.book)
-    → RefusesNone (go_on later so_far handled)
+    → IsUnrefused (go_on later so_far handled)
     → HoldsMore (priced_usage so_far.book.rulings (bytes ∷ rest)) so_far.book (go_on later so_far handled).book) [
       | Ok next ↦ λ one unrefused. then_rest bytes rest one (holds_from naming stop rest next unrefused)
       | Err fault ↦ λ one unrefused. absurd (true≢false unrefused)
@@ -198,12 +198,12 @@ then_later records later {old} {between} one more = record {
 }
 
 -- after batches of which none was refused a record, the books hold what came of all of them
-holds_batches : (naming : Naming) (before : Book) (batches : List Batch) → RefuseNone naming before batches
-    → HoldsMore (priced_usage before.rulings (records_of batches)) before (book_after naming before batches)
+holds_batches : (naming : Naming) (before : Book) (batches : List Batch) → AreUnrefused naming before batches
+    → HoldsMore (priced_usage before.rulings (all_records batches)) before (book_after_batches naming before batches)
 holds_batches naming before [] unrefused = none_came before
 holds_batches naming before (batch ∷ later) unrefused =
     let imported = import_of_records naming before batch.stop batch.records in
-    then_later batch.records (records_of later)
+    then_later batch.records (all_records later)
     (holds_what_came naming before batch.stop batch.records unrefused.0)
     (holds_batches naming imported.book later unrefused.1)
 
@@ -232,17 +232,17 @@ same_book {one} {other} first second =
 -- the law of it
 pub cuts_make_no_difference : CutsMakeNoDifference
 cuts_make_no_difference naming before batches others same unrefused other_unrefused =
-    let after : Book = book_after naming before others in
+    let after : Book = book_after_batches naming before others in
     let first = holds_batches naming before batches unrefused in
     let second = holds_batches naming before others other_unrefused in
-    let priced = sym (same_priced before.rulings (records_of batches) (records_of others) same) in
+    let priced = sym (same_priced before.rulings (all_records batches) (all_records others) same) in
     same_book first (subst (λ came. HoldsMore came before after) priced second)
 
 -- the same of two dumps, each in one import
 pub one_import_each : (naming : Naming) (before : Book) (stop other_stop : Stop) (records others : List (List ℕ))
     → set_of by_bytes records ≡ set_of by_bytes others
-    → RefusesNone (import_of_records naming before stop records)
-    → RefusesNone (import_of_records naming before other_stop others)
+    → IsUnrefused (import_of_records naming before stop records)
+    → IsUnrefused (import_of_records naming before other_stop others)
     → (import_of_records naming before stop records).book ≡ (import_of_records naming before other_stop others).book
 one_import_each naming before stop other_stop records others same unrefused other_unrefused =
     let batch : Batch = record { records = records; stop = stop } in

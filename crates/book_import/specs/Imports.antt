@@ -1,5 +1,5 @@
 -- What the import of a dump answers, and the book that it leaves.
-use Rattle.std.specs.Prelude.{◌≡◌, ℕ, List, [], ◌∷◌, take, Option, None, Result, Ok, Err}
+use Rattle.std.specs.Prelude.{◌≡◌, ℕ, List, [], ◌∷◌, take, Option, Result, Ok, Err}
 use Rattle.smf_frames.specs.declared.dump.Layout.{Layout}
 use Rattle.smf_frames.specs.Front.{front}
 use Rattle.smf_type30.specs.declared.classes.Class.{Class}
@@ -56,11 +56,6 @@ pub data Handles (naming : Naming) (stop : Stop) (records : List (List ℕ)) (be
   whole : imported ≡ handle_all naming stop records (start_of before) → Handles naming stop records before imported
   out_of_memory : (count : ℕ) → imported ≡ handle_all naming (Ledger Memory) (take count records) (start_of before)
       → Handles naming stop records before imported
-
--- the receipt of a dump that was handed to the books whole, and the book after it
-abbrev pub import_of : Naming → Book → Layout → List ℕ → Imported
-import_of naming book layout bytes =
-    handle_all naming (stop_behind None (front layout bytes)) (front layout bytes).records (start_of book)
 
 -- The import of these bytes, whose reading something may have cut short, answered this receipt and left this book.
 abbrev pub Imports : Naming → Layout → Option Stop → List ℕ → Book → Imported → Type 0

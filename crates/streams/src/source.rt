@@ -1,22 +1,22 @@
 ghost use Rattle.std.specs.Prelude.{◌≡◌, ◌+◌, ◌<◌, ◌^◌, false, length};
 ghost use Rattle.std.specs.Io.{ReadsAtMost};
 ghost use Rattle.std.specs.Io.KnownBytes.{ReadConsumes};
-ghost use Rattle.streams.specs.Marks.{is_failed_read, is_end, NothingIsLeft, nothing-is-left-once};
+ghost use Rattle.streams.specs.Marks.{is_failed_read, is_end, NothingIsLeft, at_end_once};
 
+use crate::reader::Reader;
 use std::io;
-use std::io::Read;
 
 /// A reader, and what became of the reads so far.
 #[derive(Drop)]
-pub struct Source<R: Read + Drop> {
+pub struct Source<R: Reader + Drop> {
     inner: R,
     asked: u64,
     failed: bool,
     ended: bool,
-    ghost at_end: { NothingIsLeft ended (R.remaining inner) } by { nothing-is-left-once ended (R.remaining inner) },
+    ghost at_end: { NothingIsLeft ended (R.remaining inner) } by { Prim.hlevel at_end_once },
 }
 
-impl<R: Read + Drop> Source<R> {
+impl<R: Reader + Drop> Source<R> {
     ghost use Rattle.streams.specs.Sources.{reader_of, reads_of, has_failed, has_ended};
 
     /// Over a reader that was not asked yet.
@@ -69,6 +69,10 @@ impl<R: Read + Drop> Source<R> {
         requires asked { reads_of self.old < 2 ^ 63 }
         requires failed { has_failed self.old ≡ false }
         requires ended { has_ended self.old ≡ false }
+
+        // One read, and its very answer.
+        ensures answer { R.may_answer
+            (reader_of self.old) buffer.old result (reader_of self.new) buffer.new }
         ensures bound { ReadsAtMost result buffer.new }
         ensures bytes { ReadConsumes (R.remaining (reader_of self.old))
             (R.remaining (reader_of self.new)) result buffer.new }
@@ -78,7 +82,7 @@ impl<R: Read + Drop> Source<R> {
         ensures left { NothingIsLeft (has_ended self.new) (R.remaining (reader_of self.new)) }
     {
         self.asked += 1;
-        let answer = self.inner.read(buffer);
+        let answer = self.inner.ask(buffer);
         match answer {
             Ok(count) => self.ended = count == 0 && !buffer.is_empty(),
             Err(_) => self.failed = true,
