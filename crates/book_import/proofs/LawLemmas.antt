@@ -26,15 +26,15 @@ use Rattle.book_import.specs.Imports.{Imported, after_accept, handle_by, handle,
 use Rattle.book_import.specs.Laws.{is_class_of_usage, is_priced_usage, priced_usage, IsUnrefused, import_of_records, HoldsMore, HoldsWhatCame, Batch, all_records, book_after_batches, AreUnrefused, CutsMakeNoDifference}
 
 -- two records are one
-abbrev is_same : List ℕ → List ℕ → Bool
+abbrev pub is_same : List ℕ → List ℕ → Bool
 is_same = eq_by_cmp by_bytes
 
 -- A record was handed in: the new book holds it too where it counts, and nothing else is different.
-record HoldsIt (counts : Bool) (bytes : List ℕ) (old new : Book) : Type 0 where
-  held : (other : List ℕ) → has new.held other ≡ (has old.held other || (counts && is_same other bytes))
-  rulings : new.rulings ≡ old.rulings
-  posted : new.posted ≡ old.posted
-  past : new.past ≡ old.past
+pub record HoldsIt (counts : Bool) (bytes : List ℕ) (old new : Book) : Type 0 where
+  pub held : (other : List ℕ) → has new.held other ≡ (has old.held other || (counts && is_same other bytes))
+  pub rulings : new.rulings ≡ old.rulings
+  pub posted : new.posted ≡ old.posted
+  pub past : new.past ≡ old.past
 
 -- a record that does not count, where the book stays
 stays_without : (bytes : List ℕ) (book : Book) → HoldsIt false bytes book book
@@ -92,11 +92,11 @@ usage_handled bytes so_far false false (Some priced) new =
     ]
 
 -- a record of a class counts where the class is that of usage records, and it has a price
-abbrev counts_by : Class → Rulings → List ℕ → Bool
+abbrev pub counts_by : Class → Rulings → List ℕ → Bool
 counts_by class rulings bytes = is_class_of_usage class && is_some (price_in rulings bytes)
 
 -- a record that the books do not refuse counts where it is usage and has a price
-one_handled : (naming : Naming) (bytes : List ℕ) (so_far : Imported) (class : Class)
+pub one_handled : (naming : Naming) (bytes : List ℕ) (so_far : Imported) (class : Class)
     → IfOk (handle_by naming bytes so_far class)
     (λ next. HoldsIt (counts_by class so_far.book.rulings bytes) bytes so_far.book next.book)
 one_handled naming bytes so_far Usage =
