@@ -2,7 +2,6 @@
 pub mod EntryLemmas
 pub mod HeldLemmas
 pub mod AcceptLemmas
-pub mod RowLemmas
 pub mod ChargedLemmas
 pub mod DisputeLemmas
 pub mod GroupLemmas

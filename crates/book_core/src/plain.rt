@@ -1,24 +1,20 @@
 ghost use Rattle.std.specs.Prelude.{◌≡◌, ◌≤◌, ◌+◌, ◌||◌, Ok, Err, length, nat_le, nat_lt};
 ghost use Rattle.std.specs.Prelude.{if◌then◌else◌};
 ghost use Rattle.tariff_rules.specs.declared.rates.TheConstants.{MAX_AMOUNT};
+ghost use Rattle.book_model.specs.Limits.{most_cost, most_held};
 ghost use Rattle.book_model.specs.Records as spec;
 ghost use Rattle.book_model.specs.Records.{IsUsageRecord, by_bytes, same_bytes};
 ghost use Rattle.std.specs.List.Sorted.{IsStrictlySortedBy};
 ghost use Rattle.std.specs.Map.{keys_of};
 ghost use Rattle.std.proofs.Props.{props};
-ghost use Rattle.book_core.specs.Plain.{IsKept};
+ghost use Rattle.book_core.specs.Plain.{AreBooked, ruled_by};
 
 use crate::accepted_tariff::{AcceptedTariff, are_before, has_day_of, has_text};
-use book_model::{Accepted, Ruled};
 use crate::charge_rows::charge_rows;
-use book_model::Dispute;
-use book_model::LedgerFault;
 use crate::held::{HeldRecord, has_dated};
 use crate::identities::{disputes, undisputed_prices};
-use book_model::{MAX_HELD, MAX_TOTAL};
-use book_model::Naming;
 use crate::pricing::price_in;
-use book_model::ChargeRow;
+use book_model::{Accepted, ChargeRow, Dispute, LedgerFault, MAX_HELD, MAX_TOTAL, Naming, Ruled};
 use smf_type30::Type30;
 use std::alloc::{AllocError, Global};
 use std::collections::BTreeMap;
@@ -47,9 +43,9 @@ fn known_or_clash(held: &HeldRecord, bytes: &[u8]) -> Result<Accepted, LedgerFau
 
 /// There is no room for a record that costs so much beside so many, which cost so much together.
 fn is_full(count: usize, total: u64, amount: u64) -> bool
-    requires total { total ≤ MAX_TOTAL }
+    requires total { total ≤ most_cost }
     requires amount { amount ≤ MAX_AMOUNT }
-    ensures { result ≡ (nat_le MAX_HELD count || nat_lt MAX_TOTAL (total + amount)) }
+    ensures { result ≡ (nat_le most_held count || nat_lt most_cost (total + amount)) }
 {
     count >= MAX_HELD || total + amount > MAX_TOTAL
 }
@@ -63,35 +59,33 @@ pub struct PlainLedger<N: Naming + Drop> {
     total: u64,
     alloc: Global,
     ghost rising: { IsStrictlySortedBy by_bytes (keys_of held.entries) } by { Prim.hlevel props },
-    ghost kept: { IsKept (N.name_of naming) tariffs.items held.entries total },
+    ghost kept: { AreBooked (N.name_of naming) (ruled_by tariffs.items) held.entries total },
 }
 
 impl<N: Naming + Drop> PlainLedger<N> {
-    ghost use Rattle.std.specs.Prelude.{◌≡◌, ℕ, List, IfOk, IsTrue, Ok, map};
-    ghost use Rattle.tariff_rules.specs.TariffFile.{terms_in};
+    ghost use Rattle.std.specs.Prelude.{◌≡◌, ℕ, List, IfOk, IsTrue, map, true};
     ghost use Rattle.book_model.specs.Sets.{has};
-    ghost use Rattle.book_model.specs.Rulings.{price_in};
+    ghost use Rattle.book_model.specs.Rulings.{are_rising, price_in};
     ghost use Rattle.book_model.specs.Rows.{AreRows};
-    ghost use Rattle.book_model.specs.Disputes.{AreDisputes, dispute_shown, disputes_in};
+    ghost use Rattle.book_model.specs.Disputes.{AreDisputes, dispute_shown};
     ghost use Rattle.book_model.specs.Books.{flat_book, new_book};
-    ghost use Rattle.book_model.specs.Steps.{accept_answer, accept_step, charges_answer};
-    ghost use Rattle.book_model.specs.Steps.{tariff_answer, tariff_step};
-    ghost use Rattle.book_model.specs.Answers.{Answers};
-    ghost use Rattle.book_model.specs.Rulings.{rulings_under};
-    ghost use Rattle.book_core.specs.PlainBook.{book_of, naming_of};
+    ghost use Rattle.book_model.specs.Outcomes.{accept_outcome, tariff_outcome};
+    ghost use Rattle.book_model.specs.Outcomes.{charges_outcome, disputes_outcome};
+    ghost use Rattle.book_model.specs.Answers.{Answers, IsCall};
+    ghost use Rattle.book_core.specs.PlainBook.{book_in, naming_in};
 
     /// New books, under no tariff yet.
     pub fn new(alloc: Global, naming: N) -> Result<PlainLedger<N>, AllocError>
-        ensures book { IfOk result (λ ledger. book_of ledger ≡ new_book) }
-        ensures naming { IfOk result (λ ledger. naming_of ledger ≡ naming) }
+        ensures book { IfOk result (λ ledger. book_in ledger ≡ new_book) }
+        ensures naming { IfOk result (λ ledger. naming_in ledger ≡ naming) }
     {
         Ok(PlainLedger::under(alloc, naming, Vec::new(alloc)))
     }
 
     /// New books under one tariff, which stands for every day from its first on.
     pub fn flat(alloc: Global, naming: N, tariff: Tariff) -> Result<PlainLedger<N>, AllocError>
-        ensures book { IfOk result (λ ledger. book_of ledger ≡ flat_book tariff) }
-        ensures naming { IfOk result (λ ledger. naming_of ledger ≡ naming) }
+        ensures book { IfOk result (λ ledger. book_in ledger ≡ flat_book tariff) }
+        ensures naming { IfOk result (λ ledger. naming_in ledger ≡ naming) }
     {
         let mut tariffs = Vec::with_capacity(alloc, 1)?;
         tariffs.push(AcceptedTariff { text: None, tariff })?;
@@ -100,8 +94,9 @@ impl<N: Naming + Drop> PlainLedger<N> {
 
     /// Books that hold no record, under these tariffs.
     fn under(alloc: Global, naming: N, tariffs: Vec<AcceptedTariff>) -> PlainLedger<N>
-        ensures book { book_of result ≡ record new_book { rulings = rulings_under tariffs.items } }
-        ensures naming { naming_of result ≡ naming }
+        requires { are_rising tariffs.items ≡ true }
+        ensures book { book_in result ≡ record new_book { rulings = ruled_by tariffs.items } }
+        ensures naming { naming_in result ≡ naming }
     {
         PlainLedger {
             naming,
@@ -116,14 +111,12 @@ impl<N: Naming + Drop> PlainLedger<N> {
     /// than every other tariff's and no record that is held is dated on it or after it. So what
     /// records that are held cost stays.
     pub fn tariff(&mut self, text: &str) -> Result<Ruled, LedgerFault>
-        ensures answer { Answers (λ ruled. ruled) result
-            (tariff_answer (book_of self.old) text.now (terms_in text.now)) }
-        ensures book { book_of self.new
-            ≡ tariff_step result text.now (terms_in text.now) (book_of self.old) }
-        ensures naming { naming_of self.new ≡ naming_of self.old }
-        ensures prices { (bytes : List ℕ) → IsTrue (has (book_of self.old).held bytes)
-            → price_in (book_of self.new).rulings bytes
-            ≡ price_in (book_of self.old).rulings bytes }
+        ensures call { IsCall (λ ruled. ruled) (book_in self.old) (book_in self.new) result
+            (tariff_outcome text.now) }
+        ensures naming { naming_in self.new ≡ naming_in self.old }
+        ensures prices { (bytes : List ℕ) → IsTrue (has (book_in self.old).held bytes)
+            → price_in (book_in self.new).rulings bytes
+            ≡ price_in (book_in self.old).rulings bytes }
     {
         let alloc = self.alloc;
         let tariff = Tariff::parse(alloc, text)?;
@@ -148,10 +141,9 @@ impl<N: Naming + Drop> PlainLedger<N> {
     /// day, and there is room for it.
     pub fn accept(&mut self, bytes: &[u8]) -> Result<Accepted, LedgerFault>
         requires { IsUsageRecord bytes.now }
-        ensures answer { Answers (λ answer. answer) result
-            (accept_answer (N.name_of (naming_of self.old)) (book_of self.old) bytes.now) }
-        ensures book { book_of self.new ≡ accept_step result bytes.now (book_of self.old) }
-        ensures naming { naming_of self.new ≡ naming_of self.old }
+        ensures call { IsCall (λ accepted. accepted) (book_in self.old) (book_in self.new) result
+            (accept_outcome (N.name_of (naming_in self.old)) bytes.now) }
+        ensures naming { naming_in self.new ≡ naming_in self.old }
     {
         let name = name_of(&self.naming, bytes);
         let count = self.held.len();
@@ -176,7 +168,7 @@ impl<N: Naming + Drop> PlainLedger<N> {
     /// The charge rows of a period, by day, then centre, then shift.
     pub fn charges(&self, period: u16) -> Result<Vec<ChargeRow>, LedgerFault>
         ensures rows { Answers (λ rows. rows.items) result
-            (charges_answer (book_of self.now) period) }
+            (charges_outcome period (book_in self.now)).answer }
         ensures shown { IfOk result (λ rows. AreRows rows.items) }
     {
         if period != 1 {
@@ -191,8 +183,7 @@ impl<N: Naming + Drop> PlainLedger<N> {
     /// by name.
     pub fn disputes(&self) -> Result<Vec<Dispute>, LedgerFault>
         ensures disputes { Answers (λ found. map dispute_shown found.items) result
-            (Ok (disputes_in (N.name_of (naming_of self.now))
-            (book_of self.now).rulings (book_of self.now).held)) }
+            (disputes_outcome (N.name_of (naming_in self.now)) (book_in self.now)).answer }
         ensures shown { IfOk result (λ found. AreDisputes (map dispute_shown found.items)) }
     {
         let alloc = self.alloc;

@@ -1,17 +1,83 @@
 -- Answers of a ledger, where memory may run out.
-use Rattle.std.proofs.Common.{◌≡◌, Result, Ok, Err, ◌⊎◌, inl, inr, refl}
+use Rattle.std.proofs.Common.{◌≡◌, ℕ, List, Result, Ok, Err, Option, None, ◌⊎◌, inl, inr, refl, sym}
+use Rattle.std.proofs.Common.{ap, ◌∙◌}
 use Rattle.book_model.specs.declared.fault.LedgerFault.{LedgerFault}
 use Rattle.book_model.specs.declared.fault.LedgerFault.TheVariants.{Memory}
-use Rattle.book_model.specs.Answers.{Answers}
+use Rattle.tariff_rules.specs.Terms.{Terms}
+use Rattle.tariff_rules.specs.TariffFile.{terms_in}
+use Rattle.tariff_rules.specs.declared.fault.TariffFault.{TariffFault}
+use Rattle.book_model.specs.declared.answer.Accepted.{Accepted}
+use Rattle.book_model.specs.declared.answer.Ruled.{Ruled}
+use Rattle.book_model.specs.Accept.{accept_answer}
+use Rattle.book_model.specs.Answers.{Answers, IsCall}
+use Rattle.book_model.specs.Books.{Book}
+use Rattle.book_model.specs.Events.{Event, after_any}
+use Rattle.book_model.specs.Outcomes.{Outcome, accept_event, accept_outcome, tariff_event}
+use Rattle.book_model.specs.Outcomes.{tariff_outcome}
+use Rattle.book_model.specs.Records.{Naming}
+use Rattle.book_model.specs.Ruling.{tariff_answer}
 
 -- what is answered as it is
-pub answers_itself : {A : Type 0} (result answer : Result A LedgerFault) → answer ≡ result → Answers (λ (value : A). value) result answer
+pub answers_itself : {A : Type 0} (result answer : Result A LedgerFault) → answer ≡ result
+    → Answers (λ (value : A). value) result answer
 answers_itself (Ok value) answer is = is
 answers_itself (Err Memory) answer is = tt
 answers_itself (Err fault) answer is = is
 
 -- an error is the answer itself, unless it is want of memory
-pub error_answers : {V A : Type 0} (view : V → A) (fault : LedgerFault) (answer : Result A LedgerFault)
+pub error_answers : {V A : Type 0} (view : V → A) (fault : LedgerFault)
+    (answer : Result A LedgerFault)
     → Answers view (Err fault) answer → (fault ≡ Memory) ⊎ (answer ≡ Err fault)
 error_answers view Memory answer given = inl refl
 error_answers view fault answer given = inr given
+
+-- a call on a book, by what it answered and by the event of that answer
+pub calls : {A : Type 0} (old new : Book) (result : Result A LedgerFault)
+    (outcome : Book → Outcome A)
+    (event : Result A LedgerFault → Option Event)
+    → ((answer : Result A LedgerFault) → (outcome old).answer ≡ answer
+    → (outcome old).event ≡ event answer)
+    → ((fault : LedgerFault) → event (Err fault) ≡ None)
+    → Answers (λ (value : A). value) result (outcome old).answer
+    → new ≡ after_any (event result) old
+    → IsCall (λ (value : A). value) old new result outcome
+calls old new (Ok value) outcome event own none answer book =
+    record {
+      answer = answer;
+      book = book
+          ∙ ap (λ made. after_any made old) (sym (own (Ok value) answer));
+    }
+calls old new (Err fault) outcome event own none answer book =
+    record { answer = answer; book = book ∙ ap (λ made. after_any made old) (none fault) }
+
+-- no refused record is an event
+accept_event-refused : (bytes : List ℕ) (fault : LedgerFault)
+    → accept_event bytes (Err fault) ≡ None
+accept_event-refused bytes fault = refl
+
+-- a record that was handed in
+pub accept_calls : (naming : Naming) (bytes : List ℕ) (old new : Book)
+    (result : Result Accepted LedgerFault)
+    → Answers (λ (value : Accepted). value) result (accept_answer naming old bytes)
+    → new ≡ after_any (accept_event bytes result) old
+    → IsCall (λ (value : Accepted). value) old new result (accept_outcome naming bytes)
+accept_calls naming bytes old new result answer book =
+    calls old new result (accept_outcome naming bytes) (accept_event bytes)
+    (λ answer is. ap (accept_event bytes) is) (accept_event-refused bytes) answer book
+
+-- no refused tariff is an event
+pub tariff_event-refused : (text : List ℕ) (said : Result Terms TariffFault) (fault : LedgerFault)
+    → tariff_event text said (Err fault) ≡ None
+tariff_event-refused text (Ok terms) fault = refl
+tariff_event-refused text (Err refused) fault = refl
+
+-- a tariff file that was handed in
+pub tariff_calls : (text : List ℕ) (old new : Book) (result : Result Ruled LedgerFault)
+    → Answers (λ (value : Ruled). value) result (tariff_answer old text (terms_in text))
+    → new ≡ after_any (tariff_event text (terms_in text) result) old
+    → IsCall (λ (value : Ruled). value) old new result (tariff_outcome text)
+tariff_calls text old new result answer book =
+    calls old new result (tariff_outcome text) (tariff_event text (terms_in text))
+    (λ answer is. ap (tariff_event text (terms_in text)) is)
+    (tariff_event-refused text (terms_in text))
+    answer book

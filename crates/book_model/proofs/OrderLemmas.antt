@@ -1,10 +1,13 @@
 -- Histories that differ only in the order in which records came.
 use Rattle.std.proofs.Common.{◌≡◌, ℕ, zero, suc, List, [], ◌∷◌, ◌++◌, length, refl, sym, ap, ◌∙◌}
 use Rattle.std.specs.Prelude.{slice_get}
-use Rattle.book_model.specs.History.{Event, closes, rulings, day_of_close, held_before, charged_by, charged_in, periods, book_of}
+use Rattle.book_model.specs.Charged.{charged_by}
+use Rattle.book_model.specs.Events.{Event}
+use Rattle.book_model.specs.History.{closes, rulings, day_of_close, held_before, charged_in}
+use Rattle.book_model.specs.History.{periods, book_of}
 use Rattle.book_model.specs.Laws.{OrderIsFree}
-use Rattle.book_model.specs.Rulings.{Rulings}
-use Rattle.book_model.proofs.PastLemmas.{period_by}
+use Rattle.book_model.specs.Periods.{period_by}
+use Rattle.book_model.specs.Rulings.{Rulings, rulings_before}
 use Rattle.book_model.proofs.StepLemmas.{same_book, books_follow_history}
 
 module _ (one other : List Event) (ruled : rulings one ≡ rulings other)
@@ -17,13 +20,15 @@ module _ (one other : List Event) (ruled : rulings one ≡ rulings other)
   -- so the same is charged at the end of each period
   same_charged : (k : ℕ) → charged_in k one ≡ charged_in k other
   same_charged zero = refl
-  same_charged (suc k) = λ i. charged_by (ruled i) (same_day (suc k) i) (held (suc k) i)
+  same_charged (suc k) = λ i. charged_by (rulings_before k (ruled i)) (same_day (suc k) i)
+      (held (suc k) i)
 
   -- and the periods are the same
   same_periods : (k : ℕ) → periods k one ≡ periods k other
   same_periods zero = refl
   same_periods (suc k) =
-      λ i. same_periods k i ++ period_by (ruled i) (same_day k i) (same_charged k i) (same_charged (suc k) i) ∷ []
+      λ i. same_periods k i ++ period_by (same_day k i) (same_charged k i) (same_charged (suc k) i)
+      ∷ []
 
   -- so the histories define the same book
   same_defined : book_of one ≡ book_of other
@@ -36,7 +41,7 @@ module _ (one other : List Event) (ruled : rulings one ≡ rulings other)
 
 -- the law of it
 pub order_is_free : OrderIsFree
-order_is_free one other ruled held forward other_forward =
-    books_follow_history one forward
+order_is_free one other ruled held =
+    books_follow_history one
     ∙ same_defined one other ruled held
-    ∙ sym (books_follow_history other other_forward)
+    ∙ sym (books_follow_history other)

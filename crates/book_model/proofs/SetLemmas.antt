@@ -1,5 +1,7 @@
 -- Sets: who is in them, their members in order, and sets of lists.
-use Rattle.std.proofs.Common.{◌≡◌, ℕ, ◌+◌, List, [], ◌∷◌, length, refl, sym, ap, ◌∙◌, true, false, true≢false, Bool, cond, ◌||◌, ◌&&◌, Option, Some, None, map, is_some, arith, T}
+use Rattle.std.proofs.Common.{◌≡◌, ℕ, ◌+◌, List, [], ◌∷◌, length, refl, sym, ap, ◌∙◌, true, false}
+use Rattle.std.proofs.Common.{true≢false, Bool, cond, ◌||◌, ◌&&◌, Option, Some, None, map, is_some}
+use Rattle.std.proofs.Common.{arith, T}
 use Rattle.std.specs.Prelude.{filter, sum_by}
 use Rattle.std.specs.BTreeSet.{insert_key}
 use Rattle.std.specs.Cmp.{IsTotalOrder, both_ways}
@@ -18,7 +20,8 @@ use Rattle.std.proofs.lemmas.List.Folds.{list_any_none, Any-from_list_any, list_
 use Rattle.std.proofs.lemmas.List.Kept.{IsStrictlySortedBy-filter}
 use Rattle.std.proofs.lemmas.List.Sums.{sum_by-cons}
 use Rattle.std.proofs.lemmas.Map.Keys.{sorted_head, sorted_tail, IsDistinct-head, IsDistinct-tail}
-use Rattle.std.proofs.lemmas.Map.Views.{any-filter_same, tells_apart, list_any-from_Contains, Contains-from_any}
+use Rattle.std.proofs.lemmas.Map.Views.{any-filter_same, tells_apart, list_any-from_Contains}
+use Rattle.std.proofs.lemmas.Map.Views.{Contains-from_any}
 use Rattle.book_model.specs.Records.{by_bytes, same_bytes}
 use Rattle.book_model.specs.Sets.{Set, set_of, members, has, with, those}
 use Rattle.book_model.proofs.SumsAlike.{SumsAlike, filter-alike, list_any-alike}
@@ -141,19 +144,26 @@ module _ {K : Type 0} {R : K → K → Ordering} (o : IsTotalOrder R) where
       has-with (set_of R ks) k q ∙ ap (λ b. eq_by_cmp R q k || b) (has-set_of ks q)
 
   -- an element ties with a member of the set of a list where it ties with one of the list
-  pub any_tied-members : (ks : List K) (q : K) → list_any (eq_by_cmp R q) (members (set_of R ks)) ≡ list_any (eq_by_cmp R q) ks
+  pub any_tied-members : (ks : List K) (q : K) → list_any (eq_by_cmp R q) (members (set_of R ks))
+      ≡ list_any (eq_by_cmp R q) ks
   any_tied-members ks q = sym (map.contains_key-keys (set_of R ks) q) ∙ has-set_of ks q
 
   -- what agrees at each element of a list makes the same of the members of its set
   pub map-members_agree : {B : Type 0} (f g : K → B) (ks : List K)
-      → ((q : K) → list_any (eq_by_cmp R q) ks ≡ true → f q ≡ g q) → map f (members (set_of R ks)) ≡ map g (members (set_of R ks))
-  map-members_agree {B} f g ks agree = each (members (set_of R ks)) (λ q among. agree q (sym (any_tied-members ks q) ∙ among))
+      → ((q : K) → list_any (eq_by_cmp R q) ks ≡ true → f q ≡ g q)
+      → map f (members (set_of R ks)) ≡ map g (members (set_of R ks))
+  map-members_agree {B} f g ks agree =
+      each (members (set_of R ks)) (λ q among. agree q (sym (any_tied-members ks q) ∙ among))
     where
-      each : (ms : List K) → ((q : K) → list_any (eq_by_cmp R q) ms ≡ true → f q ≡ g q) → map f ms ≡ map g ms
+      each : (ms : List K) → ((q : K) → list_any (eq_by_cmp R q) ms ≡ true → f q ≡ g q)
+          → map f ms ≡ map g ms
       each [] same = refl
       each (m ∷ ms) same =
-          let first = same m (ap (λ b. b || list_any (eq_by_cmp R m) ms) ((eq_by_cmp_equiv o).refl m)) in
-          λ i. first i ∷ each ms (λ q among. same q (ap (λ b. eq_by_cmp R q m || b) among ∙ or-true (eq_by_cmp R q m))) i
+          let first =
+          same m (ap (λ b. b || list_any (eq_by_cmp R m) ms) ((eq_by_cmp_equiv o).refl m)) in
+          λ i. first i
+          ∷ each ms
+          (λ q among. same q (ap (λ b. eq_by_cmp R q m || b) among ∙ or-true (eq_by_cmp R q m))) i
 
   -- the members of the set with one more element
   pub members-with : (s : Set R) (k : K) → members (with s k) ≡ insert_key R (members s) k
@@ -232,7 +242,8 @@ module _ {K : Type 0} {R : K → K → Ordering} (o : IsTotalOrder R) where
     pub fails_too : (p : K → Bool) (s : Set R) (q : K)
         → list_any p (members s) ≡ false → has s q ≡ true → p q ≡ false
     fails_too p s q none is =
-        let here = Contains-from_any (tells_apart exact) q (members s) (sym (map.contains_key-keys s q) ∙ is) in
+        let here = Contains-from_any (tells_apart exact) q (members s)
+        (sym (map.contains_key-keys s q) ∙ is) in
         elim (p q) as (λ b. p q ≡ b → b ≡ false) [
           | true ↦ λ passes.
               let one = list_any-from_Any p (members s) (here.0, q, here.1, here.2, passes) in

@@ -6,11 +6,11 @@ use Rattle.book_model.specs.Sets.{members, those}
 use Rattle.book_model.specs.Records.{Records, same_bytes}
 use Rattle.book_model.specs.Rulings.{Rulings, identity_by}
 
--- the two records have one identity
+-- the two records are taken for the same work
 abbrev pub share_identity : Rulings → List ℕ → List ℕ → Bool
 share_identity rulings a b = same_bytes (identity_by rulings a) (identity_by rulings b)
 
--- the two records have one identity and differ
+-- the two records are taken for the same work, and differ
 abbrev pub conflict : Rulings → List ℕ → List ℕ → Bool
 conflict rulings a b = not (same_bytes a b) && share_identity rulings a b
 
@@ -22,7 +22,7 @@ is_undisputed rulings held bytes = not (list_any (conflict rulings bytes) (membe
 abbrev pub is_dated_by : ℤ → List ℕ → Bool
 is_dated_by day bytes = not (int_lt day (day_of bytes))
 
--- the record is dated after the close, if there is one
+-- the record is dated after the close, if there was one
 abbrev pub is_dated_after : Option ℤ → List ℕ → Bool
 is_dated_after None bytes = true
 is_dated_after (Some day) bytes = int_lt day (day_of bytes)
@@ -35,3 +35,8 @@ charged_now rulings held = those (is_undisputed rulings held) held
 abbrev pub charged_through : Rulings → ℤ → Records → Records
 charged_through rulings day held =
     those (λ bytes. is_undisputed rulings held bytes && is_dated_by day bytes) held
+
+-- those that a close through a day charges, or, where there was no close, that are charged now
+abbrev pub charged_by : Rulings → Option ℤ → Records → Records
+charged_by rulings None held = charged_now rulings held
+charged_by rulings (Some day) held = charged_through rulings day held

@@ -3,7 +3,13 @@ use Rattle.std.specs.Prelude.{ℕ}
 use Rattle.tariff_rules.specs.declared.fault.TariffFault.{TariffFault}
 use Rattle.tariff_rules.specs.declared.fault.TariffFault.TheVariants as tariff
 use Rattle.book_model.specs.declared.fault.LedgerFault.{LedgerFault}
-use Rattle.book_model.specs.declared.fault.LedgerFault.TheVariants.{Memory, Store, Reopen, Full, DigestClash, TariffDate, TariffExists, RecordsDated, WrongPeriod, NotLater, NoSuchPeriod, NoSuchRecord, NotDisputed, OldRule, TariffRefused, NotBooks}
+use Rattle.book_model.specs.declared.fault.LedgerFault.TheVariants.{Memory, Store, Reopen, Full}
+use Rattle.book_model.specs.declared.fault.LedgerFault.TheVariants.{DigestClash, TariffDate}
+use Rattle.book_model.specs.declared.fault.LedgerFault.TheVariants.{TariffExists, RecordsDated}
+use Rattle.book_model.specs.declared.fault.LedgerFault.TheVariants.{WrongPeriod, NotLater}
+use Rattle.book_model.specs.declared.fault.LedgerFault.TheVariants.{NoSuchPeriod, NoSuchRecord}
+use Rattle.book_model.specs.declared.fault.LedgerFault.TheVariants.{NotDisputed, OldRule}
+use Rattle.book_model.specs.declared.fault.LedgerFault.TheVariants.{TariffRefused, NotBooks}
 
 -- the number that reports and messages show
 abbrev pub ledger_number : LedgerFault → ℕ

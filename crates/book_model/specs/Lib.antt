@@ -1,18 +1,25 @@
--- Read in this order: sets and records; what the office ruled, and what a record costs by it;
--- which records are undisputed and charged; the rows, lines and disputes that are read from them;
--- the book and its steps; what a whole history defines, and how often it charges a record; and laws
--- that follow. Then a ledger's faults.
+-- Read in this order: sets and records; what the office ruled, and what a record costs by it; which
+-- records are undisputed and charged; what a period is, and the rows, lines and disputes that are
+-- read; the book, and the events that change it; what is answered to a record and to a ruling, and
+-- what each call is; what a whole history defines; what is always true of a book; and laws. Then
+-- the answers and the faults of a ledger.
 pub mod Sets
 pub mod Records
+pub mod Limits
 pub mod Rulings
 pub mod Charged
+pub mod Periods
 pub mod Rows
 pub mod Lines
 pub mod Disputes
 pub mod Books
-pub mod Steps
-pub mod Answers
+pub mod Events
+pub mod Accept
+pub mod Ruling
+pub mod Outcomes
 pub mod History
-pub mod Net
+pub mod Answered
+pub mod Sound
 pub mod Laws
+pub mod Answers
 pub mod Faults

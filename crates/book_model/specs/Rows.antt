@@ -1,15 +1,14 @@
 -- Charge rows: the sums of what records cost, by day, centre and shift.
-use Rattle.std.specs.Prelude.{Bool, ◌&&◌, ◌<◌, ◌^◌, All, List, map, filter, length, sum_by, Option, ℤ}
+use Rattle.std.specs.Prelude.{Bool, ◌&&◌, ◌<◌, ◌^◌, All, List, map, filter, length, sum_by}
 use Rattle.std.specs.declared.cmp.Ordering.{Ordering}
 use Rattle.std.specs.Ordering.{int_cmp, int_eq, ordering_then}
 use Rattle.smf_text.specs.Day.{IsDay}
 use Rattle.tariff_rules.specs.declared.priced.Priced.{Priced}
 use Rattle.book_model.specs.declared.row.RowKey.{RowKey}
 use Rattle.book_model.specs.declared.row.ChargeRow.{ChargeRow}
-use Rattle.book_model.specs.Sets.{set_of, members, those}
+use Rattle.book_model.specs.Sets.{set_of, members}
 use Rattle.book_model.specs.Records.{Records, by_bytes, same_bytes}
 use Rattle.book_model.specs.Rulings.{Rulings, prices}
-use Rattle.book_model.specs.Charged.{is_dated_after}
 
 -- where a record is charged
 abbrev pub key_of : Priced → RowKey
@@ -54,9 +53,9 @@ pub record FitSums (priced : List Priced) : Type 0 where
   pub blocks : sum_by (λ one. one.excp) priced < 2 ^ 64
   pub amount : sum_by (λ one. one.amount) priced < 2 ^ 64
 
--- the rows of a period: of the records charged at its end, those dated after the close before it
-abbrev pub rows_in : Rulings → Option ℤ → Records → List ChargeRow
-rows_in rulings last charged = rows_of (prices rulings (those (is_dated_after last) charged))
+-- the rows for some records, with what they cost
+abbrev pub rows_for : Rulings → Records → List ChargeRow
+rows_for rulings counted = rows_of (prices rulings counted)
 
 -- rows that a statement can show: they are dated on days, and 64 bits hold their totals
 pub record AreRows (rows : List ChargeRow) : Type 0 where

@@ -1,7 +1,8 @@
 -- What the office ruled: its tariffs and its closes; and what a record costs by them.
-use Rattle.std.specs.Prelude.{ℕ, not, List, [], ◌∷◌, ◌++◌, find, reverse, Option, None, ℤ, int_lt}
-use Rattle.std.specs.Option.{option_map}
-use Rattle.std.specs.List.{filter_map, last_or}
+use Rattle.std.specs.Prelude.{ℕ, Bool, true, not, ◌&&◌, if◌then◌else◌, List, [], ◌∷◌, ◌++◌, filter}
+use Rattle.std.specs.Prelude.{take, Option, Some, None, ℤ, int_lt}
+use Rattle.std.specs.Option.{option_map, option_map_or}
+use Rattle.std.specs.List.{filter_map, last_or, list_all}
 use Rattle.tariff_rules.specs.Terms.{Terms}
 use Rattle.tariff_rules.specs.Price.{price_by}
 use Rattle.tariff_rules.specs.declared.priced.Priced.{Priced}
@@ -14,8 +15,7 @@ pub record Tariffed : Type 0 where
   pub text : Option (List ℕ)
   pub terms : Terms
 
--- the tariffs and the days of the closes, each in the order in which they came, which is that of
--- their days
+-- the tariffs and the days of the closes, each in the order in which they came
 pub record Rulings : Type 0 where
   pub tariffs : List Tariffed
   pub closes : List ℤ
@@ -23,25 +23,52 @@ pub record Rulings : Type 0 where
 abbrev pub no_rulings : Rulings
 no_rulings = record { tariffs = []; closes = [] }
 
--- the rulings of books that accepted these tariffs and closed no period
-abbrev pub rulings_under : List Tariffed → Rulings
-rulings_under tariffs = record no_rulings { tariffs = tariffs }
-
--- the rulings with one tariff more, behind the others
+-- the rulings with one tariff more
 abbrev pub with_tariff : Option (List ℕ) → Terms → Rulings → Rulings
 with_tariff text terms rulings =
     record rulings { tariffs = rulings.tariffs ++ record { text = text; terms = terms } ∷ [] }
 
--- the terms in force on a day: of the tariffs that are not after it, those of the latest
+-- the rulings with one close more
+abbrev pub with_close : ℤ → Rulings → Rulings
+with_close day rulings = record rulings { closes = rulings.closes ++ day ∷ [] }
+
+-- The rulings before the close that came after so many others. A tariff that came later stays among
+-- them: it changes no price of a record that was held by then.
+abbrev pub rulings_before : ℕ → Rulings → Rulings
+rulings_before others rulings = record rulings { closes = take others rulings.closes }
+
+-- of two tariffs, the one with the later first day
+abbrev pub later_of : Tariffed → Tariffed → Tariffed
+later_of one other = if int_lt one.terms.effective other.terms.effective then other else one
+
+-- of some tariffs, the one with the latest first day
+abbrev pub latest : List Tariffed → Option Tariffed
+latest [] = None
+latest (tariff ∷ others) = Some (option_map_or (later_of tariff) (latest others) tariff)
+
+-- each tariff begins later than those before it
+abbrev pub are_rising : List Tariffed → Bool
+are_rising [] = true
+are_rising (tariff ∷ others) =
+    list_all (λ later. int_lt tariff.terms.effective later.terms.effective) others
+    && are_rising others
+
+-- the tariff begins on the day or before it
+abbrev pub has_begun : ℤ → Tariffed → Bool
+has_begun day tariff = not (int_lt day tariff.terms.effective)
+
+-- the terms in force on a day: of the tariffs that have begun, those of the latest
 abbrev pub in_force : ℤ → List Tariffed → Option Terms
 in_force day tariffs =
-    option_map (λ tariff. tariff.terms)
-    (find (λ tariff. not (int_lt day tariff.terms.effective)) (reverse tariffs))
+    option_map (λ tariff. tariff.terms) (latest (filter (has_begun day) tariffs))
 
--- what a record costs, where a tariff is in force on its day
+-- what a record costs by the tariff in force on its day, if there is one
+abbrev pub price_under : List Tariffed → List ℕ → Option Priced
+price_under tariffs bytes = option_map (λ terms. price_by terms bytes)
+    (in_force (day_of bytes) tariffs)
+
 abbrev pub price_in : Rulings → List ℕ → Option Priced
-price_in rulings bytes =
-    option_map (λ terms. price_by terms bytes) (in_force (day_of bytes) rulings.tariffs)
+price_in rulings bytes = price_under rulings.tariffs bytes
 
 -- what the members of a set cost
 abbrev pub prices : Rulings → Records → List Priced

@@ -1,18 +1,12 @@
 //! Laws of the books, which hold over their definitions alone. Each stands on a function that does
 //! nothing.
 
-ghost use Rattle.book_model.specs.Laws.{BooksFollowHistory, CallsGoForward, ChargedOnce};
-ghost use Rattle.book_model.specs.Laws.{EarlierPricesStay, OrderIsFree};
+ghost use Rattle.book_model.specs.Laws.{BooksFollowHistory, CallsGoForward, EarlierPricesStay};
+ghost use Rattle.book_model.specs.Laws.{LatestIsLast, OrderIsFree, StepsStaySound};
 
-/// A tariff that is put in force changes no price of a record that is dated before its first day.
+/// A tariff that comes into force changes no price of a record that is dated before its first day.
 pub fn earlier_prices_stay()
     ensures { EarlierPricesStay }
-{}
-
-/// Over all periods, the open one with them, a record that is held and undisputed at the end is
-/// charged once net, and any other nets to nothing.
-pub fn charged_once()
-    ensures { ChargedOnce }
 {}
 
 /// A tariff or a close that is Done has a day later than the last close.
@@ -20,16 +14,26 @@ pub fn calls_go_forward()
     ensures { CallsGoForward }
 {}
 
+/// In a history that calls made, each tariff begins later than those before it; and of such tariffs
+/// the one in force on a day is the last that has begun.
+pub fn latest_is_last()
+    ensures { LatestIsLast }
+{}
+
+/// New books are sound, and each event that a call makes leaves them so.
+pub fn steps_stay_sound()
+    ensures { StepsStaySound }
+{}
+
 /// The book that a history leaves, step by step, is the one that the history defines, looked at as a
-/// whole, where the rulings go forward: no later tariff and no later record changes a period that is
-/// closed.
+/// whole: no later event changes a period that is closed.
 pub fn books_follow_history()
     ensures { BooksFollowHistory }
 {}
 
 /// It makes no difference in which order, and how often, records came between two closes: histories
-/// with the same rulings, which go forward, leave the same book, if the same set of records was held
-/// before each close and at the end.
+/// with the same rulings leave the same book, if the same set of records was held before each close
+/// and at the end.
 pub fn order_is_free()
     ensures { OrderIsFree }
 {}

@@ -7,6 +7,7 @@ mod dispute;
 mod fault;
 mod laws;
 mod limits;
+mod line;
 mod naming;
 mod row;
 
@@ -14,8 +15,10 @@ pub use answer::{Accepted, Ruled};
 pub use dispute::{Dispute, Variant};
 pub use fault::LedgerFault;
 pub use laws::{
-    books_follow_history, calls_go_forward, charged_once, earlier_prices_stay, order_is_free,
+    books_follow_history, calls_go_forward, earlier_prices_stay, latest_is_last, order_is_free,
+    steps_stay_sound,
 };
 pub use limits::{MAX_HELD, MAX_PERIOD, MAX_TOTAL};
+pub use line::Line;
 pub use naming::{Naming, ShaNames};
 pub use row::{ChargeRow, RowKey};

@@ -1,0 +1,137 @@
+-- Tariffs that stand in the order of their first days: the latest that has begun is the last.
+use Rattle.std.proofs.Common.{◌≡◌, ℕ, List, [], ◌∷◌, ◌++◌, refl, sym, ap, ◌∙◌, cond, true, false}
+use Rattle.std.proofs.Common.{Bool, ◌&&◌, Option, Some, None, arith}
+use Rattle.std.specs.Prelude.{ℤ, int_lt, filter, find, reverse}
+use Rattle.std.specs.Option.{option_map, option_map_or, option_or}
+use Rattle.std.specs.List.{list_all}
+use Rattle.std.proofs.lemmas.List.{reverse-append}
+use Rattle.std.proofs.lemmas.List.Folds.{find-append}
+use Rattle.smf_type30.specs.Usage.{day_of}
+use Rattle.tariff_rules.specs.Price.{price_by}
+use Rattle.tariff_rules.specs.declared.priced.Priced.{Priced}
+use Rattle.book_model.specs.Rulings.{Tariffed, later_of, latest, are_rising, has_begun, in_force}
+use Rattle.book_model.specs.Rulings.{price_under}
+use Rattle.book_model.proofs.RecordSets.{first_of, second_of}
+
+-- the first tariff begins before the other
+abbrev pub precedes : Tariffed → Tariffed → Bool
+precedes one other = int_lt one.terms.effective other.terms.effective
+
+-- behind others, one more is after a day where they are, and it is
+all-behind : (p : Tariffed → Bool) (tariffs : List Tariffed) (later : Tariffed)
+    → list_all p tariffs ≡ true → p later ≡ true → list_all p (tariffs ++ later ∷ []) ≡ true
+all-behind p [] later all one = ap (λ b. b && true) one
+all-behind p (tariff ∷ tariffs) later all one =
+    let rest = all-behind p tariffs later (second_of (p tariff) (list_all p tariffs) all) one in
+    (λ i. first_of (p tariff) (list_all p tariffs) all i && rest i)
+
+-- rising tariffs, and one that begins later than each of them
+pub rising-behind : (tariffs : List Tariffed) (later : Tariffed) → are_rising tariffs ≡ true
+    → list_all (λ tariff. precedes tariff later) tariffs ≡ true
+    → are_rising (tariffs ++ later ∷ []) ≡ true
+rising-behind [] later rise before = refl
+rising-behind (tariff ∷ tariffs) later rise before =
+    let own = first_of (list_all (precedes tariff) tariffs) (are_rising tariffs) rise in
+    let others = second_of (list_all (precedes tariff) tariffs) (are_rising tariffs) rise in
+    let early = list_all (λ one. precedes one later) tariffs in
+    let first = first_of (precedes tariff later) early before in
+    let rest = rising-behind tariffs later others
+    (second_of (precedes tariff later) early before) in
+    let all = all-behind (precedes tariff) tariffs later own first in
+    (λ i. all i && rest i)
+
+-- a test that both of two tariffs pass, the later of them passes
+later-passes : (q : Tariffed → Bool) (one other : Tariffed) → q one ≡ true → q other ≡ true
+    → q (later_of one other) ≡ true
+later-passes q one other first second =
+    elim (precedes one other) as (λ b. q (cond b other one) ≡ true)
+    [ true ↦ second | false ↦ first ]
+
+-- the same of one, and of another if there is one
+either-passes : (q : Tariffed → Bool) (one : Tariffed) (other : Option Tariffed) → q one ≡ true
+    → ((found : Tariffed) → other ≡ Some found → q found ≡ true)
+    → q (option_map_or (later_of one) other one) ≡ true
+either-passes q one None first second = first
+either-passes q one (Some found) first second = later-passes q one found first (second found refl)
+
+-- the latest of those that pass one test passes another one that all pass
+latest-passes : (p q : Tariffed → Bool) (tariffs : List Tariffed) (found : Tariffed)
+    → list_all q tariffs ≡ true → latest (filter p tariffs) ≡ Some found → q found ≡ true
+latest-passes p q [] found all is = cc
+latest-passes p q (tariff ∷ tariffs) found all is =
+    let own = first_of (q tariff) (list_all q tariffs) all in
+    let others = second_of (q tariff) (list_all q tariffs) all in
+    elim (p tariff) as (λ b. latest (cond b (tariff ∷ filter p tariffs) (filter p tariffs))
+    ≡ Some found
+    → q found ≡ true) [
+      | true ↦ λ is.
+          let latest_one : Tariffed =
+          option_map_or (later_of tariff) (latest (filter p tariffs)) tariff in
+          let same : latest_one ≡ found = cc in
+          ap q (sym same)
+          ∙ either-passes q tariff (latest (filter p tariffs)) own
+          (λ other at. latest-passes p q tariffs other others at)
+      | false ↦ λ is. latest-passes p q tariffs found others is
+    ] is
+
+-- a tariff that begins before the others is the latest only where there are no others
+first-latest : (tariff : Tariffed) (others : Option Tariffed)
+    → ((found : Tariffed) → others ≡ Some found → precedes tariff found ≡ true)
+    → Some (option_map_or (later_of tariff) others tariff) ≡ option_or others (Some tariff)
+first-latest tariff None before = refl
+first-latest tariff (Some found) before =
+    ap (λ b. Some (cond b found tariff)) (before found refl)
+
+-- nothing else than nothing
+or-none : {X : Type 0} (found : Option X) → option_or found None ≡ found
+or-none None = refl
+or-none (Some x) = refl
+
+-- of rising tariffs the latest that passes a test is the last that does
+latest-last : (p : Tariffed → Bool) (tariffs : List Tariffed) → are_rising tariffs ≡ true
+    → latest (filter p tariffs) ≡ find p (reverse tariffs)
+latest-last p [] rise = refl
+latest-last p (tariff ∷ tariffs) rise =
+    let own = first_of (list_all (precedes tariff) tariffs) (are_rising tariffs) rise in
+    let others = second_of (list_all (precedes tariff) tariffs) (are_rising tariffs) rise in
+    let rest = latest-last p tariffs others in
+    let found : Option Tariffed = latest (filter p tariffs) in
+    let step : latest (filter p (tariff ∷ tariffs)) ≡ option_or found (find p (tariff ∷ [])) =
+    elim (p tariff) as (λ b. latest (cond b (tariff ∷ filter p tariffs) (filter p tariffs))
+    ≡ option_or found (cond b (Some tariff) None)) [
+      | true ↦ first-latest tariff found
+          (λ later at. latest-passes p (precedes tariff) tariffs later own at)
+      | false ↦ sym (or-none found)
+    ] in
+    step
+    ∙ ap (λ front. option_or front (find p (tariff ∷ []))) rest
+    ∙ sym (find-append p (reverse tariffs) (tariff ∷ []))
+    ∙ ap (find p) (sym (reverse-append (tariff ∷ []) tariffs))
+
+-- so it is with those that have begun
+pub begun-last : (tariffs : List Tariffed) (day : ℤ) → are_rising tariffs ≡ true
+    → latest (filter (has_begun day) tariffs) ≡ find (has_begun day) (reverse tariffs)
+begun-last tariffs day rise = latest-last (has_begun day) tariffs rise
+
+-- what a record costs by the terms of a tariff, if one was found
+abbrev priced_by : List ℕ → Option Tariffed → Option Priced
+priced_by bytes found =
+    option_map (λ terms. price_by terms bytes)
+    (option_map (λ (tariff : Tariffed). tariff.terms) found)
+
+-- the same, at once
+priced_by-found : (bytes : List ℕ) (found : Option Tariffed)
+    → priced_by bytes found ≡ option_map (λ tariff. price_by tariff.terms bytes) found
+priced_by-found bytes None = refl
+priced_by-found bytes (Some tariff) = refl
+
+-- what a record costs by the last tariff that has begun on its day
+pub price_under-found : (tariffs : List Tariffed) (bytes : List ℕ) (day : ℤ)
+    (found : Option Tariffed)
+    → are_rising tariffs ≡ true → day ≡ day_of bytes
+    → found ≡ find (has_begun day) (reverse tariffs)
+    → price_under tariffs bytes ≡ option_map (λ tariff. price_by tariff.terms bytes) found
+price_under-found tariffs bytes day found rise is at =
+    ap (λ d. option_map (λ terms. price_by terms bytes) (in_force d tariffs)) (sym is)
+    ∙ ap (priced_by bytes) (begun-last tariffs day rise ∙ sym at)
+    ∙ priced_by-found bytes found

@@ -1,0 +1,14 @@
+use tariff_rules::Priced;
+
+/// A line of a period's adjustments: a record that was charged late, or is charged no more.
+#[derive(Clone, Copy, Debug, PartialEq, Eq)]
+pub struct Line {
+    /// The period charges the record; else it takes the charge back.
+    pub plus: bool,
+    /// The name of the record's data.
+    pub name: [u8; 32],
+    /// In code page 037, as it stands in the record.
+    pub job: [u8; 8],
+    /// What the record costs.
+    pub priced: Priced,
+}

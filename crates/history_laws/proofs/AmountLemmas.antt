@@ -1,0 +1,82 @@
+-- The amounts of rows balance with what periods add and take back.
+use Rattle.std.proofs.Common.{◌≡◌, ℕ, ◌+◌, List, ap, ◌∙◌, Option, arith}
+use Rattle.std.specs.Prelude.{sum_by, ℤ}
+use Rattle.std.specs.FinMap as map
+use Rattle.std.specs.Option.{option_map_or}
+use Rattle.book_model.specs.Periods.{Period}
+use Rattle.book_model.specs.Events.{Event}
+use Rattle.book_model.specs.History.{book_after}
+use Rattle.book_model.specs.Records.{Records, by_bytes}
+use Rattle.book_model.specs.Rows.{rows_for}
+use Rattle.book_model.specs.Rulings.{Rulings, prices, price_in}
+use Rattle.book_model.specs.Sets.{members}
+use Rattle.book_model.specs.Accept.{total_of}
+use Rattle.book_model.proofs.SetLemmas.{members-empty}
+use Rattle.book_model.specs.Books.{all_periods}
+use Rattle.history_laws.specs.Amounts.{rows_amount, added_amount, taken_amount}
+use Rattle.book_model.specs.Books.{charged_of}
+use Rattle.book_model.specs.Periods.{period_by}
+use Rattle.book_model.specs.Sound.{AreDatedBy}
+use Rattle.history_laws.specs.Laws.{ConservedInSets}
+use Rattle.history_laws.proofs.PeriodLemmas.{all_nets}
+use Rattle.history_laws.proofs.RowSums.{sum_by-rows_of}
+use Rattle.history_laws.proofs.SetSums.{over, one_period}
+use Rattle.history_laws.proofs.SumLemmas.{net, sum_by-plus, sum_by-filter_map}
+
+module _ (rulings : Rulings) where
+  -- what a record costs, or nothing
+  abbrev worth : List ℕ → ℕ
+  worth bytes = option_map_or (λ priced. priced.amount) (price_in rulings bytes) 0
+
+  -- what a set costs is the sum of what its members do
+  total_over : (records : Records) → total_of rulings records ≡ over worth records
+  total_over records = sum_by-filter_map (λ priced. priced.amount) (price_in rulings)
+      (members records)
+
+  -- nothing costs nothing
+  total_none : total_of rulings map.empty ≡ 0
+  total_none = total_over map.empty ∙ ap (sum_by worth) (members-empty by_bytes)
+
+  -- what the rows and plus lines of a period come to, and what its minus lines do
+  abbrev given : Period → ℕ
+  given period =
+      sum_by (λ row. row.amount) (rows_for rulings period.counted) + total_of rulings period.added
+
+  abbrev taken : Period → ℕ
+  taken period = total_of rulings period.taken
+
+  -- one period
+  period_balances : (last : Option ℤ) (before charged : Records) → AreDatedBy last before
+      → given (period_by last before charged) + total_of rulings before
+      ≡ total_of rulings charged + taken (period_by last before charged)
+  period_balances last before charged old =
+      let period : Period = period_by last before charged in
+      let rows = sum_by-rows_of (prices rulings period.counted) ∙ total_over period.counted in
+      let added = total_over period.added in
+      let taken = total_over period.taken in
+      let stood = total_over before in
+      let stands = total_over charged in
+      let balance = one_period worth last before charged old in
+      omega arith
+
+  -- all periods
+  pub all_balance : (history : List Event)
+      → rows_amount rulings (all_periods (book_after history)) + added_amount rulings
+      (all_periods (book_after history))
+      ≡ total_of rulings (charged_of (book_after history)) + taken_amount rulings
+      (all_periods (book_after history))
+  all_balance history =
+      let periods : List Period = all_periods (book_after history) in
+      let both =
+      sum_by-plus
+      (λ (period : Period). sum_by (λ row. row.amount) (rows_for rulings period.counted))
+      (λ period. total_of rulings period.added) periods in
+      let all = all_nets given taken (total_of rulings) total_none period_balances history in
+      omega arith
+
+-- the law of it
+pub conserved_in_sets : ConservedInSets
+conserved_in_sets rulings history =
+    let periods : List Period = all_periods (book_after history) in
+    net (rows_amount rulings periods + added_amount rulings periods) (taken_amount rulings periods)
+    (total_of rulings (charged_of (book_after history))) (all_balance rulings history)

@@ -1,0 +1,96 @@
+-- What the periods of a history give and take, each by what is charged before it and at its end.
+use Rattle.std.proofs.Common.{◌≡◌, ℕ, ◌+◌, List, [], ◌∷◌, ◌++◌, sym, ap, ◌∙◌, true, false}
+use Rattle.std.proofs.Common.{true≢false, Bool, ◌&&◌, Option, None, is_some, arith}
+use Rattle.std.specs.Prelude.{All, sum_by, ℤ, int_lt}
+use Rattle.std.specs.FinMap as map
+use Rattle.std.proofs.lemmas.List.Elements.{All-nil, All-cons, All-append}
+use Rattle.std.proofs.lemmas.List.Sums.{sum_by_push}
+use Rattle.smf_type30.specs.Usage.{day_of}
+use Rattle.book_model.specs.Periods.{Period}
+use Rattle.book_model.specs.Books.{Book}
+use Rattle.book_model.specs.Charged.{is_undisputed, is_dated_by, is_dated_after, charged_through}
+use Rattle.book_model.specs.Events.{Event, RecordKept, TariffAccepted, PeriodClosed}
+use Rattle.book_model.specs.History.{book_after}
+use Rattle.book_model.specs.Records.{Records, by_bytes}
+use Rattle.book_model.specs.Rulings.{last_close}
+use Rattle.book_model.specs.Sets.{has}
+use Rattle.book_model.proofs.ListLemmas.{last_or-behind}
+use Rattle.book_model.specs.Books.{all_periods}
+use Rattle.book_model.proofs.RecordSets.{passes_those, second_of, not_true}
+use Rattle.book_model.specs.Books.{charged_of}
+use Rattle.book_model.specs.Periods.{period_by}
+use Rattle.book_model.specs.Sound.{AreDatedBy}
+use Rattle.book_model.proofs.SoundLemmas.{through_dated}
+
+-- what was charged at the last close is not dated after it
+pub posted_dated : (history : List Event)
+    → AreDatedBy (last_close (book_after history).rulings) (book_after history).posted
+posted_dated [] bytes there =
+    absurd (true≢false (sym there ∙ ap is_some (map.get-empty by_bytes bytes)))
+posted_dated (RecordKept new ∷ older) bytes there = posted_dated older bytes there
+posted_dated (TariffAccepted text terms ∷ older) bytes there = posted_dated older bytes there
+posted_dated (PeriodClosed day ∷ older) bytes there =
+    let book : Book = book_after older in
+    ap (λ close. is_dated_after close bytes) (last_or-behind None book.rulings.closes day)
+    ∙ through_dated book.rulings day book.held bytes there
+
+-- If each period gives and takes the difference of what stands charged before it and at its end,
+-- then all
+-- periods give what stands charged now, and what they take.
+module _ (given taken : Period → ℕ) (standing : Records → ℕ) (none : standing map.empty ≡ 0)
+    (one_period : (last : Option ℤ) (before charged : Records) → AreDatedBy last before
+    → given (period_by last before charged) + standing before
+    ≡ standing charged + taken (period_by last before charged)) where
+  pub past_nets : (history : List Event)
+      → sum_by given (book_after history).past
+      ≡ standing (book_after history).posted + sum_by taken (book_after history).past
+  past_nets [] = omega arith
+  past_nets (RecordKept new ∷ older) = past_nets older
+  past_nets (TariffAccepted text terms ∷ older) = past_nets older
+  past_nets (PeriodClosed day ∷ older) =
+      let book : Book = book_after older in
+      let charged : Records = charged_through book.rulings day book.held in
+      let ended : Period = period_by (last_close book.rulings) book.posted charged in
+      let all_given = sum_by_push given book.past ended in
+      let all_taken = sum_by_push taken book.past ended in
+      let before = past_nets older in
+      let period = one_period (last_close book.rulings) book.posted charged (posted_dated older) in
+      omega arith
+
+  pub all_nets : (history : List Event)
+      → sum_by given (all_periods (book_after history))
+      ≡ standing (charged_of (book_after history)) + sum_by taken (all_periods (book_after history))
+  all_nets history =
+      let book : Book = book_after history in
+      let charged : Records = charged_of book in
+      let current : Period = period_by (last_close book.rulings) book.posted charged in
+      let all_given = sum_by_push given book.past current in
+      let all_taken = sum_by_push taken book.past current in
+      let before = past_nets history in
+      let period = one_period (last_close book.rulings) book.posted charged
+      (posted_dated history) in
+      omega arith
+
+-- what holds of each period that some sets of records make holds of all periods
+module _ (P : Period → Type 0)
+    (one : (last : Option ℤ) (before charged : Records) → P (period_by last before charged)) where
+  one_more : (periods : List Period) (last : Option ℤ) (before charged : Records) → All P periods
+      → All P (periods ++ period_by last before charged ∷ [])
+  one_more periods last before charged all =
+      let period : Period = period_by last before charged in
+      All-append P periods (period ∷ []) all
+      (All-cons P period [] (one last before charged) (All-nil P))
+
+  past_hold : (history : List Event) → All P (book_after history).past
+  past_hold [] = All-nil P
+  past_hold (RecordKept new ∷ older) = past_hold older
+  past_hold (TariffAccepted text terms ∷ older) = past_hold older
+  past_hold (PeriodClosed day ∷ older) =
+      let book : Book = book_after older in
+      one_more book.past (last_close book.rulings) book.posted
+      (charged_through book.rulings day book.held) (past_hold older)
+
+  pub all_hold : (history : List Event) → All P (all_periods (book_after history))
+  all_hold history =
+      let book : Book = book_after history in
+      one_more book.past (last_close book.rulings) book.posted (charged_of book) (past_hold history)

@@ -1,0 +1,158 @@
+-- What is read of a sound book: its lines, each once; and the balance of rows and lines.
+use Rattle.std.proofs.Common.{◌≡◌, ℕ, ◌+◌, List, [], ◌∷◌, length, refl, ap, ◌∙◌, true, false, Bool}
+use Rattle.std.proofs.Common.{not, ◌||◌, suc, Some, None, is_some, arith}
+use Rattle.std.specs.Prelude.{All, sum_by}
+use Rattle.std.specs.FinMap as map
+use Rattle.std.specs.List.{list_any, filter_map, cons_option}
+use Rattle.std.proofs.Math.Bool.{or-true}
+use Rattle.std.proofs.lemmas.List.{length-append}
+use Rattle.std.proofs.lemmas.List.Elements.{All-nil, All-cons, All-head, All-tail, All-append}
+use Rattle.std.proofs.lemmas.List.Sorted.{length_permutation}
+use Rattle.std.proofs.lemmas.List.Sums.{sum_by-cons}
+use Rattle.book_model.specs.Periods.{Period}
+use Rattle.book_model.specs.Books.{Book, open_number, open_period}
+use Rattle.book_model.specs.Charged.{is_undisputed, is_dated_after}
+use Rattle.book_model.specs.History as history
+use Rattle.book_model.specs.Events.{Event, TariffAccepted, PeriodClosed}
+use Rattle.book_model.specs.History.{book_after}
+use Rattle.book_model.specs.Lines.{lines_of}
+use Rattle.book_model.specs.Records.{Records, Naming, name_of}
+use Rattle.book_model.specs.Rulings.{price_in, last_close}
+use Rattle.book_model.specs.Sets.{members, has, those}
+use Rattle.book_model.specs.Accept.{total_of}
+use Rattle.book_model.specs.Answered.{IsAnswered}
+use Rattle.book_model.specs.Sound.{IsSound, AreHeld}
+use Rattle.book_model.specs.Books.{all_periods}
+use Rattle.book_model.proofs.RecordSets.{is, is_itself, in_those}
+use Rattle.book_model.proofs.SoundLemmas.{period_held}
+use Rattle.history_laws.specs.Amounts.{rows_amount, plus_of, minus_of, plus_amount, minus_amount}
+use Rattle.history_laws.specs.Amounts.{added_amount, taken_amount}
+use Rattle.history_laws.specs.Lines.{both_lines, AreReadOnce}
+use Rattle.book_model.specs.Books.{charged_of}
+use Rattle.book_model.proofs.AnsweredLemmas.{sound_after}
+use Rattle.history_laws.specs.Laws.{Conserved, LinesOnce}
+use Rattle.history_laws.proofs.AmountLemmas.{all_balance}
+use Rattle.history_laws.proofs.LineLemmas.{line_of, line_by, read_once, plus_cost, minus_cost}
+use Rattle.history_laws.proofs.SumLemmas.{net}
+
+-- sums of numbers that agree on each element
+sum_by-agree : {X : Type 0} (f g : X → ℕ) (xs : List X) → All (λ x. f x ≡ g x) xs
+    → sum_by f xs ≡ sum_by g xs
+sum_by-agree f g [] agree = refl
+sum_by-agree f g (x ∷ xs) agree =
+    let first = All-head (λ x. f x ≡ g x) x xs agree in
+    let rest = sum_by-agree f g xs (All-tail (λ x. f x ≡ g x) x xs agree) in
+    let one = sum_by-cons f x xs in
+    let other = sum_by-cons g x xs in
+    omega arith
+
+-- what holds of each element of a list follows from what does
+All-follows : {X : Type 0} (P Q : X → Type 0) → ((x : X) → P x → Q x) → (xs : List X) → All P xs
+    → All Q xs
+All-follows P Q so [] all = All-nil Q
+All-follows P Q so (x ∷ xs) all = All-cons Q x xs (so x (All-head P x xs all))
+    (All-follows P Q so xs (All-tail P x xs all))
+
+module _ (naming : Naming) (book : Book) (sound : IsSound naming book) where
+  -- what the open period speaks of is held too
+  all_held : All (AreHeld book.held) (all_periods book)
+  all_held =
+      let standing : Period → Type 0 = AreHeld book.held in
+      let undisputed : List ℕ → Bool = is_undisputed book.rulings book.held in
+      let now = λ (bytes : List ℕ) (there : has (charged_of book) bytes ≡ true).
+      in_those undisputed book.held bytes there in
+      let held : standing (open_period book) =
+      period_held book.held (last_close book.rulings) book.posted
+      (charged_of book) sound.posted now in
+      All-append standing book.past (open_period book ∷ []) sound.past
+      (All-cons standing (open_period book) [] held (All-nil standing))
+
+  -- records that are held have names of their own
+  named : (records : Records)
+      → ((bytes : List ℕ) → has records bytes ≡ true → has book.held bytes ≡ true)
+      → (a b : List ℕ) → has records a ≡ true → has records b ≡ true
+      → name_of naming a ≡ name_of naming b → a ≡ b
+  named records held a b one two same = sound.named a b (held a one) (held b two) same
+
+  -- the lines of each period amount to what the records cost
+  plus_costs : plus_amount naming book.rulings (all_periods book)
+      ≡ added_amount book.rulings (all_periods book)
+  plus_costs =
+      sum_by-agree (λ period. plus_of (lines_of naming book.rulings period))
+      (λ period. total_of book.rulings period.added) (all_periods book)
+      (All-follows (AreHeld book.held) _ (λ period held.
+      plus_cost naming book.rulings period (named period.added held.added)
+      (named period.taken held.taken)) (all_periods book) all_held)
+
+  minus_costs : minus_amount naming book.rulings (all_periods book)
+      ≡ taken_amount book.rulings (all_periods book)
+  minus_costs =
+      sum_by-agree (λ period. minus_of (lines_of naming book.rulings period))
+      (λ period. total_of book.rulings period.taken) (all_periods book)
+      (All-follows (AreHeld book.held) _ (λ period held.
+      minus_cost naming book.rulings period (named period.added held.added)
+      (named period.taken held.taken)) (all_periods book) all_held)
+
+  -- each record that has a price has a line
+  lines_long : (plus : Bool) (ks : List (List ℕ))
+      → ((k : List ℕ) → list_any (is k) ks ≡ true → is_some (price_in book.rulings k) ≡ true)
+      → length (filter_map (line_of naming book.rulings plus) ks) ≡ length ks
+  lines_long plus [] priced = refl
+  lines_long plus (k ∷ ks) priced =
+      let rest =
+      lines_long plus ks
+      (λ other among. priced other (ap (λ b. is other k || b) among ∙ or-true (is other k))) in
+      elim (price_in book.rulings k) as (λ price. is_some price ≡ true
+      → length
+      (cons_option (line_by naming book.rulings plus k price)
+      (filter_map (line_of naming book.rulings plus) ks)) ≡ suc (length ks)) [
+        | None ↦ λ none. cc
+        | Some price ↦ λ some. ap suc rest
+      ] (priced k (ap (λ b. b || list_any (is k) ks) (is_itself k)))
+
+  all_priced : (records : Records)
+      → ((bytes : List ℕ) → has records bytes ≡ true → has book.held bytes ≡ true)
+      → (k : List ℕ) → list_any (is k) (members records) ≡ true → is_some (price_in book.rulings k)
+      ≡ true
+  all_priced records held k among =
+      sound.priced k (held k (map.contains_key-keys records k ∙ among))
+
+  -- each line is read once
+  each_read_once : (period : Period) → AreHeld book.held period
+      → AreReadOnce naming book.rulings period
+  each_read_once period held =
+      let same = read_once naming book.rulings period (named period.added held.added)
+      (named period.taken held.taken) in
+      record {
+        same = same;
+        count =
+            let all = length_permutation (lines_of naming book.rulings period)
+            (both_lines naming book.rulings period) same in
+            let plus = lines_long true (members period.added)
+            (all_priced period.added held.added) in
+            let minus = lines_long false (members period.taken)
+            (all_priced period.taken held.taken) in
+            let both =
+            length-append (filter_map (line_of naming book.rulings true) (members period.added))
+            (filter_map (line_of naming book.rulings false) (members period.taken)) in
+            omega arith;
+      }
+
+-- the law of it
+pub lines_once : LinesOnce
+lines_once naming book sound =
+    All-follows (AreHeld book.held) (λ period. AreReadOnce naming book.rulings period)
+    (each_read_once naming book sound) (all_periods book) (all_held naming book sound)
+
+-- the amounts of rows and lines, as they are read, are conserved
+pub conserved : Conserved
+conserved naming history answered =
+    let book : Book = book_after history in
+    let periods : List Period = all_periods book in
+    let sound = sound_after naming history answered in
+    let all = all_balance book.rulings history in
+    let plus = plus_costs naming book sound in
+    let minus = minus_costs naming book sound in
+    net (rows_amount book.rulings periods + plus_amount naming book.rulings periods)
+    (minus_amount naming book.rulings periods)
+    (total_of book.rulings (charged_of book)) (omega arith)

@@ -1,0 +1,90 @@
+-- Charge rows sum what all prices sum to.
+use Rattle.std.proofs.Common.{◌≡◌, ℕ, ◌+◌, List, [], ◌∷◌, refl, sym, ap, ◌∙◌, subst, true, Bool}
+use Rattle.std.proofs.Common.{cond, ◌||◌, map, arith, length}
+use Rattle.std.specs.Prelude.{filter, sum_by}
+use Rattle.std.specs.Cmp.{IsEquivalence}
+use Rattle.std.specs.List.{list_any, IsDistinct}
+use Rattle.std.specs.Ordering.{eq_by_cmp}
+use Rattle.std.proofs.Math.Bool.{or-true}
+use Rattle.std.proofs.lemmas.Cmp.{eq_by_cmp_equiv}
+use Rattle.std.proofs.lemmas.List.Folds.{fold-map}
+use Rattle.std.proofs.lemmas.List.Sums.{sum_by-cons, length-filter}
+use Rattle.std.proofs.lemmas.Map.Keys.{IsDistinct-from_sorted}
+use Rattle.tariff_rules.specs.declared.priced.Priced.{Priced}
+use Rattle.book_model.specs.Rows.{key_of, by_key, same_key, row_at, keys_of, rows_of}
+use Rattle.book_model.specs.Sets.{set_of}
+use Rattle.book_model.proofs.RowLemmas.{same_key_ties}
+use Rattle.book_model.proofs.ListLemmas.{count_by-distinct}
+use Rattle.book_model.proofs.RowLemmas.{by_key_total}
+use Rattle.book_model.proofs.SetLemmas.{any_tied-members, members_rise}
+use Rattle.book_model.proofs.SumsAlike.{sum_by-filter}
+use Rattle.history_laws.proofs.SumLemmas.{sum_by-exchange}
+
+-- a number for each element of a list of one
+sum_by-one : {X : Type 0} (n : ℕ) (xs : List X) → length xs ≡ 1 → sum_by (λ _. n) xs ≡ n
+sum_by-one n [] e = absurd (omega arith)
+sum_by-one n (x ∷ []) e = omega arith
+sum_by-one n (x ∷ y ∷ xs) e = absurd (omega arith)
+
+module _ {X K : Type 0} {eq : K → K → Bool} (laws : IsEquivalence eq) (ks : List K)
+    (apart : IsDistinct eq ks) (key : X → K) (f : X → ℕ) where
+  -- over a list that has no key twice, and has the element's, what the element counts is summed
+  -- once
+  at_its_key : (x : X) → list_any (eq (key x)) ks ≡ true
+      → sum_by (λ k. cond (eq (key x) k) (f x) 0) ks ≡ f x
+  at_its_key x there =
+      sym (sum_by-filter (λ _. f x) (eq (key x)) ks)
+      ∙ sum_by-one (f x) (filter (eq (key x)) ks)
+      (length-filter (eq (key x)) ks ∙ count_by-distinct laws (key x) ks apart
+      ∙ ap (λ b. cond b 1 0) there)
+
+  -- the sums of several elements, each at its key
+  at_their_keys : (xs : List X)
+      → ((x : X) → list_any (λ y. eq (key x) (key y)) xs ≡ true → list_any (eq (key x)) ks ≡ true)
+      → sum_by (λ x. sum_by (λ k. cond (eq (key x) k) (f x) 0) ks) xs ≡ sum_by f xs
+  at_their_keys [] there = refl
+  at_their_keys (x ∷ xs) there =
+      let own =
+      at_its_key x
+      (there x (ap (λ b. b || list_any (λ y. eq (key x) (key y)) xs) (laws.refl (key x)))) in
+      let rest =
+      at_their_keys xs
+      (λ y among.
+      there y (ap (λ b. eq (key y) (key x) || b) among ∙ or-true (eq (key y) (key x)))) in
+      let all = sum_by-cons (λ x. sum_by (λ k. cond (eq (key x) k) (f x) 0) ks) x xs in
+      let numbers = sum_by-cons f x xs in
+      omega arith
+
+  -- what elements sum to at each key is together what all sum to
+  pub sum_by-keys : (xs : List X)
+      → ((x : X) → list_any (λ y. eq (key x) (key y)) xs ≡ true → list_any (eq (key x)) ks ≡ true)
+      → sum_by (λ k. sum_by f (filter (λ x. eq (key x) k) xs)) ks ≡ sum_by f xs
+  sum_by-keys xs there =
+      let share : K → X → ℕ = λ k x. cond (eq (key x) k) (f x) 0 in
+      (λ i. sum_by (λ k. sum_by-filter f (λ x. eq (key x) k) xs i) ks)
+      ∙ sum_by-exchange share ks xs
+      ∙ at_their_keys xs there
+
+-- one of a list passes a test of its key where one of the keys does
+any-keys : {X K : Type 0} (p : K → Bool) (key : X → K) (xs : List X)
+    → list_any p (map key xs) ≡ list_any (λ x. p (key x)) xs
+any-keys p key [] = refl
+any-keys p key (x ∷ xs) = ap (λ b. p (key x) || b) (any-keys p key xs)
+
+-- the rows of some prices amount to what the prices do
+pub sum_by-rows_of : (priced : List Priced) → sum_by (λ row. row.amount) (rows_of priced)
+    ≡ sum_by (λ one. one.amount) priced
+sum_by-rows_of priced =
+    let keys = keys_of priced in
+    let same : same_key ≡ eq_by_cmp by_key = λ i a b. same_key_ties a b i in
+    let laws = subst IsEquivalence (sym same) (eq_by_cmp_equiv by_key_total) in
+    let rising = members_rise by_key_total (set_of by_key (map key_of priced)) in
+    let apart = subst (λ eq. IsDistinct eq keys) (sym same)
+    (IsDistinct-from_sorted by_key keys rising) in
+    fold-map (λ n row. n + row.amount) (row_at priced) 0 keys
+    ∙ sum_by-keys laws keys apart key_of (λ one. one.amount) priced (λ one among.
+    (λ i. list_any (same i (key_of one)) keys)
+    ∙ any_tied-members by_key_total (map key_of priced) (key_of one)
+    ∙ (λ i. list_any (sym same i (key_of one)) (map key_of priced))
+    ∙ any-keys (same_key (key_of one)) key_of priced
+    ∙ among)

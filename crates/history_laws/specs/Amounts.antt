@@ -1,0 +1,38 @@
+-- What the rows and lines of periods amount to, at the prices of some rulings.
+use Rattle.std.specs.Prelude.{ℕ, not, List, filter, sum_by}
+use Rattle.book_model.specs.Periods.{Period}
+use Rattle.book_model.specs.Lines.{lines_of}
+use Rattle.book_model.specs.declared.line.Line.{Line}
+use Rattle.book_model.specs.Records.{Naming}
+use Rattle.book_model.specs.Rows.{rows_for}
+use Rattle.book_model.specs.Rulings.{Rulings}
+use Rattle.book_model.specs.Accept.{total_of}
+
+-- the charge rows of all the periods
+abbrev pub rows_amount : Rulings → List Period → ℕ
+rows_amount rulings periods =
+    sum_by (λ period. sum_by (λ row. row.amount) (rows_for rulings period.counted)) periods
+
+-- the plus lines among some lines, and the minus lines
+abbrev pub plus_of : List Line → ℕ
+plus_of lines = sum_by (λ line. line.priced.amount) (filter (λ line. line.plus) lines)
+
+abbrev pub minus_of : List Line → ℕ
+minus_of lines = sum_by (λ line. line.priced.amount) (filter (λ line. not line.plus) lines)
+
+-- the plus lines of all the periods, as they are read
+abbrev pub plus_amount : Naming → Rulings → List Period → ℕ
+plus_amount naming rulings periods =
+    sum_by (λ period. plus_of (lines_of naming rulings period)) periods
+
+-- the minus lines of all the periods, as they are read
+abbrev pub minus_amount : Naming → Rulings → List Period → ℕ
+minus_amount naming rulings periods =
+    sum_by (λ period. minus_of (lines_of naming rulings period)) periods
+
+-- the records that the periods add, and those that they take back, each at its price
+abbrev pub added_amount : Rulings → List Period → ℕ
+added_amount rulings periods = sum_by (λ period. total_of rulings period.added) periods
+
+abbrev pub taken_amount : Rulings → List Period → ℕ
+taken_amount rulings periods = sum_by (λ period. total_of rulings period.taken) periods

@@ -1,0 +1,82 @@
+-- The laws of whole histories.
+use Rattle.std.specs.Prelude.{◌≡◌, ℕ, ◌+◌, true, false, All, List, Option, Some, slice_get, ℤ, pos}
+use Rattle.std.specs.Prelude.{◌-ℤ◌}
+use Rattle.book_model.specs.Periods.{Period}
+use Rattle.book_model.specs.Books.{Book, charged_of}
+use Rattle.book_model.specs.Charged.{is_dated_after}
+use Rattle.book_model.specs.Events.{Event}
+use Rattle.book_model.specs.History.{book_after, day_of_close}
+use Rattle.book_model.specs.Records.{Naming, Records}
+use Rattle.book_model.specs.Rulings.{Rulings}
+use Rattle.book_model.specs.Sets.{has}
+use Rattle.book_model.specs.Accept.{total_of}
+use Rattle.book_model.specs.Answered.{IsAnswered}
+use Rattle.book_model.specs.Sound.{IsSound}
+use Rattle.book_model.specs.Books.{all_periods}
+use Rattle.history_laws.specs.Net.{net_count, one_if, NamesOnce}
+use Rattle.history_laws.specs.Lines.{AreReadOnce}
+use Rattle.history_laws.specs.Amounts.{rows_amount, plus_amount, minus_amount, added_amount}
+use Rattle.history_laws.specs.Amounts.{taken_amount}
+
+-- Over all periods of the book that a history leaves, the open one with them, a record that is
+-- charged now
+-- is charged once net; any other nets to nothing.
+abbrev pub ChargedOnce : Type 0
+ChargedOnce =
+    (history : List Event) (bytes : List ℕ)
+    → net_count (all_periods (book_after history)) bytes
+    ≡ pos (one_if (has (charged_of (book_after history)) bytes))
+
+-- Over the closed periods alone it is charged once net where the last close charged it.
+abbrev pub PostedOnce : Type 0
+PostedOnce =
+    (history : List Event) (bytes : List ℕ)
+    → net_count (book_after history).past bytes
+    ≡ pos (one_if (has (book_after history).posted bytes))
+
+-- what a period counts is dated after the close before it, and what it adds is not
+pub record AreDated (last : Option ℤ) (period : Period) : Type 0 where
+  pub counted : (bytes : List ℕ) → has period.counted bytes ≡ true
+      → is_dated_after last bytes ≡ true
+  pub added : (bytes : List ℕ) → has period.added bytes ≡ true → is_dated_after last bytes ≡ false
+
+-- So it is in each period of the book that a history leaves: in the one after k closes by the day
+-- of close k.
+abbrev pub DatedRight : Type 0
+DatedRight =
+    (history : List Event) (k : ℕ) (period : Period)
+    → slice_get (all_periods (book_after history)) k ≡ Some period
+    → AreDated (day_of_close k history) period
+
+-- What the rows and lines of all periods of a book come to is what the records cost that are
+-- charged now.
+abbrev pub IsBalanced : Naming → Book → Type 0
+IsBalanced naming book =
+    pos (rows_amount book.rulings (all_periods book) + plus_amount naming book.rulings
+    (all_periods book))
+    -ℤ pos (minus_amount naming book.rulings (all_periods book))
+    ≡ pos (total_of book.rulings (charged_of book))
+
+-- the book that an answered history leaves is balanced
+abbrev pub Conserved : Type 0
+Conserved = (naming : Naming) (history : List Event) → IsAnswered naming history
+    → IsBalanced naming (book_after history)
+
+-- The same of the periods' sets of records: for every history, and at the prices of any rulings.
+abbrev pub ConservedInSets : Type 0
+ConservedInSets =
+    (rulings : Rulings) (history : List Event)
+    → pos (rows_amount rulings (all_periods (book_after history)) + added_amount rulings
+    (all_periods (book_after history)))
+    -ℤ pos (taken_amount rulings (all_periods (book_after history)))
+    ≡ pos (total_of rulings (charged_of (book_after history)))
+
+-- In each period of the book that a history leaves, no record stands in two of the three sets.
+abbrev pub NamedOnce : Type 0
+NamedOnce = (history : List Event) → All NamesOnce (all_periods (book_after history))
+
+-- In each period of a sound book, each record that is added or taken back has one line.
+abbrev pub LinesOnce : Type 0
+LinesOnce =
+    (naming : Naming) (book : Book) → IsSound naming book
+    → All (λ period. AreReadOnce naming book.rulings period) (all_periods book)
