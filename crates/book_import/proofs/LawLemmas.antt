@@ -19,10 +19,12 @@ use Rattle.book_model.specs.Books.{Book}
 use Rattle.book_model.specs.Records.{Records, Naming, by_bytes}
 use Rattle.book_model.specs.Rulings.{Rulings, price_in}
 use Rattle.book_model.specs.Sets.{set_of, has, those}
-use Rattle.book_model.specs.Steps.{clashes, is_full, accept_priced, keep}
+use Rattle.book_model.specs.Accept.{clashes, is_full, accept_priced}
+use Rattle.book_model.specs.Events.{keep}
+use Rattle.book_model.specs.Outcomes.{accept_event}
 use Rattle.book_model.proofs.SetLemmas.{has-with, same_set, those-set_of}
 use Rattle.book_import.specs.declared.receipt.Stop.{Stop}
-use Rattle.book_import.specs.Imports.{Imported, after_accept, handle_by, handle, go_on, handle_all, start_of}
+use Rattle.book_import.specs.Imports.{Imported, after_answer, handle_by, handle, go_on, handle_all, start_of}
 use Rattle.book_import.specs.Laws.{is_class_of_usage, is_priced_usage, priced_usage, IsUnrefused, import_of_records, HoldsMore, HoldsWhatCame, Batch, all_records, book_after_batches, AreUnrefused, CutsMakeNoDifference}
 
 -- two records are one
@@ -75,17 +77,21 @@ abbrev answer_by : Book → Bool → Bool → Option Priced → Result Accepted 
 answer_by book known clash price =
     if known then Ok Known else if clash then Err DigestClash else accept_priced book price
 
+-- a usage record was handed in, and this was the answer
+abbrev answered : List ℕ → Imported → Result Accepted LedgerFault → Result Imported LedgerFault
+answered bytes so_far answer = after_answer so_far (accept_event bytes answer) answer
+
 -- a usage record that the books do not refuse counts where it has a price
 usage_handled : (bytes : List ℕ) (so_far : Imported) (known clash : Bool) (price : Option Priced)
     → has so_far.book.held bytes ≡ known
-    → IfOk (after_accept bytes so_far (answer_by so_far.book known clash price))
+    → IfOk (answered bytes so_far (answer_by so_far.book known clash price))
     (λ next. HoldsIt (is_some price) bytes so_far.book next.book)
 usage_handled bytes so_far true clash price holds = stays_with (is_some price) bytes so_far.book holds
 usage_handled bytes so_far false true price new = tt
 usage_handled bytes so_far false false None new = stays_without bytes so_far.book
 usage_handled bytes so_far false false (Some priced) new =
     elim (is_full so_far.book priced.amount) as (λ full.
-    IfOk (after_accept bytes so_far (if full then Err Full else Ok Kept))
+    IfOk (answered bytes so_far (if full then Err Full else Ok Kept))
     (λ next. HoldsIt true bytes so_far.book next.book)) [
       | true ↦ tt
       | false ↦ is_kept bytes so_far.book

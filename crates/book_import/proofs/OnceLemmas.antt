@@ -1,5 +1,5 @@
 -- The same records imported twice in a row.
-use Rattle.std.proofs.Common.{◌≡◌, ◌∙◌, ℕ, zero, suc, List, [], ◌∷◌, length, take, take_all, refl, sym, ap, subst, Bool, true, false, ◌&&◌, ◌||◌, ◌⊎◌, inl, inr, Result, Ok, Err, arith}
+use Rattle.std.proofs.Common.{◌≡◌, ◌∙◌, ℕ, zero, suc, List, [], ◌∷◌, length, take, take_all, refl, sym, ap, subst, Bool, true, false, ◌&&◌, ◌||◌, ◌⊎◌, inl, inr, Option, Result, Ok, Err, arith}
 use Rattle.std.specs.Prelude.{IfOk}
 use Rattle.std.specs.Ordering.{is_eq}
 use Rattle.std.proofs.Math.Bool.{or-true}
@@ -15,12 +15,14 @@ use Rattle.book_model.specs.declared.fault.LedgerFault.TheVariants.{Memory}
 use Rattle.book_model.specs.Books.{Book}
 use Rattle.book_model.specs.Records.{Naming}
 use Rattle.book_model.specs.Sets.{has}
-use Rattle.book_model.specs.Steps.{accept_answer}
+use Rattle.book_model.specs.Accept.{accept_answer}
+use Rattle.book_model.specs.Events.{Event}
+use Rattle.book_model.specs.Outcomes.{accept_event}
 use Rattle.book_model.proofs.SetLemmas.{same_set}
 use Rattle.book_import.specs.declared.receipt.Receipt.{Receipt}
 use Rattle.book_import.specs.declared.receipt.Stop.{Stop}
 use Rattle.book_import.specs.declared.receipt.Stop.TheVariants.{Ledger}
-use Rattle.book_import.specs.Imports.{Imported, after_accept, handle_by, handle, go_on, handle_all, start_of, Handles}
+use Rattle.book_import.specs.Imports.{Imported, after_answer, handle_by, handle, go_on, handle_all, start_of, Handles}
 use Rattle.book_import.specs.Imports.Handles.{whole, out_of_memory}
 use Rattle.book_import.specs.Laws.{is_priced_usage, import_of_records, HadMemory, TwiceIsOnce}
 use Rattle.book_import.proofs.LawLemmas.{is_same, HoldsIt, one_handled}
@@ -105,19 +107,20 @@ all_grow naming stop (bytes ∷ rest) so_far =
     ] (one_handled naming bytes so_far (class_of bytes))
 
 -- what books answered with a fault they refuse whatever was counted
-still_refused : (bytes : List ℕ) (so_far again : Imported) (answer : Result Accepted LedgerFault)
-    (fault : LedgerFault) → after_accept bytes so_far answer ≡ Err fault
-    → after_accept bytes again answer ≡ Err fault
-still_refused bytes so_far again (Err refusal) fault refused = cc
-still_refused bytes so_far again (Ok accepted) fault refused = cc
+still_refused : (so_far again : Imported) (event : Option Event) (answer : Result Accepted LedgerFault)
+    (fault : LedgerFault) → after_answer so_far event answer ≡ Err fault
+    → after_answer again event answer ≡ Err fault
+still_refused so_far again event (Err refusal) fault refused = refused
+still_refused so_far again event (Ok accepted) fault refused = cc
 
 -- the same, by the record's class
 refused_by : (naming : Naming) (bytes : List ℕ) (so_far : Imported) (receipt : Receipt) (class : Class)
     (fault : LedgerFault) → handle_by naming bytes so_far class ≡ Err fault
     → handle_by naming bytes (record { receipt = receipt; book = so_far.book }) class ≡ Err fault
 refused_by naming bytes so_far receipt Usage fault refused =
-    still_refused bytes so_far (record { receipt = receipt; book = so_far.book })
-    (accept_answer naming so_far.book bytes) fault refused
+    let answer = accept_answer naming so_far.book bytes in
+    still_refused so_far (record { receipt = receipt; book = so_far.book })
+    (accept_event bytes answer) answer fault refused
 refused_by naming bytes so_far receipt class fault refused = cc
 
 -- what books refuse they refuse again

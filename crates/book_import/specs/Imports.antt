@@ -10,7 +10,8 @@ use Rattle.book_model.specs.declared.fault.LedgerFault.{LedgerFault}
 use Rattle.book_model.specs.declared.fault.LedgerFault.TheVariants.{Memory}
 use Rattle.book_model.specs.Records.{Naming}
 use Rattle.book_model.specs.Books.{Book}
-use Rattle.book_model.specs.Steps.{accept_answer, accept_step}
+use Rattle.book_model.specs.Events.{Event, after_any}
+use Rattle.book_model.specs.Outcomes.{Outcome, accept_outcome}
 use Rattle.book_import.specs.declared.receipt.Receipt.{Receipt}
 use Rattle.book_import.specs.declared.receipt.Stop.{Stop}
 use Rattle.book_import.specs.declared.receipt.Stop.TheVariants.{End, Ledger}
@@ -25,15 +26,24 @@ pub record Imported : Type 0 where
 abbrev pub stop_with : Stop → Imported → Imported
 stop_with stop so_far = record so_far { receipt = record so_far.receipt { stop = stop } }
 
--- the books were handed a usage record: it is counted, unless they refuse it
-abbrev pub after_accept : List ℕ → Imported → Result Accepted LedgerFault → Result Imported LedgerFault
-after_accept bytes so_far (Err fault) = Err fault
-after_accept bytes so_far (Ok accepted) =
-    Ok (record { receipt = count_accepted accepted so_far.receipt; book = accept_step (Ok accepted) bytes so_far.book })
+-- the books answered so to a usage record: it is counted, unless they refused it
+abbrev pub after_answer : Imported → Option Event → Result Accepted LedgerFault
+    → Result Imported LedgerFault
+after_answer so_far event (Err fault) = Err fault
+after_answer so_far event (Ok accepted) =
+    Ok (record {
+      receipt = count_accepted accepted so_far.receipt;
+      book = after_any event so_far.book;
+    })
+
+abbrev pub after_accept : Imported → Outcome Accepted → Result Imported LedgerFault
+after_accept so_far outcome = after_answer so_far outcome.event outcome.answer
 
 abbrev pub handle_by : Naming → List ℕ → Imported → Class → Result Imported LedgerFault
-handle_by naming bytes so_far Usage = after_accept bytes so_far (accept_answer naming so_far.book bytes)
-handle_by naming bytes so_far class = Ok (record so_far { receipt = count_class class so_far.receipt })
+handle_by naming bytes so_far Usage =
+    after_accept so_far (accept_outcome naming bytes so_far.book)
+handle_by naming bytes so_far class =
+    Ok (record so_far { receipt = count_class class so_far.receipt })
 
 -- one record, by its class
 abbrev pub handle : Naming → List ℕ → Imported → Result Imported LedgerFault

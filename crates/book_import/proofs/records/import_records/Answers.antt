@@ -2,7 +2,7 @@ use Rattle.std.proofs.Common.{◌<◌, ◌≤◌, length, [], sym, ap, ◌∙◌
 use Rattle.std.proofs.lemmas.List.{length-map}
 use Rattle.smf_frames.specs.Framed.{IsFramed}
 use Rattle.smf_frames.specs.Texts.{texts}
-use Rattle.book_core.specs.PlainBook.{book_of}
+use Rattle.book_core.specs.PlainBook.{book_in}
 use Rattle.book_model.proofs.AnswerLemmas.{error_answers}
 use Rattle.book_import.specs.declared.receipt.Receipt.{Receipt}
 use Rattle.book_import.specs.declared.receipt.Stop.TheVariants.{Ledger}
@@ -26,7 +26,7 @@ returns-in-Err-clause-handled g c =
       is = text_at c.args.records.now c.loop-bytes.bytes-index c.bytes-item.result c.loop-bytes-test.true c.bytes-item.is ∙ sym c.deref.ensures.value;
     })
     c.loop-bytes.invariant.handled
-    (error_answers {V = Unit {0}} (λ _. record { receipt = c.handle.new.receipt; book = book_of c.handle.new.ledger }) _ _ c.in-Err.ensures.handled)
+    (error_answers {V = Unit {0}} (λ _. record { receipt = c.handle.new.receipt; book = book_in c.handle.new.ledger }) _ _ c.in-Err.ensures.handled)
     (λ i. record {
       receipt = (c.stopped_by.ensures ∙ ap (λ (r : Receipt). record r { stop = Ledger c.in-Err.fault }) c.in-Err.ensures.refused.0) i;
       book = c.in-Err.ensures.refused.1 i;
@@ -51,4 +51,4 @@ pub returns-clause-handled : goal.returns-clause-handled
 returns-clause-handled g c =
     let end : length (texts c.args.records.now) ≤ c.loop-bytes.bytes-index = simp length-map (c.loop-bytes-test.false) in
     all_handled _ _ c.loop-bytes.bytes-index _ _ _ c.args.stop end c.loop-bytes.invariant.handled
-    (λ i. record { receipt = c.stopped_by-2.ensures i; book = book_of c.loop-bytes.ledger })
+    (λ i. record { receipt = c.stopped_by-2.ensures i; book = book_in c.loop-bytes.ledger })
