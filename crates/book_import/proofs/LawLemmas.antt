@@ -1,5 +1,7 @@
 -- What books hold after an import of which they refused no record.
-use Rattle.std.proofs.Common.{◌≡◌, ◌∙◌, ℕ, List, [], ◌∷◌, ◌++◌, refl, sym, ap, subst, append-nil, Bool, true, false, true≢false, cond, ◌&&◌, ◌||◌, Option, Some, None, is_some, Result, Ok, Err}
+use Rattle.std.proofs.Common.{◌≡◌, ◌∙◌, ℕ, List, [], ◌∷◌, ◌++◌, refl, sym, ap, subst, append-nil}
+use Rattle.std.proofs.Common.{Bool, true, false, true≢false, cond, ◌&&◌, ◌||◌, Option, Some, None}
+use Rattle.std.proofs.Common.{is_some, Result, Ok, Err}
 use Rattle.std.specs.Prelude.{if◌then◌else◌, filter, IfOk}
 use Rattle.std.specs.FinMap as map
 use Rattle.std.specs.Ordering.{eq_by_cmp}
@@ -24,8 +26,11 @@ use Rattle.book_model.specs.Events.{keep}
 use Rattle.book_model.specs.Outcomes.{accept_event}
 use Rattle.book_model.proofs.SetLemmas.{has-with, same_set, those-set_of}
 use Rattle.book_import.specs.declared.receipt.Stop.{Stop}
-use Rattle.book_import.specs.Imports.{Imported, after_answer, handle_by, handle, go_on, handle_all, start_of}
-use Rattle.book_import.specs.Laws.{is_class_of_usage, is_priced_usage, priced_usage, IsUnrefused, import_of_records, HoldsMore, HoldsWhatCame, Batch, all_records, book_after_batches, AreUnrefused, CutsMakeNoDifference}
+use Rattle.book_import.specs.Imports.{Imported, after_answer, handle_by, handle, go_on, handle_all}
+use Rattle.book_import.specs.Imports.{start_of}
+use Rattle.book_import.specs.Laws.{is_class_of_usage, is_priced_usage, priced_usage, IsUnrefused}
+use Rattle.book_import.specs.Laws.{import_of_records, HoldsMore, HoldsWhatCame, Batch, all_records}
+use Rattle.book_import.specs.Laws.{book_after_batches, AreUnrefused, CutsMakeNoDifference}
 
 -- two records are one
 abbrev pub is_same : List ℕ → List ℕ → Bool
@@ -33,7 +38,8 @@ is_same = eq_by_cmp by_bytes
 
 -- A record was handed in: the new book holds it too where it counts, and nothing else is different.
 pub record HoldsIt (counts : Bool) (bytes : List ℕ) (old new : Book) : Type 0 where
-  pub held : (other : List ℕ) → has new.held other ≡ (has old.held other || (counts && is_same other bytes))
+  pub held : (other : List ℕ)
+      → has new.held other ≡ (has old.held other || (counts && is_same other bytes))
   pub rulings : new.rulings ≡ old.rulings
   pub posted : new.posted ≡ old.posted
   pub past : new.past ≡ old.past
@@ -41,7 +47,13 @@ pub record HoldsIt (counts : Bool) (bytes : List ℕ) (old new : Book) : Type 0 
 -- a record that does not count, where the book stays
 stays_without : (bytes : List ℕ) (book : Book) → HoldsIt false bytes book book
 stays_without bytes book =
-    record { held = λ other. sym (or-false (has book.held other)); rulings = refl; posted = refl; past = refl }
+    record {
+      held = λ other. sym (or-false (has book.held other));
+      rulings = refl;
+      posted =
+          refl;
+      past = refl;
+    }
 
 -- what is there at a place is there already, where it counts at that place alone
 there_already : (counts same is : Bool) → (same ≡ true → is ≡ true) → is ≡ (is || (counts && same))
@@ -66,7 +78,8 @@ stays_with counts bytes book holds = record {
 is_kept : (bytes : List ℕ) (book : Book) → HoldsIt true bytes book (keep bytes book)
 is_kept bytes book = record {
   held = λ other.
-      has-with nat_list_cmp_total book.held bytes other ∙ or_comm (is_same other bytes) (has book.held other);
+      has-with nat_list_cmp_total book.held bytes other
+      ∙ or_comm (is_same other bytes) (has book.held other);
   rulings = refl;
   posted = refl;
   past = refl;
@@ -86,7 +99,8 @@ usage_handled : (bytes : List ℕ) (so_far : Imported) (known clash : Bool) (pri
     → has so_far.book.held bytes ≡ known
     → IfOk (answered bytes so_far (answer_by so_far.book known clash price))
     (λ next. HoldsIt (is_some price) bytes so_far.book next.book)
-usage_handled bytes so_far true clash price holds = stays_with (is_some price) bytes so_far.book holds
+usage_handled bytes so_far true clash price holds =
+    stays_with (is_some price) bytes so_far.book holds
 usage_handled bytes so_far false true price new = tt
 usage_handled bytes so_far false false None new = stays_without bytes so_far.book
 usage_handled bytes so_far false false (Some priced) new =
@@ -113,7 +127,8 @@ one_handled naming bytes so_far class = stays_without bytes so_far.book
 -- who is among the priced usage records of a list: its first, if it is one, and those of the rest
 has-first : (rulings : Rulings) (bytes : List ℕ) (rest : List (List ℕ)) (other : List ℕ)
     → has (priced_usage rulings (bytes ∷ rest)) other
-    ≡ ((is_priced_usage rulings bytes && is_same other bytes) || has (priced_usage rulings rest) other)
+    ≡ ((is_priced_usage rulings bytes && is_same other bytes)
+    || has (priced_usage rulings rest) other)
 has-first rulings bytes rest other =
     let passing : List (List ℕ) = filter (is_priced_usage rulings) rest in
     elim (is_priced_usage rulings bytes) as (λ counts.
@@ -145,7 +160,8 @@ then_rest bytes rest {old} {between} one more = record {
 none_came : (book : Book) → HoldsMore (priced_usage book.rulings []) book book
 none_came book = record {
   held = λ other.
-      let nothing : has (priced_usage book.rulings []) other ≡ false = ap is_some (map.get-empty by_bytes other) in
+      let nothing : has (priced_usage book.rulings []) other
+      ≡ false = ap is_some (map.get-empty by_bytes other) in
       sym (ap (λ b. has book.held other || b) nothing ∙ or-false (has book.held other));
   rulings = refl;
   posted = refl;
@@ -155,35 +171,43 @@ none_came book = record {
 -- from any point of an import on, the books hold what came, where they refuse no record
 holds_from : (naming : Naming) (stop : Stop) (records : List (List ℕ)) (so_far : Imported)
     → IsUnrefused (handle_all naming stop records so_far)
-    → HoldsMore (priced_usage so_far.book.rulings records) so_far.book (handle_all naming stop records so_far).book
+    → HoldsMore (priced_usage so_far.book.rulings records) so_far.book
+    (handle_all naming stop records so_far).book
 holds_from naming stop [] so_far unrefused = none_came so_far.book
 holds_from naming stop (bytes ∷ rest) so_far unrefused =
     let later : Imported → Imported = handle_all naming stop rest in
     elim (handle naming bytes so_far) as (λ handled.
-    IfOk handled (λ next. HoldsIt (is_priced_usage so_far.book.rulings bytes) bytes so_far.book next.book)
+    IfOk handled
+    (λ next. HoldsIt (is_priced_usage so_far.book.rulings bytes) bytes so_far.book next.book)
     → IsUnrefused (go_on later so_far handled)
-    → HoldsMore (priced_usage so_far.book.rulings (bytes ∷ rest)) so_far.book (go_on later so_far handled).book) [
-      | Ok next ↦ λ one unrefused. then_rest bytes rest one (holds_from naming stop rest next unrefused)
+    → HoldsMore (priced_usage so_far.book.rulings (bytes ∷ rest)) so_far.book
+    (go_on later so_far handled).book) [
+      | Ok next ↦ λ one unrefused.
+          then_rest bytes rest one (holds_from naming stop rest next unrefused)
       | Err fault ↦ λ one unrefused. absurd (true≢false unrefused)
     ] (one_handled naming bytes so_far (class_of bytes)) unrefused
 
 -- the law of it
 pub holds_what_came : HoldsWhatCame
-holds_what_came naming before stop records unrefused = holds_from naming stop records (start_of before) unrefused
+holds_what_came naming before stop records unrefused =
+    holds_from naming stop records (start_of before) unrefused
 
 -- who is among the priced usage records of two lists
 has-both : (rulings : Rulings) (records later : List (List ℕ)) (other : List ℕ)
     → has (priced_usage rulings (records ++ later)) other
     ≡ (has (priced_usage rulings records) other || has (priced_usage rulings later) other)
 has-both rulings [] later other =
-    let nothing : has (priced_usage rulings []) other ≡ false = ap is_some (map.get-empty by_bytes other) in
+    let nothing : has (priced_usage rulings []) other
+    ≡ false = ap is_some (map.get-empty by_bytes other) in
     sym (ap (λ b. b || has (priced_usage rulings later) other) nothing)
 has-both rulings (bytes ∷ rest) later other =
     let this = is_priced_usage rulings bytes && is_same other bytes in
     has-first rulings bytes (rest ++ later) other
     ∙ ap (λ b. this || b) (has-both rulings rest later other)
-    ∙ sym (or_assoc this (has (priced_usage rulings rest) other) (has (priced_usage rulings later) other))
-    ∙ ap (λ b. b || has (priced_usage rulings later) other) (sym (has-first rulings bytes rest other))
+    ∙ sym (or_assoc this (has (priced_usage rulings rest) other)
+    (has (priced_usage rulings later) other))
+    ∙ ap (λ b. b || has (priced_usage rulings later) other)
+    (sym (has-first rulings bytes rest other))
 
 -- a batch and then others: the books hold what came of all of them
 then_later : (records later : List (List ℕ)) {old between new : Book}
@@ -204,8 +228,10 @@ then_later records later {old} {between} one more = record {
 }
 
 -- after batches of which none was refused a record, the books hold what came of all of them
-holds_batches : (naming : Naming) (before : Book) (batches : List Batch) → AreUnrefused naming before batches
-    → HoldsMore (priced_usage before.rulings (all_records batches)) before (book_after_batches naming before batches)
+holds_batches : (naming : Naming) (before : Book) (batches : List Batch)
+    → AreUnrefused naming before batches
+    → HoldsMore (priced_usage before.rulings (all_records batches)) before
+    (book_after_batches naming before batches)
 holds_batches naming before [] unrefused = none_came before
 holds_batches naming before (batch ∷ later) unrefused =
     let imported = import_of_records naming before batch.stop batch.records in
@@ -214,7 +240,8 @@ holds_batches naming before (batch ∷ later) unrefused =
     (holds_batches naming imported.book later unrefused.1)
 
 -- lists with one set have one set of priced usage records
-same_priced : (rulings : Rulings) (records others : List (List ℕ)) → set_of by_bytes records ≡ set_of by_bytes others
+same_priced : (rulings : Rulings) (records others : List (List ℕ))
+    → set_of by_bytes records ≡ set_of by_bytes others
     → priced_usage rulings records ≡ priced_usage rulings others
 same_priced rulings records others same =
     let priced : List ℕ → Bool = is_priced_usage rulings in
@@ -245,14 +272,17 @@ cuts_make_no_difference naming before batches others same unrefused other_unrefu
     same_book first (subst (λ came. HoldsMore came before after) priced second)
 
 -- the same of two dumps, each in one import
-pub one_import_each : (naming : Naming) (before : Book) (stop other_stop : Stop) (records others : List (List ℕ))
+pub one_import_each : (naming : Naming) (before : Book) (stop other_stop : Stop)
+    (records others : List (List ℕ))
     → set_of by_bytes records ≡ set_of by_bytes others
     → IsUnrefused (import_of_records naming before stop records)
     → IsUnrefused (import_of_records naming before other_stop others)
-    → (import_of_records naming before stop records).book ≡ (import_of_records naming before other_stop others).book
+    → (import_of_records naming before stop records).book
+    ≡ (import_of_records naming before other_stop others).book
 one_import_each naming before stop other_stop records others same unrefused other_unrefused =
     let batch : Batch = record { records = records; stop = stop } in
     let other_batch : Batch = record { records = others; stop = other_stop } in
     cuts_make_no_difference naming before (batch ∷ []) (other_batch ∷ [])
-    (ap (set_of by_bytes) (append-nil records) ∙ same ∙ sym (ap (set_of by_bytes) (append-nil others)))
+    (ap (set_of by_bytes) (append-nil records) ∙ same
+    ∙ sym (ap (set_of by_bytes) (append-nil others)))
     (unrefused, tt) (other_unrefused, tt)

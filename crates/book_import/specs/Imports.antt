@@ -26,7 +26,8 @@ pub record Imported : Type 0 where
 abbrev pub stop_with : Stop → Imported → Imported
 stop_with stop so_far = record so_far { receipt = record so_far.receipt { stop = stop } }
 
--- the books answered so to a usage record: it is counted, unless they refused it
+-- The books answered to a usage record, and that was this event: the record is counted, unless
+-- they refused it.
 abbrev pub after_answer : Imported → Option Event → Result Accepted LedgerFault
     → Result Imported LedgerFault
 after_answer so_far event (Err fault) = Err fault
@@ -49,25 +50,33 @@ handle_by naming bytes so_far class =
 abbrev pub handle : Naming → List ℕ → Imported → Result Imported LedgerFault
 handle naming bytes so_far = handle_by naming bytes so_far (class_of bytes)
 
+-- a record that was refused ends the import; behind any other it goes on
 abbrev pub go_on : (Imported → Imported) → Imported → Result Imported LedgerFault → Imported
 go_on later so_far (Err fault) = stop_with (Ledger fault) so_far
 go_on later so_far (Ok next) = later next
 
--- records in order, up to the first that the books refuse; where they refuse none, there is this stop behind the last
+-- records in order, up to the first that the books refuse; where they refuse none, there is this
+-- stop behind the last
 abbrev pub handle_all : Naming → Stop → List (List ℕ) → Imported → Imported
 handle_all naming stop [] so_far = stop_with stop so_far
-handle_all naming stop (bytes ∷ rest) so_far = go_on (handle_all naming stop rest) so_far (handle naming bytes so_far)
+handle_all naming stop (bytes ∷ rest) so_far =
+    go_on (handle_all naming stop rest) so_far (handle naming bytes so_far)
 
 abbrev pub start_of : Book → Imported
 start_of book = record { receipt = receipt_stopped End; book = book }
 
 -- These records were handled so; or memory ran out, and the first of them were.
-pub data Handles (naming : Naming) (stop : Stop) (records : List (List ℕ)) (before : Book) (imported : Imported) : Type 0 where
-  whole : imported ≡ handle_all naming stop records (start_of before) → Handles naming stop records before imported
-  out_of_memory : (count : ℕ) → imported ≡ handle_all naming (Ledger Memory) (take count records) (start_of before)
+pub data Handles (naming : Naming) (stop : Stop) (records : List (List ℕ)) (before : Book)
+    (imported : Imported) : Type 0 where
+  whole : imported ≡ handle_all naming stop records (start_of before)
+      → Handles naming stop records before imported
+  out_of_memory : (count : ℕ)
+      → imported ≡ handle_all naming (Ledger Memory) (take count records) (start_of before)
       → Handles naming stop records before imported
 
--- The import of these bytes, whose reading something may have cut short, answered this receipt and left this book.
+-- The import of these bytes, whose reading something may have cut short, answered this receipt and
+-- left this book.
 abbrev pub Imports : Naming → Layout → Option Stop → List ℕ → Book → Imported → Type 0
 Imports naming layout cut bytes before imported =
-    Handles naming (stop_behind cut (front layout bytes)) (front layout bytes).records before imported
+    let dump = front layout bytes in
+    Handles naming (stop_behind cut dump) dump.records before imported

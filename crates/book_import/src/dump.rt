@@ -1,4 +1,5 @@
-ghost use Rattle.std.specs.Prelude.{◌≡◌, ◌+◌, ◌≤◌, ◌^◌, ℕ, All, IfOk, List, OnOk, false, if◌then◌else◌, unwrap_or};
+ghost use Rattle.std.specs.Prelude.{◌≡◌, ◌+◌, ◌≤◌, ◌^◌, ℕ, All, IfOk, List, OnOk, false};
+ghost use Rattle.std.specs.Prelude.{if◌then◌else◌, unwrap_or};
 ghost use Rattle.std.specs.Io.KnownBytes.{Consumes};
 ghost use Rattle.smf_frames.specs.Framed.{IsFramed};
 ghost use Rattle.smf_frames.specs.Texts.{texts};
@@ -48,7 +49,8 @@ fn frame_stop(fault: Option<FrameFault>) -> Stop
 
 /// The stop behind the last record of what was read.
 fn stop_behind(cut: Option<Stop>, fault: Option<FrameFault>, is_broken: bool) -> Stop
-    ensures { result ≡ (if is_broken then spec.frame_stop fault else unwrap_or cut (spec.frame_stop fault)) }
+    ensures { result ≡ (if is_broken then spec.frame_stop fault
+        else unwrap_or cut (spec.frame_stop fault)) }
 {
     if is_broken {
         frame_stop(fault)

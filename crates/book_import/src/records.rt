@@ -47,7 +47,8 @@ fn handle<N: Naming + Drop>(
 ) -> Result<(), LedgerFault>
     requires framed { IsFramed bytes.now }
     requires few { counted receipt.old < 2 ^ 63 }
-    ensures handled { Answers (λ _. record { receipt = receipt.new; book = book_in ledger.new }) result
+    ensures handled { Answers
+        (λ _. record { receipt = receipt.new; book = book_in ledger.new }) result
         (handled (N.name_of (naming_in ledger.old)) bytes.now
         (record { receipt = receipt.old; book = book_in ledger.old })) }
     ensures refused { OnErr result
@@ -73,8 +74,8 @@ pub fn import_records<N: Naming + Drop>(
     stop: Stop,
 ) -> Receipt
     requires { All IsFramed (texts records.now) }
-    ensures handled { Handles (N.name_of (naming_in ledger.old)) stop (texts records.now) (book_in ledger.old)
-        (record { receipt = result; book = book_in ledger.new }) }
+    ensures handled { Handles (N.name_of (naming_in ledger.old)) stop (texts records.now)
+        (book_in ledger.old) (record { receipt = result; book = book_in ledger.new }) }
     ensures naming { naming_in ledger.new ≡ naming_in ledger.old }
 {
     let mut receipt = Receipt::stopped(Stop::End);

@@ -32,8 +32,8 @@ pub fn import_whole<R: Read + Drop, N: Naming + Drop>(
     // that a reader had which tells its bytes.
     ensures booked { (bytes : List ℕ)
         × Consumes (R.remaining (reader_of source.old)) (R.remaining (reader_of source.new)) bytes
-        × Imports (N.name_of (naming_in ledger.old)) layout (cut_of source.new) bytes (book_in ledger.old)
-        (record { receipt = result; book = book_in ledger.new }) }
+        × Imports (N.name_of (naming_in ledger.old)) layout (cut_of source.new) bytes
+        (book_in ledger.old) (record { receipt = result; book = book_in ledger.new }) }
     ensures left { NothingIsLeft
         (has_ended source.new) (R.remaining (reader_of source.new)) }
     ensures asked { reads_of source.new ≤ reads_of source.old + reads }

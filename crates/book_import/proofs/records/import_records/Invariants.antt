@@ -11,7 +11,9 @@ abbrev pub invariant-loop-bytes : goal.invariant-loop-bytes
 invariant-loop-bytes g l = record {
   naming : naming_in l.ledger ≡ naming_in l.initial.ledger;
   handled : (stop : Stop) (rest : List (List ℕ)) →
-      handle_all (g.N.Naming.name_of (naming_in l.initial.ledger)) stop (take l.bytes-index (texts l.records) ++ rest) (start_of (book_in l.initial.ledger))
-      ≡ handle_all (g.N.Naming.name_of (naming_in l.initial.ledger)) stop rest (record { receipt = l.receipt; book = book_in l.ledger });
+      handle_all (g.N.Naming.name_of (naming_in l.initial.ledger)) stop
+      (take l.bytes-index (texts l.records) ++ rest) (start_of (book_in l.initial.ledger))
+      ≡ handle_all (g.N.Naming.name_of (naming_in l.initial.ledger)) stop rest
+      (record { receipt = l.receipt; book = book_in l.ledger });
   few : counted l.receipt ≤ l.bytes-index;
 }
