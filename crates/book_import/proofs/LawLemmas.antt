@@ -1,5 +1,7 @@
 -- What books hold after an import of which they refused no record.
-use Rattle.std.proofs.Common.{◌≡◌, ◌∙◌, ℕ, List, [], ◌∷◌, ◌++◌, refl, sym, ap, subst, append-nil, Bool, true, false, true≢false, cond, ◌&&◌, ◌||◌, Option, Some, None, is_some, Result, Ok, Err}
+use Rattle.std.proofs.Common.{◌≡◌, ◌∙◌, ℕ, List, [], ◌∷◌, ◌++◌, refl, sym, ap, subst, append-nil}
+use Rattle.std.proofs.Common.{Bool, true, false, true≢false, cond, ◌&&◌, ◌||◌, Option, Some, None}
+use Rattle.std.proofs.Common.{is_some, Result, Ok, Err}
 use Rattle.std.specs.Prelude.{if◌then◌else◌, filter, IfOk}
 use Rattle.std.specs.FinMap as map
 use Rattle.std.specs.Ordering.{eq_by_cmp}
@@ -19,27 +21,39 @@ use Rattle.book_model.specs.Books.{Book}
 use Rattle.book_model.specs.Records.{Records, Naming, by_bytes}
 use Rattle.book_model.specs.Rulings.{Rulings, price_in}
 use Rattle.book_model.specs.Sets.{set_of, has, those}
-use Rattle.book_model.specs.Steps.{clashes, is_full, accept_priced, keep}
+use Rattle.book_model.specs.Accept.{clashes, is_full, accept_priced}
+use Rattle.book_model.specs.Events.{keep}
+use Rattle.book_model.specs.Outcomes.{accept_event}
 use Rattle.book_model.proofs.SetLemmas.{has-with, same_set, those-set_of}
 use Rattle.book_import.specs.declared.receipt.Stop.{Stop}
-use Rattle.book_import.specs.Imports.{Imported, after_accept, handle_by, handle, go_on, handle_all, start_of}
-use Rattle.book_import.specs.Laws.{is_class_of_usage, is_priced_usage, priced_usage, RefusesNone, import_of_records, HoldsMore, HoldsWhatCame, Batch, records_of, book_after, RefuseNone, CutsMakeNoDifference}
+use Rattle.book_import.specs.Imports.{Imported, after_answer, handle_by, handle, go_on, handle_all}
+use Rattle.book_import.specs.Imports.{start_of}
+use Rattle.book_import.specs.Laws.{is_class_of_usage, is_priced_usage, priced_usage, IsUnrefused}
+use Rattle.book_import.specs.Laws.{import_of_records, HoldsMore, HoldsWhatCame, Batch, all_records}
+use Rattle.book_import.specs.Laws.{book_after_batches, AreUnrefused, CutsMakeNoDifference}
 
 -- two records are one
-abbrev is_same : List ℕ → List ℕ → Bool
+abbrev pub is_same : List ℕ → List ℕ → Bool
 is_same = eq_by_cmp by_bytes
 
 -- A record was handed in: the new book holds it too where it counts, and nothing else is different.
-record HoldsIt (counts : Bool) (bytes : List ℕ) (old new : Book) : Type 0 where
-  held : (other : List ℕ) → has new.held other ≡ (has old.held other || (counts && is_same other bytes))
-  rulings : new.rulings ≡ old.rulings
-  posted : new.posted ≡ old.posted
-  past : new.past ≡ old.past
+pub record HoldsIt (counts : Bool) (bytes : List ℕ) (old new : Book) : Type 0 where
+  pub held : (other : List ℕ)
+      → has new.held other ≡ (has old.held other || (counts && is_same other bytes))
+  pub rulings : new.rulings ≡ old.rulings
+  pub posted : new.posted ≡ old.posted
+  pub past : new.past ≡ old.past
 
 -- a record that does not count, where the book stays
 stays_without : (bytes : List ℕ) (book : Book) → HoldsIt false bytes book book
 stays_without bytes book =
-    record { held = λ other. sym (or-false (has book.held other)); rulings = refl; posted = refl; past = refl }
+    record {
+      held = λ other. sym (or-false (has book.held other));
+      rulings = refl;
+      posted =
+          refl;
+      past = refl;
+    }
 
 -- what is there at a place is there already, where it counts at that place alone
 there_already : (counts same is : Bool) → (same ≡ true → is ≡ true) → is ≡ (is || (counts && same))
@@ -64,7 +78,8 @@ stays_with counts bytes book holds = record {
 is_kept : (bytes : List ℕ) (book : Book) → HoldsIt true bytes book (keep bytes book)
 is_kept bytes book = record {
   held = λ other.
-      has-with nat_list_cmp_total book.held bytes other ∙ or_comm (is_same other bytes) (has book.held other);
+      has-with nat_list_cmp_total book.held bytes other
+      ∙ or_comm (is_same other bytes) (has book.held other);
   rulings = refl;
   posted = refl;
   past = refl;
@@ -75,28 +90,33 @@ abbrev answer_by : Book → Bool → Bool → Option Priced → Result Accepted 
 answer_by book known clash price =
     if known then Ok Known else if clash then Err DigestClash else accept_priced book price
 
+-- a usage record was handed in, and this was the answer
+abbrev answered : List ℕ → Imported → Result Accepted LedgerFault → Result Imported LedgerFault
+answered bytes so_far answer = after_answer so_far (accept_event bytes answer) answer
+
 -- a usage record that the books do not refuse counts where it has a price
 usage_handled : (bytes : List ℕ) (so_far : Imported) (known clash : Bool) (price : Option Priced)
     → has so_far.book.held bytes ≡ known
-    → IfOk (after_accept bytes so_far (answer_by so_far.book known clash price))
+    → IfOk (answered bytes so_far (answer_by so_far.book known clash price))
     (λ next. HoldsIt (is_some price) bytes so_far.book next.book)
-usage_handled bytes so_far true clash price holds = stays_with (is_some price) bytes so_far.book holds
+usage_handled bytes so_far true clash price holds =
+    stays_with (is_some price) bytes so_far.book holds
 usage_handled bytes so_far false true price new = tt
 usage_handled bytes so_far false false None new = stays_without bytes so_far.book
 usage_handled bytes so_far false false (Some priced) new =
     elim (is_full so_far.book priced.amount) as (λ full.
-    IfOk (after_accept bytes so_far (if full then Err Full else Ok Kept))
+    IfOk (answered bytes so_far (if full then Err Full else Ok Kept))
     (λ next. HoldsIt true bytes so_far.book next.book)) [
       | true ↦ tt
       | false ↦ is_kept bytes so_far.book
     ]
 
 -- a record of a class counts where the class is that of usage records, and it has a price
-abbrev counts_by : Class → Rulings → List ℕ → Bool
+abbrev pub counts_by : Class → Rulings → List ℕ → Bool
 counts_by class rulings bytes = is_class_of_usage class && is_some (price_in rulings bytes)
 
 -- a record that the books do not refuse counts where it is usage and has a price
-one_handled : (naming : Naming) (bytes : List ℕ) (so_far : Imported) (class : Class)
+pub one_handled : (naming : Naming) (bytes : List ℕ) (so_far : Imported) (class : Class)
     → IfOk (handle_by naming bytes so_far class)
     (λ next. HoldsIt (counts_by class so_far.book.rulings bytes) bytes so_far.book next.book)
 one_handled naming bytes so_far Usage =
@@ -107,7 +127,8 @@ one_handled naming bytes so_far class = stays_without bytes so_far.book
 -- who is among the priced usage records of a list: its first, if it is one, and those of the rest
 has-first : (rulings : Rulings) (bytes : List ℕ) (rest : List (List ℕ)) (other : List ℕ)
     → has (priced_usage rulings (bytes ∷ rest)) other
-    ≡ ((is_priced_usage rulings bytes && is_same other bytes) || has (priced_usage rulings rest) other)
+    ≡ ((is_priced_usage rulings bytes && is_same other bytes)
+    || has (priced_usage rulings rest) other)
 has-first rulings bytes rest other =
     let passing : List (List ℕ) = filter (is_priced_usage rulings) rest in
     elim (is_priced_usage rulings bytes) as (λ counts.
@@ -139,7 +160,8 @@ then_rest bytes rest {old} {between} one more = record {
 none_came : (book : Book) → HoldsMore (priced_usage book.rulings []) book book
 none_came book = record {
   held = λ other.
-      let nothing : has (priced_usage book.rulings []) other ≡ false = ap is_some (map.get-empty by_bytes other) in
+      let nothing : has (priced_usage book.rulings []) other
+      ≡ false = ap is_some (map.get-empty by_bytes other) in
       sym (ap (λ b. has book.held other || b) nothing ∙ or-false (has book.held other));
   rulings = refl;
   posted = refl;
@@ -148,36 +170,44 @@ none_came book = record {
 
 -- from any point of an import on, the books hold what came, where they refuse no record
 holds_from : (naming : Naming) (stop : Stop) (records : List (List ℕ)) (so_far : Imported)
-    → RefusesNone (handle_all naming stop records so_far)
-    → HoldsMore (priced_usage so_far.book.rulings records) so_far.book (handle_all naming stop records so_far).book
+    → IsUnrefused (handle_all naming stop records so_far)
+    → HoldsMore (priced_usage so_far.book.rulings records) so_far.book
+    (handle_all naming stop records so_far).book
 holds_from naming stop [] so_far unrefused = none_came so_far.book
 holds_from naming stop (bytes ∷ rest) so_far unrefused =
     let later : Imported → Imported = handle_all naming stop rest in
     elim (handle naming bytes so_far) as (λ handled.
-    IfOk handled (λ next. HoldsIt (is_priced_usage so_far.book.rulings bytes) bytes so_far.book next.book)
-    → RefusesNone (go_on later so_far handled)
-    → HoldsMore (priced_usage so_far.book.rulings (bytes ∷ rest)) so_far.book (go_on later so_far handled).book) [
-      | Ok next ↦ λ one unrefused. then_rest bytes rest one (holds_from naming stop rest next unrefused)
+    IfOk handled
+    (λ next. HoldsIt (is_priced_usage so_far.book.rulings bytes) bytes so_far.book next.book)
+    → IsUnrefused (go_on later so_far handled)
+    → HoldsMore (priced_usage so_far.book.rulings (bytes ∷ rest)) so_far.book
+    (go_on later so_far handled).book) [
+      | Ok next ↦ λ one unrefused.
+          then_rest bytes rest one (holds_from naming stop rest next unrefused)
       | Err fault ↦ λ one unrefused. absurd (true≢false unrefused)
     ] (one_handled naming bytes so_far (class_of bytes)) unrefused
 
 -- the law of it
 pub holds_what_came : HoldsWhatCame
-holds_what_came naming before stop records unrefused = holds_from naming stop records (start_of before) unrefused
+holds_what_came naming before stop records unrefused =
+    holds_from naming stop records (start_of before) unrefused
 
 -- who is among the priced usage records of two lists
 has-both : (rulings : Rulings) (records later : List (List ℕ)) (other : List ℕ)
     → has (priced_usage rulings (records ++ later)) other
     ≡ (has (priced_usage rulings records) other || has (priced_usage rulings later) other)
 has-both rulings [] later other =
-    let nothing : has (priced_usage rulings []) other ≡ false = ap is_some (map.get-empty by_bytes other) in
+    let nothing : has (priced_usage rulings []) other
+    ≡ false = ap is_some (map.get-empty by_bytes other) in
     sym (ap (λ b. b || has (priced_usage rulings later) other) nothing)
 has-both rulings (bytes ∷ rest) later other =
     let this = is_priced_usage rulings bytes && is_same other bytes in
     has-first rulings bytes (rest ++ later) other
     ∙ ap (λ b. this || b) (has-both rulings rest later other)
-    ∙ sym (or_assoc this (has (priced_usage rulings rest) other) (has (priced_usage rulings later) other))
-    ∙ ap (λ b. b || has (priced_usage rulings later) other) (sym (has-first rulings bytes rest other))
+    ∙ sym (or_assoc this (has (priced_usage rulings rest) other)
+    (has (priced_usage rulings later) other))
+    ∙ ap (λ b. b || has (priced_usage rulings later) other)
+    (sym (has-first rulings bytes rest other))
 
 -- a batch and then others: the books hold what came of all of them
 then_later : (records later : List (List ℕ)) {old between new : Book}
@@ -198,17 +228,20 @@ then_later records later {old} {between} one more = record {
 }
 
 -- after batches of which none was refused a record, the books hold what came of all of them
-holds_batches : (naming : Naming) (before : Book) (batches : List Batch) → RefuseNone naming before batches
-    → HoldsMore (priced_usage before.rulings (records_of batches)) before (book_after naming before batches)
+holds_batches : (naming : Naming) (before : Book) (batches : List Batch)
+    → AreUnrefused naming before batches
+    → HoldsMore (priced_usage before.rulings (all_records batches)) before
+    (book_after_batches naming before batches)
 holds_batches naming before [] unrefused = none_came before
 holds_batches naming before (batch ∷ later) unrefused =
     let imported = import_of_records naming before batch.stop batch.records in
-    then_later batch.records (records_of later)
+    then_later batch.records (all_records later)
     (holds_what_came naming before batch.stop batch.records unrefused.0)
     (holds_batches naming imported.book later unrefused.1)
 
 -- lists with one set have one set of priced usage records
-same_priced : (rulings : Rulings) (records others : List (List ℕ)) → set_of by_bytes records ≡ set_of by_bytes others
+same_priced : (rulings : Rulings) (records others : List (List ℕ))
+    → set_of by_bytes records ≡ set_of by_bytes others
     → priced_usage rulings records ≡ priced_usage rulings others
 same_priced rulings records others same =
     let priced : List ℕ → Bool = is_priced_usage rulings in
@@ -232,21 +265,24 @@ same_book {one} {other} first second =
 -- the law of it
 pub cuts_make_no_difference : CutsMakeNoDifference
 cuts_make_no_difference naming before batches others same unrefused other_unrefused =
-    let after : Book = book_after naming before others in
+    let after : Book = book_after_batches naming before others in
     let first = holds_batches naming before batches unrefused in
     let second = holds_batches naming before others other_unrefused in
-    let priced = sym (same_priced before.rulings (records_of batches) (records_of others) same) in
+    let priced = sym (same_priced before.rulings (all_records batches) (all_records others) same) in
     same_book first (subst (λ came. HoldsMore came before after) priced second)
 
 -- the same of two dumps, each in one import
-pub one_import_each : (naming : Naming) (before : Book) (stop other_stop : Stop) (records others : List (List ℕ))
+pub one_import_each : (naming : Naming) (before : Book) (stop other_stop : Stop)
+    (records others : List (List ℕ))
     → set_of by_bytes records ≡ set_of by_bytes others
-    → RefusesNone (import_of_records naming before stop records)
-    → RefusesNone (import_of_records naming before other_stop others)
-    → (import_of_records naming before stop records).book ≡ (import_of_records naming before other_stop others).book
+    → IsUnrefused (import_of_records naming before stop records)
+    → IsUnrefused (import_of_records naming before other_stop others)
+    → (import_of_records naming before stop records).book
+    ≡ (import_of_records naming before other_stop others).book
 one_import_each naming before stop other_stop records others same unrefused other_unrefused =
     let batch : Batch = record { records = records; stop = stop } in
     let other_batch : Batch = record { records = others; stop = other_stop } in
     cuts_make_no_difference naming before (batch ∷ []) (other_batch ∷ [])
-    (ap (set_of by_bytes) (append-nil records) ∙ same ∙ sym (ap (set_of by_bytes) (append-nil others)))
+    (ap (set_of by_bytes) (append-nil records) ∙ same
+    ∙ sym (ap (set_of by_bytes) (append-nil others)))
     (unrefused, tt) (other_unrefused, tt)

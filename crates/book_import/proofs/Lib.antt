@@ -1,2 +1,3 @@
 pub mod ImportLemmas
 pub mod LawLemmas
+pub mod OnceLemmas

@@ -2,7 +2,7 @@ ghost use Rattle.std.specs.Prelude.{◌≡◌, ◌+◌, ◌≤◌, ◌<◌, ◌^
 ghost use Rattle.smf_frames.specs.Framed.{IsFramed};
 ghost use Rattle.smf_frames.specs.Texts.{texts};
 ghost use Rattle.book_model.specs.Answers.{Answers};
-ghost use Rattle.book_core.specs.PlainBook.{book_of, naming_of};
+ghost use Rattle.book_core.specs.PlainBook.{book_in, naming_in};
 ghost use Rattle.book_import.specs.Imports.{Handles, handle as handled};
 ghost use Rattle.book_import.specs.Receipts as spec;
 ghost use Rattle.book_import.specs.Receipts.{counted};
@@ -47,12 +47,13 @@ fn handle<N: Naming + Drop>(
 ) -> Result<(), LedgerFault>
     requires framed { IsFramed bytes.now }
     requires few { counted receipt.old < 2 ^ 63 }
-    ensures handled { Answers (λ _. record { receipt = receipt.new; book = book_of ledger.new }) result
-        (handled (N.name_of (naming_of ledger.old)) bytes.now
-        (record { receipt = receipt.old; book = book_of ledger.old })) }
+    ensures handled { Answers
+        (λ _. record { receipt = receipt.new; book = book_in ledger.new }) result
+        (handled (N.name_of (naming_in ledger.old)) bytes.now
+        (record { receipt = receipt.old; book = book_in ledger.old })) }
     ensures refused { OnErr result
-        ((receipt.new ≡ receipt.old) × (book_of ledger.new ≡ book_of ledger.old)) }
-    ensures naming { naming_of ledger.new ≡ naming_of ledger.old }
+        ((receipt.new ≡ receipt.old) × (book_in ledger.new ≡ book_in ledger.old)) }
+    ensures naming { naming_in ledger.new ≡ naming_in ledger.old }
     ensures counted { counted receipt.new ≤ counted receipt.old + 1 }
 {
     match class(bytes) {
@@ -73,9 +74,9 @@ pub fn import_records<N: Naming + Drop>(
     stop: Stop,
 ) -> Receipt
     requires { All IsFramed (texts records.now) }
-    ensures handled { Handles (N.name_of (naming_of ledger.old)) stop (texts records.now) (book_of ledger.old)
-        (record { receipt = result; book = book_of ledger.new }) }
-    ensures naming { naming_of ledger.new ≡ naming_of ledger.old }
+    ensures handled { Handles (N.name_of (naming_in ledger.old)) stop (texts records.now)
+        (book_in ledger.old) (record { receipt = result; book = book_in ledger.new }) }
+    ensures naming { naming_in ledger.new ≡ naming_in ledger.old }
 {
     let mut receipt = Receipt::stopped(Stop::End);
     for bytes in records {

@@ -1,12 +1,12 @@
 ghost use Rattle.std.specs.Prelude.{◌≡◌, ◌+◌, ◌≤◌, ◌^◌, ℕ, List, false};
 ghost use Rattle.std.specs.Io.KnownBytes.{Consumes};
 ghost use Rattle.streams.specs.Sources.{reader_of, reads_of, has_failed, has_ended};
-ghost use Rattle.book_core.specs.PlainBook.{book_of, naming_of};
+ghost use Rattle.streams.specs.Marks.{NothingIsLeft};
+ghost use Rattle.book_core.specs.PlainBook.{book_in, naming_in};
 ghost use Rattle.book_import.specs.Imports.{Imports};
-ghost use Rattle.book_import.specs.Reading.{ReadsOutFor, cut_of};
+ghost use Rattle.book_import.specs.Reading.{ReadsOutFor, cut_of, most_reads};
 
 use crate::dump::read_dump;
-use crate::reading::MAX_READS;
 use crate::receipt::{Receipt, Stop};
 use crate::records::import_records;
 use book_core::{LedgerFault, Naming, PlainLedger, Source};
@@ -26,16 +26,19 @@ pub fn import_whole<R: Read + Drop, N: Naming + Drop>(
     requires asked { reads_of source.old ≤ 2 ^ 62 }
     requires failed { has_failed source.old ≡ false }
     requires ended { has_ended source.old ≡ false }
-    requires reads { reads ≤ MAX_READS }
+    requires reads { reads ≤ most_reads }
 
-    // The reader lost these bytes, and they were booked.
+    // These bytes were taken from the reader, and booked. Where the source has ended, they are all
+    // that a reader had which tells its bytes.
     ensures booked { (bytes : List ℕ)
         × Consumes (R.remaining (reader_of source.old)) (R.remaining (reader_of source.new)) bytes
-        × Imports (N.name_of (naming_of ledger.old)) layout (cut_of source.new) bytes (book_of ledger.old)
-        (record { receipt = result; book = book_of ledger.new }) }
+        × Imports (N.name_of (naming_in ledger.old)) layout (cut_of source.new) bytes
+        (book_in ledger.old) (record { receipt = result; book = book_in ledger.new }) }
+    ensures left { NothingIsLeft
+        (has_ended source.new) (R.remaining (reader_of source.new)) }
     ensures asked { reads_of source.new ≤ reads_of source.old + reads }
     ensures read_out { ReadsOutFor reads source.old source.new result.stop }
-    ensures naming { naming_of ledger.new ≡ naming_of ledger.old }
+    ensures naming { naming_in ledger.new ≡ naming_in ledger.old }
 {
     let Ok(dump) = read_dump(alloc, source, layout, reads) else {
         return Receipt::stopped(Stop::Ledger(LedgerFault::Memory));

@@ -5,9 +5,9 @@ use Rattle.std.specs.Io.KnownBytes.{Consumes}
 use Rattle.smf_frames.specs.declared.dump.Layout.{Layout}
 use Rattle.smf_frames.specs.Front.{front}
 use Rattle.smf_frames.specs.Texts.{texts}
-use Rattle.book_import.specs.declared.dump.Dump.{Dump}
+use Rattle.book_import.specs.declared.dump.ReadDump.{ReadDump}
 use Rattle.book_import.specs.declared.receipt.Stop.{Stop}
-use Rattle.book_import.specs.Dumps.{IsDump, stop_behind}
+use Rattle.book_import.specs.Dumps.{IsReadDump, stop_behind}
 use Rattle.book_reports.specs.declared.fault.ReportFault.{ReportFault}
 use Rattle.book_reports.specs.declared.fault.ReportFault.TheVariants.{Write}
 use Rattle.book_reports.specs.CheckLists.{check_list_text}
@@ -28,8 +28,8 @@ module _ {layout : Layout} {cut : Option Stop} where
       }
 
   -- the list of a dump that was read, as far as it was written
-  pub is_check : (had left held holds : Option (List ℕ)) (answer : Result Stop ReportFault) (bytes : List ℕ) (dump : Dump)
-      → Consumes had left bytes → IsDump layout cut bytes dump
+  pub is_check : (had left held holds : Option (List ℕ)) (answer : Result Stop ReportFault) (bytes : List ℕ) (dump : ReadDump)
+      → Consumes had left bytes → IsReadDump layout cut bytes dump
       → Writes (check_list_text (texts dump.records.items) dump.stop ∷ []) held holds answer
       → IfOk answer (λ stop. stop ≡ stop_behind cut (front layout bytes))
       → IsCheck layout cut had left held holds answer

@@ -11,7 +11,8 @@ use Rattle.book_import.specs.declared.receipt.Stop.TheVariants.{Ledger}
 use Rattle.book_import.specs.Dumps.{stop_behind}
 use Rattle.book_import.specs.Imports.{Imported, Handles, handle, handle_all, go_on, start_of}
 use Rattle.book_import.specs.Imports.Handles.{whole, out_of_memory}
-use Rattle.book_import.specs.Laws.{is_stop_of_books, RefusesNone, import_of_records}
+use Rattle.book_import.specs.Receipts.{is_stop_of_books}
+use Rattle.book_import.specs.Laws.{IsUnrefused, import_of_records}
 use Rattle.book_import.proofs.LawLemmas.{one_import_each}
 use Rattle.chargectl.specs.Trials.{dispute_text, open_statement}
 use Rattle.chargectl.specs.Laws.{SameRecordsSameTexts}
@@ -29,7 +30,7 @@ ends_at_books naming fault (bytes ∷ rest) so_far =
 
 -- where no record was refused, and memory did not run out, all records were handled
 all_handled : (naming : Naming) (stop : Stop) (records : List (List ℕ)) (before : Book) (imported : Imported)
-    → Handles naming stop records before imported → RefusesNone imported
+    → Handles naming stop records before imported → IsUnrefused imported
     → imported ≡ import_of_records naming before stop records
 all_handled naming stop records before imported (whole is) unrefused = is
 all_handled naming stop records before imported (out_of_memory count is) unrefused =
@@ -48,7 +49,7 @@ same_records_same_texts terms layout other_layout cut other_cut bytes others imp
     let second = all_handled sha256 other_stop other_dump.records (flat_book terms) other two.booked two.unrefused in
     let between =
     one_import_each sha256 (flat_book terms) stop other_stop dump.records other_dump.records same
-    (subst RefusesNone first one.unrefused) (subst RefusesNone second two.unrefused) in
+    (subst IsUnrefused first one.unrefused) (subst IsUnrefused second two.unrefused) in
     let books : imported.book ≡ other.book =
     ap (λ (one : Imported). one.book) first ∙ between ∙ sym (ap (λ (one : Imported). one.book) second) in
     (ap open_statement books, ap dispute_text books)

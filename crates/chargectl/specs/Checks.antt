@@ -23,5 +23,6 @@ pub record IsCheck (layout : Layout) (cut : Option Stop) (had left held holds : 
   pub stop : IfOk answer (λ stop. stop ≡ stop_behind cut (front layout bytes))
 
 -- the reading went on to the input's end, to a failure, or to the last read that was allowed, unless memory ran out
-abbrev pub ReadsOutUnless : {R : Type 0} → ℕ → Source R → Source R → Result Stop ReportFault → Type 0
+abbrev pub ReadsOutUnless : {R : Type 0} {answers : _} {bytes : _}
+    → ℕ → Source R answers bytes → Source R answers bytes → Result Stop ReportFault → Type 0
 ReadsOutUnless reads old new answer = ReadsOut reads old new ⊎ (answer ≡ Err Memory)

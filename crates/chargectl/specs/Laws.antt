@@ -9,7 +9,7 @@ use Rattle.book_model.specs.Records.{Records, by_bytes}
 use Rattle.book_model.specs.Sets.{set_of}
 use Rattle.book_import.specs.declared.receipt.Stop.{Stop}
 use Rattle.book_import.specs.Imports.{Imported, Imports}
-use Rattle.book_import.specs.Laws.{RefusesNone}
+use Rattle.book_import.specs.Laws.{IsUnrefused}
 use Rattle.chargectl.specs.Trials.{dispute_text, open_statement}
 
 -- the records of a dump, each once
@@ -20,7 +20,7 @@ records_in layout bytes = set_of by_bytes (front layout bytes).records
 pub record IsWholeImport (terms : Terms) (layout : Layout) (cut : Option Stop) (bytes : List ℕ) (imported : Imported)
     : Type 0 where
   pub booked : Imports sha256 layout cut bytes (flat_book terms) imported
-  pub unrefused : RefusesNone imported
+  pub unrefused : IsUnrefused imported
 
 -- Dumps with the same records, each counted once, have the same statement and the same disputes, where the books refuse
 -- none: it makes no difference in which layout, segments and order the records lie, nor how often.

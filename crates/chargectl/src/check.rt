@@ -2,7 +2,7 @@ ghost use Rattle.std.specs.Prelude.{◌≡◌, ◌⊎◌, ◌+◌, ◌≤◌, �
 ghost use Rattle.streams.specs.Sinks.{writer_of, has_failed};
 ghost use Rattle.streams.specs.Sources as sources;
 ghost use Rattle.book_import.specs.Reading.{cut_of};
-ghost use Rattle.book_import.specs.Laws.{is_stop_of_books};
+ghost use Rattle.book_import.specs.Receipts.{is_stop_of_books};
 ghost use Rattle.chargectl.specs.Checks.{IsCheck, ReadsOutUnless};
 ghost use Rattle.chargectl.specs.Writing.{is_write_fault};
 

@@ -1,4 +1,6 @@
--- What a call of a reader or a writer may show; then what is seen of a source and of a sink.
+-- What a call of a reader or a writer may answer, and what the answer tells; then what is seen of a
+-- source and of a sink.
+pub mod Answers
 pub mod Marks
 pub mod Sources
 pub mod Sinks

@@ -2,15 +2,15 @@
 use Rattle.std.specs.Prelude.{ℕ, Bool}
 use Rattle.streams.specs.declared.source.Source.{Source}
 
-abbrev pub reader_of : {R : Type 0} → Source R → R
+abbrev pub reader_of : {R : Type 0} {answers : _} {reads : _} → Source R answers reads → R
 reader_of source = source.inner
 
 -- how often the reader was asked
-abbrev pub reads_of : {R : Type 0} → Source R → ℕ
+abbrev pub reads_of : {R : Type 0} {answers : _} {reads : _} → Source R answers reads → ℕ
 reads_of source = source.asked
 
-abbrev pub has_failed : {R : Type 0} → Source R → Bool
+abbrev pub has_failed : {R : Type 0} {answers : _} {reads : _} → Source R answers reads → Bool
 has_failed source = source.failed
 
-abbrev pub has_ended : {R : Type 0} → Source R → Bool
+abbrev pub has_ended : {R : Type 0} {answers : _} {reads : _} → Source R answers reads → Bool
 has_ended source = source.ended

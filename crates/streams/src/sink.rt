@@ -1,19 +1,19 @@
-ghost use Rattle.std.specs.Prelude.{◌≡◌, ◌||◌, ◌≤◌, IfOk, false, length};
+ghost use Rattle.std.specs.Prelude.{◌≡◌, ◌≤◌, IfOk, false, length};
 ghost use Rattle.std.specs.Io.KnownBytes.{WriteAppends};
 ghost use Rattle.streams.specs.Marks.{is_failed_write};
 ghost use Rattle.streams.specs.Sinks.{writer_of, has_failed};
 
+use crate::writer::Writer;
 use std::io;
-use std::io::Write;
 
 /// A writer, and whether a write failed.
 #[derive(Drop)]
-pub struct Sink<W: Write + Drop> {
+pub struct Sink<W: Writer + Drop> {
     inner: W,
     failed: bool,
 }
 
-impl<W: Write + Drop> Sink<W> {
+impl<W: Writer + Drop> Sink<W> {
     /// Over a writer that was not written to yet.
     pub fn new(inner: W) -> Sink<W>
         ensures writer { writer_of result ≡ inner }
@@ -39,25 +39,24 @@ impl<W: Write + Drop> Sink<W> {
         self.inner
     }
 
-    /// Writes once, and answers how many bytes the writer took.
+    /// Writes once, and answers how many bytes the writer took. Behind a write that failed, nothing
+    /// is written.
     pub fn write(&mut self, bytes: &[u8]) -> io::Result<usize>
+        requires { has_failed self.old ≡ false }
+
+        // One write, and its very answer.
+        ensures answer { W.may_answer
+            (writer_of self.old) bytes.now result (writer_of self.new) }
         ensures bound { IfOk result (λ count. count ≤ length bytes.now) }
         ensures bytes { WriteAppends (W.contents (writer_of self.old))
             (W.contents (writer_of self.new)) result bytes.now }
-        ensures failed { has_failed self.new
-            ≡ (has_failed self.old || is_failed_write result (length bytes.now)) }
+        ensures failed { has_failed self.new ≡ is_failed_write result (length bytes.now) }
     {
-        match self.inner.write(bytes) {
-            Ok(count) => {
-                if count == 0 && !bytes.is_empty() {
-                    self.failed = true;
-                }
-                Ok(count)
-            }
-            Err(error) => {
-                self.failed = true;
-                Err(error)
-            }
-        }
+        let answer = self.inner.hand(bytes);
+        self.failed = match answer {
+            Ok(count) => count == 0 && !bytes.is_empty(),
+            Err(_) => true,
+        };
+        answer
     }
 }

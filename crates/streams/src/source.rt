@@ -1,22 +1,24 @@
-ghost use Rattle.std.specs.Prelude.{◌≡◌, ◌+◌, ◌<◌, ◌^◌, ◌||◌, false, length};
+ghost use Rattle.std.specs.Prelude.{◌≡◌, ◌+◌, ◌<◌, ◌^◌, false, length};
 ghost use Rattle.std.specs.Io.{ReadsAtMost};
 ghost use Rattle.std.specs.Io.KnownBytes.{ReadConsumes};
-ghost use Rattle.streams.specs.Marks.{is_failed_read, is_end};
-ghost use Rattle.streams.specs.Sources.{reader_of, reads_of, has_failed, has_ended};
+ghost use Rattle.streams.specs.Marks.{is_failed_read, is_end, NothingIsLeft, at_end_once};
 
+use crate::reader::Reader;
 use std::io;
-use std::io::Read;
 
 /// A reader, and what became of the reads so far.
 #[derive(Drop)]
-pub struct Source<R: Read + Drop> {
+pub struct Source<R: Reader + Drop> {
     inner: R,
     asked: u64,
     failed: bool,
     ended: bool,
+    ghost at_end: { NothingIsLeft ended (R.remaining inner) } by { Prim.hlevel at_end_once },
 }
 
-impl<R: Read + Drop> Source<R> {
+impl<R: Reader + Drop> Source<R> {
+    ghost use Rattle.streams.specs.Sources.{reader_of, reads_of, has_failed, has_ended};
+
     /// Over a reader that was not asked yet.
     pub fn new(inner: R) -> Source<R>
         ensures reader { reader_of result ≡ inner }
@@ -48,41 +50,43 @@ impl<R: Read + Drop> Source<R> {
 
     /// A read into one or more bytes gave none.
     pub fn ended(&self) -> bool
-        ensures { result ≡ has_ended self.now }
+        ensures ended { result ≡ has_ended self.now }
+        ensures left { NothingIsLeft result (R.remaining (reader_of self.now)) }
     {
         self.ended
     }
 
     /// The reader, as the reads left it.
     pub fn into_inner(self) -> R
-        ensures { result ≡ reader_of self }
+        ensures reader { result ≡ reader_of self }
+        ensures left { NothingIsLeft (has_ended self) (R.remaining result) }
     {
         self.inner
     }
 
-    /// Asks the reader once.
+    /// Asks the reader once. Behind its end, or behind a read that failed, nothing is read.
     pub fn read(&mut self, buffer: &mut [u8]) -> io::Result<usize>
-        requires { reads_of self.old < 2 ^ 63 }
+        requires asked { reads_of self.old < 2 ^ 63 }
+        requires failed { has_failed self.old ≡ false }
+        requires ended { has_ended self.old ≡ false }
+
+        // One read, and its very answer.
+        ensures answer { R.may_answer
+            (reader_of self.old) buffer.old result (reader_of self.new) buffer.new }
         ensures bound { ReadsAtMost result buffer.new }
         ensures bytes { ReadConsumes (R.remaining (reader_of self.old))
             (R.remaining (reader_of self.new)) result buffer.new }
         ensures asked { reads_of self.new ≡ reads_of self.old + 1 }
-        ensures failed { has_failed self.new ≡ (has_failed self.old || is_failed_read result) }
-        ensures ended { has_ended self.new
-            ≡ (has_ended self.old || is_end result (length buffer.old)) }
+        ensures failed { has_failed self.new ≡ is_failed_read result }
+        ensures ended { has_ended self.new ≡ is_end result (length buffer.old) }
+        ensures left { NothingIsLeft (has_ended self.new) (R.remaining (reader_of self.new)) }
     {
         self.asked += 1;
-        match self.inner.read(buffer) {
-            Ok(count) => {
-                if count == 0 && !buffer.is_empty() {
-                    self.ended = true;
-                }
-                Ok(count)
-            }
-            Err(error) => {
-                self.failed = true;
-                Err(error)
-            }
+        let answer = self.inner.ask(buffer);
+        match answer {
+            Ok(count) => self.ended = count == 0 && !buffer.is_empty(),
+            Err(_) => self.failed = true,
         }
+        answer
     }
 }

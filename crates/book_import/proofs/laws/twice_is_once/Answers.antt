@@ -1,0 +1,5 @@
+use Rattle.book_import.proofs.OnceLemmas.{twice_is_once}
+use Rattle.book_import.proofs.laws.twice_is_once.Goals as goal
+
+pub returns : goal.returns
+returns c = twice_is_once
