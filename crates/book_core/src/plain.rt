@@ -1,6 +1,6 @@
 ghost use Rattle.std.specs.Prelude.{◌≡◌, ◌≤◌, ◌+◌, ◌||◌, Ok, Err, length, nat_le, nat_lt};
 ghost use Rattle.std.specs.Prelude.{if◌then◌else◌};
-ghost use Rattle.tariff_rules.specs.declared.rates.TheConstants.{MAX_AMOUNT};
+ghost use Rattle.tariff_rules.specs.Price.{most_amount};
 ghost use Rattle.book_model.specs.Limits.{most_cost, most_held};
 ghost use Rattle.book_model.specs.Records as spec;
 ghost use Rattle.book_model.specs.Records.{IsUsageRecord, by_bytes, same_bytes};
@@ -45,7 +45,7 @@ fn known_or_clash(held: &HeldRecord, bytes: &[u8]) -> Result<Accepted, LedgerFau
 /// There is no room for a record that costs so much beside so many, which cost so much together.
 fn is_full(count: usize, total: u64, amount: u64) -> bool
     requires total { total ≤ most_cost }
-    requires amount { amount ≤ MAX_AMOUNT }
+    requires amount { amount ≤ most_amount }
     ensures { result ≡ (nat_le most_held count || nat_lt most_cost (total + amount)) }
 {
     count >= MAX_HELD || total + amount > MAX_COST

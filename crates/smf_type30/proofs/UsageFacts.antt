@@ -3,7 +3,7 @@ use Rattle.std.proofs.Common.{◌≡◌, ◌≢◌, ◌≤◌, ◌<◌, ◌==◌
 use Rattle.std.proofs.lemmas.Bool.{ltb-true, ltb-false, eqb-true, eqb-false, not-false, or_cases, and_from, not_from_false, cond-false, ne_eqb}
 use Rattle.std.specs.Option.{option_or}
 use Rattle.smf_text.specs.PackedDate.{packed_day_of}
-use Rattle.smf_frames.specs.declared.header.TheConstants.{HEADER_LEN}
+use Rattle.smf_frames.specs.Header.{header_len}
 use Rattle.smf_frames.specs.declared.header.Header.{Header}
 use Rattle.smf_frames.specs.Header.{header_of}
 use Rattle.smf_type30.specs.Layout.{dump_header, dump_trailer, data_lost, work, step_end, job_end, subtype_end, triplets_end, hundredths_per_day, identification, processor, io_activity, completion}
@@ -119,7 +119,7 @@ step_or_job bytes e = elim (or_cases _ _ e) [
 pub usage_facts : (bytes : List ℕ) → IsUsage bytes → UsageFacts bytes
 unfolding class_of measures_work
 usage_facts bytes usage =
-    let header = passed (nat_lt (length bytes) HEADER_LEN) _ _ _ (λ e. cc) usage in
+    let header = passed (nat_lt (length bytes) header_len) _ _ _ (λ e. cc) usage in
     let dump_header = passed (type_of bytes == dump_header) _ _ _ (λ e. cc) header.below in
     let dump_trailer = passed (type_of bytes == dump_trailer) _ _ _ (λ e. cc) dump_header.below in
     let data_lost = passed (type_of bytes == data_lost) _ _ _ (λ e. cc) dump_trailer.below in
@@ -174,7 +174,7 @@ accounting_damage : (bytes : List ℕ) → class_of bytes ≡ Damaged Accounting
     → damage_of bytes ≡ Some Accounting
 unfolding class_of
 accounting_damage bytes e =
-    let header = passed (nat_lt (length bytes) HEADER_LEN) _ _ _ (λ e. cc) e in
+    let header = passed (nat_lt (length bytes) header_len) _ _ _ (λ e. cc) e in
     let dump_header = passed (type_of bytes == dump_header) _ _ _ (λ e. cc) header.below in
     let dump_trailer = passed (type_of bytes == dump_trailer) _ _ _ (λ e. cc) dump_header.below in
     let data_lost = passed (type_of bytes == data_lost) _ _ _ (λ e. cc) dump_trailer.below in

@@ -2,7 +2,7 @@
 use Rattle.std.specs.Prelude.{◌≡◌, ℕ, ◌==◌, ◌&&◌, ◌||◌, not, Bool, nat_lt, if◌then◌else◌, List, length, Option, Some, None, is_err, is_none}
 use Rattle.std.specs.Option.{option_or}
 use Rattle.smf_text.specs.PackedDate.{packed_day_of}
-use Rattle.smf_frames.specs.declared.header.TheConstants.{HEADER_LEN}
+use Rattle.smf_frames.specs.Header.{header_len}
 use Rattle.smf_frames.specs.declared.header.Header.{Header}
 use Rattle.smf_frames.specs.Header.{header_of}
 use Rattle.smf_type30.specs.Layout.{dump_header, dump_trailer, data_lost, work, step_end, job_end, subtype_end, triplets_end, hundredths_per_day, identification, processor, io_activity, completion}
@@ -58,7 +58,7 @@ class_of_work bytes =
 -- the class of a record, the first that applies; a short record is one that lacks a whole header
 unfoldable pub class_of : List ℕ → Class
 class_of bytes =
-    if nat_lt (length bytes) HEADER_LEN then Damaged Short
+    if nat_lt (length bytes) header_len then Damaged Short
     else if type_of bytes == dump_header then DumpHeader
     else if type_of bytes == dump_trailer then DumpTrailer
     else if type_of bytes == data_lost then DataLost

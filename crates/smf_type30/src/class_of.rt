@@ -1,5 +1,5 @@
 ghost use Rattle.std.specs.Prelude.{◌≡◌, ◌≤◌, length, IsTrue};
-ghost use Rattle.smf_frames.specs.declared.header.TheConstants.{HEADER_LEN};
+ghost use Rattle.smf_frames.specs.Header.{header_len};
 ghost use Rattle.smf_frames.specs.Header.{header_of};
 ghost use Rattle.smf_type30.specs.declared.classes.Class.TheVariants.{Usage, Damaged};
 ghost use Rattle.smf_type30.specs.declared.damage.Damage.TheVariants.{Accounting};
@@ -48,7 +48,7 @@ pub fn section_damage(bytes: &[u8]) -> Option<Damage>
 /// The class of a work record.
 #[tactic(auto, unfolding(crate::specs::Usage::subtype_of, crate::specs::Class::damage_of))]
 fn class_of_work(bytes: &[u8], header: &Header) -> Class
-    requires long { HEADER_LEN ≤ length bytes.now }
+    requires long { header_len ≤ length bytes.now }
     requires header { header.now ≡ header_of bytes.now }
     ensures { result ≡ spec.class_of_work bytes.now }
 {
