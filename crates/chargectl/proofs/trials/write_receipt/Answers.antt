@@ -3,7 +3,7 @@ use Rattle.std.proofs.lemmas.Result.{err_from_is_err_and}
 use Rattle.streams.specs.Sinks.{writer_of}
 use Rattle.chargectl.specs.Writing.{Writes}
 use Rattle.chargectl.proofs.WritingLemmas.{memory_not_write, nothing_written, text_written}
-use Rattle.chargectl.proofs.trial.write_receipt.Goals as goal
+use Rattle.chargectl.proofs.trials.write_receipt.Goals as goal
 
 pub returns-in_err-line-clause-text : goal.returns-in_err-line-clause-text
 returns-in_err-line-clause-text g c =

@@ -9,7 +9,7 @@ use Rattle.book_reports.specs.ReceiptLines.{receipt_line_text}
 use Rattle.chargectl.specs.Trials.{dispute_text, open_statement}
 use Rattle.chargectl.proofs.TrialLemmas.{is_trial, no_trial}
 use Rattle.chargectl.proofs.WritingLemmas.{memory_not_write, others_unwritten, others_written}
-use Rattle.chargectl.proofs.trial.trial.Goals as goal
+use Rattle.chargectl.proofs.trials.trial.Goals as goal
 
 pub returns-in_err-ledger-clause-trial : goal.returns-in_err-ledger-clause-trial
 returns-in_err-ledger-clause-trial g c =

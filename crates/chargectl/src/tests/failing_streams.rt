@@ -1,6 +1,6 @@
 //! Readers and writers that fail.
 
-use crate::tests::samples::{LEN, STEP};
+use super::samples::{LEN, STEP};
 use std::io;
 use std::io::{ErrorKind, Read, Write};
 

@@ -1,23 +1,14 @@
 //! The program of the chargeback office.
 #![tactic(auto)]
 
-mod check;
-mod laws;
-mod message;
-mod program;
-mod status;
-#[cfg(test)]
-mod tests;
-mod trial;
-mod words;
-
+use chargectl::{command, words_failed};
 use std::process::ExitCode;
 use std::{env, io};
 
 fn main(rt: HostRuntime) -> ExitCode {
     let status = match given_words(&rt) {
-        Ok(words) => program::command(&rt, &words, rt.reader(), io::writer(&rt), &mut rt.stderr()),
-        Err(error) => message::words_failed(&mut rt.stderr(), &error),
+        Ok(words) => command(&rt, &words, rt.reader(), io::writer(&rt), &mut rt.stderr()),
+        Err(error) => words_failed(&mut rt.stderr(), &error),
     };
     ExitCode::from(status.code())
 }

@@ -1,21 +1,14 @@
-//! What the words of the command line ask for.
+//! The words of the command line, as `clap` reads them.
 
+use crate::fault::WordFault;
+use crate::request::Request;
+use clap::error::ErrorKind;
 use clap::{Arg, ArgAction, ArgMatches, Command, Error};
 use smf_frames::Layout;
 use std::alloc::Global;
-use tariff_rules::{MAX_RATE, Tariff};
 
 /// The name by which the program speaks of itself.
 pub const PROGRAM: &str = "chargectl";
-
-/// One command, with its words.
-#[derive(Debug, Drop)]
-pub enum Request<'a> {
-    /// Standard input into new books, under one price for all records.
-    Trial { layout: Layout, tariff: Tariff },
-    /// What every record of a file is.
-    Check { file: &'a str, layout: Layout },
-}
 
 static LAYOUTS: [&str; 2] = ["rdw", "bdw"];
 
@@ -31,17 +24,17 @@ fn layout_option<'a>(alloc: Global) -> Result<Arg<'a>, Error> {
     )
 }
 
-fn rate_option<'a>(alloc: Global, name: &'a str, help: &'a str) -> Arg<'a> {
+fn rate_option<'a>(alloc: Global, name: &'a str, help: &'a str, highest: u32) -> Arg<'a> {
     Arg::new(alloc, name)
         .long(name)
         .value_name("RATE")
         .help(help)
         .action(ArgAction::Set)
         .default_value("0")
-        .value_parser(clap::value_parser!(u64).range(0..=MAX_RATE as i64))
+        .value_parser(clap::value_parser!(u64).range(0..=i64::from(highest)))
 }
 
-fn trial_command<'a>(alloc: Global) -> Result<Command<'a>, Error> {
+fn trial_command<'a>(alloc: Global, highest: u32) -> Result<Command<'a>, Error> {
     Ok(
         Command::new(alloc, "trial")
             .about(
@@ -52,16 +45,19 @@ fn trial_command<'a>(alloc: Global) -> Result<Command<'a>, Error> {
                 alloc,
                 "cpu",
                 "Ten-thousandths of the money unit for a CPU second",
+                highest,
             ))?
             .arg(rate_option(
                 alloc,
                 "excp",
                 "Ten-thousandths of the money unit for 1,000 blocks",
+                highest,
             ))?
             .arg(rate_option(
                 alloc,
                 "record",
                 "Ten-thousandths of the money unit for a record",
+                highest,
             ))?,
     )
 }
@@ -81,12 +77,12 @@ fn check_command<'a>(alloc: Global) -> Result<Command<'a>, Error> {
     )
 }
 
-fn command_line<'a>(alloc: Global) -> Result<Command<'a>, Error> {
+fn command_line<'a>(alloc: Global, highest: u32) -> Result<Command<'a>, Error> {
     Ok(
         Command::new(alloc, PROGRAM)
             .about("The books of a chargeback office, read from SMF type 30 records")
             .subcommand_required(true)
-            .subcommand(trial_command(alloc)?)?
+            .subcommand(trial_command(alloc, highest)?)?
             .subcommand(check_command(alloc)?)?,
     )
 }
@@ -102,19 +98,13 @@ fn rate_in(found: &ArgMatches<'_>, name: &str) -> u64 {
     found.get_one::<u64>(name).unwrap_or(0)
 }
 
-/// One price for all records.
-fn tariff_in(alloc: Global, found: &ArgMatches<'_>) -> Option<Tariff> {
-    Tariff::flat(
-        alloc,
-        rate_in(found, "cpu"),
-        rate_in(found, "excp"),
-        rate_in(found, "record"),
-    )
-}
-
-fn trial_in<'a>(alloc: Global, found: &ArgMatches<'a>) -> Option<Request<'a>> {
-    let layout = layout_in(found);
-    tariff_in(alloc, found).map(|tariff| Request::Trial { layout, tariff })
+fn trial_in<'a>(found: &ArgMatches<'_>) -> Request<'a> {
+    Request::Trial {
+        layout: layout_in(found),
+        cpu: rate_in(found, "cpu"),
+        excp: rate_in(found, "excp"),
+        record: rate_in(found, "record"),
+    }
 }
 
 fn check_in<'a>(found: &ArgMatches<'a>) -> Option<Request<'a>> {
@@ -124,13 +114,42 @@ fn check_in<'a>(found: &ArgMatches<'a>) -> Option<Request<'a>> {
         .map(|file| Request::Check { file, layout })
 }
 
-/// The command that the words ask for, of which the first is the program's name. None would be a
-/// subcommand, a rate or a missing file that `command_line` does not let pass.
-pub fn requested_by<'a>(alloc: Global, words: &'a [String]) -> Result<Option<Request<'a>>, Error> {
-    let matches = command_line(alloc)?.try_get_matches_from(words)?;
-    Ok(match matches.subcommand() {
-        Some(("trial", found)) => trial_in(alloc, found),
+/// What `clap` says of words that it does not take.
+fn fault_in(alloc: Global, error: &Error) -> WordFault {
+    if error.kind() == ErrorKind::OutOfMemory {
+        return WordFault::Memory;
+    }
+    match format!(in alloc; "{error}") {
+        Err(_) => WordFault::Memory,
+        Ok(text) if error.use_stderr() => WordFault::Wrong(text),
+        Ok(text) => WordFault::Help(text),
+    }
+}
+
+fn matches_in<'a>(
+    alloc: Global,
+    words: &'a [String],
+    highest: u32,
+) -> Result<ArgMatches<'a>, Error> {
+    command_line(alloc, highest)?.try_get_matches_from(words)
+}
+
+/// The command that the words ask for, of which the first is the program's name, where no rate is
+/// higher than that. Wrong without a text would be a subcommand or a missing file that
+/// `command_line` does not let pass.
+pub fn requested_by<'a>(
+    alloc: Global,
+    words: &'a [String],
+    highest: u32,
+) -> Result<Request<'a>, WordFault> {
+    let matches = match matches_in(alloc, words, highest) {
+        Ok(matches) => matches,
+        Err(error) => return Err(fault_in(alloc, &error)),
+    };
+    let request = match matches.subcommand() {
+        Some(("trial", found)) => Some(trial_in(found)),
         Some(("check", found)) => check_in(found),
         _ => None,
-    })
+    };
+    request.ok_or(WordFault::Wrong(String::new(alloc)))
 }
