@@ -13,7 +13,7 @@ use Rattle.book_import.specs.Imports.{Imported, Handles, handle, handle_all, go_
 use Rattle.book_import.specs.Imports.Handles.{whole, out_of_memory}
 use Rattle.book_import.specs.Laws.{is_stop_of_books, RefusesNone, import_of_records}
 use Rattle.book_import.proofs.LawLemmas.{one_import_each}
-use Rattle.chargectl.specs.Trials.{dispute_text, open_statement}
+use Rattle.book_reports.specs.BookTexts.{dispute_text, open_statement}
 use Rattle.chargectl.specs.Laws.{SameRecordsSameTexts}
 
 -- an import that ends with a fault of the books has the stop of one

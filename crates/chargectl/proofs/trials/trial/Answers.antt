@@ -6,9 +6,9 @@ use Rattle.book_import.specs.declared.receipt.Receipt.{Receipt}
 use Rattle.book_import.specs.Imports.{Imported}
 use Rattle.book_reports.specs.declared.fault.ReportFault.{ReportFault}
 use Rattle.book_reports.specs.ReceiptLines.{receipt_line_text}
-use Rattle.chargectl.specs.Trials.{dispute_text, open_statement}
+use Rattle.book_reports.specs.BookTexts.{dispute_text, open_statement}
+use Rattle.book_reports.proofs.WritingLemmas.{memory_not_write, others_unwritten, others_written}
 use Rattle.chargectl.proofs.TrialLemmas.{is_trial, no_trial}
-use Rattle.chargectl.proofs.WritingLemmas.{memory_not_write, others_unwritten, others_written}
 use Rattle.chargectl.proofs.trials.trial.Goals as goal
 
 pub returns-in_err-ledger-clause-trial : goal.returns-in_err-ledger-clause-trial

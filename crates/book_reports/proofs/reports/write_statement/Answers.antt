@@ -1,16 +1,15 @@
 use Rattle.std.proofs.Common.{◌∙◌, [], ◌∷◌, sym, ap, subst, None}
-use Rattle.chargectl.proofs.TrialLemmas.{same_value}
 use Rattle.std.proofs.lemmas.Result.{err_from_is_err_and}
 use Rattle.streams.specs.Sinks.{writer_of}
 use Rattle.book_reports.specs.Statements.{statement_text}
-use Rattle.chargectl.specs.Writing.{Writes}
-use Rattle.chargectl.proofs.WritingLemmas.{ledger_not_write, memory_not_write, nothing_written, text_written}
-use Rattle.chargectl.proofs.trials.write_statement.Goals as goal
+use Rattle.book_reports.specs.Writing.{Writes}
+use Rattle.book_reports.proofs.WritingLemmas.{refusal_not_write, memory_not_write, nothing_written, same_value, text_written}
+use Rattle.book_reports.proofs.reports.write_statement.Goals as goal
 
 pub returns-in_err-rows-clause-text : goal.returns-in_err-rows-clause-text
 returns-in_err-rows-clause-text g c =
     let failed = err_from_is_err_and c.from_residual.result c.from_residual.ensures.1 in
-    rw failed.1 (nothing_written failed.0 _ _ [] (ledger_not_write failed.2))
+    rw failed.1 (nothing_written failed.0 _ _ [] (refusal_not_write _ failed.2))
 
 pub returns-in_err-statement-clause-text : goal.returns-in_err-statement-clause-text
 returns-in_err-statement-clause-text g c =
@@ -25,4 +24,4 @@ returns-clause-text g c =
     let text = c.as_str.ensures.value ∙ c.in_ok-statement.ensures ∙ ap (statement_text 1 None) rows in
     subst (λ text. Writes (text ∷ []) held holds c.write_text.result) text
     (text_written _ held holds c.as_str.result.now c.write_text.result
-    c.write_text.ensures.whole c.write_text.ensures.fault c.write_text.ensures.front)
+    c.write_text.ensures.whole c.write_text.ensures.fault c.write_text.ensures.prefix)

@@ -1,9 +1,9 @@
 use Rattle.std.proofs.Common.{◌∙◌, [], ◌∷◌, subst}
 use Rattle.std.proofs.lemmas.Result.{err_from_is_err_and}
 use Rattle.streams.specs.Sinks.{writer_of}
-use Rattle.chargectl.specs.Writing.{Writes}
-use Rattle.chargectl.proofs.WritingLemmas.{memory_not_write, nothing_written, text_written}
-use Rattle.chargectl.proofs.trials.write_receipt.Goals as goal
+use Rattle.book_reports.specs.Writing.{Writes}
+use Rattle.book_reports.proofs.WritingLemmas.{memory_not_write, nothing_written, text_written}
+use Rattle.book_reports.proofs.reports.write_receipt.Goals as goal
 
 pub returns-in_err-line-clause-text : goal.returns-in_err-line-clause-text
 returns-in_err-line-clause-text g c =
@@ -17,4 +17,4 @@ returns-clause-text g c =
     let text = c.as_str.ensures.value ∙ c.in_ok-line.ensures in
     subst (λ text. Writes (text ∷ []) held holds c.write_text.result) text
     (text_written _ held holds c.as_str.result.now c.write_text.result
-    c.write_text.ensures.whole c.write_text.ensures.fault c.write_text.ensures.front)
+    c.write_text.ensures.whole c.write_text.ensures.fault c.write_text.ensures.prefix)

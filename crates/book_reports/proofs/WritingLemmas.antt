@@ -1,39 +1,62 @@
--- Texts that are written one after another, up to a fault.
-use Rattle.std.proofs.Common.{◌≡◌, ◌≢◌, ℕ, ◌<◌, List, [], ◌∷◌, ◌++◌, length, take, Option, Result, Ok, Err, refl, sym, ap, subst, ◌∙◌, append_assoc, append-nil}
+-- What a run of writes hands to a writer, and texts that are written one after another, up to a
+-- fault.
+use Rattle.std.proofs.Common.{◌≡◌, ◌≢◌, ℕ, ◌+◌, ◌-◌, ◌<◌, List, [], ◌∷◌, ◌++◌, length, take, drop, Option}
+use Rattle.std.proofs.Common.{Result, Ok, Err, refl, sym, ap, subst, ◌∙◌, append_assoc, append-nil}
+use Rattle.std.proofs.Common.{arith, length-drop, take-add, take_all}
 use Rattle.std.specs.Prelude.{OnOk, OnErr, IfErr}
 use Rattle.std.specs.List.{concat}
+use Rattle.std.specs.Result.{result_unwrap_or}
 use Rattle.std.specs.Io.KnownBytes.{Appends}
 use Rattle.std.proofs.KnownBytes.{Appends-nil, Appends-trans}
 use Rattle.book_model.specs.declared.fault.LedgerFault.{LedgerFault}
+use Rattle.book_model.specs.declared.fault.LedgerFault.TheVariants as ledger
 use Rattle.book_reports.specs.declared.fault.ReportFault.{ReportFault}
-use Rattle.book_reports.specs.declared.fault.ReportFault.TheVariants.{Write, Memory, Ledger}
-use Rattle.chargectl.specs.Writing.{Writes, WritesUpTo}
+use Rattle.book_reports.specs.declared.fault.ReportFault.TheVariants.{Write, Memory}
+use Rattle.book_reports.specs.Faults.{report_fault_of}
+use Rattle.book_reports.specs.Writing.{Writes, WritesUpTo}
+
+-- one more write appends the bytes that it took behind those so far
+pub taken_more : (first before after : Option (List ℕ)) (text : List ℕ) (written count : ℕ)
+    → Appends first before (take written text)
+    → Appends before after (take count (take (length text - written) (drop written text)))
+    → Appends first after (take (written + count) text)
+taken_more first before after text written count so_far one =
+    let left = length text - written in
+    let rest = drop written text in
+    let handed : take left rest ≡ rest = take_all left rest (simp length-drop (omega arith)) in
+    let more = rw handed at one in
+    rw take-add (Appends-trans first before after (take written text) (take count rest) so_far more)
 
 -- want of memory is no failed write
 pub memory_not_write : {fault : ReportFault} → fault ≡ Memory → fault ≢ Write
 memory_not_write is write = cc
 
 -- nor is a refusal of the books
-pub ledger_not_write : {fault : ReportFault} {refusal : LedgerFault} → fault ≡ Ledger refusal → fault ≢ Write
-ledger_not_write is write = cc
+pub refusal_not_write : (refusal : LedgerFault) {fault : ReportFault} → fault ≡ report_fault_of refusal → fault ≢ Write
+refusal_not_write ledger.Memory is write = cc
+refusal_not_write refusal is write = cc
+
+-- equal answers have equal values
+pub same_value : {A : Type 0} {x y : A} → ◌≡◌ {A = Result A LedgerFault} (Ok x) (Ok y) → x ≡ y
+same_value {x = x} same = ap (λ answer. result_unwrap_or answer x) same
 
 -- what `write_text` leaves
 pub text_written : (F : Type 0) (held holds : Option (List ℕ)) (text : List ℕ) (answer : Result (Unit {0}) ReportFault)
     → OnOk answer (Appends held holds text × F) → IfErr answer (λ fault. fault ≡ Write)
     → OnErr answer ((n : ℕ) × (n < length text) × Appends held holds (take n text))
     → Writes (text ∷ []) held holds answer
-text_written F held holds text (Ok done) whole failed front =
+text_written F held holds text (Ok done) whole failed prefix =
     subst (Appends held holds) (sym (append-nil text)) whole.0
-text_written F held holds text (Err fault) whole failed front =
+text_written F held holds text (Err fault) whole failed prefix =
     record {
       whole = [];
       next = text;
       rest = [];
-      count = front.0;
+      count = prefix.0;
       parts = refl;
-      grown = front.2;
+      grown = prefix.2;
       unless_write = λ other. absurd (other failed);
-      after_write = λ write. front.1;
+      after_write = λ write. prefix.1;
     }
 
 -- before the first write there is nothing
