@@ -1,4 +1,4 @@
 pub mod ColumnLemmas
 pub mod ListLemmas
 pub mod NumberLemmas
-pub mod WriteLemmas
+pub mod WritingLemmas

@@ -1,18 +1,19 @@
 -- Lists of a check: of what type and class each record is, and how many there are.
 use Rattle.std.specs.Prelude.{ℕ, ◌+◌, if◌then◌else◌, nat_lt, List, [], ◌∷◌, ◌++◌, length, codes}
 use Rattle.std.specs.Fmt.{decimal}
-use Rattle.smf_frames.specs.declared.header.TheConstants.{HEADER_LEN}
 use Rattle.smf_type30.specs.declared.classes.Class.{Class}
-use Rattle.smf_type30.specs.declared.classes.Class.TheVariants.{DumpHeader, DumpTrailer, DataLost, Other, Continuation, Usage, Damaged}
+use Rattle.smf_type30.specs.declared.classes.Class.TheVariants.{DumpHeader, DumpTrailer, DataLost}
+use Rattle.smf_type30.specs.declared.classes.Class.TheVariants.{Other, Continuation, Usage, Damaged}
 use Rattle.smf_type30.specs.Class.{type_of, class_of}
 use Rattle.smf_type30.specs.Damage.{damage_number}
 use Rattle.book_import.specs.declared.receipt.Stop.{Stop}
 use Rattle.book_reports.specs.Columns.{line_end}
 use Rattle.book_reports.specs.ReceiptLines.{fault_text, stop_text}
 
--- the type of a record, which one without a whole header does not tell
+-- the type of a record, which one that is shorter than the 18 bytes of a header does not tell
+-- (SA38-0667, standard SMF record header)
 abbrev pub type_text : List ℕ → List ℕ
-type_text bytes = if nat_lt (length bytes) HEADER_LEN then codes "-" else decimal (type_of bytes)
+type_text bytes = if nat_lt (length bytes) 18 then codes "-" else decimal (type_of bytes)
 
 -- the class of a record; of a damaged one, the number of its damage too
 abbrev pub class_text : Class → List ℕ

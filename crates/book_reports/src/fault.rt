@@ -8,14 +8,14 @@ use thiserror::Error;
 /// Why a report was not written whole.
 #[derive(Clone, Copy, Debug, PartialEq, Eq, Error)]
 pub enum ReportFault {
-    /// A write failed, or took none of the bytes that were left: the writer has no more than a
-    /// front of the text.
+    /// A write failed, or took none of the bytes that were left: the writer has a prefix of the
+    /// text, and not the whole.
     #[error("a write failed")]
     Write,
-    /// A request for memory was refused, before anything was written.
+    /// A request for memory was refused, by the books too.
     #[error("want of memory")]
     Memory,
-    /// The books refused what the report asks of them, before anything was written.
+    /// The books refused what the report asks of them.
     #[error("the books refused: {0}")]
     Ledger(LedgerFault),
 }
@@ -44,11 +44,14 @@ impl From<AllocError> for ReportFault {
 }
 
 impl From<LedgerFault> for ReportFault {
-    ghost use Rattle.book_reports.specs.declared.fault.ReportFault.TheVariants.{Ledger};
+    ghost use Rattle.book_reports.specs.Faults.{report_fault_of};
 
-    ghost from_gives = { λ ledger_fault fault. fault ≡ Ledger ledger_fault };
+    ghost from_gives = { λ ledger_fault fault. fault ≡ report_fault_of ledger_fault };
 
     fn from(fault: LedgerFault) -> Self {
-        ReportFault::Ledger(fault)
+        match fault {
+            LedgerFault::Memory => ReportFault::Memory,
+            _ => ReportFault::Ledger(fault),
+        }
     }
 }

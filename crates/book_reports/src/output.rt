@@ -9,8 +9,8 @@ use book_core::Sink;
 use std::io::Write;
 
 /// Writes a text, in as many writes as the writer needs. Behind a write that failed, or that took
-/// nothing, there is no further one: the writer has a front of the text, and not the whole.
-#[tactic(auto, using(crate::proofs::WriteLemmas::taken_more))]
+/// nothing, there is no further one: the writer has a prefix of the text, and not the whole.
+#[tactic(auto, using(crate::proofs::WritingLemmas::taken_more))]
 pub fn write_text<W: Write + Drop>(sink: &mut Sink<W>, text: &str) -> Result<(), ReportFault>
     requires { has_failed sink.old ≡ false }
     ensures whole { OnOk result (Appends
@@ -20,7 +20,7 @@ pub fn write_text<W: Write + Drop>(sink: &mut Sink<W>, text: &str) -> Result<(),
     // Nothing but a write that fails, or that takes nothing, keeps a text from being written.
     ensures fault { IfErr result (λ fault. fault ≡ ReportFault.Write) }
     ensures failed { OnErr result (has_failed sink.new ≡ true) }
-    ensures front { OnErr result ((n : ℕ) × (n < length text.now) × Appends
+    ensures prefix { OnErr result ((n : ℕ) × (n < length text.now) × Appends
         (W.contents (writer_of sink.old)) (W.contents (writer_of sink.new)) (take n text.now)) }
 {
     let bytes = text.as_bytes();

@@ -14,7 +14,7 @@ use Rattle.book_import.specs.Imports.Handles.{whole, out_of_memory}
 use Rattle.book_import.specs.Receipts.{is_stop_of_books}
 use Rattle.book_import.specs.Laws.{IsUnrefused, import_of_records}
 use Rattle.book_import.proofs.LawLemmas.{one_import_each}
-use Rattle.chargectl.specs.Trials.{dispute_text, open_statement}
+use Rattle.book_reports.specs.BookTexts.{dispute_text, open_statement}
 use Rattle.chargectl.specs.Laws.{SameRecordsSameTexts}
 
 -- an import that ends with a fault of the books has the stop of one

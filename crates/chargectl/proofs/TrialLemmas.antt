@@ -1,14 +1,12 @@
 -- What makes a trial: new books, the import, and what was written.
-use Rattle.std.proofs.Common.{◌≡◌, ◌≢◌, ℕ, List, [], ◌∷◌, Option, Result, Ok, Err, refl, ap, subst}
+use Rattle.std.proofs.Common.{◌≡◌, ◌≢◌, ℕ, List, [], ◌∷◌, Option, Result, Err, refl, subst}
 use Rattle.std.specs.Prelude.{IfOk}
 use Rattle.std.specs.Io.KnownBytes.{Consumes}
-use Rattle.std.specs.Result.{result_unwrap_or}
 use Rattle.std.proofs.KnownBytes.{Consumes-nil}
 use Rattle.sha2.specs.Sha256.{sha256}
 use Rattle.smf_frames.specs.declared.dump.Layout.{Layout}
 use Rattle.tariff_rules.specs.Terms.{Terms}
 use Rattle.book_model.specs.Books.{Book, flat_book}
-use Rattle.book_model.specs.declared.fault.LedgerFault.{LedgerFault}
 use Rattle.book_model.specs.declared.fault.LedgerFault.TheVariants.{Memory}
 use Rattle.book_import.specs.declared.receipt.Receipt.{Receipt}
 use Rattle.book_import.specs.declared.receipt.Stop.{Stop}
@@ -19,13 +17,10 @@ use Rattle.book_import.specs.Receipts.{receipt_stopped}
 use Rattle.book_reports.specs.declared.fault.ReportFault.{ReportFault}
 use Rattle.book_reports.specs.declared.fault.ReportFault.TheVariants.{Write}
 use Rattle.book_reports.specs.ReceiptLines.{receipt_line_text}
-use Rattle.chargectl.specs.Trials.{IsTrial, dispute_text, open_statement, trial_texts}
-use Rattle.chargectl.specs.Writing.{Writes}
-use Rattle.chargectl.proofs.WritingLemmas.{nothing_written}
-
--- equal answers have equal values
-pub same_value : {A : Type 0} {x y : A} → ◌≡◌ {A = Result A LedgerFault} (Ok x) (Ok y) → x ≡ y
-same_value {x = x} same = ap (λ answer. result_unwrap_or answer x) same
+use Rattle.book_reports.specs.BookTexts.{dispute_text, open_statement}
+use Rattle.book_reports.specs.Writing.{Writes}
+use Rattle.book_reports.proofs.WritingLemmas.{nothing_written}
+use Rattle.chargectl.specs.Trials.{IsTrial, trial_texts}
 
 module _ {terms : Terms} {layout : Layout} {cut : Option Stop} {MayStop : Stop → Type 0} where
   -- new books, the import, and what was written

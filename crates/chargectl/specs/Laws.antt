@@ -10,25 +10,28 @@ use Rattle.book_model.specs.Sets.{set_of}
 use Rattle.book_import.specs.declared.receipt.Stop.{Stop}
 use Rattle.book_import.specs.Imports.{Imported, Imports}
 use Rattle.book_import.specs.Laws.{IsUnrefused}
-use Rattle.chargectl.specs.Trials.{dispute_text, open_statement}
+use Rattle.book_reports.specs.BookTexts.{dispute_text, open_statement}
 
 -- the records of a dump, each once
-abbrev pub records_in : Layout → List ℕ → Records
-records_in layout bytes = set_of by_bytes (front layout bytes).records
+abbrev pub distinct_records : Layout → List ℕ → Records
+distinct_records layout bytes = set_of by_bytes (front layout bytes).records
 
--- A trial's import of these bytes, whose reading something may have cut short, left this book, and no record was refused.
-pub record IsWholeImport (terms : Terms) (layout : Layout) (cut : Option Stop) (bytes : List ℕ) (imported : Imported)
-    : Type 0 where
+-- A trial's import of these bytes, whose reading something may have cut short, left this book, and
+-- no record was refused.
+pub record IsWholeImport (terms : Terms) (layout : Layout) (cut : Option Stop) (bytes : List ℕ)
+    (imported : Imported) : Type 0 where
   pub booked : Imports sha256 layout cut bytes (flat_book terms) imported
   pub unrefused : IsUnrefused imported
 
--- Dumps with the same records, each counted once, have the same statement and the same disputes, where the books refuse
--- none: it makes no difference in which layout, segments and order the records lie, nor how often.
+-- Dumps with the same records, each counted once, have the same statement and the same disputes,
+-- where the books refuse none: it makes no difference in which layout, segments and order the
+-- records lie, nor how often.
 abbrev pub SameRecordsSameTexts : Type 0
 SameRecordsSameTexts =
-    (terms : Terms) (layout other_layout : Layout) (cut other_cut : Option Stop) (bytes others : List ℕ)
-    (imported other : Imported)
-    → IsWholeImport terms layout cut bytes imported → IsWholeImport terms other_layout other_cut others other
-    → records_in layout bytes ≡ records_in other_layout others
+    (terms : Terms) (layout other_layout : Layout) (cut other_cut : Option Stop)
+    (bytes others : List ℕ) (imported other : Imported)
+    → IsWholeImport terms layout cut bytes imported
+    → IsWholeImport terms other_layout other_cut others other
+    → distinct_records layout bytes ≡ distinct_records other_layout others
     → (open_statement imported.book ≡ open_statement other.book)
     × (dispute_text imported.book ≡ dispute_text other.book)

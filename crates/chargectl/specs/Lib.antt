@@ -1,6 +1,4 @@
--- Read in this order: what a report leaves in its writer, what a trial and a check are, the exit statuses, and laws
--- that follow.
-pub mod Writing
+-- Read in this order: what a trial and a check are, the exit statuses, and laws that follow.
 pub mod Trials
 pub mod Checks
 pub mod Statuses

@@ -7,7 +7,8 @@ use Rattle.book_import.specs.declared.receipt.Stop.TheVariants.{End, Frame, Read
 use Rattle.book_reports.specs.declared.fault.ReportFault.{ReportFault}
 use Rattle.book_reports.specs.declared.fault.ReportFault.TheVariants as report
 use Rattle.chargectl.specs.declared.status.Status.{Status}
-use Rattle.chargectl.specs.declared.status.Status.TheVariants.{Done, Io, Usage, Refused, Store, Memory}
+use Rattle.chargectl.specs.declared.status.Status.TheVariants.{Done, Io, Usage}
+use Rattle.chargectl.specs.declared.status.Status.TheVariants.{Refused, Store, Memory}
 
 abbrev pub code_of : Status → ℕ
 code_of Done = 0

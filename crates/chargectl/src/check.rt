@@ -1,10 +1,10 @@
-ghost use Rattle.std.specs.Prelude.{◌≡◌, ◌⊎◌, ◌+◌, ◌≤◌, ◌^◌, false, IfErr, IfOk};
+ghost use Rattle.std.specs.Prelude.{◌≡◌, ◌+◌, ◌≤◌, ◌^◌, false, true, IfErr, IfOk};
 ghost use Rattle.streams.specs.Sinks.{writer_of, has_failed};
 ghost use Rattle.streams.specs.Sources as sources;
 ghost use Rattle.book_import.specs.Reading.{cut_of};
 ghost use Rattle.book_import.specs.Receipts.{is_stop_of_books};
+ghost use Rattle.book_reports.specs.Writing.{is_write_fault, is_write_or_memory};
 ghost use Rattle.chargectl.specs.Checks.{IsCheck, ReadsOutUnless};
-ghost use Rattle.chargectl.specs.Writing.{is_write_fault};
 
 use book_core::{Sink, Source};
 use book_import::{MAX_READS, Stop, read_dump};
@@ -13,8 +13,8 @@ use smf_frames::Layout;
 use std::alloc::Global;
 use std::io::{Read, Write};
 
-/// Writes what every record of a dump is, and why there are no more. Want of memory leaves nothing
-/// of the list, a failed write a front of it.
+/// Writes what every record of a dump is, and why there are no more. After a fault the writer has a
+/// prefix of the list.
 pub fn check_list<R: Read + Drop, W: Write + Drop>(
     alloc: Global,
     source: &mut Source<R>,
@@ -40,8 +40,7 @@ pub fn check_list<R: Read + Drop, W: Write + Drop>(
     // A fault is a failed write, or want of memory; Write comes where a write failed, and nowhere
     // else. No books are asked, so none stop the list or refuse it.
     ensures failed { has_failed sink.new ≡ is_write_fault result }
-    ensures fault { IfErr result (λ fault.
-        (fault ≡ ReportFault.Write) ⊎ (fault ≡ ReportFault.Memory)) }
+    ensures fault { IfErr result (λ fault. is_write_or_memory fault ≡ true) }
     ensures stop { IfOk result (λ stop. is_stop_of_books stop ≡ false) }
 {
     let dump = read_dump(alloc, source, layout, reads)?;

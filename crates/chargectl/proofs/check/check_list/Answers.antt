@@ -1,25 +1,24 @@
-use Rattle.std.proofs.Common.{[], ◌∷◌, ◌∙◌, ap, subst, Result, Err}
+use Rattle.std.proofs.Common.{◌∙◌, ap, subst, Result, Err}
 use Rattle.std.proofs.lemmas.Result.{err_from_is_err_and}
 use Rattle.smf_frames.specs.Texts.{texts}
 use Rattle.streams.specs.Sinks.{writer_of}
 use Rattle.book_import.specs.declared.receipt.Stop.{Stop}
 use Rattle.book_reports.specs.declared.fault.ReportFault.{ReportFault}
 use Rattle.book_reports.specs.CheckLists.{check_list_text}
-use Rattle.chargectl.specs.Writing.{WritesUpTo}
+use Rattle.book_reports.specs.Writing.{WritesPrefix}
 use Rattle.chargectl.proofs.CheckLemmas.{is_check, no_list}
-use Rattle.chargectl.proofs.WritingLemmas.{memory_not_write, text_written}
 use Rattle.chargectl.proofs.check.check_list.Goals as goal
 
 pub returns-in_err-dump-clause-check : goal.returns-in_err-dump-clause-check
 returns-in_err-dump-clause-check g c =
     let failed = err_from_is_err_and c.from_residual.result c.from_residual.ensures.1 in
-    rw failed.1 (no_list _ _ _ failed.0 c.read_dump.ensures.dump.0 (memory_not_write failed.2) c.read_dump.ensures.dump.1)
+    rw failed.1 (no_list _ _ _ failed.0 c.read_dump.ensures.dump.0 c.read_dump.ensures.dump.1)
 
 pub returns-in_err-list-clause-check : goal.returns-in_err-list-clause-check
 returns-in_err-list-clause-check g c =
     let answer = c.from_residual-in_err-list in
     let failed = err_from_is_err_and answer.result answer.ensures.1 in
-    rw failed.1 (no_list _ _ _ failed.0 c.read_dump.ensures.dump.0 (memory_not_write failed.2) c.read_dump.ensures.dump.1)
+    rw failed.1 (no_list _ _ _ failed.0 c.read_dump.ensures.dump.0 c.read_dump.ensures.dump.1)
 
 pub returns-in_err-write_text-clause-check : goal.returns-in_err-write_text-clause-check
 returns-in_err-write_text-clause-check g c =
@@ -31,9 +30,8 @@ returns-in_err-write_text-clause-check g c =
     let text =
     c.as_str.ensures.value ∙ c.in_ok-list.ensures
     ∙ ap (λ records. check_list_text (texts records) c.in_ok-dump.dump.stop) c.deref.ensures.value in
-    let fault : ReportFault = c.in_err-write_text.field-0.0 in
     let wrote = c.in_err-write_text.ensures in
-    let front = text_written Unit held holds c.as_str.result.now (Err fault) wrote.whole wrote.fault wrote.front in
-    let list = subst (λ text. WritesUpTo fault (text ∷ []) held holds) text front in
     let refused : Result Stop ReportFault = Err failed.0 in
-    rw failed.1 (is_check _ _ held holds refused read.0 c.in_ok-dump.dump read.1 read.2 (rw failed.2 list) tt)
+    let prefix : WritesPrefix c.as_str.result.now held holds refused = (wrote.prefix.0, wrote.prefix.2) in
+    let list = subst (λ text. WritesPrefix text held holds refused) text prefix in
+    rw failed.1 (is_check _ _ held holds refused read.0 c.in_ok-dump.dump read.1 read.2 list tt)
