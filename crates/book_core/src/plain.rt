@@ -151,7 +151,7 @@ impl<N: Naming + Drop> PlainLedger<N> {
         if let Some(held) = self.held.get(&name) {
             return known_or_clash(held, bytes);
         }
-        let usage = Type30::read(bytes).unwrap();
+        let usage = Type30::of_usage(bytes);
         let Some(priced) = price_in(&self.tariffs, &usage) else {
             return Ok(Accepted::Unpriced);
         };

@@ -5,7 +5,7 @@ use Rattle.std.specs.Option.{option_map}
 use Rattle.std.specs.declared.cmp.Ordering.{Ordering}
 use Rattle.std.specs.Ordering.{ordering_then}
 use Rattle.smf_text.specs.Day.{IsDay}
-use Rattle.smf_type30.specs.Usage.{job_id_of, program_of, completion_of}
+use Rattle.smf_type30.specs.Usage.{identity_length, job_id_of, program_of, completion_of}
 use Rattle.book_model.specs.declared.dispute.Dispute.{Dispute}
 use Rattle.book_model.specs.declared.dispute.Variant.{Variant}
 use Rattle.book_model.specs.Sets.{set_of, members}
@@ -25,7 +25,7 @@ dispute_shown dispute =
 -- a dispute that can be shown: the identity has the length that its parts need, and the members
 -- are dated on days
 pub record IsDispute (dispute : Disputed) : Type 0 where
-  pub identity : length dispute.identity ≡ 24
+  pub identity : length dispute.identity ≡ identity_length
   pub days : All (λ member. IsDay member.priced.day) dispute.members
 
 abbrev pub AreDisputes : List Disputed → Type 0

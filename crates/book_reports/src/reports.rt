@@ -2,7 +2,7 @@
 
 ghost use Rattle.std.specs.Prelude.{◌≡◌, ◌∷◌, [], false, true, IfErr};
 ghost use Rattle.streams.specs.Sinks.{writer_of, has_failed};
-ghost use Rattle.book_core.specs.PlainBook.{book_of};
+ghost use Rattle.book_core.specs.PlainBook.{book_in};
 ghost use Rattle.book_reports.specs.BookTexts.{dispute_text, open_statement};
 ghost use Rattle.book_reports.specs.ReceiptLines as lines;
 ghost use Rattle.book_reports.specs.Writing.{Writes, is_write_fault, is_write_or_memory};
@@ -40,7 +40,7 @@ pub fn write_statement<W: Write + Drop>(
     sink: &mut Sink<W>,
 ) -> Result<(), ReportFault>
     requires { has_failed sink.old ≡ false }
-    ensures text { Writes (open_statement (book_of ledger.now) ∷ [])
+    ensures text { Writes (open_statement (book_in ledger.now) ∷ [])
         (W.contents (writer_of sink.old)) (W.contents (writer_of sink.new)) result }
     ensures failed { has_failed sink.new ≡ is_write_fault result }
     ensures fault { IfErr result (λ fault. is_write_or_memory fault ≡ true) }
@@ -57,7 +57,7 @@ pub fn write_disputes<W: Write + Drop>(
     sink: &mut Sink<W>,
 ) -> Result<(), ReportFault>
     requires { has_failed sink.old ≡ false }
-    ensures text { Writes (dispute_text (book_of ledger.now) ∷ [])
+    ensures text { Writes (dispute_text (book_in ledger.now) ∷ [])
         (W.contents (writer_of sink.old)) (W.contents (writer_of sink.new)) result }
     ensures failed { has_failed sink.new ≡ is_write_fault result }
     ensures fault { IfErr result (λ fault. is_write_or_memory fault ≡ true) }

@@ -1,12 +1,13 @@
 ghost use Rattle.std.specs.Prelude.{◌≡◌, ◌+◌, ◌≤◌, ◌^◌, false, true, IfErr};
 ghost use Rattle.streams.specs.Sinks.{writer_of, has_failed};
+ghost use Rattle.streams.specs.Marks.{NothingIsLeft};
 ghost use Rattle.streams.specs.Sources as sources;
-ghost use Rattle.book_import.specs.Reading.{ReadsOutFor, cut_of};
+ghost use Rattle.book_import.specs.Reading.{ReadsOutFor, cut_of, most_reads};
 ghost use Rattle.book_reports.specs.Writing.{is_write_fault, is_write_or_memory};
 ghost use Rattle.chargectl.specs.Trials.{IsTrial};
 
 use book_core::{PlainLedger, ShaNames, Sink, Source};
-use book_import::{MAX_READS, Receipt, import_whole};
+use book_import::{Receipt, import_whole};
 use book_reports::{ReportFault, write_disputes, write_receipt, write_statement};
 use smf_frames::Layout;
 use std::alloc::Global;
@@ -27,7 +28,7 @@ pub fn trial<R: Read + Drop, W: Write + Drop>(
     requires asked { sources.reads_of source.old ≤ 2 ^ 62 }
     requires unread { sources.has_failed source.old ≡ false }
     requires unended { sources.has_ended source.old ≡ false }
-    requires reads { reads ≤ MAX_READS }
+    requires reads { reads ≤ most_reads }
     requires unwritten { has_failed sink.old ≡ false }
 
     // What was read, how far the reading went, what was booked, and what was written.
@@ -35,6 +36,10 @@ pub fn trial<R: Read + Drop, W: Write + Drop>(
         (ReadsOutFor reads source.old source.new)
         (R.remaining (sources.reader_of source.old)) (R.remaining (sources.reader_of source.new))
         (W.contents (writer_of sink.old)) (W.contents (writer_of sink.new)) result }
+
+    // Where the source has ended, nothing is left of a reader that tells its bytes.
+    ensures left { NothingIsLeft (sources.has_ended source.new)
+        (R.remaining (sources.reader_of source.new)) }
 
     ensures asked { sources.reads_of source.new ≤ sources.reads_of source.old + reads }
 

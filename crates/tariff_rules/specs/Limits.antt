@@ -1,6 +1,6 @@
 -- The office's limits of what a tariff may say. The code has each of these numbers again, as a
 -- constant.
-use Rattle.std.specs.Prelude.{ℕ, ℤ, negsuc}
+use Rattle.std.specs.Prelude.{ℕ}
 
 -- the highest rate, in ten-thousandths of the money unit
 abbrev pub most_rate : ℕ
@@ -9,10 +9,6 @@ most_rate = 100_000_000
 -- the highest percent that a shift charges
 abbrev pub most_percent : ℕ
 most_percent = 1000
-
--- the first day that a tariff can have, 1900-01-01: 25,567 days before 1970-01-01
-abbrev pub first_day : ℤ
-first_day = negsuc 25_566
 
 -- the most bytes of a tariff file
 abbrev pub most_text : ℕ

@@ -5,6 +5,7 @@ use Rattle.std.specs.Prelude.{Option, Some, None}
 use Rattle.std.specs.List.{list_any, starts_with}
 use Rattle.smf_text.specs.Day.{IsDay, weekday_of}
 use Rattle.smf_text.specs.Names.{IsName}
+use Rattle.smf_type30.specs.Layout.{step_end}
 use Rattle.smf_type30.specs.Usage.{account_of, cpu_of, day_of, excp_of, job_of, subtype_of, time_of}
 use Rattle.tariff_rules.specs.Limits.{most_percent, most_rate}
 use Rattle.tariff_rules.specs.Terms.{CentreRule, rates_of, RatesOf, ShiftRule, Terms}
@@ -76,10 +77,6 @@ centre_by (Some rule) = rule.centre
 -- the centre that pays for a record: that of the first rule that applies
 abbrev pub centre_of : List CentreRule → List ℕ → List ℕ
 centre_of rules bytes = centre_by (find (applies_to bytes) rules)
-
--- the subtype of a record that measures a whole step (SA38-0667, type 30, subtypes)
-abbrev pub step_end : ℕ
-step_end = 4
 
 -- the rates for a record's subtype: those of a step's end, or those of a job's
 abbrev pub rates_for : Terms → ℕ → RatesOf

@@ -1,7 +1,8 @@
 -- What a tariff says.
 use Rattle.std.specs.Prelude.{ℕ, ◌≤◌, List, [], ℤ}
 use Rattle.smf_text.specs.Names.{IsName}
-use Rattle.tariff_rules.specs.Limits.{first_day, most_percent, most_rate}
+use Rattle.smf_text.specs.Day.{first_day}
+use Rattle.tariff_rules.specs.Limits.{most_percent, most_rate}
 use Rattle.tariff_rules.specs.declared.centre.Field.{Field}
 use Rattle.tariff_rules.specs.declared.shift.Shift.{Shift}
 

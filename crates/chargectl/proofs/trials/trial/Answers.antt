@@ -1,6 +1,6 @@
 use Rattle.std.proofs.Common.{[], ◌∷◌, refl, inr, Result, Ok, Err}
 use Rattle.std.proofs.lemmas.Result.{err_from_is_err_and}
-use Rattle.book_core.specs.PlainBook.{book_of}
+use Rattle.book_core.specs.PlainBook.{book_in}
 use Rattle.streams.specs.Sinks.{writer_of}
 use Rattle.book_import.specs.declared.receipt.Receipt.{Receipt}
 use Rattle.book_import.specs.Imports.{Imported}
@@ -20,7 +20,7 @@ pub returns-in_err-write_receipt-clause-trial : goal.returns-in_err-write_receip
 returns-in_err-write_receipt-clause-trial g c =
     let answer = c.from_residual-in_err-write_receipt in
     let failed = err_from_is_err_and answer.result answer.ensures.1 in
-    let book = book_of c.import_whole-receipt.new.ledger in
+    let book = book_in c.import_whole-receipt.new.ledger in
     let imported : Imported = record { receipt = c.import_whole-receipt.result; book = book } in
     let import = c.import_whole-receipt.ensures in
     let receipt = c.in_err-write_receipt.ensures.text in
@@ -31,7 +31,7 @@ pub returns-in_err-write_statement-clause-trial : goal.returns-in_err-write_stat
 returns-in_err-write_statement-clause-trial g c =
     let answer = c.from_residual-in_err-write_statement in
     let failed = err_from_is_err_and answer.result answer.ensures.1 in
-    let book = book_of c.import_whole-receipt.new.ledger in
+    let book = book_in c.import_whole-receipt.new.ledger in
     let imported : Imported = record { receipt = c.import_whole-receipt.result; book = book } in
     let import = c.import_whole-receipt.ensures in
     let end = g.W.Write.contents (writer_of c.write_statement.new.sink) in
@@ -47,7 +47,7 @@ pub returns-in_err-write_disputes-clause-trial : goal.returns-in_err-write_dispu
 returns-in_err-write_disputes-clause-trial g c =
     let answer = c.from_residual-in_err-write_disputes in
     let failed = err_from_is_err_and answer.result answer.ensures.1 in
-    let book = book_of c.import_whole-receipt.new.ledger in
+    let book = book_in c.import_whole-receipt.new.ledger in
     let imported : Imported = record { receipt = c.import_whole-receipt.result; book = book } in
     let import = c.import_whole-receipt.ensures in
     let end = g.W.Write.contents (writer_of c.write_disputes.new.sink) in
@@ -62,7 +62,7 @@ returns-in_err-write_disputes-clause-trial g c =
 
 pub returns-clause-trial : goal.returns-clause-trial
 returns-clause-trial g c =
-    let book = book_of c.import_whole-receipt.new.ledger in
+    let book = book_in c.import_whole-receipt.new.ledger in
     let imported : Imported = record { receipt = c.import_whole-receipt.result; book = book } in
     let import = c.import_whole-receipt.ensures in
     let end = g.W.Write.contents (writer_of c.write_disputes.new.sink) in
