@@ -1,16 +1,16 @@
--- What is seen of a source.
+-- What is seen of a source. What is known of its reader's answers and bytes comes with its type.
 use Rattle.std.specs.Prelude.{ℕ, Bool}
 use Rattle.streams.specs.declared.source.Source.{Source}
 
-abbrev pub reader_of : {R : Type 0} {answers : _} {reads : _} → Source R answers reads → R
+abbrev pub reader_of : {R : Type 0} {answers : _} {bytes : _} → Source R answers bytes → R
 reader_of source = source.inner
 
 -- how often the reader was asked
-abbrev pub reads_of : {R : Type 0} {answers : _} {reads : _} → Source R answers reads → ℕ
+abbrev pub reads_of : {R : Type 0} {answers : _} {bytes : _} → Source R answers bytes → ℕ
 reads_of source = source.asked
 
-abbrev pub has_failed : {R : Type 0} {answers : _} {reads : _} → Source R answers reads → Bool
+abbrev pub has_failed : {R : Type 0} {answers : _} {bytes : _} → Source R answers bytes → Bool
 has_failed source = source.failed
 
-abbrev pub has_ended : {R : Type 0} {answers : _} {reads : _} → Source R answers reads → Bool
+abbrev pub has_ended : {R : Type 0} {answers : _} {bytes : _} → Source R answers bytes → Bool
 has_ended source = source.ended
