@@ -30,8 +30,3 @@ pub use plain::PlainLedger;
 pub use row::{ChargeRow, RowKey};
 pub use sink::Sink;
 pub use source::Source;
-
-#[cfg(test)]
-mod samples;
-#[cfg(test)]
-mod tests;

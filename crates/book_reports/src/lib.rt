@@ -9,8 +9,6 @@ mod output;
 mod period;
 mod receipt_line;
 mod statement;
-#[cfg(test)]
-mod tests;
 
 pub use check_list::check_list_text;
 pub use dispute_list::dispute_list_text;

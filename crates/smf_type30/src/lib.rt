@@ -15,8 +15,3 @@ pub use classes::Class;
 pub use damage::Damage;
 pub use layout::{HUNDREDTHS_PER_DAY, JOB_END, STEP_END};
 pub use usage::{Moment, Type30};
-
-#[cfg(test)]
-mod samples;
-#[cfg(test)]
-mod tests;

@@ -1,12 +1,14 @@
 //! What the books make of a dump, however it is cut.
 
+use crate::frames::stop_of;
 use crate::office::{import, import_from, new_books, report, trial};
 use crate::readers::{Breaks, InPieces};
+use crate::receipts::one_kept;
 use crate::sample::{SAMPLE, joined, other_step};
 use crate::statements::{ONE_RECORD, TWO_STEPS};
 use book_core::Source;
 use book_import::{Receipt, Stop, import_whole};
-use smf_frames::{FrameFault, Layout};
+use smf_frames::{FrameFault, Layout, split};
 use std::alloc::{AllocError, Global};
 use std::test::Fail;
 
@@ -23,14 +25,6 @@ fn segment_between(alloc: Global) -> Result<Vec<u8>, AllocError> {
 /// The last one, with 44 bytes of data.
 fn last_segment(alloc: Global) -> Result<Vec<u8>, AllocError> {
     joined(alloc, &[&[0x00, 0x30, 0x02, 0x00], &SAMPLE[124..]])
-}
-
-/// The receipt of an import that kept one record.
-fn one_kept(stop: Stop) -> Receipt {
-    Receipt {
-        kept: 1,
-        ..Receipt::stopped(stop)
-    }
 }
 
 #[test]
@@ -63,6 +57,10 @@ fn spanned_record(rt: HostRuntime) -> Result<(), Fail> {
         ),
     ];
     for (case, layout, dump) in cases {
+        let parts = split(alloc, layout, dump)?;
+        assert_eq!(rt; parts.fault, None, "{case}");
+        assert_eq!(rt; parts.records.len(), 1, "{case}");
+        assert_eq!(rt; parts.records[0].as_slice(), SAMPLE.as_slice(), "{case}");
         assert_eq!(rt; trial(alloc, dump, layout)?.as_str(), ONE_RECORD, "{case}");
     }
     Ok(())
@@ -73,17 +71,20 @@ fn torn_end(rt: HostRuntime) -> Result<(), Fail> {
     let alloc = rt.alloc();
     let step = other_step(SAMPLE, 2);
     let mut torn = joined(alloc, &[&step, &first_segment(alloc)?])?;
+    assert_eq!(rt; stop_of(alloc, Layout::Rdw, &torn)?, (1, 6, false));
     let mut ledger = new_books(alloc)?;
     let receipt = import(alloc, &torn, &mut ledger);
     let no_last = Stop::Frame(FrameFault::MissingLast);
     assert_eq!(rt; receipt, one_kept(no_last), "a first segment");
 
     torn.pop();
+    assert_eq!(rt; stop_of(alloc, Layout::Rdw, &torn)?, (1, 8, false));
     let receipt = import(alloc, &torn, &mut new_books(alloc)?);
     let cut = Stop::Frame(FrameFault::Truncated);
     assert_eq!(rt; receipt, one_kept(cut), "one byte less");
 
     let whole = joined(alloc, &[&step, &SAMPLE])?;
+    assert_eq!(rt; stop_of(alloc, Layout::Rdw, &whole)?, (2, 0, false));
     let receipt = import(alloc, &whole, &mut ledger);
     let want = Receipt {
         known: 1,
@@ -99,6 +100,7 @@ fn records_before_garbage_are_kept(rt: HostRuntime) -> Result<(), Fail> {
     let garbage = [0x00, 0x03, 0x00, 0x00, 0x00, 0x00, 0x00, 0x00, 0x00, 0x00];
     let step = other_step(SAMPLE, 2);
     let dump = joined(alloc, &[&step, &SAMPLE, &garbage])?;
+    assert_eq!(rt; stop_of(alloc, Layout::Rdw, &dump)?, (2, 1, true));
     let mut ledger = new_books(alloc)?;
     let receipt = import(alloc, &dump, &mut ledger);
     let want = Receipt {
@@ -112,31 +114,31 @@ fn records_before_garbage_are_kept(rt: HostRuntime) -> Result<(), Fail> {
 #[test]
 fn a_record_before_half_a_descriptor_is_kept(rt: HostRuntime) -> Result<(), Fail> {
     let dump = joined(rt.alloc(), &[&SAMPLE, &[0x00, 0xA8, 0x00]])?;
+    assert_eq!(rt; stop_of(rt.alloc(), Layout::Rdw, &dump)?, (1, 8, false));
     let text = trial(rt.alloc(), dump.as_slice(), Layout::Rdw)?;
     assert!(rt; text.as_str().starts_with("KEPT 1 "), "{text}");
     assert!(rt; text.as_str().contains(" STOP FRAME 8\n"), "{text}");
     Ok(())
 }
 
-/// The most data that one record holds.
-const LONGEST: usize = 65_531;
+/// The data of the first of two segments of a long record.
+const FIRST_DATA: usize = 32_768;
 
 #[test]
 fn longest_record(rt: HostRuntime) -> Result<(), Fail> {
     let alloc = rt.alloc();
-    let mut data = joined(alloc, &[&SAMPLE[4..]])?;
-    data.resize(LONGEST, 0)?;
-    let (front, back) = data.split_at(32_768);
-    let dump = joined(
-        alloc,
-        &[
-            &[0x80, 0x04, 0x01, 0x00],
-            front,
-            &[0x7F, 0xFF, 0x02, 0x00],
-            back,
-        ],
-    )?;
-    let text = trial(alloc, dump.as_slice(), Layout::Rdw)?;
+    let mut first = joined(alloc, &[&[0x80, 0x04, 0x01, 0x00], &SAMPLE[4..]])?;
+    first.resize(4 + FIRST_DATA, 0)?;
+    let rest = vec![in alloc; 0; FIRST_DATA]?;
+    let too_long = joined(alloc, &[&first, &[0x80, 0x04, 0x03, 0x00], &rest])?;
+    assert_eq!(rt; stop_of(alloc, Layout::Rdw, &too_long)?, (0, 7, true));
+
+    let longest = joined(alloc, &[&first, &[0x7F, 0xFF, 0x02, 0x00], &rest[..32_763]])?;
+    let parts = split(alloc, Layout::Rdw, &longest)?;
+    assert_eq!(rt; parts.fault, None);
+    assert_eq!(rt; parts.records.len(), 1);
+    assert_eq!(rt; parts.records[0].len(), 65_535);
+    let text = trial(alloc, longest.as_slice(), Layout::Rdw)?;
     assert_eq!(rt; text.as_str(), ONE_RECORD);
     Ok(())
 }

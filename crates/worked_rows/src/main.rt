@@ -3,7 +3,13 @@
 #![tactic(auto)]
 
 #[cfg(test)]
+mod accounts;
+#[cfg(test)]
+mod check_lists;
+#[cfg(test)]
 mod classes;
+#[cfg(test)]
+mod days;
 #[cfg(test)]
 mod disputes;
 #[cfg(test)]
@@ -11,16 +17,34 @@ mod dump_reader;
 #[cfg(test)]
 mod dumps;
 #[cfg(test)]
+mod faults;
+#[cfg(test)]
+mod frames;
+#[cfg(test)]
 mod largest;
 mod office;
 #[cfg(test)]
+mod prices;
+#[cfg(test)]
 mod readers;
+#[cfg(test)]
+mod receipts;
 mod sample;
 mod sample_tariff;
 #[cfg(test)]
 mod statements;
 #[cfg(test)]
+mod streams;
+#[cfg(test)]
+mod tariff_files;
+#[cfg(test)]
 mod tariffs;
+#[cfg(test)]
+mod texts;
+#[cfg(test)]
+mod usage;
+#[cfg(test)]
+mod writers;
 
 use std::fs;
 use std::test::Fail;
