@@ -1,8 +1,4 @@
--- Lists and sets first; then entries of a map, and what those of a plain ledger hold, charge and dispute; last, whole
--- histories.
-pub mod ListLemmas
-pub mod SumsAlike
-pub mod SetLemmas
+-- Entries of a map, and what those of a plain ledger hold, charge and dispute.
 pub mod EntryLemmas
 pub mod HeldLemmas
 pub mod AcceptLemmas
@@ -14,12 +10,4 @@ pub mod KeyedRowLemmas
 pub mod ShownLemmas
 pub mod RepeatLemmas
 pub mod IdentityLemmas
-pub mod PricingLemmas
 pub mod TariffLemmas
-pub mod AnswerLemmas
-pub mod CallLemmas
-pub mod HistoryLemmas
-pub mod OnceLemmas
-pub mod PastLemmas
-pub mod StepLemmas
-pub mod OrderLemmas

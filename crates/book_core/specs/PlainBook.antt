@@ -1,7 +1,7 @@
 -- What is seen of a plain ledger.
-use Rattle.book_core.specs.declared.naming.Naming.{Ghosts}
+use Rattle.book_model.specs.declared.naming.Naming.{Ghosts}
 use Rattle.book_core.specs.declared.plain.PlainLedger.{PlainLedger}
-use Rattle.book_core.specs.Books.{Book}
+use Rattle.book_model.specs.Books.{Book}
 use Rattle.book_core.specs.Plain.{book_holding}
 
 abbrev pub naming_of : {N : Type 0} {names : Ghosts N} → PlainLedger N names → N

@@ -1,24 +1,24 @@
 ghost use Rattle.std.specs.Prelude.{◌≡◌, ◌≤◌, ◌+◌, ◌||◌, Ok, Err, length, nat_le, nat_lt};
 ghost use Rattle.std.specs.Prelude.{if◌then◌else◌};
 ghost use Rattle.tariff_rules.specs.declared.rates.TheConstants.{MAX_AMOUNT};
-ghost use Rattle.book_core.specs.Records as spec;
-ghost use Rattle.book_core.specs.Records.{IsUsageRecord, by_bytes, same_bytes};
+ghost use Rattle.book_model.specs.Records as spec;
+ghost use Rattle.book_model.specs.Records.{IsUsageRecord, by_bytes, same_bytes};
 ghost use Rattle.std.specs.List.Sorted.{IsStrictlySortedBy};
 ghost use Rattle.std.specs.Map.{keys_of};
 ghost use Rattle.std.proofs.Props.{props};
 ghost use Rattle.book_core.specs.Plain.{IsKept};
 
 use crate::accepted_tariff::{AcceptedTariff, are_before, has_day_of, has_text};
-use crate::answer::{Accepted, Ruled};
+use book_model::{Accepted, Ruled};
 use crate::charge_rows::charge_rows;
-use crate::dispute::Dispute;
-use crate::fault::LedgerFault;
+use book_model::Dispute;
+use book_model::LedgerFault;
 use crate::held::{HeldRecord, has_dated};
 use crate::identities::{disputes, undisputed_prices};
-use crate::limits::{MAX_HELD, MAX_TOTAL};
-use crate::naming::Naming;
+use book_model::{MAX_HELD, MAX_TOTAL};
+use book_model::Naming;
 use crate::pricing::price_in;
-use crate::row::ChargeRow;
+use book_model::ChargeRow;
 use smf_type30::Type30;
 use std::alloc::{AllocError, Global};
 use std::collections::BTreeMap;
@@ -69,15 +69,15 @@ pub struct PlainLedger<N: Naming + Drop> {
 impl<N: Naming + Drop> PlainLedger<N> {
     ghost use Rattle.std.specs.Prelude.{◌≡◌, ℕ, List, IfOk, IsTrue, Ok, map};
     ghost use Rattle.tariff_rules.specs.TariffFile.{terms_in};
-    ghost use Rattle.book_core.specs.Sets.{has};
-    ghost use Rattle.book_core.specs.Rulings.{price_in};
-    ghost use Rattle.book_core.specs.Rows.{AreRows};
-    ghost use Rattle.book_core.specs.Disputes.{AreDisputes, dispute_shown, disputes_in};
-    ghost use Rattle.book_core.specs.Books.{flat_book, new_book};
-    ghost use Rattle.book_core.specs.Steps.{accept_answer, accept_step, charges_answer};
-    ghost use Rattle.book_core.specs.Steps.{tariff_answer, tariff_step};
-    ghost use Rattle.book_core.specs.Answers.{Answers};
-    ghost use Rattle.book_core.specs.Plain.{rulings_under};
+    ghost use Rattle.book_model.specs.Sets.{has};
+    ghost use Rattle.book_model.specs.Rulings.{price_in};
+    ghost use Rattle.book_model.specs.Rows.{AreRows};
+    ghost use Rattle.book_model.specs.Disputes.{AreDisputes, dispute_shown, disputes_in};
+    ghost use Rattle.book_model.specs.Books.{flat_book, new_book};
+    ghost use Rattle.book_model.specs.Steps.{accept_answer, accept_step, charges_answer};
+    ghost use Rattle.book_model.specs.Steps.{tariff_answer, tariff_step};
+    ghost use Rattle.book_model.specs.Answers.{Answers};
+    ghost use Rattle.book_model.specs.Rulings.{rulings_under};
     ghost use Rattle.book_core.specs.PlainBook.{book_of, naming_of};
 
     /// New books, under no tariff yet.

@@ -4,10 +4,10 @@ use Rattle.std.proofs.lemmas.List.{take_more, take-append-drop, get_or-map}
 use Rattle.smf_frames.specs.declared.dump.Layout.{Layout}
 use Rattle.smf_frames.specs.Front.{front}
 use Rattle.smf_frames.specs.Texts.{texts}
-use Rattle.book_core.specs.declared.fault.LedgerFault.{LedgerFault}
-use Rattle.book_core.specs.declared.fault.LedgerFault.TheVariants.{Memory}
-use Rattle.book_core.specs.Records.{Naming}
-use Rattle.book_core.specs.Books.{Book}
+use Rattle.book_model.specs.declared.fault.LedgerFault.{LedgerFault}
+use Rattle.book_model.specs.declared.fault.LedgerFault.TheVariants.{Memory}
+use Rattle.book_model.specs.Records.{Naming}
+use Rattle.book_model.specs.Books.{Book}
 use Rattle.book_import.specs.declared.receipt.Stop.{Stop}
 use Rattle.book_import.specs.declared.receipt.Stop.TheVariants.{Ledger}
 use Rattle.book_import.specs.declared.dump.Dump.{Dump}

@@ -11,16 +11,16 @@ use Rattle.tariff_rules.specs.declared.priced.Priced.{Priced}
 use Rattle.smf_type30.specs.declared.classes.Class.{Class}
 use Rattle.smf_type30.specs.declared.classes.Class.TheVariants.{Usage}
 use Rattle.smf_type30.specs.Class.{class_of}
-use Rattle.book_core.specs.declared.answer.Accepted.{Accepted}
-use Rattle.book_core.specs.declared.answer.Accepted.TheVariants.{Kept, Known}
-use Rattle.book_core.specs.declared.fault.LedgerFault.{LedgerFault}
-use Rattle.book_core.specs.declared.fault.LedgerFault.TheVariants.{Full, DigestClash}
-use Rattle.book_core.specs.Books.{Book}
-use Rattle.book_core.specs.Records.{Records, Naming, by_bytes}
-use Rattle.book_core.specs.Rulings.{Rulings, price_in}
-use Rattle.book_core.specs.Sets.{set_of, has, those}
-use Rattle.book_core.specs.Steps.{clashes, is_full, accept_priced, keep}
-use Rattle.book_core.proofs.SetLemmas.{has-with, same_set, those-set_of}
+use Rattle.book_model.specs.declared.answer.Accepted.{Accepted}
+use Rattle.book_model.specs.declared.answer.Accepted.TheVariants.{Kept, Known}
+use Rattle.book_model.specs.declared.fault.LedgerFault.{LedgerFault}
+use Rattle.book_model.specs.declared.fault.LedgerFault.TheVariants.{Full, DigestClash}
+use Rattle.book_model.specs.Books.{Book}
+use Rattle.book_model.specs.Records.{Records, Naming, by_bytes}
+use Rattle.book_model.specs.Rulings.{Rulings, price_in}
+use Rattle.book_model.specs.Sets.{set_of, has, those}
+use Rattle.book_model.specs.Steps.{clashes, is_full, accept_priced, keep}
+use Rattle.book_model.proofs.SetLemmas.{has-with, same_set, those-set_of}
 use Rattle.book_import.specs.declared.receipt.Stop.{Stop}
 use Rattle.book_import.specs.Imports.{Imported, after_accept, handle_by, handle, go_on, handle_all, start_of}
 use Rattle.book_import.specs.Laws.{is_class_of_usage, is_priced_usage, priced_usage, RefusesNone, import_of_records, HoldsMore, HoldsWhatCame, Batch, records_of, book_after, RefuseNone, CutsMakeNoDifference}

@@ -5,12 +5,12 @@ use Rattle.smf_frames.specs.Front.{front}
 use Rattle.smf_type30.specs.declared.classes.Class.{Class}
 use Rattle.smf_type30.specs.declared.classes.Class.TheVariants.{Usage}
 use Rattle.smf_type30.specs.Class.{class_of}
-use Rattle.book_core.specs.declared.answer.Accepted.{Accepted}
-use Rattle.book_core.specs.declared.fault.LedgerFault.{LedgerFault}
-use Rattle.book_core.specs.declared.fault.LedgerFault.TheVariants.{Memory}
-use Rattle.book_core.specs.Records.{Naming}
-use Rattle.book_core.specs.Books.{Book}
-use Rattle.book_core.specs.Steps.{accept_answer, accept_step}
+use Rattle.book_model.specs.declared.answer.Accepted.{Accepted}
+use Rattle.book_model.specs.declared.fault.LedgerFault.{LedgerFault}
+use Rattle.book_model.specs.declared.fault.LedgerFault.TheVariants.{Memory}
+use Rattle.book_model.specs.Records.{Naming}
+use Rattle.book_model.specs.Books.{Book}
+use Rattle.book_model.specs.Steps.{accept_answer, accept_step}
 use Rattle.book_import.specs.declared.receipt.Receipt.{Receipt}
 use Rattle.book_import.specs.declared.receipt.Stop.{Stop}
 use Rattle.book_import.specs.declared.receipt.Stop.TheVariants.{End, Ledger}

@@ -2,7 +2,7 @@ ghost use Rattle.std.specs.Prelude.{◌≡◌, ◌+◌, ◌≤◌, ◌^◌, ℕ,
 ghost use Rattle.std.specs.Io.KnownBytes.{Consumes};
 ghost use Rattle.smf_frames.specs.Framed.{IsFramed};
 ghost use Rattle.smf_frames.specs.Texts.{texts};
-ghost use Rattle.book_core.specs.Sources.{reader_of, reads_of, has_failed, has_ended};
+ghost use Rattle.streams.specs.Sources.{reader_of, reads_of, has_failed, has_ended};
 ghost use Rattle.book_import.specs.Dumps as spec;
 ghost use Rattle.book_import.specs.Dumps.{IsDump};
 ghost use Rattle.book_import.specs.Reading.{ReadsOut, cut_of};

@@ -1,7 +1,7 @@
 ghost use Rattle.std.specs.Prelude.{◌≡◌, ◌+◌, ◌≤◌, ◌<◌, ◌^◌, OnErr, All};
 ghost use Rattle.smf_frames.specs.Framed.{IsFramed};
 ghost use Rattle.smf_frames.specs.Texts.{texts};
-ghost use Rattle.book_core.specs.Answers.{Answers};
+ghost use Rattle.book_model.specs.Answers.{Answers};
 ghost use Rattle.book_core.specs.PlainBook.{book_of, naming_of};
 ghost use Rattle.book_import.specs.Imports.{Handles, handle as handled};
 ghost use Rattle.book_import.specs.Receipts as spec;

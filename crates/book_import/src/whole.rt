@@ -1,6 +1,6 @@
 ghost use Rattle.std.specs.Prelude.{◌≡◌, ◌+◌, ◌≤◌, ◌^◌, ℕ, List, false};
 ghost use Rattle.std.specs.Io.KnownBytes.{Consumes};
-ghost use Rattle.book_core.specs.Sources.{reader_of, reads_of, has_failed, has_ended};
+ghost use Rattle.streams.specs.Sources.{reader_of, reads_of, has_failed, has_ended};
 ghost use Rattle.book_core.specs.PlainBook.{book_of, naming_of};
 ghost use Rattle.book_import.specs.Imports.{Imports};
 ghost use Rattle.book_import.specs.Reading.{ReadsOutFor, cut_of};

@@ -2,7 +2,7 @@
 use Rattle.std.specs.Prelude.{ℕ, List, [], ◌++◌, codes, flat_map, sum_by, Option, ℤ}
 use Rattle.std.specs.Fmt.{decimal}
 use Rattle.smf_text.specs.Day.{day_text_of}
-use Rattle.book_core.specs.declared.row.ChargeRow.{ChargeRow}
+use Rattle.book_model.specs.declared.row.ChargeRow.{ChargeRow}
 use Rattle.book_reports.specs.Columns.{line_end, left, right, seconds_text, amount_text}
 use Rattle.book_reports.specs.Periods.{title_line}
 

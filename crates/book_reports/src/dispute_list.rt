@@ -4,7 +4,7 @@ ghost use Rattle.std.specs.Prelude.{◌≡◌, ◌+◌, ◌≤◌, ◌++◌, All
 ghost use Rattle.std.specs.Prelude.{flat_map, length, map, string_bytes};
 ghost use Rattle.smf_text.specs.Day.{IsDay};
 ghost use Rattle.smf_frames.specs.Number as numbers;
-ghost use Rattle.book_core.specs.Disputes.{AreDisputes, IsDispute, dispute_shown};
+ghost use Rattle.book_model.specs.Disputes.{AreDisputes, IsDispute, dispute_shown};
 ghost use Rattle.book_reports.specs.DisputeLists as spec;
 
 use crate::columns::{amount_text, push_number, push_right};

@@ -2,7 +2,7 @@
 
 ghost use Rattle.std.specs.Prelude.{◌≡◌, ◌<◌, ℕ, IfErr, OnErr, OnOk, false, length, take, true};
 ghost use Rattle.std.specs.Io.KnownBytes.{Appends};
-ghost use Rattle.book_core.specs.Sinks.{writer_of, has_failed};
+ghost use Rattle.streams.specs.Sinks.{writer_of, has_failed};
 
 use crate::ReportFault;
 use book_core::Sink;

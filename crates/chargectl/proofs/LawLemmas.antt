@@ -2,10 +2,10 @@
 use Rattle.std.proofs.Common.{◌≡◌, ◌∙◌, ℕ, List, [], ◌∷◌, take, refl, sym, ap, subst, true, true≢false, Ok, Err}
 use Rattle.sha2.specs.Sha256.{sha256}
 use Rattle.smf_frames.specs.Front.{front}
-use Rattle.book_core.specs.Books.{Book, flat_book}
-use Rattle.book_core.specs.Records.{Naming}
-use Rattle.book_core.specs.declared.fault.LedgerFault.{LedgerFault}
-use Rattle.book_core.specs.declared.fault.LedgerFault.TheVariants.{Memory}
+use Rattle.book_model.specs.Books.{Book, flat_book}
+use Rattle.book_model.specs.Records.{Naming}
+use Rattle.book_model.specs.declared.fault.LedgerFault.{LedgerFault}
+use Rattle.book_model.specs.declared.fault.LedgerFault.TheVariants.{Memory}
 use Rattle.book_import.specs.declared.receipt.Stop.{Stop}
 use Rattle.book_import.specs.declared.receipt.Stop.TheVariants.{Ledger}
 use Rattle.book_import.specs.Dumps.{stop_behind}

@@ -4,9 +4,9 @@ use Rattle.sha2.specs.Sha256.{sha256}
 use Rattle.smf_frames.specs.declared.dump.Layout.{Layout}
 use Rattle.smf_frames.specs.Front.{front}
 use Rattle.tariff_rules.specs.Terms.{Terms}
-use Rattle.book_core.specs.Books.{flat_book}
-use Rattle.book_core.specs.Records.{Records, by_bytes}
-use Rattle.book_core.specs.Sets.{set_of}
+use Rattle.book_model.specs.Books.{flat_book}
+use Rattle.book_model.specs.Records.{Records, by_bytes}
+use Rattle.book_model.specs.Sets.{set_of}
 use Rattle.book_import.specs.declared.receipt.Stop.{Stop}
 use Rattle.book_import.specs.Imports.{Imported, Imports}
 use Rattle.book_import.specs.Laws.{RefusesNone}

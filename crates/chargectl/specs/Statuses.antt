@@ -1,7 +1,7 @@
 -- How the program ends, and the exit statuses.
 use Rattle.std.specs.Prelude.{ℕ}
-use Rattle.book_core.specs.declared.fault.LedgerFault.{LedgerFault}
-use Rattle.book_core.specs.declared.fault.LedgerFault.TheVariants as ledger
+use Rattle.book_model.specs.declared.fault.LedgerFault.{LedgerFault}
+use Rattle.book_model.specs.declared.fault.LedgerFault.TheVariants as ledger
 use Rattle.book_import.specs.declared.receipt.Stop.{Stop}
 use Rattle.book_import.specs.declared.receipt.Stop.TheVariants.{End, Frame, Read, ReadLimit, Ledger}
 use Rattle.book_reports.specs.declared.fault.ReportFault.{ReportFault}

@@ -4,8 +4,8 @@ use Rattle.std.specs.Io.KnownBytes.{Consumes}
 use Rattle.sha2.specs.Sha256.{sha256}
 use Rattle.smf_frames.specs.declared.dump.Layout.{Layout}
 use Rattle.tariff_rules.specs.Terms.{Terms}
-use Rattle.book_core.specs.Books.{Book, flat_book, open_period}
-use Rattle.book_core.specs.Disputes.{disputes_in}
+use Rattle.book_model.specs.Books.{Book, flat_book, open_period}
+use Rattle.book_model.specs.Disputes.{disputes_in}
 use Rattle.book_import.specs.declared.receipt.Receipt.{Receipt}
 use Rattle.book_import.specs.declared.receipt.Stop.{Stop}
 use Rattle.book_import.specs.Imports.{Imported, Imports}

@@ -2,7 +2,7 @@
 use Rattle.std.specs.Prelude.{◌≡◌, ◌≢◌, ◌<◌, Bool, true, false, ℕ, List, length, ◌∷◌, ◌++◌, take, Option, Result, Ok, Err}
 use Rattle.std.specs.List.{concat}
 use Rattle.std.specs.Io.KnownBytes.{Appends}
-use Rattle.book_core.specs.declared.fault.LedgerFault.TheVariants as ledger
+use Rattle.book_model.specs.declared.fault.LedgerFault.TheVariants as ledger
 use Rattle.book_reports.specs.declared.fault.ReportFault.{ReportFault}
 use Rattle.book_reports.specs.declared.fault.ReportFault.TheVariants.{Write, Memory, Ledger}
 

@@ -1,6 +1,6 @@
 ghost use Rattle.std.specs.Prelude.{◌≡◌, ◌⊎◌, ◌+◌, ◌≤◌, ◌^◌, false, IfErr, IfOk};
-ghost use Rattle.book_core.specs.Sinks.{writer_of, has_failed};
-ghost use Rattle.book_core.specs.Sources as sources;
+ghost use Rattle.streams.specs.Sinks.{writer_of, has_failed};
+ghost use Rattle.streams.specs.Sources as sources;
 ghost use Rattle.book_import.specs.Reading.{cut_of};
 ghost use Rattle.book_import.specs.Laws.{is_stop_of_books};
 ghost use Rattle.chargectl.specs.Checks.{IsCheck, ReadsOutUnless};

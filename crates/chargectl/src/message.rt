@@ -5,10 +5,10 @@ ghost use Rattle.chargectl.specs.Statuses as spec;
 ghost use Rattle.chargectl.specs.Statuses.{report_status, stop_status};
 
 use crate::status::Status;
-use crate::words::PROGRAM;
 use book_core::LedgerFault;
 use book_import::Stop;
 use book_reports::ReportFault;
+use command_words::PROGRAM;
 use std::io;
 use std::io::{ErrorKind, Write};
 use tariff_rules::TariffFault;

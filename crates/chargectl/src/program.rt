@@ -3,17 +3,16 @@
 use crate::check::check_list;
 use crate::message::{file_failed, io_failed, out_of_memory, report_failed, stopped};
 use crate::status::Status;
-use crate::trial::trial;
-use crate::words::{Request, requested_by};
+use crate::trials::trial;
 use book_core::{Sink, Source};
 use book_import::MAX_READS;
-use clap::error::ErrorKind;
+use command_words::{Request, WordFault, requested_by};
 use smf_frames::Layout;
 use std::alloc::Global;
 use std::fs;
 use std::io::{Read, Write};
 use std::rt::Files;
-use tariff_rules::Tariff;
+use tariff_rules::{MAX_RATE, Tariff};
 
 /// Does what the words ask for, of which the first is the program's name.
 pub fn command<R: Files + AllocGlobal, I: Read + Drop, O: Write + Drop, E: Write>(
@@ -24,28 +23,35 @@ pub fn command<R: Files + AllocGlobal, I: Read + Drop, O: Write + Drop, E: Write
     errors: &mut E,
 ) -> Status {
     let alloc = rt.alloc();
-    match requested_by(alloc, words) {
-        Ok(Some(Request::Trial { layout, tariff })) => {
-            run_trial(alloc, layout, tariff, input, output, errors)
-        }
-        Ok(Some(Request::Check { file, layout })) => run_check(rt, file, layout, output, errors),
-        Ok(None) => Status::Usage,
-        Err(error) => refuse(&error, output, errors),
+    match requested_by(alloc, words, MAX_RATE as u32) {
+        Ok(
+            Request::Trial {
+                layout,
+                cpu,
+                excp,
+                record,
+            },
+        ) => match Tariff::flat(alloc, cpu, excp, record) {
+            Some(tariff) => run_trial(alloc, layout, tariff, input, output, errors),
+            None => Status::Usage,
+        },
+        Ok(Request::Check { file, layout }) => run_check(rt, file, layout, output, errors),
+        Err(fault) => refuse(&fault, output, errors),
     }
 }
 
 /// Says what was wrong with the words, or helps where help was asked for.
-fn refuse<O: Write + Drop, E: Write>(error: &clap::Error, mut output: O, errors: &mut E) -> Status {
-    if error.kind() == ErrorKind::OutOfMemory {
-        return out_of_memory(errors);
-    }
-    if error.use_stderr() {
-        let _ = write!(errors, "{error}");
-        return Status::Usage;
-    }
-    match write!(output, "{error}") {
-        Ok(()) => Status::Done,
-        Err(_) => io_failed(errors),
+fn refuse<O: Write + Drop, E: Write>(fault: &WordFault, mut output: O, errors: &mut E) -> Status {
+    match fault {
+        WordFault::Memory => out_of_memory(errors),
+        WordFault::Wrong(text) => {
+            let _ = write!(errors, "{text}");
+            Status::Usage
+        }
+        WordFault::Help(text) => match write!(output, "{text}") {
+            Ok(()) => Status::Done,
+            Err(_) => io_failed(errors),
+        },
     }
 }
 

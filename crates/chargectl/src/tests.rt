@@ -2,7 +2,7 @@
 
 mod checks;
 mod commands;
+mod failing_streams;
 mod files;
 mod samples;
-mod streams;
 mod trials;

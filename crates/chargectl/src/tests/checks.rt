@@ -1,7 +1,7 @@
+use super::failing_streams::{Endless, Pieces, Takes};
 use super::samples::{
     LEN, STEP, continuation, dump, first_segment, interval, other_step, short_record,
 };
-use super::streams::{Endless, Pieces, Takes};
 use crate::check::check_list;
 use book_core::{Sink, Source};
 use book_import::{MAX_READS, Stop};

@@ -1,5 +1,5 @@
+use super::failing_streams::{Pieces, Takes};
 use super::samples::{NO_DISPUTES, RECEIPT, STATEMENT, STEP, dump};
-use super::streams::{Pieces, Takes};
 use crate::message::{report_failed, stopped, words_failed};
 use crate::program::command;
 use crate::status::Status;

@@ -1,9 +1,9 @@
+use super::failing_streams::{Endless, Pieces, Takes};
 use super::samples::{
     NO_DISPUTES, RECEIPT, STATEMENT, STATEMENT_OF_NONE, STATEMENT_OF_TWO, STEP, dump, other_step,
     variant,
 };
-use super::streams::{Endless, Pieces, Takes};
-use crate::trial::trial;
+use crate::trials::trial;
 use book_core::{Sink, Source};
 use book_import::{MAX_READS, Receipt, Stop};
 use book_reports::ReportFault;

@@ -3,7 +3,7 @@ use Rattle.std.proofs.lemmas.List.{length-map}
 use Rattle.smf_frames.specs.Framed.{IsFramed}
 use Rattle.smf_frames.specs.Texts.{texts}
 use Rattle.book_core.specs.PlainBook.{book_of}
-use Rattle.book_core.proofs.AnswerLemmas.{error_answers}
+use Rattle.book_model.proofs.AnswerLemmas.{error_answers}
 use Rattle.book_import.specs.declared.receipt.Receipt.{Receipt}
 use Rattle.book_import.specs.declared.receipt.Stop.TheVariants.{Ledger}
 use Rattle.book_import.proofs.ImportLemmas.{text_at, one_more, refused, all_handled}

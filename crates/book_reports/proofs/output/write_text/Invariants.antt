@@ -1,6 +1,6 @@
 use Rattle.std.proofs.Common.{◌≡◌, ◌-◌, ◌≤◌, false, length, take}
 use Rattle.std.specs.Io.KnownBytes.{Appends}
-use Rattle.book_core.specs.Sinks.{writer_of, has_failed}
+use Rattle.streams.specs.Sinks.{writer_of, has_failed}
 use Rattle.book_reports.proofs.output.write_text.Given as goal
 
 -- the writer took the bytes so far, and no write failed

@@ -1,7 +1,7 @@
 use Rattle.std.proofs.Common.{[], ◌∷◌, ◌∙◌, ap, subst, Result, Err}
 use Rattle.std.proofs.lemmas.Result.{err_from_is_err_and}
 use Rattle.smf_frames.specs.Texts.{texts}
-use Rattle.book_core.specs.Sinks.{writer_of}
+use Rattle.streams.specs.Sinks.{writer_of}
 use Rattle.book_import.specs.declared.receipt.Stop.{Stop}
 use Rattle.book_reports.specs.declared.fault.ReportFault.{ReportFault}
 use Rattle.book_reports.specs.CheckLists.{check_list_text}

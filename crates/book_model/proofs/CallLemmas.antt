@@ -1,0 +1,85 @@
+-- The calls let rulings go forward only.
+use Rattle.std.proofs.Common.{◌≡◌, ℕ, List, refl, sym, arith, not, ◌&&◌, Bool, true, false, true≢false, Option, Some, None, Ok, Err, Result}
+use Rattle.std.specs.Prelude.{if◌then◌else◌, int_lt, ℤ, ◌<ℤ◌, MatchOption, ◌==◌}
+use Rattle.std.specs.List.{list_any}
+use Rattle.std.specs.Option.{option_map_or}
+use Rattle.std.proofs.lemmas.Int.{ints}
+use Rattle.tariff_rules.specs.Terms.{Terms}
+use Rattle.book_model.specs.declared.answer.Ruled.{Ruled}
+use Rattle.book_model.specs.declared.answer.Ruled.TheVariants.{Done, Already}
+use Rattle.book_model.specs.declared.fault.LedgerFault.{LedgerFault}
+use Rattle.book_model.specs.declared.fault.LedgerFault.TheVariants.{TariffDate, TariffExists, RecordsDated, WrongPeriod, NotLater, Full}
+use Rattle.book_model.specs.declared.limits.TheConstants.{MAX_PERIOD}
+use Rattle.book_model.specs.Books.{Book, open_number}
+use Rattle.book_model.specs.Laws.{IsAfterLastClose, CallsGoForward}
+use Rattle.book_model.specs.Rulings.{last_close}
+use Rattle.book_model.specs.Steps.{has_text, is_effective, is_later, has_dated, terms_answer, is_closed, close_answer}
+
+-- the answer by what each test gives, in their order
+abbrev pub by_tests : Bool → Bool → Bool → Bool → Result Ruled LedgerFault
+by_tests told there before dated =
+    if told then Ok Already
+    else if there then Err TariffExists
+    else if not before then Err TariffDate
+    else if dated then Err RecordsDated
+    else Ok Done
+
+-- a tariff that is put in force passed the test of its day
+passes : (told there later dated : Bool) → by_tests told there later dated ≡ Ok Done → later ≡ true
+passes true there later dated is = cc
+passes false true later dated is = cc
+passes false false true dated is = refl
+passes false false false dated is = cc
+
+-- that test
+later_than : (alone : Bool) (last : Option ℤ) (day : ℤ)
+    → (alone && option_map_or (λ close. int_lt close day) last true) ≡ true
+    → MatchOption last (Unit {0}) (λ close. close <ℤ day)
+later_than alone None day is = tt
+later_than true (Some close) day is = grind (arith, ints)
+later_than false (Some close) day is = absurd (true≢false (sym is))
+
+-- a tariff that is put in force begins after the last close
+tariff_done : (book : Book) (text : List ℕ) (terms : Terms) → terms_answer book text terms ≡ Ok Done
+    → IsAfterLastClose book.rulings terms.effective
+tariff_done book text terms is =
+    let day : ℤ = terms.effective in
+    let alone = not (list_any (λ tariff. not (int_lt tariff.terms.effective day)) book.rulings.tariffs) in
+    later_than alone (last_close book.rulings) day
+    (passes (list_any (has_text text) book.rulings.tariffs) (list_any (is_effective day) book.rulings.tariffs)
+    (is_later day book.rulings) (has_dated day book.held) is)
+
+-- the answer to a close, by the tests in their order
+abbrev close_by : ℕ → Bool → Bool → Bool → Bool → Result Ruled LedgerFault
+close_by number_open closed is_open early full =
+    if closed then Ok Already
+    else if not is_open then Err (WrongPeriod number_open)
+    else if early then Err NotLater
+    else if full then Err Full
+    else Ok Done
+
+-- a period that is closed passed the test of its day
+closes_late : (number_open : ℕ) (closed is_open early full : Bool)
+    → close_by number_open closed is_open early full ≡ Ok Done → early ≡ false
+closes_late number_open true is_open early full is = cc
+closes_late number_open false false early full is = cc
+closes_late number_open false true true full is = cc
+closes_late number_open false true false full is = refl
+
+-- that test
+after_last : (last : Option ℤ) (day : ℤ) → option_map_or (λ close. not (int_lt close day)) last false ≡ false
+    → MatchOption last (Unit {0}) (λ close. close <ℤ day)
+after_last None day is = tt
+after_last (Some close) day is = grind (arith, ints)
+
+-- a period is closed through a day after the last close
+close_done : (book : Book) (number : ℕ) (day : ℤ) → close_answer book number day ≡ Ok Done
+    → IsAfterLastClose book.rulings day
+close_done book number day is =
+    after_last (last_close book.rulings) day
+    (closes_late (open_number book) (is_closed number day book.rulings) (number == open_number book)
+    (option_map_or (λ close. not (int_lt close day)) (last_close book.rulings) false) (number == MAX_PERIOD) is)
+
+-- the law of it
+pub calls_go_forward : CallsGoForward
+calls_go_forward = record { tariff = tariff_done; close = close_done }

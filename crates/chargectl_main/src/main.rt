@@ -1,0 +1,23 @@
+//! The program of the chargeback office.
+#![tactic(auto)]
+
+use chargectl::{command, words_failed};
+use std::process::ExitCode;
+use std::{env, io};
+
+fn main(rt: HostRuntime) -> ExitCode {
+    let status = match given_words(&rt) {
+        Ok(words) => command(&rt, &words, rt.reader(), io::writer(&rt), &mut rt.stderr()),
+        Err(error) => words_failed(&mut rt.stderr(), &error),
+    };
+    ExitCode::from(status.code())
+}
+
+/// The words of the command line. An error is want of memory, or that one is not UTF-8.
+fn given_words(rt: &HostRuntime) -> io::Result<Vec<String>> {
+    let mut words = Vec::new(rt.alloc());
+    for word in env::args(rt)? {
+        words.push(word)?;
+    }
+    Ok(words)
+}

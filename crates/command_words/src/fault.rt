@@ -1,0 +1,15 @@
+use thiserror::Error;
+
+/// Why words ask for nothing that the program does.
+#[derive(Debug, Drop, Error)]
+pub enum WordFault {
+    /// They ask for help, which is this text.
+    #[error("{0}")]
+    Help(String),
+    /// They are wrong, and this text says how.
+    #[error("{0}")]
+    Wrong(String),
+    /// A request for memory was refused.
+    #[error("want of memory")]
+    Memory,
+}

@@ -1,0 +1,11 @@
+//! The words of the command line, and what they ask for. No type of `clap` goes out of here: who
+//! depends on this crate does not depend on that one.
+#![tactic(auto)]
+
+mod command_line;
+mod fault;
+mod request;
+
+pub use command_line::{PROGRAM, requested_by};
+pub use fault::WordFault;
+pub use request::Request;

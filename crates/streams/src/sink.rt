@@ -1,0 +1,63 @@
+ghost use Rattle.std.specs.Prelude.{◌≡◌, ◌||◌, ◌≤◌, IfOk, false, length};
+ghost use Rattle.std.specs.Io.KnownBytes.{WriteAppends};
+ghost use Rattle.streams.specs.Marks.{is_failed_write};
+ghost use Rattle.streams.specs.Sinks.{writer_of, has_failed};
+
+use std::io;
+use std::io::Write;
+
+/// A writer, and whether a write failed.
+#[derive(Drop)]
+pub struct Sink<W: Write + Drop> {
+    inner: W,
+    failed: bool,
+}
+
+impl<W: Write + Drop> Sink<W> {
+    /// Over a writer that was not written to yet.
+    pub fn new(inner: W) -> Sink<W>
+        ensures writer { writer_of result ≡ inner }
+        ensures failed { has_failed result ≡ false }
+    {
+        Sink {
+            inner,
+            failed: false,
+        }
+    }
+
+    /// A write failed, or took none of one or more bytes.
+    pub fn failed(&self) -> bool
+        ensures { result ≡ has_failed self.now }
+    {
+        self.failed
+    }
+
+    /// The writer, as the writes left it.
+    pub fn into_inner(self) -> W
+        ensures { result ≡ writer_of self }
+    {
+        self.inner
+    }
+
+    /// Writes once, and answers how many bytes the writer took.
+    pub fn write(&mut self, bytes: &[u8]) -> io::Result<usize>
+        ensures bound { IfOk result (λ count. count ≤ length bytes.now) }
+        ensures bytes { WriteAppends (W.contents (writer_of self.old))
+            (W.contents (writer_of self.new)) result bytes.now }
+        ensures failed { has_failed self.new
+            ≡ (has_failed self.old || is_failed_write result (length bytes.now)) }
+    {
+        match self.inner.write(bytes) {
+            Ok(count) => {
+                if count == 0 && !bytes.is_empty() {
+                    self.failed = true;
+                }
+                Ok(count)
+            }
+            Err(error) => {
+                self.failed = true;
+                Err(error)
+            }
+        }
+    }
+}
