@@ -1,5 +1,6 @@
 //! The classes of records, and what receipts and check lists say of them.
 
+use crate::check_lists::check_of;
 use crate::office::{dispute_list, import, new_books};
 use crate::receipts::{one_damaged, one_kept, receipt_for};
 use crate::sample::{
@@ -8,7 +9,6 @@ use crate::sample::{
 };
 use crate::usage::usage_of;
 use book_import::{Receipt, Stop};
-use book_reports::check_list_text;
 use smf_type30::Class::Damaged;
 use smf_type30::{Class, Damage, Type30, class};
 use std::alloc::Global;
@@ -69,14 +69,15 @@ const SHORT_RECORDS: &str = "\
 RECORDS 7 STOP END
 ";
 
-/// Asserts the class of each record, and answers the list of them.
+/// Asserts the class of each record, and answers the list of a dump of them.
 fn list_of(rt: &impl Abort, alloc: Global, cases: &[Case<'_>]) -> Result<String, Fail> {
-    let mut records = Vec::new(alloc);
+    let mut dump = Vec::new(alloc);
     for (case, bytes, want) in cases {
         assert_eq!(rt; class(*bytes), *want, "{case}");
-        records.push(Vec::from_slice(alloc, *bytes)?)?;
+        dump.extend_from_slice(*bytes)?;
     }
-    Ok(check_list_text(alloc, &records, Stop::End)?)
+    let (list, _) = check_of(alloc, &dump)?;
+    Ok(list)
 }
 
 #[test]
@@ -230,12 +231,12 @@ fn short_records(rt: HostRuntime) -> Result<(), Fail> {
             Class::Continuation,
         ),
     ];
-    let mut records = Vec::new(alloc);
-    for (case, bytes, want) in cases {
-        assert_eq!(rt; class(&bytes), want, "{case}");
-        records.push(bytes)?;
+    let mut dump = Vec::new(alloc);
+    for (case, bytes, want) in &cases {
+        assert_eq!(rt; class(bytes), *want, "{case}");
+        dump.extend_from_slice(bytes)?;
     }
-    let list = check_list_text(alloc, &records, Stop::End)?;
+    let (list, _) = check_of(alloc, &dump)?;
     assert_eq!(rt; list.as_str(), SHORT_RECORDS);
     Ok(())
 }

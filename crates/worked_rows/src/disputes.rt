@@ -2,11 +2,12 @@
 
 ghost use Rattle.std.specs.Prelude.{replicate};
 
-use crate::office::{dispute_list, import, new_books, report, tariff, trial};
+use crate::office::{dispute_list, import, new_books, report, tariff};
 use crate::sample::{
     Record, SAMPLE, Section, joined, other_job, other_step, other_subtype, variant_1201, without,
 };
 use crate::statements::ONE_STEP;
+use crate::trials::trial_text;
 use book_core::{LedgerFault, Naming, PlainLedger};
 use book_import::{Receipt, Stop};
 use smf_frames::Layout;
@@ -63,9 +64,9 @@ fn two_variants(rt: HostRuntime) -> Result<(), Fail> {
     let variant = variant_1201();
     let sample_first = joined(alloc, &[&SAMPLE, &variant])?;
     let variant_first = joined(alloc, &[&variant, &SAMPLE])?;
-    let text = trial(alloc, sample_first.as_slice(), Layout::Rdw)?;
+    let text = trial_text(alloc, sample_first.as_slice(), Layout::Rdw)?;
     assert_eq!(rt; text.as_str(), TWO_VARIANTS);
-    let text = trial(alloc, variant_first.as_slice(), Layout::Rdw)?;
+    let text = trial_text(alloc, variant_first.as_slice(), Layout::Rdw)?;
     assert_eq!(rt; text.as_str(), TWO_VARIANTS, "the other way round");
     Ok(())
 }

@@ -9,6 +9,8 @@ mod check_lists;
 #[cfg(test)]
 mod classes;
 #[cfg(test)]
+mod commands;
+#[cfg(test)]
 mod days;
 #[cfg(test)]
 mod disputes;
@@ -19,14 +21,20 @@ mod dumps;
 #[cfg(test)]
 mod faults;
 #[cfg(test)]
+mod files;
+#[cfg(test)]
 mod frames;
 #[cfg(test)]
 mod largest;
+#[cfg(test)]
+mod messages;
 mod office;
 #[cfg(test)]
 mod prices;
 #[cfg(test)]
 mod readers;
+#[cfg(test)]
+mod reading_and_writing;
 #[cfg(test)]
 mod receipts;
 mod sample;
@@ -34,13 +42,13 @@ mod sample_tariff;
 #[cfg(test)]
 mod statements;
 #[cfg(test)]
-mod streams;
-#[cfg(test)]
 mod tariff_files;
 #[cfg(test)]
 mod tariffs;
 #[cfg(test)]
 mod texts;
+#[cfg(test)]
+mod trials;
 #[cfg(test)]
 mod usage;
 #[cfg(test)]

@@ -8,12 +8,17 @@ use smf_frames::FrameFault;
 use std::alloc::Global;
 use std::test::Fail;
 
-/// The receipt for one record that was kept.
-pub fn one_kept(stop: Stop) -> Receipt {
+/// The receipt for so many records that were kept.
+pub fn kept(count: u64, stop: Stop) -> Receipt {
     Receipt {
-        kept: 1,
+        kept: count,
         ..Receipt::stopped(stop)
     }
+}
+
+/// The receipt for one record that was kept.
+pub fn one_kept(stop: Stop) -> Receipt {
+    kept(1, stop)
 }
 
 /// The receipt for one record that no tariff prices.

@@ -5,7 +5,7 @@ ghost use Rattle.std.specs.Prelude.{◌+◌, ◌≤◌, length};
 use std::alloc::{AllocError, Global};
 
 /// The sample's length, with its descriptor.
-const LEN: usize = 168;
+pub const LEN: usize = 168;
 
 /// The most bytes of accounting fields that stand behind a sample.
 const MAX_FIELDS: usize = 100;

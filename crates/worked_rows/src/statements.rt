@@ -1,9 +1,10 @@
 //! What records cost: the texts that the office agreed on, written out.
 
 use crate::frames::stop_of;
-use crate::office::{flat, import, new_books, report, trial};
+use crate::office::{flat, import, new_books, report};
 use crate::prices::price_of;
 use crate::sample::{SAMPLE, Section, joined, measuring, other_step, with_blocks, without};
+use crate::trials::trial_text;
 use book_core::{PlainLedger, ShaNames};
 use book_import::{Receipt, Stop};
 use book_reports::statement_text;
@@ -74,7 +75,7 @@ DISPUTES 0
 
 #[test]
 fn one_record(rt: HostRuntime) -> Result<(), Fail> {
-    let text = trial(rt.alloc(), SAMPLE.as_slice(), Layout::Rdw)?;
+    let text = trial_text(rt.alloc(), SAMPLE.as_slice(), Layout::Rdw)?;
     assert_eq!(rt; text.as_str(), ONE_RECORD);
     Ok(())
 }
@@ -84,25 +85,31 @@ fn empty_input(rt: HostRuntime) -> Result<(), Fail> {
     let nothing: &[u8] = &[];
     assert_eq!(rt; stop_of(rt.alloc(), Layout::Rdw, nothing)?, (0, 0, false));
     assert_eq!(rt; stop_of(rt.alloc(), Layout::Bdw, nothing)?, (0, 0, false));
-    let text = trial(rt.alloc(), nothing, Layout::Rdw)?;
+    let text = trial_text(rt.alloc(), nothing, Layout::Rdw)?;
     assert_eq!(rt; text.as_str(), NO_RECORD);
     Ok(())
 }
 
 #[test]
-fn repeated_within_a_dump(rt: HostRuntime) -> Result<(), Fail> {
+fn order_and_copies_within_a_dump_make_no_difference(rt: HostRuntime) -> Result<(), Fail> {
     let alloc = rt.alloc();
     let step = other_step(SAMPLE, 2);
-    let dump = joined(alloc, &[&SAMPLE, &step, &SAMPLE, &step, &step])?;
-    let mut ledger = new_books(alloc)?;
-    let receipt = import(alloc, &dump, &mut ledger);
-    let want = Receipt {
-        kept: 2,
-        known: 3,
-        ..Receipt::stopped(Stop::End)
-    };
-    assert_eq!(rt; receipt, want);
-    assert_eq!(rt; report(alloc, &ledger)?.as_str(), TWO_STEPS);
+    let cases = [
+        ("the second first", joined(alloc, &[&step, &SAMPLE])?, 0),
+        (
+            "copies",
+            joined(alloc, &[&SAMPLE, &step, &SAMPLE, &step, &step])?,
+            3,
+        ),
+    ];
+    for (case, dump, known) in &cases {
+        let text = trial_text(alloc, dump.as_slice(), Layout::Rdw)?;
+        let want = format!(in alloc;
+            "KEPT 2 KNOWN {known} UNPRICED 0 OTHER 0 HEADERS 0 TRAILERS 0 LOST 0 CONTINUED 0 \
+            DAMAGED 0 STOP END\n{TWO_STEPS}"
+        )?;
+        assert_eq!(rt; text.as_str(), want.as_str(), "{case}");
+    }
     Ok(())
 }
 

@@ -1,6 +1,6 @@
 //! What a source and a sink mark, and how a text is written.
 
-use crate::writers::{RunsFull, TakesNothing, TakesOneByte};
+use crate::writers::Takes;
 use book_core::{Sink, Source};
 use book_reports::{ReportFault, write_text};
 use std::test::Fail;
@@ -29,44 +29,32 @@ fn a_source_counts_and_marks(rt: HostRuntime) -> Result<(), Fail> {
 
 #[test]
 fn a_sink_marks_a_failed_write(rt: HostRuntime) -> Result<(), Fail> {
-    let mut sink = Sink::new(RunsFull::with_room(rt.alloc(), 1));
+    let mut sink = Sink::new(Takes::up_to(rt.alloc(), 1, 1));
     assert_eq!(rt; sink.write(&[1, 2])?, 1);
     assert!(rt; !sink.failed());
     assert!(rt; sink.write(&[2]).is_err());
     assert!(rt; sink.failed());
     let writer = sink.into_inner();
     assert_eq!(rt; writer.taken.as_slice(), [1].as_slice());
-    assert_eq!(rt; writer.failures, 1);
+    assert_eq!(rt; writer.asked, 2);
     Ok(())
 }
 
 #[test]
-fn a_text_is_written_in_as_many_writes_as_it_takes(rt: HostRuntime) -> Result<(), Fail> {
-    let mut sink = Sink::new(TakesOneByte {
-        taken: Vec::new(rt.alloc()),
-    });
-    write_text(&mut sink, LINE)?;
-    assert!(rt; !sink.failed());
-    assert_eq!(rt; sink.into_inner().taken.as_slice(), LINE.as_bytes());
-    Ok(())
-}
-
-#[test]
-fn no_write_follows_one_that_failed(rt: HostRuntime) -> Result<(), Fail> {
-    let mut sink = Sink::new(RunsFull::with_room(rt.alloc(), 7));
-    assert_eq!(rt; write_text(&mut sink, LINE), Err(ReportFault::Write));
-    assert!(rt; sink.failed());
-    let writer = sink.into_inner();
-    assert_eq!(rt; writer.taken.as_slice(), b"KEPT 1 ".as_slice());
-    assert_eq!(rt; writer.failures, 1);
-    Ok(())
-}
-
-#[test]
-fn no_write_follows_one_that_took_nothing(rt: HostRuntime) -> Result<(), Fail> {
-    let mut sink = Sink::new(TakesNothing { writes: 0 });
-    assert_eq!(rt; write_text(&mut sink, LINE), Err(ReportFault::Write));
-    assert!(rt; sink.failed());
-    assert_eq!(rt; sink.into_inner().writes, 1);
+fn a_text_is_written_up_to_the_first_write_that_fails(rt: HostRuntime) -> Result<(), Fail> {
+    let failed = Err(ReportFault::Write);
+    let cases = [
+        ("a byte at a time", 1, u32::MAX, Ok(()), LINE, 15),
+        ("7 bytes, and no more", 7, 1, failed, "KEPT 1 ", 2),
+        ("nothing at any write", 0, u32::MAX, failed, "", 1),
+    ];
+    for (case, size, writes, want, taken, asked) in cases {
+        let mut sink = Sink::new(Takes::up_to(rt.alloc(), size, writes));
+        assert_eq!(rt; write_text(&mut sink, LINE), want, "{case}");
+        assert_eq!(rt; sink.failed(), want.is_err(), "{case}");
+        let writer = sink.into_inner();
+        assert_eq!(rt; writer.taken.as_slice(), taken.as_bytes(), "{case}");
+        assert_eq!(rt; writer.asked, asked, "{case}");
+    }
     Ok(())
 }
