@@ -16,8 +16,3 @@ pub use book_model::{
 pub use limits::{MAX_COST, MAX_HELD};
 pub use plain::PlainLedger;
 pub use streams::{Sink, Source};
-
-#[cfg(test)]
-mod samples;
-#[cfg(test)]
-mod tests;

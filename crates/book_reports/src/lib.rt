@@ -10,8 +10,6 @@ mod period;
 mod receipt_line;
 mod reports;
 mod statement;
-#[cfg(test)]
-mod tests;
 
 pub use check_list::check_list_text;
 pub use dispute_list::dispute_list_text;

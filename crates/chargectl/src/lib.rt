@@ -6,8 +6,6 @@ mod laws;
 mod message;
 mod program;
 mod status;
-#[cfg(test)]
-mod tests;
 mod trials;
 
 pub use check::check_list;

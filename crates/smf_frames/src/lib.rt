@@ -14,8 +14,3 @@ pub use fault::FrameFault;
 pub use framed::MAX_DATA;
 pub use header::{HEADER_LEN, Header};
 pub use whole::split;
-
-#[cfg(test)]
-mod samples;
-#[cfg(test)]
-mod tests;

@@ -13,6 +13,3 @@ pub use encoded::{TextFault, encode};
 pub use name::{MAX_NAME, Name};
 pub use packed_date::{DateFault, packed_day};
 pub use shown::show;
-
-#[cfg(test)]
-mod tests;

@@ -17,8 +17,3 @@ pub use damage::Damage;
 pub use layout::{HUNDREDTHS_PER_DAY, JOB_END, STEP_END};
 pub use moment::Moment;
 pub use usage::Type30;
-
-#[cfg(test)]
-mod samples;
-#[cfg(test)]
-mod tests;

@@ -19,8 +19,3 @@ pub use priced::{Priced, price};
 pub use rates::MAX_RATE;
 pub use shift::MAX_PERCENT;
 pub use tariff::{MAX_CENTRES, MAX_SHIFTS, MAX_TEXT, Tariff};
-
-#[cfg(test)]
-mod samples;
-#[cfg(test)]
-mod tests;

@@ -2,10 +2,12 @@
 
 ghost use Rattle.std.specs.Prelude.{replicate};
 
-use crate::office::{dispute_list, import, new_books, report, tariff, trial};
+use crate::office::{dispute_list, import, new_books, report, tariff};
 use crate::sample::{
-    Record, SAMPLE, joined, other_job, other_step, other_subtype, variant_1201, without_completion,
+    Record, SAMPLE, Section, joined, other_job, other_step, other_subtype, variant_1201, without,
 };
+use crate::statements::ONE_STEP;
+use crate::trials::trial_text;
 use book_core::{LedgerFault, Naming, PlainLedger};
 use book_import::{Receipt, Stop};
 use smf_frames::Layout;
@@ -62,17 +64,17 @@ fn two_variants(rt: HostRuntime) -> Result<(), Fail> {
     let variant = variant_1201();
     let sample_first = joined(alloc, &[&SAMPLE, &variant])?;
     let variant_first = joined(alloc, &[&variant, &SAMPLE])?;
-    let text = trial(alloc, sample_first.as_slice(), Layout::Rdw)?;
+    let text = trial_text(alloc, sample_first.as_slice(), Layout::Rdw)?;
     assert_eq!(rt; text.as_str(), TWO_VARIANTS);
-    let text = trial(alloc, variant_first.as_slice(), Layout::Rdw)?;
+    let text = trial_text(alloc, variant_first.as_slice(), Layout::Rdw)?;
     assert_eq!(rt; text.as_str(), TWO_VARIANTS, "the other way round");
     Ok(())
 }
 
 #[test]
 fn an_absent_completion_shows_as_hyphens(rt: HostRuntime) -> Result<(), Fail> {
-    let one = without_completion(SAMPLE);
-    let other = without_completion(variant_1201());
+    let one = without(SAMPLE, Section::Completion);
+    let other = without(variant_1201(), Section::Completion);
     let text = disputes_of(rt.alloc(), one, other)?;
     assert_eq!(rt; text.as_str(), NO_COMPLETION);
     Ok(())
@@ -88,7 +90,7 @@ fn no_step_tells_job_ends_apart(rt: HostRuntime) -> Result<(), Fail> {
 }
 
 #[test]
-fn names_shown(rt: HostRuntime) -> Result<(), Fail> {
+fn an_odd_job_name_is_shown_in_a_dispute(rt: HostRuntime) -> Result<(), Fail> {
     let name = [0xC1, 0xE0, 0x00, 0x40, 0x40, 0x40, 0x40, 0x40];
     let one = other_job(SAMPLE, name);
     let other = other_job(variant_1201(), name);
@@ -121,11 +123,11 @@ fn digest_clash(rt: HostRuntime) -> Result<(), Fail> {
         ..Receipt::stopped(Stop::End)
     };
     assert_eq!(rt; receipt, want);
-    let before = report(alloc, &ledger)?;
+    assert_eq!(rt; report(alloc, &ledger)?.as_str(), ONE_STEP);
 
     let receipt = import(alloc, &other_step(SAMPLE, 2), &mut ledger);
     let clash = Stop::Ledger(LedgerFault::DigestClash);
     assert_eq!(rt; receipt, Receipt::stopped(clash));
-    assert_eq!(rt; report(alloc, &ledger)?.as_str(), before.as_str());
+    assert_eq!(rt; report(alloc, &ledger)?.as_str(), ONE_STEP);
     Ok(())
 }

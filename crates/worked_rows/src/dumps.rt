@@ -1,12 +1,16 @@
 //! What the books make of a dump, however it is cut.
 
-use crate::office::{import, import_from, new_books, report, trial};
-use crate::readers::{Breaks, InPieces};
+use crate::check_lists::check_of;
+use crate::frames::stop_of;
+use crate::office::{import, import_from, new_books, report};
+use crate::readers::{Endless, InPieces};
+use crate::receipts::one_kept;
 use crate::sample::{SAMPLE, joined, other_step};
-use crate::statements::{ONE_RECORD, TWO_STEPS};
+use crate::statements::{ONE_RECORD, ONE_STEP, TWO_STEPS};
+use crate::trials::trial_text;
 use book_core::Source;
 use book_import::{Receipt, Stop, import_whole};
-use smf_frames::{FrameFault, Layout};
+use smf_frames::{FrameFault, Layout, split};
 use std::alloc::{AllocError, Global};
 use std::test::Fail;
 
@@ -23,14 +27,6 @@ fn segment_between(alloc: Global) -> Result<Vec<u8>, AllocError> {
 /// The last one, with 44 bytes of data.
 fn last_segment(alloc: Global) -> Result<Vec<u8>, AllocError> {
     joined(alloc, &[&[0x00, 0x30, 0x02, 0x00], &SAMPLE[124..]])
-}
-
-/// The receipt of an import that kept one record.
-fn one_kept(stop: Stop) -> Receipt {
-    Receipt {
-        kept: 1,
-        ..Receipt::stopped(stop)
-    }
 }
 
 #[test]
@@ -63,7 +59,15 @@ fn spanned_record(rt: HostRuntime) -> Result<(), Fail> {
         ),
     ];
     for (case, layout, dump) in cases {
-        assert_eq!(rt; trial(alloc, dump, layout)?.as_str(), ONE_RECORD, "{case}");
+        let parts = split(alloc, layout, dump)?;
+        assert_eq!(rt; parts.fault, None, "{case}");
+        assert_eq!(rt; parts.records.len(), 1, "{case}");
+        assert_eq!(rt; parts.records[0].as_slice(), SAMPLE.as_slice(), "{case}");
+        assert_eq!(rt;
+            trial_text(alloc, dump, layout)?.as_str(),
+            ONE_RECORD,
+            "{case}"
+        );
     }
     Ok(())
 }
@@ -73,17 +77,26 @@ fn torn_end(rt: HostRuntime) -> Result<(), Fail> {
     let alloc = rt.alloc();
     let step = other_step(SAMPLE, 2);
     let mut torn = joined(alloc, &[&step, &first_segment(alloc)?])?;
+    assert_eq!(rt; stop_of(alloc, Layout::Rdw, &torn)?, (1, 6, false));
     let mut ledger = new_books(alloc)?;
     let receipt = import(alloc, &torn, &mut ledger);
     let no_last = Stop::Frame(FrameFault::MissingLast);
     assert_eq!(rt; receipt, one_kept(no_last), "a first segment");
+    let (list, stop) = check_of(alloc, &torn)?;
+    assert_eq!(rt; list.as_str(), "1 TYPE 30 USAGE\nRECORDS 1 STOP FRAME 6\n");
+    assert_eq!(rt; stop, no_last);
 
     torn.pop();
+    assert_eq!(rt; stop_of(alloc, Layout::Rdw, &torn)?, (1, 8, false));
     let receipt = import(alloc, &torn, &mut new_books(alloc)?);
     let cut = Stop::Frame(FrameFault::Truncated);
     assert_eq!(rt; receipt, one_kept(cut), "one byte less");
+    let (list, stop) = check_of(alloc, &torn)?;
+    assert_eq!(rt; list.as_str(), "1 TYPE 30 USAGE\nRECORDS 1 STOP FRAME 8\n");
+    assert_eq!(rt; stop, cut);
 
     let whole = joined(alloc, &[&step, &SAMPLE])?;
+    assert_eq!(rt; stop_of(alloc, Layout::Rdw, &whole)?, (2, 0, false));
     let receipt = import(alloc, &whole, &mut ledger);
     let want = Receipt {
         known: 1,
@@ -99,6 +112,7 @@ fn records_before_garbage_are_kept(rt: HostRuntime) -> Result<(), Fail> {
     let garbage = [0x00, 0x03, 0x00, 0x00, 0x00, 0x00, 0x00, 0x00, 0x00, 0x00];
     let step = other_step(SAMPLE, 2);
     let dump = joined(alloc, &[&step, &SAMPLE, &garbage])?;
+    assert_eq!(rt; stop_of(alloc, Layout::Rdw, &dump)?, (2, 1, true));
     let mut ledger = new_books(alloc)?;
     let receipt = import(alloc, &dump, &mut ledger);
     let want = Receipt {
@@ -109,34 +123,39 @@ fn records_before_garbage_are_kept(rt: HostRuntime) -> Result<(), Fail> {
     Ok(())
 }
 
+/// The receipt line of a dump that has one record, and a part of another.
+const CUT: &str = "\
+KEPT 1 KNOWN 0 UNPRICED 0 OTHER 0 HEADERS 0 TRAILERS 0 LOST 0 CONTINUED 0 DAMAGED 0 STOP FRAME 8
+";
+
 #[test]
 fn a_record_before_half_a_descriptor_is_kept(rt: HostRuntime) -> Result<(), Fail> {
     let dump = joined(rt.alloc(), &[&SAMPLE, &[0x00, 0xA8, 0x00]])?;
-    let text = trial(rt.alloc(), dump.as_slice(), Layout::Rdw)?;
-    assert!(rt; text.as_str().starts_with("KEPT 1 "), "{text}");
-    assert!(rt; text.as_str().contains(" STOP FRAME 8\n"), "{text}");
+    assert_eq!(rt; stop_of(rt.alloc(), Layout::Rdw, &dump)?, (1, 8, false));
+    let text = trial_text(rt.alloc(), dump.as_slice(), Layout::Rdw)?;
+    let want = format!(in rt.alloc(); "{CUT}{ONE_STEP}")?;
+    assert_eq!(rt; text.as_str(), want.as_str());
     Ok(())
 }
 
-/// The most data that one record holds.
-const LONGEST: usize = 65_531;
+/// The data of the first of two segments of a long record.
+const FIRST_DATA: usize = 32_768;
 
 #[test]
 fn longest_record(rt: HostRuntime) -> Result<(), Fail> {
     let alloc = rt.alloc();
-    let mut data = joined(alloc, &[&SAMPLE[4..]])?;
-    data.resize(LONGEST, 0)?;
-    let (front, back) = data.split_at(32_768);
-    let dump = joined(
-        alloc,
-        &[
-            &[0x80, 0x04, 0x01, 0x00],
-            front,
-            &[0x7F, 0xFF, 0x02, 0x00],
-            back,
-        ],
-    )?;
-    let text = trial(alloc, dump.as_slice(), Layout::Rdw)?;
+    let mut first = joined(alloc, &[&[0x80, 0x04, 0x01, 0x00], &SAMPLE[4..]])?;
+    first.resize(4 + FIRST_DATA, 0)?;
+    let rest = vec![in alloc; 0; FIRST_DATA]?;
+    let too_long = joined(alloc, &[&first, &[0x80, 0x04, 0x03, 0x00], &rest])?;
+    assert_eq!(rt; stop_of(alloc, Layout::Rdw, &too_long)?, (0, 7, true));
+
+    let longest = joined(alloc, &[&first, &[0x7F, 0xFF, 0x02, 0x00], &rest[..32_763]])?;
+    let parts = split(alloc, Layout::Rdw, &longest)?;
+    assert_eq!(rt; parts.fault, None);
+    assert_eq!(rt; parts.records.len(), 1);
+    assert_eq!(rt; parts.records[0].len(), 65_535);
+    let text = trial_text(alloc, longest.as_slice(), Layout::Rdw)?;
     assert_eq!(rt; text.as_str(), ONE_RECORD);
     Ok(())
 }
@@ -160,7 +179,7 @@ fn pieces_make_no_difference(rt: HostRuntime) -> Result<(), Fail> {
     };
     for size in [1, 7, dump.len()] {
         let mut ledger = new_books(alloc)?;
-        let reader = InPieces::new(&dump, size);
+        let reader = InPieces::of(&dump, size);
         let receipt = import_from(alloc, reader, Layout::Rdw, &mut ledger);
         assert_eq!(rt; receipt, want, "pieces of {size}");
         assert_eq!(rt;
@@ -176,14 +195,13 @@ fn pieces_make_no_difference(rt: HostRuntime) -> Result<(), Fail> {
 fn readers_that_stop(rt: HostRuntime) -> Result<(), Fail> {
     let alloc = rt.alloc();
     let mut ledger = new_books(alloc)?;
-    let twice = joined(alloc, &[&SAMPLE, &SAMPLE])?;
-    let mut source = Source::new(InPieces::new(&twice, 100));
+    let mut source = Source::new(Endless::new());
     let receipt = import_whole(alloc, &mut source, Layout::Rdw, 3, &mut ledger);
     assert_eq!(rt; receipt, one_kept(Stop::ReadLimit));
     assert_eq!(rt; source.asked(), 3);
 
     let mut ledger = new_books(alloc)?;
-    let reader = Breaks::behind(&SAMPLE);
+    let reader = InPieces::failing_behind(1, &SAMPLE, SAMPLE.len());
     let receipt = import_from(alloc, reader, Layout::Rdw, &mut ledger);
     assert_eq!(rt; receipt, one_kept(Stop::Read));
     Ok(())

@@ -1,10 +1,13 @@
 //! The largest amounts that records can have, and books that are full of them.
 
 use crate::office::{books_under, import, report};
+use crate::prices::price_of;
+use crate::receipts::one_kept;
 use crate::sample::{SAMPLE, measuring, other_step, with_blocks};
 use book_core::LedgerFault;
 use book_import::{Receipt, Stop};
 use std::test::Fail;
+use tariff_rules::Tariff;
 
 /// The highest rates for a step, at the highest percent. A record of 2 * 4294967295 hundredths of a
 /// second and 4294967295 blocks costs (10 * 8589934590 + 4294967295 + 1000) * 100000000 * 1000 /
@@ -40,14 +43,13 @@ DISPUTES 0
 fn largest_amounts(rt: HostRuntime) -> Result<(), Fail> {
     let alloc = rt.alloc();
     let largest = measuring(with_blocks(SAMPLE, u32::MAX), u32::MAX, u32::MAX);
+    let priced = price_of(&Tariff::parse(alloc, HIGHEST)?, &largest)?;
+    assert_eq!(rt; priced.amount, 90_194_314_195_000_000);
+
     let mut ledger = books_under(alloc, HIGHEST)?;
     for step in 1..45u16 {
         let receipt = import(alloc, &other_step(largest, step), &mut ledger);
-        let kept = Receipt {
-            kept: 1,
-            ..Receipt::stopped(Stop::End)
-        };
-        assert_eq!(rt; receipt, kept, "step {step}");
+        assert_eq!(rt; receipt, one_kept(Stop::End), "step {step}");
     }
     assert_eq!(rt; report(alloc, &ledger)?.as_str(), FULL);
 

@@ -3,7 +3,15 @@
 #![tactic(auto)]
 
 #[cfg(test)]
+mod accounts;
+#[cfg(test)]
+mod check_lists;
+#[cfg(test)]
 mod classes;
+#[cfg(test)]
+mod commands;
+#[cfg(test)]
+mod days;
 #[cfg(test)]
 mod disputes;
 #[cfg(test)]
@@ -11,16 +19,40 @@ mod dump_reader;
 #[cfg(test)]
 mod dumps;
 #[cfg(test)]
+mod faults;
+#[cfg(test)]
+mod files;
+#[cfg(test)]
+mod frames;
+#[cfg(test)]
 mod largest;
+#[cfg(test)]
+mod messages;
 mod office;
 #[cfg(test)]
+mod prices;
+#[cfg(test)]
 mod readers;
+#[cfg(test)]
+mod reading_and_writing;
+#[cfg(test)]
+mod receipts;
 mod sample;
 mod sample_tariff;
 #[cfg(test)]
 mod statements;
 #[cfg(test)]
+mod tariff_files;
+#[cfg(test)]
 mod tariffs;
+#[cfg(test)]
+mod texts;
+#[cfg(test)]
+mod trials;
+#[cfg(test)]
+mod usage;
+#[cfg(test)]
+mod writers;
 
 use std::fs;
 use std::test::Fail;

@@ -2,7 +2,7 @@
 
 use book_core::{Naming, PlainLedger, ShaNames, Sink, Source};
 use book_import::{MAX_READS, Receipt, import_whole};
-use book_reports::{dispute_list_text, receipt_line_text, statement_text, write_text};
+use book_reports::{dispute_list_text, statement_text, write_text};
 use smf_frames::Layout;
 use std::alloc::Global;
 use std::io::Read;
@@ -75,13 +75,4 @@ pub fn report<N: Naming + Drop>(alloc: Global, ledger: &PlainLedger<N>) -> Resul
     write_text(&mut sink, statement.as_str())?;
     write_text(&mut sink, disputes.as_str())?;
     Ok(String::from_utf8(sink.into_inner())?)
-}
-
-/// The receipt line of a dump that is handed to new books, and behind it their report.
-pub fn trial<R: Read + Drop>(alloc: Global, reader: R, layout: Layout) -> Result<String, Fail> {
-    let mut ledger = new_books(alloc)?;
-    let receipt = import_from(alloc, reader, layout, &mut ledger);
-    let mut text = receipt_line_text(alloc, &receipt)?;
-    text.push_str(report(alloc, &ledger)?.as_str())?;
-    Ok(text)
 }

@@ -1,23 +1,37 @@
-//! Readers that give a dump in pieces, or not whole.
+//! Readers that give a dump in pieces, not whole, or without end.
 
+use crate::sample::{LEN, SAMPLE};
 use std::io;
 use std::io::{ErrorKind, Read};
 
-/// Gives a dump in pieces of so many bytes.
+/// Gives a dump, at most so many bytes at a read, and fails at each behind so many reads.
 #[derive(Drop)]
 pub struct InPieces<'a> {
     left: &'a [u8],
     size: usize,
+    reads: u32,
 }
 
 impl<'a> InPieces<'a> {
-    pub fn new(dump: &'a [u8], size: usize) -> InPieces<'a> {
-        InPieces { left: dump, size }
+    pub fn of(dump: &'a [u8], size: usize) -> InPieces<'a> {
+        InPieces::failing_behind(u32::MAX, dump, size)
+    }
+
+    pub fn failing_behind(reads: u32, dump: &'a [u8], size: usize) -> InPieces<'a> {
+        InPieces {
+            left: dump,
+            size,
+            reads,
+        }
     }
 }
 
 impl Read for InPieces<'_> {
     fn read(&mut self, buffer: &mut [u8]) -> io::Result<usize> {
+        if self.reads == 0 {
+            return Err(ErrorKind::BrokenPipe.into());
+        }
+        self.reads -= 1;
         let count = self.size.min(buffer.len()).min(self.left.len());
         let (piece, later) = self.left.split_at(count);
         buffer[..count].copy_from_slice(piece);
@@ -26,27 +40,26 @@ impl Read for InPieces<'_> {
     }
 }
 
-/// Gives a dump in one piece, and then fails at each read.
+/// Gives copies of the sample without end, 100 bytes at a read.
 #[derive(Drop)]
-pub struct Breaks<'a> {
-    left: &'a [u8],
+pub struct Endless {
+    at: usize,
 }
 
-impl<'a> Breaks<'a> {
-    pub fn behind(dump: &'a [u8]) -> Breaks<'a> {
-        Breaks { left: dump }
+impl Endless {
+    pub fn new() -> Endless {
+        Endless { at: 0 }
     }
 }
 
-impl Read for Breaks<'_> {
+impl Read for Endless {
     fn read(&mut self, buffer: &mut [u8]) -> io::Result<usize> {
-        let count = buffer.len().min(self.left.len());
-        if count == 0 {
-            return Err(ErrorKind::BrokenPipe.into());
+        let count = buffer.len().min(100);
+        for byte in buffer[..count].iter_mut() {
+            self.at %= LEN;
+            *byte = SAMPLE[self.at];
+            self.at += 1;
         }
-        let (piece, later) = self.left.split_at(count);
-        buffer[..count].copy_from_slice(piece);
-        self.left = later;
         Ok(count)
     }
 }

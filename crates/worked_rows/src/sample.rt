@@ -5,7 +5,7 @@ ghost use Rattle.std.specs.Prelude.{◌+◌, ◌≤◌, length};
 use std::alloc::{AllocError, Global};
 
 /// The sample's length, with its descriptor.
-const LEN: usize = 168;
+pub const LEN: usize = 168;
 
 /// The most bytes of accounting fields that stand behind a sample.
 const MAX_FIELDS: usize = 100;
@@ -57,12 +57,42 @@ pub const SAMPLE: Record = [
     0x00, 0x00, 0x00, 0x00, 0x00, 0x00, 0x04, 0xB0, 0x00, 0x00, 0x00, 0x22,
 ];
 
+/// A section of a sample.
+#[derive(Clone, Copy)]
+pub enum Section {
+    Identification,
+    InputOutput,
+    Completion,
+    Processor,
+    Accounting,
+}
+
+impl Section {
+    /// Where its triplet stands: offset (4 bytes), length (2) and number (2).
+    fn triplet(self) -> usize
+        ensures { result ≤ 64 }
+    {
+        match self {
+            Section::Identification => 32,
+            Section::InputOutput => 40,
+            Section::Completion => 48,
+            Section::Processor => 56,
+            Section::Accounting => 64,
+        }
+    }
+}
+
 /// The record with other bytes at an offset.
 fn changed(mut record: Record, at: usize, bytes: &[u8]) -> Record
     requires { at + length bytes.now ≤ LEN }
 {
     record[at..at + bytes.len()].copy_from_slice(bytes);
     record
+}
+
+/// The record with another type.
+pub fn other_type(record: Record, kind: u8) -> Record {
+    changed(record, 5, &[kind])
 }
 
 /// The record at another time of its day, in hundredths of a second.
@@ -80,19 +110,24 @@ pub fn other_subtype(record: Record, subtype: u16) -> Record {
     changed(record, 22, &subtype.to_be_bytes())
 }
 
-/// The record without its I/O section.
-pub fn without_io(record: Record) -> Record {
-    changed(record, 46, &[0, 0])
+/// The record with another offset in the triplet of a section.
+pub fn moved(record: Record, section: Section, offset: u32) -> Record {
+    changed(record, section.triplet(), &offset.to_be_bytes())
 }
 
-/// The record without its completion section.
-pub fn without_completion(record: Record) -> Record {
-    changed(record, 54, &[0, 0])
+/// The record with another length in the triplet of a section.
+pub fn resized(record: Record, section: Section, len: u16) -> Record {
+    changed(record, section.triplet() + 4, &len.to_be_bytes())
 }
 
-/// The record without its processor section.
-pub fn without_processor(record: Record) -> Record {
-    changed(record, 62, &[0, 0])
+/// The record with another number in the triplet of a section.
+pub fn counted(record: Record, section: Section, number: u16) -> Record {
+    changed(record, section.triplet() + 6, &number.to_be_bytes())
+}
+
+/// The record without a section.
+pub fn without(record: Record, section: Section) -> Record {
+    counted(record, section, 0)
 }
 
 /// The record of another job, named in code page 037.
@@ -134,11 +169,22 @@ pub fn with_accounts(
     requires { length fields.now ≤ MAX_FIELDS }
 {
     let len = (LEN + fields.len()) as u16;
-    let mut front = changed(record, 0, &len.to_be_bytes());
-    // the triplet: behind the record, so many
-    front = changed(front, 64, &(LEN as u32).to_be_bytes());
-    front = changed(front, 70, &count.to_be_bytes());
-    joined(alloc, &[&front, fields])
+    let behind = moved(record, Section::Accounting, LEN as u32);
+    let counting = counted(behind, Section::Accounting, count);
+    joined(alloc, &[&of_length(counting, len), fields])
+}
+
+/// The record with another length in its descriptor.
+fn of_length(record: Record, len: u16) -> Record {
+    changed(record, 0, &len.to_be_bytes())
+}
+
+/// The front of a record, with its own length in its descriptor.
+pub fn cut(alloc: Global, record: Record, len: u16) -> Result<Vec<u8>, AllocError>
+    requires { len ≤ LEN }
+{
+    let shorter = of_length(record, len);
+    Vec::from_slice(alloc, &shorter[..usize::from(len)])
 }
 
 /// A record of another type, at the sample's time, that is its header alone.

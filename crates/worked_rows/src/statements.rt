@@ -1,12 +1,15 @@
 //! What records cost: the texts that the office agreed on, written out.
 
-use crate::office::{flat, import, new_books, report, trial};
-use crate::sample::{SAMPLE, joined, measuring, other_step, without_io};
+use crate::frames::stop_of;
+use crate::office::{flat, import, new_books, report};
+use crate::prices::price_of;
+use crate::sample::{SAMPLE, Section, joined, measuring, other_step, with_blocks, without};
+use crate::trials::trial_text;
 use book_core::{PlainLedger, ShaNames};
 use book_import::{Receipt, Stop};
+use book_reports::statement_text;
 use smf_frames::Layout;
 use std::test::Fail;
-use tariff_rules::Tariff;
 
 /// All that is written of a dump of the sample alone.
 pub const ONE_RECORD: &str = "\
@@ -25,6 +28,31 @@ STATEMENT PERIOD 1 OPEN
 DAY        CENTRE           SHIFT               COUNT                 CPU             BLOCKS                AMOUNT
 TOTAL                                               0                0.00                  0                0.0000
 DISPUTES 0
+";
+
+/// The report of books that hold nothing.
+pub const NO_STEP: &str = "\
+STATEMENT PERIOD 1 OPEN
+DAY        CENTRE           SHIFT               COUNT                 CPU             BLOCKS                AMOUNT
+TOTAL                                               0                0.00                  0                0.0000
+DISPUTES 0
+";
+
+/// The report of books that hold the sample, at 2.0000 for a CPU second and 0.0500 for 1,000
+/// blocks: 10 * 1234 * 20000 + 5000 * 500 is 249300000.
+pub const ONE_STEP: &str = "\
+STATEMENT PERIOD 1 OPEN
+DAY        CENTRE           SHIFT               COUNT                 CPU             BLOCKS                AMOUNT
+2024-01-31 UNASSIGNED       BASE                    1               12.34               5000               24.9300
+TOTAL                                               1               12.34               5000               24.9300
+DISPUTES 0
+";
+
+/// The statement of period 2, which was closed through 2024-01-31, with no row.
+const CLOSED: &str = "\
+STATEMENT PERIOD 2 CLOSED THROUGH 2024-01-31
+DAY        CENTRE           SHIFT               COUNT                 CPU             BLOCKS                AMOUNT
+TOTAL                                               0                0.00                  0                0.0000
 ";
 
 /// The report of books that hold the sample and another step.
@@ -47,7 +75,7 @@ DISPUTES 0
 
 #[test]
 fn one_record(rt: HostRuntime) -> Result<(), Fail> {
-    let text = trial(rt.alloc(), SAMPLE.as_slice(), Layout::Rdw)?;
+    let text = trial_text(rt.alloc(), SAMPLE.as_slice(), Layout::Rdw)?;
     assert_eq!(rt; text.as_str(), ONE_RECORD);
     Ok(())
 }
@@ -55,25 +83,33 @@ fn one_record(rt: HostRuntime) -> Result<(), Fail> {
 #[test]
 fn empty_input(rt: HostRuntime) -> Result<(), Fail> {
     let nothing: &[u8] = &[];
-    let text = trial(rt.alloc(), nothing, Layout::Rdw)?;
+    assert_eq!(rt; stop_of(rt.alloc(), Layout::Rdw, nothing)?, (0, 0, false));
+    assert_eq!(rt; stop_of(rt.alloc(), Layout::Bdw, nothing)?, (0, 0, false));
+    let text = trial_text(rt.alloc(), nothing, Layout::Rdw)?;
     assert_eq!(rt; text.as_str(), NO_RECORD);
     Ok(())
 }
 
 #[test]
-fn repeated_within_a_dump(rt: HostRuntime) -> Result<(), Fail> {
+fn order_and_copies_within_a_dump_make_no_difference(rt: HostRuntime) -> Result<(), Fail> {
     let alloc = rt.alloc();
     let step = other_step(SAMPLE, 2);
-    let dump = joined(alloc, &[&SAMPLE, &step, &SAMPLE, &step, &step])?;
-    let mut ledger = new_books(alloc)?;
-    let receipt = import(alloc, &dump, &mut ledger);
-    let want = Receipt {
-        kept: 2,
-        known: 3,
-        ..Receipt::stopped(Stop::End)
-    };
-    assert_eq!(rt; receipt, want);
-    assert_eq!(rt; report(alloc, &ledger)?.as_str(), TWO_STEPS);
+    let cases = [
+        ("the second first", joined(alloc, &[&step, &SAMPLE])?, 0),
+        (
+            "copies",
+            joined(alloc, &[&SAMPLE, &step, &SAMPLE, &step, &step])?,
+            3,
+        ),
+    ];
+    for (case, dump, known) in &cases {
+        let text = trial_text(alloc, dump.as_slice(), Layout::Rdw)?;
+        let want = format!(in alloc;
+            "KEPT 2 KNOWN {known} UNPRICED 0 OTHER 0 HEADERS 0 TRAILERS 0 LOST 0 CONTINUED 0 \
+            DAMAGED 0 STOP END\n{TWO_STEPS}"
+        )?;
+        assert_eq!(rt; text.as_str(), want.as_str(), "{case}");
+    }
     Ok(())
 }
 
@@ -105,7 +141,7 @@ fn repeated_and_overlapping(rt: HostRuntime) -> Result<(), Fail> {
 fn without_an_io_section_no_blocks_are_charged(rt: HostRuntime) -> Result<(), Fail> {
     let alloc = rt.alloc();
     let mut ledger = new_books(alloc)?;
-    import(alloc, &without_io(SAMPLE), &mut ledger);
+    import(alloc, &without(SAMPLE, Section::InputOutput), &mut ledger);
     assert_eq!(rt; report(alloc, &ledger)?.as_str(), NO_BLOCKS);
     Ok(())
 }
@@ -113,22 +149,30 @@ fn without_an_io_section_no_blocks_are_charged(rt: HostRuntime) -> Result<(), Fa
 #[test]
 fn rounds_once(rt: HostRuntime) -> Result<(), Fail> {
     let alloc = rt.alloc();
-    let least = measuring(without_io(SAMPLE), 1, 0);
+    let least = with_blocks(measuring(SAMPLE, 1, 0), 0);
     let step = other_step(least, 2);
     let dump = joined(alloc, &[&least, &step])?;
-    for (cpu, want) in [(5, 0), (50, 2)] {
+    for (cpu, one, both) in [(5, 0, 0), (50, 1, 2)] {
+        assert_eq!(rt;
+            price_of(&flat(alloc, cpu, 0)?, &least)?.amount,
+            one,
+            "rate {cpu}"
+        );
         let mut ledger = PlainLedger::flat(alloc, ShaNames, flat(alloc, cpu, 0)?)?;
         import(alloc, &dump, &mut ledger);
         let rows = ledger.charges(1)?;
         assert_eq!(rt; rows.len(), 1, "rate {cpu}");
         assert_eq!(rt; rows[0].count, 2, "rate {cpu}");
-        assert_eq!(rt; rows[0].amount, want, "rate {cpu}");
+        assert_eq!(rt; rows[0].cpu, 2, "rate {cpu}");
+        assert_eq!(rt; rows[0].blocks, 0, "rate {cpu}");
+        assert_eq!(rt; rows[0].amount, both, "rate {cpu}");
     }
     Ok(())
 }
 
 #[test]
-fn no_rate_is_above_a_hundred_million(rt: HostRuntime) {
-    assert!(rt; Tariff::flat(rt.alloc(), 100_000_001, 0, 0).is_none());
-    assert!(rt; Tariff::flat(rt.alloc(), 100_000_000, 0, 0).is_some());
+fn the_statement_of_no_rows_has_totals_of_zero(rt: HostRuntime) -> Result<(), Fail> {
+    let text = statement_text(rt.alloc(), 2, Some(19_753), &[])?;
+    assert_eq!(rt; text.as_str(), CLOSED);
+    Ok(())
 }

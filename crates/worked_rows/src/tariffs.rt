@@ -1,22 +1,27 @@
 //! Tariff files that are handed to the books, and what records cost by them.
 
 use crate::office::{books_under, import, report};
-use crate::sample::{SAMPLE, other_step, timed, with_accounts};
+use crate::prices::price_of;
+use crate::receipts::{one_kept, one_unpriced};
+use crate::sample::{SAMPLE, dated, other_step, timed};
+use crate::statements::{NO_STEP, ONE_STEP};
 use book_core::{LedgerFault, PlainLedger, Ruled, ShaNames};
-use book_import::{Receipt, Stop};
+use book_import::Stop;
 use std::alloc::{AllocError, Global};
 use std::test::Fail;
+use tariff_rules::{Key, Tariff, TariffFault};
 
-/// Prices without shifts or centres.
-const RATES: &str = r#"
-[rates]
-step_cpu = 20000
+/// The rates but that of a step's CPU time: 0.0500 for 1,000 blocks, and nothing for a job.
+const OTHER_RATES: &str = "\
 step_excp = 500
 step_record = 0
 job_cpu = 0
 job_excp = 0
 job_record = 0
-"#;
+";
+
+/// 2.0000 for a second of CPU time.
+pub const CPU_RATE: u64 = 20_000;
 
 /// A shift from 18:00 on, on working days, at half the prices.
 const NIGHT: &str = r#"
@@ -28,32 +33,14 @@ to = "24:00"
 percent = 50
 "#;
 
-/// The first accounting field decides before the job's name.
-const CENTRES: &str = r#"
-[[centre]]
-name = "ACCOUNTS"
-account = 1
-prefix = "A"
-[[centre]]
-name = "PAYROLL"
-job = "PAY"
-"#;
-
-/// The report of books that hold the sample, at 2.0000 for a CPU second and 0.0500 for 1,000
-/// blocks: 10 * 1234 * 20000 + 5000 * 500 is 249300000.
-const AT_FULL_PRICES: &str = "\
+/// The report of books that hold the sample, and another step on the first day of a tariff that
+/// doubles the price of CPU time.
+const TWO_TARIFFS: &str = "\
 STATEMENT PERIOD 1 OPEN
 DAY        CENTRE           SHIFT               COUNT                 CPU             BLOCKS                AMOUNT
 2024-01-31 UNASSIGNED       BASE                    1               12.34               5000               24.9300
-TOTAL                                               1               12.34               5000               24.9300
-DISPUTES 0
-";
-
-/// The report of books that hold nothing.
-const EMPTY: &str = "\
-STATEMENT PERIOD 1 OPEN
-DAY        CENTRE           SHIFT               COUNT                 CPU             BLOCKS                AMOUNT
-TOTAL                                               0                0.00                  0                0.0000
+2024-02-01 UNASSIGNED       BASE                    1               12.34               5000               49.6100
+TOTAL                                               2               24.68              10000               74.5400
 DISPUTES 0
 ";
 
@@ -67,35 +54,9 @@ TOTAL                                               2               24.68       
 DISPUTES 0
 ";
 
-/// The report of books that hold a sample of each centre.
-const BY_CENTRE: &str = "\
-STATEMENT PERIOD 1 OPEN
-DAY        CENTRE           SHIFT               COUNT                 CPU             BLOCKS                AMOUNT
-2024-01-31 ACCOUNTS         BASE                    1               12.34               5000               24.9300
-2024-01-31 PAYROLL          BASE                    1               12.34               5000               24.9300
-TOTAL                                               2               24.68              10000               49.8600
-DISPUTES 0
-";
-
-/// A tariff file with these prices and rules from a day on.
-fn file_from(alloc: Global, day: &str, rules: &str) -> Result<String, AllocError> {
-    format!(in alloc; "effective = \"{day}\"{RATES}{rules}")
-}
-
-/// The receipt of one record that is kept.
-fn one_kept() -> Receipt {
-    Receipt {
-        kept: 1,
-        ..Receipt::stopped(Stop::End)
-    }
-}
-
-/// The receipt of one record that no tariff prices.
-fn one_unpriced() -> Receipt {
-    Receipt {
-        unpriced: 1,
-        ..Receipt::stopped(Stop::End)
-    }
+/// A tariff file from a day on, with these rules behind the rates.
+pub fn file_from(alloc: Global, day: &str, cpu: u64, rules: &str) -> Result<String, AllocError> {
+    format!(in alloc; "effective = \"{day}\"\n[rates]\nstep_cpu = {cpu}\n{OTHER_RATES}{rules}")
 }
 
 #[test]
@@ -103,81 +64,108 @@ fn tariffs_in_order(rt: HostRuntime) -> Result<(), Fail> {
     let alloc = rt.alloc();
     let mut ledger = PlainLedger::new(alloc, ShaNames)?;
     assert_eq!(rt; import(alloc, &SAMPLE, &mut ledger), one_unpriced());
-    assert_eq!(rt; report(alloc, &ledger)?.as_str(), EMPTY);
+    assert_eq!(rt; report(alloc, &ledger)?.as_str(), NO_STEP);
 
-    let file = file_from(alloc, "2024-01-01", "")?;
+    let file = file_from(alloc, "2024-01-01", CPU_RATE, "")?;
     assert_eq!(rt; ledger.tariff(file.as_str()), Ok(Ruled::Done));
-    assert_eq!(rt; import(alloc, &SAMPLE, &mut ledger), one_kept());
-    assert_eq!(rt; report(alloc, &ledger)?.as_str(), AT_FULL_PRICES);
+    assert_eq!(rt; import(alloc, &SAMPLE, &mut ledger), one_kept(Stop::End));
+    assert_eq!(rt; report(alloc, &ledger)?.as_str(), ONE_STEP);
 
+    let exists = Err(LedgerFault::TariffExists);
+    let early = Err(LedgerFault::TariffDate);
     let cases = [
-        ("the same text", "2024-01-01", "", Ok(Ruled::Already)),
-        (
-            "other rules",
-            "2024-01-01",
-            NIGHT,
-            Err(LedgerFault::TariffExists),
-        ),
-        (
-            "a comment more",
-            "2024-01-01",
-            "# again",
-            Err(LedgerFault::TariffExists),
-        ),
-        (
-            "the day before",
-            "2023-12-31",
-            "",
-            Err(LedgerFault::TariffDate),
-        ),
+        ("the same", "2024-01-01", CPU_RATE, "", Ok(Ruled::Already)),
+        ("another rate", "2024-01-01", 30_000, "", exists),
+        ("other rules", "2024-01-01", CPU_RATE, NIGHT, exists),
+        ("a comment more", "2024-01-01", CPU_RATE, "# again", exists),
+        ("the day before", "2023-12-31", CPU_RATE, "", early),
     ];
-    for (case, day, rules, want) in cases {
-        let file = file_from(alloc, day, rules)?;
+    for (case, day, cpu, rules, want) in cases {
+        let file = file_from(alloc, day, cpu, rules)?;
         assert_eq!(rt; ledger.tariff(file.as_str()), want, "{case}");
-        assert_eq!(rt; report(alloc, &ledger)?.as_str(), AT_FULL_PRICES, "{case}");
+        assert_eq!(rt; report(alloc, &ledger)?.as_str(), ONE_STEP, "{case}");
     }
+    Ok(())
+}
+
+#[test]
+fn a_text_that_is_no_tariff_rules_nothing(rt: HostRuntime) -> Result<(), Fail> {
+    let alloc = rt.alloc();
+    let mut ledger = PlainLedger::new(alloc, ShaNames)?;
+    let fault = TariffFault::Missing(Key::Effective);
+    assert_eq!(rt; ledger.tariff(""), Err(LedgerFault::TariffRefused(fault)));
+    assert_eq!(rt; import(alloc, &SAMPLE, &mut ledger), one_unpriced());
     Ok(())
 }
 
 #[test]
 fn records_dated(rt: HostRuntime) -> Result<(), Fail> {
     let alloc = rt.alloc();
-    let mut ledger = books_under(alloc, file_from(alloc, "2024-01-01", "")?.as_str())?;
-    assert_eq!(rt; import(alloc, &SAMPLE, &mut ledger), one_kept());
+    let january = file_from(alloc, "2024-01-01", CPU_RATE, "")?;
+    let mut ledger = books_under(alloc, january.as_str())?;
+    assert_eq!(rt; import(alloc, &SAMPLE, &mut ledger), one_kept(Stop::End));
+    let dated = Err(LedgerFault::RecordsDated);
     let cases = [
-        ("2024-01-31", Err(LedgerFault::RecordsDated)),
-        ("2024-02-01", Ok(Ruled::Done)),
+        ("the record's day", "2024-01-31", CPU_RATE, NIGHT, dated),
+        ("at its rate", "2024-01-31", CPU_RATE, "", dated),
+        (
+            "the day after",
+            "2024-02-01",
+            CPU_RATE,
+            NIGHT,
+            Ok(Ruled::Done),
+        ),
     ];
-    for (day, want) in cases {
-        let file = file_from(alloc, day, NIGHT)?;
-        assert_eq!(rt; ledger.tariff(file.as_str()), want, "{day}");
-        assert_eq!(rt; report(alloc, &ledger)?.as_str(), AT_FULL_PRICES, "{day}");
+    for (case, day, cpu, rules, want) in cases {
+        let file = file_from(alloc, day, cpu, rules)?;
+        assert_eq!(rt; ledger.tariff(file.as_str()), want, "{case}");
+        assert_eq!(rt; report(alloc, &ledger)?.as_str(), ONE_STEP, "{case}");
     }
+    Ok(())
+}
+
+#[test]
+fn each_tariff_prices_the_days_from_its_first_to_the_next(rt: HostRuntime) -> Result<(), Fail> {
+    let alloc = rt.alloc();
+    let january = file_from(alloc, "2024-01-01", CPU_RATE, "")?;
+    let mut ledger = books_under(alloc, january.as_str())?;
+    assert_eq!(rt; import(alloc, &SAMPLE, &mut ledger), one_kept(Stop::End));
+    let february = file_from(alloc, "2024-02-01", 40_000, "")?;
+    assert_eq!(rt; ledger.tariff(february.as_str()), Ok(Ruled::Done));
+    let first_of_february = dated(other_step(SAMPLE, 2), [0x01, 0x24, 0x03, 0x2F]);
+    assert_eq!(rt;
+        import(alloc, &first_of_february, &mut ledger),
+        one_kept(Stop::End)
+    );
+    assert_eq!(rt; report(alloc, &ledger)?.as_str(), TWO_TARIFFS);
     Ok(())
 }
 
 #[test]
 fn night_shift(rt: HostRuntime) -> Result<(), Fail> {
     let alloc = rt.alloc();
-    let mut ledger = books_under(alloc, file_from(alloc, "2024-01-01", NIGHT)?.as_str())?;
-    let at_18 = timed(SAMPLE, 6_480_000);
-    let before_18 = timed(other_step(SAMPLE, 2), 6_479_999);
-    assert_eq!(rt; import(alloc, &at_18, &mut ledger), one_kept());
-    assert_eq!(rt; import(alloc, &before_18, &mut ledger), one_kept());
+    let file = file_from(alloc, "2024-01-01", CPU_RATE, NIGHT)?;
+    let tariff = Tariff::parse(alloc, file.as_str())?;
+    let mut ledger = books_under(alloc, file.as_str())?;
+    let cases = [
+        ("18:00", timed(SAMPLE, 6_480_000), "NIGHT", 124_650),
+        (
+            "a hundredth of a second before",
+            timed(other_step(SAMPLE, 2), 6_479_999),
+            "BASE",
+            249_300,
+        ),
+    ];
+    for (case, record, shift, amount) in cases {
+        let priced = price_of(&tariff, &record)?;
+        assert_eq!(rt; priced.shift.text(), shift, "{case}");
+        assert_eq!(rt; priced.amount, amount, "{case}");
+        assert_eq!(rt;
+            import(alloc, &record, &mut ledger),
+            one_kept(Stop::End),
+            "{case}"
+        );
+    }
     assert_eq!(rt; report(alloc, &ledger)?.as_str(), DAY_AND_NIGHT);
-    Ok(())
-}
-
-#[test]
-fn accounting_fields(rt: HostRuntime) -> Result<(), Fail> {
-    let alloc = rt.alloc();
-    let mut ledger = books_under(alloc, file_from(alloc, "2024-01-01", CENTRES)?.as_str())?;
-    let empty_first = [0x00, 0x04, 0xC1, 0xC2, 0xC3, 0xC4];
-    let by_job = with_accounts(alloc, SAMPLE, 2, &empty_first)?;
-    assert_eq!(rt; import(alloc, &by_job, &mut ledger), one_kept());
-    let begins_with_a = [0x04, 0xC1, 0xC2, 0xC3, 0xC4];
-    let by_account = with_accounts(alloc, other_step(SAMPLE, 2), 1, &begins_with_a)?;
-    assert_eq!(rt; import(alloc, &by_account, &mut ledger), one_kept());
-    assert_eq!(rt; report(alloc, &ledger)?.as_str(), BY_CENTRE);
     Ok(())
 }

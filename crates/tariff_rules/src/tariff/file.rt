@@ -87,6 +87,3 @@ impl Tariff {
         }
     }
 }
-
-#[cfg(test)]
-mod tests;

@@ -1,4 +1,9 @@
-use super::*;
+//! The faults of each key, and the ends of its range.
+
+use super::{assert_faults, changed, fault_of};
+use std::test::Fail;
+use tariff_rules::TariffFault::{Missing, Range};
+use tariff_rules::{Key, TariffFault};
 
 #[test]
 fn the_first_day_has_its_faults(rt: HostRuntime) -> Result<(), Fail> {

@@ -1,8 +1,10 @@
-use super::*;
-use crate::fault::TariffFault::{Missing, Range};
-use std::alloc::AllocError;
+//! Tariff files: which are read, and the first fault of one that is not.
+
+use std::alloc::{AllocError, Global};
 use std::process::Abort;
 use std::test::Fail;
+use tariff_rules::TariffFault::Missing;
+use tariff_rules::{Key, Tariff, TariffFault};
 
 mod keys;
 mod order;

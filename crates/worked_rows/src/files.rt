@@ -1,5 +1,7 @@
-use super::commands::{Left, run};
-use super::samples::{STEP, first_segment};
+//! Files that the program checks.
+
+use crate::commands::{Left, run};
+use crate::sample::{SAMPLE, joined};
 use std::test::Fail;
 use std::{env, fs, process};
 
@@ -15,7 +17,7 @@ fn fresh_path(rt: &HostRuntime, name: &str) -> Result<String, Fail> {
 fn check(rt: &HostRuntime, layout: &str, bytes: &[u8]) -> Result<Left, Fail> {
     let file = fresh_path(rt, layout)?;
     fs::write(rt, file.as_str(), bytes)?;
-    let words = format!(in rt.alloc(); "check {file} --layout {layout}")?;
+    let words = format!(in rt.alloc(); "chargectl check {file} --layout {layout}")?;
     let left = run(rt, &words, [].as_slice())?;
     fs::remove_file(rt, file.as_str())?;
     Ok(left)
@@ -23,14 +25,13 @@ fn check(rt: &HostRuntime, layout: &str, bytes: &[u8]) -> Result<Left, Fail> {
 
 #[test]
 fn a_check_reads_a_file_in_either_layout(rt: HostRuntime) -> Result<(), Fail> {
-    let mut blocks = Vec::from_slice(rt.alloc(), &[0x00, 0xAC, 0x00, 0x00])?;
-    blocks.extend_from_slice(&STEP)?;
+    let block = joined(rt.alloc(), &[&[0x00, 0xAC, 0x00, 0x00], &SAMPLE])?;
     let no_room = [0x00, 0x05, 0x00, 0x00];
-    let torn = first_segment();
+    let torn = joined(rt.alloc(), &[&[0x00, 0x40, 0x01, 0x00], &SAMPLE[4..64]])?;
     let one = "1 TYPE 30 USAGE\nRECORDS 1 STOP END\n";
     let cases = [
-        ("rdw", STEP.as_slice(), 0, one, ""),
-        ("bdw", blocks.as_slice(), 0, one, ""),
+        ("rdw", SAMPLE.as_slice(), 0, one, ""),
+        ("bdw", block.as_slice(), 0, one, ""),
         (
             "rdw",
             torn.as_slice(),
@@ -49,33 +50,27 @@ fn a_check_reads_a_file_in_either_layout(rt: HostRuntime) -> Result<(), Fail> {
     for (layout, bytes, status, list, line) in cases {
         let left = check(&rt, layout, bytes)?;
         assert_eq!(rt; left.status, status, "{layout}: {list}");
-        assert!(rt;
-            left.output.as_slice() == list.as_bytes(),
-            "{layout}: {list}"
-        );
-        assert!(rt;
-            left.errors.as_slice() == line.as_bytes(),
-            "{layout}: {list}"
-        );
+        assert_eq!(rt; left.output.as_str(), list, "{layout}");
+        assert_eq!(rt; left.errors.as_str(), line, "{layout}: {list}");
     }
     Ok(())
 }
 
 #[test]
 fn a_file_that_is_not_there_has_one_line(rt: HostRuntime) -> Result<(), Fail> {
-    let words = format!(in rt.alloc(); "check {}", fresh_path(&rt, "missing")?)?;
+    let words = format!(in rt.alloc(); "chargectl check {}", fresh_path(&rt, "missing")?)?;
     let left = run(&rt, &words, [].as_slice())?;
     assert_eq!(rt; left.status, 1);
-    assert!(rt; left.output.is_empty());
-    assert!(rt; left.errors.as_slice() == b"chargectl: io\n".as_slice());
+    assert_eq!(rt; left.output.as_str(), "");
+    assert_eq!(rt; left.errors.as_str(), "chargectl: io\n");
     Ok(())
 }
 
 #[test]
 fn a_folder_opens_and_gives_nothing(rt: HostRuntime) -> Result<(), Fail> {
-    let left = run(&rt, "check /", [].as_slice())?;
+    let left = run(&rt, "chargectl check /", [].as_slice())?;
     assert_eq!(rt; left.status, 1);
-    assert!(rt; left.output.as_slice() == b"RECORDS 0 STOP READ\n".as_slice());
-    assert!(rt; left.errors.as_slice() == b"chargectl: io\n".as_slice());
+    assert_eq!(rt; left.output.as_str(), "RECORDS 0 STOP READ\n");
+    assert_eq!(rt; left.errors.as_str(), "chargectl: io\n");
     Ok(())
 }

@@ -1,4 +1,11 @@
-use super::*;
+//! Which fault is named of a file that has several.
+
+use super::{RATES, fault_of};
+use std::alloc::Global;
+use std::process::Abort;
+use std::test::Fail;
+use tariff_rules::TariffFault::{Missing, Range};
+use tariff_rules::{Key, TariffFault};
 
 /// The lines of a file, and the key that is missing where it ends before one.
 const LINES: [(Key, &str); 14] = [

@@ -1,0 +1,152 @@
+//! Check lists, also over readers and writers that fail.
+
+use crate::readers::{Endless, InPieces};
+use crate::sample::{SAMPLE, joined, other_step, short_record};
+use crate::writers::Takes;
+use book_core::{Sink, Source};
+use book_import::{MAX_READS, Stop};
+use book_reports::{ReportFault, check_list_text};
+use chargectl::check_list;
+use smf_frames::{FrameFault, Layout};
+use std::alloc::{AllocError, Global};
+use std::io::{Read, Write};
+use std::test::Fail;
+
+/// The list of a header, a trailer and a step's end.
+const HEADER_TRAILER_STEP: &str = "\
+1 TYPE 2 HEADER
+2 TYPE 3 TRAILER
+3 TYPE 30 USAGE
+RECORDS 3 STOP END
+";
+
+/// The list of two steps.
+const TWO_STEPS: &str = "\
+1 TYPE 30 USAGE
+2 TYPE 30 USAGE
+RECORDS 2 STOP END
+";
+
+/// The check of segments: its answer, and the writer as it left it.
+fn check_over<R: Read + Drop, W: Write + Drop>(
+    alloc: Global,
+    reader: R,
+    reads: u32,
+    writer: W,
+) -> (Result<Stop, ReportFault>, W) {
+    let mut source = Source::new(reader);
+    let mut sink = Sink::new(writer);
+    let reads = u64::from(reads).min(MAX_READS);
+    let answer = check_list(alloc, &mut source, Layout::Rdw, reads, &mut sink);
+    (answer, sink.into_inner())
+}
+
+/// The list of all of a dump of segments, and why it has no more records.
+pub fn check_of(alloc: Global, dump: &[u8]) -> Result<(String, Stop), Fail> {
+    let (answer, text) = check_over(alloc, dump, u32::MAX, Vec::new(alloc));
+    Ok((String::from_utf8(text)?, answer?))
+}
+
+/// A dump of the sample and another step.
+fn two_steps(alloc: Global) -> Result<Vec<u8>, AllocError> {
+    joined(alloc, &[&SAMPLE, &other_step(SAMPLE, 2)])
+}
+
+#[test]
+fn each_record_has_its_line(rt: HostRuntime) -> Result<(), Fail> {
+    let alloc = rt.alloc();
+    let bracketed = joined(alloc, &[&short_record(2), &short_record(3), &SAMPLE])?;
+    let cases: [(&[u8], &str); 3] = [
+        (&[], "RECORDS 0 STOP END\n"),
+        (&SAMPLE, "1 TYPE 30 USAGE\nRECORDS 1 STOP END\n"),
+        (&bracketed, HEADER_TRAILER_STEP),
+    ];
+    for (dump, want) in cases {
+        let (text, stop) = check_of(alloc, dump)?;
+        assert_eq!(rt; text.as_str(), want);
+        assert_eq!(rt; stop, Stop::End, "{want}");
+    }
+    Ok(())
+}
+
+#[test]
+fn a_list_of_no_records_says_why_there_are_none(rt: HostRuntime) -> Result<(), Fail> {
+    let cases = [
+        (Stop::End, "RECORDS 0 STOP END\n"),
+        (
+            Stop::Frame(FrameFault::Truncated),
+            "RECORDS 0 STOP FRAME 8\n",
+        ),
+        (Stop::Read, "RECORDS 0 STOP READ\n"),
+        (Stop::ReadLimit, "RECORDS 0 STOP READLIMIT\n"),
+    ];
+    for (stop, want) in cases {
+        let text = check_list_text(rt.alloc(), &[], stop)?;
+        assert_eq!(rt; text.as_str(), want);
+    }
+    Ok(())
+}
+
+#[test]
+fn a_reader_that_fails_leaves_the_records_before_it(rt: HostRuntime) -> Result<(), Fail> {
+    let alloc = rt.alloc();
+    let dump = two_steps(alloc)?;
+    let one = "1 TYPE 30 USAGE\nRECORDS 1 STOP READ\n";
+    let two = "1 TYPE 30 USAGE\n2 TYPE 30 USAGE\nRECORDS 2 STOP READ\n";
+    let cases = [
+        (0, 100, Stop::Read, "RECORDS 0 STOP READ\n"),
+        (1, 100, Stop::Read, "RECORDS 0 STOP READ\n"),
+        (2, 100, Stop::Read, one),
+        (1, 168, Stop::Read, one),
+        (4, 100, Stop::Read, two),
+        (5, 100, Stop::End, TWO_STEPS),
+    ];
+    for (reads, size, stop, want) in cases {
+        let reader = InPieces::failing_behind(reads, &dump, size);
+        let (answer, text) = check_over(alloc, reader, u32::MAX, Vec::new(alloc));
+        assert_eq!(rt; answer, Ok(stop), "{reads} reads of {size} bytes");
+        assert_eq!(rt;
+            text.as_slice(),
+            want.as_bytes(),
+            "{reads} reads of {size} bytes"
+        );
+    }
+    Ok(())
+}
+
+#[test]
+fn a_check_stops_where_no_more_reads_are_allowed(rt: HostRuntime) -> Result<(), Fail> {
+    let alloc = rt.alloc();
+    let cases = [
+        (0, "RECORDS 0 STOP READLIMIT\n"),
+        (3, "1 TYPE 30 USAGE\nRECORDS 1 STOP READLIMIT\n"),
+    ];
+    for (reads, want) in cases {
+        let (answer, text) = check_over(alloc, Endless::new(), reads, Vec::new(alloc));
+        assert_eq!(rt; answer, Ok(Stop::ReadLimit), "{reads} reads");
+        assert_eq!(rt; text.as_slice(), want.as_bytes(), "{reads} reads");
+    }
+    Ok(())
+}
+
+#[test]
+fn a_writer_that_fails_has_a_front_of_the_list(rt: HostRuntime) -> Result<(), Fail> {
+    let alloc = rt.alloc();
+    let dump = two_steps(alloc)?;
+    for writes in 0..20 {
+        let writer = Takes::up_to(alloc, 7, writes);
+        let (answer, writer) = check_over(alloc, dump.as_slice(), u32::MAX, writer);
+        let count = TWO_STEPS.len().min(7 * writes as usize);
+        assert!(rt;
+            writer.taken.as_slice() == &TWO_STEPS.as_bytes()[..count],
+            "{writes} writes"
+        );
+        let want = if count == TWO_STEPS.len() {
+            Ok(Stop::End)
+        } else {
+            Err(ReportFault::Write)
+        };
+        assert_eq!(rt; answer, want, "{writes} writes");
+    }
+    Ok(())
+}
