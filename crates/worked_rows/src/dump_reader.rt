@@ -10,7 +10,6 @@ use std::test::Fail;
 
 /// A line for each step or job of a dump: its job, its day, and its CPU time in hundredths of a
 /// second.
-#[tactic(auto, using(smf_type30::proofs::UsageFacts::usage_measures_work))]
 fn work_lines(alloc: Global, dump: &[u8]) -> Result<String, AllocError> {
     let mut lines = String::new(alloc);
     for bytes in &split(alloc, Layout::Rdw, dump)?.records {

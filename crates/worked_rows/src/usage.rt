@@ -14,7 +14,6 @@ const PAYCALC: [u8; 8] = [0xD7, 0xC1, 0xE8, 0xC3, 0xC1, 0xD3, 0xC3, 0x40];
 const JOB00042: [u8; 8] = [0xD1, 0xD6, 0xC2, 0xF0, 0xF0, 0xF0, 0xF4, 0xF2];
 
 /// The record, if it is of class Usage.
-#[tactic(auto, using(smf_type30::proofs::UsageFacts::usage_measures_work))]
 pub fn usage_of(bytes: &[u8]) -> Option<Type30<'_>> {
     match class(bytes) {
         Class::Usage => Type30::read(bytes).ok(),
