@@ -1,6 +1,7 @@
 -- What a run of writes hands to a writer, and texts that are written one after another, up to a
 -- fault.
-use Rattle.std.proofs.Common.{◌≡◌, ◌≢◌, ℕ, ◌+◌, ◌-◌, ◌<◌, List, [], ◌∷◌, ◌++◌, length, take, drop, Option}
+use Rattle.std.proofs.Common.{◌≡◌, ◌≢◌, ℕ, ◌+◌, ◌-◌, ◌<◌, List, [], ◌∷◌, ◌++◌, length, take, drop}
+use Rattle.std.proofs.Common.{Option}
 use Rattle.std.proofs.Common.{Result, Ok, Err, refl, sym, ap, subst, ◌∙◌, append_assoc, append-nil}
 use Rattle.std.proofs.Common.{arith, length-drop, take-add, take_all}
 use Rattle.std.specs.Prelude.{OnOk, OnErr, IfErr}
@@ -32,7 +33,8 @@ pub memory_not_write : {fault : ReportFault} → fault ≡ Memory → fault ≢ 
 memory_not_write is write = cc
 
 -- nor is a refusal of the books
-pub refusal_not_write : (refusal : LedgerFault) {fault : ReportFault} → fault ≡ report_fault_of refusal → fault ≢ Write
+pub refusal_not_write : (refusal : LedgerFault) {fault : ReportFault}
+    → fault ≡ report_fault_of refusal → fault ≢ Write
 refusal_not_write ledger.Memory is write = cc
 refusal_not_write refusal is write = cc
 
@@ -41,7 +43,8 @@ pub same_value : {A : Type 0} {x y : A} → ◌≡◌ {A = Result A LedgerFault}
 same_value {x = x} same = ap (λ answer. result_unwrap_or answer x) same
 
 -- what `write_text` leaves
-pub text_written : (F : Type 0) (held holds : Option (List ℕ)) (text : List ℕ) (answer : Result (Unit {0}) ReportFault)
+pub text_written : (F : Type 0) (held holds : Option (List ℕ)) (text : List ℕ)
+    (answer : Result (Unit {0}) ReportFault)
     → OnOk answer (Appends held holds text × F) → IfErr answer (λ fault. fault ≡ Write)
     → OnErr answer ((n : ℕ) × (n < length text) × Appends held holds (take n text))
     → Writes (text ∷ []) held holds answer
@@ -60,7 +63,8 @@ text_written F held holds text (Err fault) whole failed prefix =
     }
 
 -- before the first write there is nothing
-pub nothing_written : (fault : ReportFault) (held : Option (List ℕ)) (text : List ℕ) (rest : List (List ℕ))
+pub nothing_written : (fault : ReportFault) (held : Option (List ℕ)) (text : List ℕ)
+    (rest : List (List ℕ))
     → fault ≢ Write → WritesUpTo fault (text ∷ rest) held held
 nothing_written fault held text rest other =
     record {
@@ -75,7 +79,8 @@ nothing_written fault held text rest other =
     }
 
 -- where a text failed, no other was begun
-pub others_unwritten : (fault : ReportFault) {first : List ℕ} {held holds : Option (List ℕ)} (others : List (List ℕ))
+pub others_unwritten : (fault : ReportFault) {first : List ℕ} {held holds : Option (List ℕ)}
+    (others : List (List ℕ))
     → WritesUpTo fault (first ∷ []) held holds → WritesUpTo fault (first ∷ others) held holds
 others_unwritten fault others writes =
     record {
@@ -83,16 +88,19 @@ others_unwritten fault others writes =
       next = writes.next;
       rest = writes.rest ++ others;
       count = writes.count;
-      parts = ap (λ texts. texts ++ others) writes.parts ∙ append_assoc writes.whole (writes.next ∷ writes.rest) others;
+      parts = ap (λ texts. texts ++ others) writes.parts
+          ∙ append_assoc writes.whole (writes.next ∷ writes.rest) others;
       grown = writes.grown;
       unless_write = writes.unless_write;
       after_write = writes.after_write;
     }
 
 -- a text whole, and then others
-pub others_written : {A : Type 0} (first : List ℕ) (others : List (List ℕ)) (held mid holds : Option (List ℕ))
+pub others_written : {A : Type 0} (first : List ℕ) (others : List (List ℕ))
+    (held mid holds : Option (List ℕ))
     (answer : Result A ReportFault)
-    → Appends held mid (first ++ []) → Writes others mid holds answer → Writes (first ∷ others) held holds answer
+    → Appends held mid (first ++ []) → Writes others mid holds answer
+    → Writes (first ∷ others) held holds answer
 others_written first others held mid holds (Ok value) one then =
     let text = subst (Appends held mid) (append-nil first) one in
     Appends-trans held mid holds first (concat others) text then
@@ -105,7 +113,8 @@ others_written first others held mid holds (Err fault) one then =
       rest = then.rest;
       count = then.count;
       parts = ap (λ texts. first ∷ texts) then.parts;
-      grown = subst (Appends held holds) (sym (append_assoc first (concat then.whole) (take then.count then.next)))
+      grown = subst (Appends held holds)
+          (sym (append_assoc first (concat then.whole) (take then.count then.next)))
           (Appends-trans held mid holds first before text then.grown);
       unless_write = then.unless_write;
       after_write = then.after_write;

@@ -27,7 +27,8 @@ module _ {layout : Layout} {cut : Option Stop} where
       }
 
   -- the list of a dump that was read, as far as it was written
-  pub is_check : (had left held holds : Option (List ℕ)) (answer : Result Stop ReportFault) (bytes : List ℕ) (dump : ReadDump)
+  pub is_check : (had left held holds : Option (List ℕ)) (answer : Result Stop ReportFault)
+      (bytes : List ℕ) (dump : ReadDump)
       → Consumes had left bytes → IsReadDump layout cut bytes dump
       → WritesPrefix (check_list_text (texts dump.records.items) dump.stop) held holds answer
       → IfOk answer (λ stop. stop ≡ stop_behind cut (front layout bytes))
@@ -36,7 +37,10 @@ module _ {layout : Layout} {cut : Option Stop} where
       record {
         bytes = bytes;
         taken = taken;
-        written = subst (λ stop. WritesPrefix (check_list_text (front layout bytes).records stop) held holds answer) is.stop
-            (subst (λ records. WritesPrefix (check_list_text records dump.stop) held holds answer) is.records written);
+        written =
+            subst (λ stop.
+            WritesPrefix (check_list_text (front layout bytes).records stop) held holds answer) is.stop
+            (subst (λ records. WritesPrefix (check_list_text records dump.stop) held holds answer)
+            is.records written);
         stop = stop;
       }

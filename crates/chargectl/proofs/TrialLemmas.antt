@@ -24,7 +24,8 @@ use Rattle.chargectl.specs.Trials.{IsTrial, trial_texts}
 
 module _ {terms : Terms} {layout : Layout} {cut : Option Stop} {MayStop : Stop → Type 0} where
   -- new books, the import, and what was written
-  pub is_trial : {had left held holds : Option (List ℕ)} {answer : Result Receipt ReportFault} {book : Book}
+  pub is_trial : {had left held holds : Option (List ℕ)} {answer : Result Receipt ReportFault}
+      {book : Book}
       (imported : Imported) → book ≡ flat_book terms
       → (bytes : List ℕ) × Consumes had left bytes × Imports sha256 layout cut bytes book imported
       → MayStop imported.receipt.stop → Writes (trial_texts imported) held holds answer
@@ -42,10 +43,12 @@ module _ {terms : Terms} {layout : Layout} {cut : Option Stop} {MayStop : Stop �
       }
 
   -- without memory for new books nothing is read or written
-  pub no_trial : (had held : Option (List ℕ)) (fault : ReportFault) → fault ≢ Write → MayStop (Ledger Memory)
+  pub no_trial : (had held : Option (List ℕ)) (fault : ReportFault) → fault ≢ Write
+      → MayStop (Ledger Memory)
       → IsTrial terms layout cut MayStop had had held held (Err fault)
   no_trial had held fault other stopped =
-      let imported : Imported = record { receipt = receipt_stopped (Ledger Memory); book = flat_book terms } in
+      let imported : Imported =
+      record { receipt = receipt_stopped (Ledger Memory); book = flat_book terms } in
       let others = open_statement imported.book ∷ dispute_text imported.book ∷ [] in
       record {
         bytes = [];

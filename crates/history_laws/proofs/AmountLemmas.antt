@@ -21,7 +21,8 @@ use Rattle.history_laws.specs.Laws.{ConservedInSets}
 use Rattle.history_laws.proofs.PeriodLemmas.{all_nets}
 use Rattle.history_laws.proofs.RowSums.{sum_by-rows_of}
 use Rattle.history_laws.proofs.SetSums.{over, one_period}
-use Rattle.history_laws.proofs.SumLemmas.{net, sum_by-plus, sum_by-filter_map}
+use Rattle.book_model.proofs.SumsAlike.{sum_by-filter_map}
+use Rattle.history_laws.proofs.SumLemmas.{net, sum_by-plus}
 
 module _ (rulings : Rulings) where
   -- what a record costs, or nothing

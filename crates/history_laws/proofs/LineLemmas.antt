@@ -32,11 +32,10 @@ use Rattle.book_model.specs.Rulings.{Rulings, price_in}
 use Rattle.book_model.specs.Sets.{set_of, members, has}
 use Rattle.book_model.specs.Accept.{total_of}
 use Rattle.book_model.proofs.SetLemmas.{members-empty, members-with, members_rise, any_tied-members}
-use Rattle.book_model.proofs.SumsAlike.{sum_by-filter}
+use Rattle.book_model.proofs.SumsAlike.{sum_by-filter, sum_by-filter_map}
 use Rattle.book_model.proofs.RecordSets.{is, is_itself}
 use Rattle.history_laws.specs.Amounts.{plus_of, minus_of}
 use Rattle.history_laws.specs.Lines.{both_lines}
-use Rattle.history_laws.proofs.SumLemmas.{sum_by-filter_map}
 
 -- no element ties with one after it
 abbrev Apart : {X : Type 0} → (X → X → Bool) → List X → Type 0

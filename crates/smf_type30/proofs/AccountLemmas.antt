@@ -1,12 +1,15 @@
 -- The fields that a walk finds are those that the text begins with.
-use Rattle.std.proofs.Common.{◌≡◌, ℕ, zero, suc, ◌≤◌, nat_lt, List, [], ◌∷◌, ◌++◌, length, take, drop, cond, Bool, true, false, is_some, Option, Some, None, option_map, refl, sym, ap, ◌∙◌, append_assoc, arith, length-append}
+use Rattle.std.proofs.Common.{◌≡◌, ℕ, zero, suc, ◌≤◌, nat_lt, List, [], ◌∷◌, ◌++◌, length, take}
+use Rattle.std.proofs.Common.{drop, cond, Bool, true, false, is_some, Option, Some, None}
+use Rattle.std.proofs.Common.{option_map, refl, sym, ap, ◌∙◌, append_assoc, arith, length-append}
 use Rattle.std.proofs.Math.Seq.{take-append_seam, drop-append_seam}
 use Rattle.std.proofs.lemmas.Bool.{ltb-false, le-ltb}
 use Rattle.std.proofs.lemmas.List.{take-append-drop, length-take-le}
 use Rattle.std.proofs.lemmas.Option.{same_Some}
 use Rattle.smf_type30.specs.Layout.{accounting}
 use Rattle.smf_type30.specs.Section.{count_of}
-use Rattle.smf_type30.specs.Accounts.{text_of, AreAccounts, IsAccount, fields_in, accounts_of, account_of}
+use Rattle.smf_type30.specs.Accounts.{text_of, AreAccounts, IsAccount, fields_in, accounts_of}
+use Rattle.smf_type30.specs.Accounts.{account_of}
 
 -- so many fields, with which a text begins
 record Begins (count : ℕ) (text : List ℕ) (fields : List (List ℕ)) : Type 0 where

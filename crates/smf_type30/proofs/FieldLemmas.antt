@@ -1,5 +1,7 @@
 -- A walk over the accounting fields, field by field.
-use Rattle.std.proofs.Common.{◌≡◌, ℕ, zero, suc, ◌+◌, ◌-◌, ◌≤◌, ◌<◌, List, [], ◌∷◌, drop, cond, Bool, true, false, is_some, Option, Some, None, option_map, slice_get, IsSome, refl, sym, ap, ◌∙◌, arith}
+use Rattle.std.proofs.Common.{◌≡◌, ℕ, zero, suc, ◌+◌, ◌-◌, ◌≤◌, ◌<◌, List, [], ◌∷◌, drop, cond}
+use Rattle.std.proofs.Common.{Bool, true, false, is_some, Option, Some, None, option_map, slice_get}
+use Rattle.std.proofs.Common.{IsSome, refl, sym, ap, ◌∙◌, arith}
 use Rattle.std.proofs.lemmas.List.{drop-drop}
 use Rattle.std.proofs.lemmas.Option.{same_Some}
 use Rattle.smf_type30.specs.Accounts.{fields_in, nth_of}

@@ -1,7 +1,10 @@
 -- What a part of a record has of it.
-use Rattle.std.proofs.Common.{◌≡◌, ◌≢◌, inl, inr, true, ℕ, zero, suc, ◌+◌, ◌-◌, ◌≤◌, ◌<◌, List, length, take, drop, get_or, Option, Some, None, MatchOption, option_copied, Bor, refl, ap, ◌∙◌, arith}
+use Rattle.std.proofs.Common.{◌≡◌, ◌≢◌, inl, inr, true, ℕ, zero, suc, ◌+◌, ◌-◌, ◌≤◌, ◌<◌, List}
+use Rattle.std.proofs.Common.{length, take, drop, get_or, Option, Some, None, MatchOption}
+use Rattle.std.proofs.Common.{option_copied, Bor, refl, ap, ◌∙◌, arith}
 use Rattle.std.proofs.lemmas.Bool.{or_cases, and_parts, eqb-true, leb-true}
-use Rattle.std.proofs.lemmas.List.{get_or-take, get_or-drop, take-take, length-take, length-drop, drop-take, drop-drop}
+use Rattle.std.proofs.lemmas.List.{get_or-take, get_or-drop, take-take, length-take, length-drop}
+use Rattle.std.proofs.lemmas.List.{drop-take, drop-drop}
 use Rattle.std.specs.Array.{IsFirstChunk}
 use Rattle.smf_frames.specs.Number.{number, part}
 use Rattle.smf_type30.specs.declared.layout.Section.{Section}

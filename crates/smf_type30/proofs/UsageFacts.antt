@@ -1,19 +1,25 @@
 -- What the class of a usage record tells of it: it passes every test of the ladders.
-use Rattle.std.proofs.Common.{◌≡◌, ◌≢◌, ◌≤◌, ◌<◌, ◌==◌, ◌⊎◌, inl, inr, ℕ, List, length, nat_lt, Bool, true, false, not, ◌||◌, cond, Option, Some, None, is_none, is_some, is_err, refl, sym, ap}
-use Rattle.std.proofs.lemmas.Bool.{ltb-true, ltb-false, eqb-true, eqb-false, not-false, or_cases, and_from, not_from_false, cond-false, ne_eqb}
+use Rattle.std.proofs.Common.{◌≡◌, ◌≢◌, ◌≤◌, ◌<◌, ◌==◌, ◌⊎◌, inl, inr, ℕ, List, length, nat_lt}
+use Rattle.std.proofs.Common.{Bool, true, false, not, ◌||◌, cond, Option, Some, None, is_none}
+use Rattle.std.proofs.Common.{is_some, is_err, refl, sym, ap}
+use Rattle.std.proofs.lemmas.Bool.{ltb-true, ltb-false, eqb-true, eqb-false, not-false, or_cases}
+use Rattle.std.proofs.lemmas.Bool.{and_from, not_from_false, cond-false, ne_eqb}
 use Rattle.std.specs.Option.{option_or}
 use Rattle.smf_text.specs.PackedDate.{packed_day_of}
 use Rattle.smf_frames.specs.Header.{header_len}
 use Rattle.smf_frames.specs.declared.header.Header.{Header}
 use Rattle.smf_frames.specs.Header.{header_of}
-use Rattle.smf_type30.specs.Layout.{dump_header, dump_trailer, data_lost, work, step_end, job_end, subtype_end, triplets_end, hundredths_per_day, identification, processor, io_activity, completion}
+use Rattle.smf_type30.specs.Layout.{dump_header, dump_trailer, data_lost, work, step_end, job_end}
+use Rattle.smf_type30.specs.Layout.{subtype_end, triplets_end, hundredths_per_day, identification}
+use Rattle.smf_type30.specs.Layout.{processor, io_activity, completion}
 use Rattle.smf_type30.specs.declared.classes.Class.TheVariants.{Usage, Damaged}
 use Rattle.smf_type30.specs.declared.damage.Damage.{Damage}
 use Rattle.smf_type30.specs.declared.damage.Damage.TheVariants.{Accounting}
 use Rattle.smf_type30.specs.Accounts.{HasNoAccounts}
 use Rattle.smf_type30.specs.Section.{fits, count_of}
 use Rattle.smf_type30.specs.Usage.{subtype_of, accounts_of}
-use Rattle.smf_type30.specs.Class.{class_of, damage_of, usage_unless, type_of, header_damage, section_damage, IsUsage, measures_work}
+use Rattle.smf_type30.specs.Class.{class_of, damage_of, usage_unless, type_of, header_damage}
+use Rattle.smf_type30.specs.Class.{section_damage, IsUsage, measures_work}
 use Rattle.smf_type30.proofs.AccountLemmas.{accounts_found}
 
 -- the date, the time and each section are as they should be

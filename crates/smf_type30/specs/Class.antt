@@ -1,15 +1,21 @@
 -- The class of a record: what it is for the office (SA38-0667, types 2, 3, 7 and 30).
-use Rattle.std.specs.Prelude.{◌≡◌, ℕ, ◌==◌, ◌&&◌, ◌||◌, not, Bool, nat_lt, if◌then◌else◌, List, length, Option, Some, None, is_err, is_none}
+use Rattle.std.specs.Prelude.{◌≡◌, ℕ, ◌==◌, ◌&&◌, ◌||◌, not, Bool, nat_lt, if◌then◌else◌, List}
+use Rattle.std.specs.Prelude.{length, Option, Some, None, is_err, is_none}
 use Rattle.std.specs.Option.{option_or}
 use Rattle.smf_text.specs.PackedDate.{packed_day_of}
 use Rattle.smf_frames.specs.Header.{header_len}
 use Rattle.smf_frames.specs.declared.header.Header.{Header}
 use Rattle.smf_frames.specs.Header.{header_of}
-use Rattle.smf_type30.specs.Layout.{dump_header, dump_trailer, data_lost, work, step_end, job_end, subtype_end, triplets_end, hundredths_per_day, identification, processor, io_activity, completion}
+use Rattle.smf_type30.specs.Layout.{dump_header, dump_trailer, data_lost, work, step_end, job_end}
+use Rattle.smf_type30.specs.Layout.{subtype_end, triplets_end, hundredths_per_day, identification}
+use Rattle.smf_type30.specs.Layout.{processor, io_activity, completion}
 use Rattle.smf_type30.specs.declared.classes.Class.{Class}
-use Rattle.smf_type30.specs.declared.classes.Class.TheVariants.{DumpHeader, DumpTrailer, DataLost, Other, Continuation, Usage, Damaged}
+use Rattle.smf_type30.specs.declared.classes.Class.TheVariants.{DumpHeader, DumpTrailer, DataLost}
+use Rattle.smf_type30.specs.declared.classes.Class.TheVariants.{Other, Continuation, Usage, Damaged}
 use Rattle.smf_type30.specs.declared.damage.Damage.{Damage}
-use Rattle.smf_type30.specs.declared.damage.Damage.TheVariants.{Short, Date, Time, NoIdentification, Identification, Processor, InputOutput, Completion, Accounting}
+use Rattle.smf_type30.specs.declared.damage.Damage.TheVariants.{Short, Date, Time, NoIdentification}
+use Rattle.smf_type30.specs.declared.damage.Damage.TheVariants.{Identification, Processor}
+use Rattle.smf_type30.specs.declared.damage.Damage.TheVariants.{InputOutput, Completion, Accounting}
 use Rattle.smf_type30.specs.Section.{fits, count_of}
 use Rattle.smf_type30.specs.Usage.{subtype_of, accounts_of}
 

@@ -1,7 +1,9 @@
 -- The numbers that reports and messages show for damages.
 use Rattle.std.specs.Prelude.{ℕ}
 use Rattle.smf_type30.specs.declared.damage.Damage.{Damage}
-use Rattle.smf_type30.specs.declared.damage.Damage.TheVariants.{Short, Date, Time, NoIdentification, Identification, Processor, InputOutput, Completion, Accounting}
+use Rattle.smf_type30.specs.declared.damage.Damage.TheVariants.{Short, Date, Time, NoIdentification}
+use Rattle.smf_type30.specs.declared.damage.Damage.TheVariants.{Identification, Processor}
+use Rattle.smf_type30.specs.declared.damage.Damage.TheVariants.{InputOutput, Completion, Accounting}
 
 abbrev pub damage_number : Damage → ℕ
 damage_number Short = 1

@@ -1,10 +1,13 @@
 -- What a work record tells (SA38-0667, standard header and type 30).
-use Rattle.std.specs.Prelude.{ℕ, ◌+◌, ◌==◌, if◌then◌else◌, List, [], ◌∷◌, ◌++◌, Option, Some, None, ℤ, pos}
+use Rattle.std.specs.Prelude.{ℕ, ◌+◌, ◌==◌, if◌then◌else◌, List, [], ◌∷◌, ◌++◌, Option, Some, None}
+use Rattle.std.specs.Prelude.{ℤ, pos}
 use Rattle.std.specs.Result.{result_unwrap_or}
 use Rattle.smf_text.specs.PackedDate.{packed_day_of}
 use Rattle.smf_frames.specs.Header.{header_of}
 use Rattle.smf_frames.specs.Number.{number, part}
-use Rattle.smf_type30.specs.Layout.{job_end, subtype, identification, job_name, program_name, job_id, step_number, reader_start, io_activity, blocks, completion, outcome, processor, tcb_time, srb_time}
+use Rattle.smf_type30.specs.Layout.{job_end, subtype, identification, job_name, program_name}
+use Rattle.smf_type30.specs.Layout.{job_id, step_number, reader_start, io_activity, blocks}
+use Rattle.smf_type30.specs.Layout.{completion, outcome, processor, tcb_time, srb_time}
 use Rattle.smf_type30.specs.Section.{count_of, number_in, part_in}
 pub use Rattle.smf_type30.specs.Accounts.{accounts_of, account_of}
 

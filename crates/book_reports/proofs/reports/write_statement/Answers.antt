@@ -3,7 +3,8 @@ use Rattle.std.proofs.lemmas.Result.{err_from_is_err_and}
 use Rattle.streams.specs.Sinks.{writer_of}
 use Rattle.book_reports.specs.Statements.{statement_text}
 use Rattle.book_reports.specs.Writing.{Writes}
-use Rattle.book_reports.proofs.WritingLemmas.{refusal_not_write, memory_not_write, nothing_written, same_value, text_written}
+use Rattle.book_reports.proofs.WritingLemmas.{refusal_not_write, memory_not_write, nothing_written}
+use Rattle.book_reports.proofs.WritingLemmas.{same_value, text_written}
 use Rattle.book_reports.proofs.reports.write_statement.Goals as goal
 
 pub returns-in_err-rows-clause-text : goal.returns-in_err-rows-clause-text
@@ -13,7 +14,9 @@ returns-in_err-rows-clause-text g c =
 
 pub returns-in_err-statement-clause-text : goal.returns-in_err-statement-clause-text
 returns-in_err-statement-clause-text g c =
-    let failed = err_from_is_err_and c.from_residual-in_err-statement.result c.from_residual-in_err-statement.ensures.1 in
+    let failed =
+    err_from_is_err_and c.from_residual-in_err-statement.result
+    c.from_residual-in_err-statement.ensures.1 in
     rw failed.1 (nothing_written failed.0 _ _ [] (memory_not_write failed.2))
 
 pub returns-clause-text : goal.returns-clause-text
@@ -21,7 +24,8 @@ returns-clause-text g c =
     let held = g.W.Write.contents (writer_of c.args.sink.now) in
     let holds = g.W.Write.contents (writer_of c.write_text.new.sink) in
     let rows = c.deref.ensures.value ∙ sym (same_value c.in_ok-rows.ensures.rows) in
-    let text = c.as_str.ensures.value ∙ c.in_ok-statement.ensures ∙ ap (statement_text 1 None) rows in
+    let text = c.as_str.ensures.value ∙ c.in_ok-statement.ensures
+    ∙ ap (statement_text 1 None) rows in
     subst (λ text. Writes (text ∷ []) held holds c.write_text.result) text
     (text_written _ held holds c.as_str.result.now c.write_text.result
     c.write_text.ensures.whole c.write_text.ensures.fault c.write_text.ensures.prefix)

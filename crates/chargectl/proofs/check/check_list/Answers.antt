@@ -29,9 +29,11 @@ returns-in_err-write_text-clause-check g c =
     let holds = g.W.Write.contents (writer_of c.write_text.new.sink) in
     let text =
     c.as_str.ensures.value ∙ c.in_ok-list.ensures
-    ∙ ap (λ records. check_list_text (texts records) c.in_ok-dump.dump.stop) c.deref.ensures.value in
+    ∙ ap (λ records. check_list_text (texts records) c.in_ok-dump.dump.stop)
+    c.deref.ensures.value in
     let wrote = c.in_err-write_text.ensures in
     let refused : Result Stop ReportFault = Err failed.0 in
-    let prefix : WritesPrefix c.as_str.result.now held holds refused = (wrote.prefix.0, wrote.prefix.2) in
+    let prefix : WritesPrefix c.as_str.result.now held holds refused =
+    (wrote.prefix.0, wrote.prefix.2) in
     let list = subst (λ text. WritesPrefix text held holds refused) text prefix in
     rw failed.1 (is_check _ _ held holds refused read.0 c.in_ok-dump.dump read.1 read.2 list tt)

@@ -24,8 +24,10 @@ returns-in_err-write_receipt-clause-trial g c =
     let imported : Imported = record { receipt = c.import_whole-receipt.result; book = book } in
     let import = c.import_whole-receipt.ensures in
     let receipt = c.in_err-write_receipt.ensures.text in
-    let written = others_unwritten failed.0 (open_statement book ∷ dispute_text book ∷ []) (rw failed.2 receipt) in
-    rw failed.1 (is_trial imported c.in_ok-ledger.ensures.book import.booked import.read_out written tt)
+    let written = others_unwritten failed.0 (open_statement book ∷ dispute_text book ∷ [])
+    (rw failed.2 receipt) in
+    rw failed.1
+    (is_trial imported c.in_ok-ledger.ensures.book import.booked import.read_out written tt)
 
 pub returns-in_err-write_statement-clause-trial : goal.returns-in_err-write_statement-clause-trial
 returns-in_err-write_statement-clause-trial g c =
@@ -37,11 +39,14 @@ returns-in_err-write_statement-clause-trial g c =
     let end = g.W.Write.contents (writer_of c.write_statement.new.sink) in
     let refused : Result Receipt ReportFault = Err failed.0 in
     let statement =
-    others_unwritten failed.0 (dispute_text book ∷ []) (rw failed.2 c.in_err-write_statement.ensures.text) in
+    others_unwritten failed.0 (dispute_text book ∷ [])
+    (rw failed.2 c.in_err-write_statement.ensures.text) in
     let written =
-    others_written (receipt_line_text imported.receipt) (open_statement book ∷ dispute_text book ∷ []) _ _ end refused
+    others_written (receipt_line_text imported.receipt)
+    (open_statement book ∷ dispute_text book ∷ []) _ _ end refused
     c.in_ok-write_receipt.ensures.text statement in
-    rw failed.1 (is_trial imported c.in_ok-ledger.ensures.book import.booked import.read_out written tt)
+    rw failed.1
+    (is_trial imported c.in_ok-ledger.ensures.book import.booked import.read_out written tt)
 
 pub returns-in_err-write_disputes-clause-trial : goal.returns-in_err-write_disputes-clause-trial
 returns-in_err-write_disputes-clause-trial g c =
@@ -56,9 +61,11 @@ returns-in_err-write_disputes-clause-trial g c =
     others_written (open_statement book) (dispute_text book ∷ []) _ _ end refused
     c.in_ok-write_statement.ensures.text (rw failed.2 c.in_err-write_disputes.ensures.text) in
     let written =
-    others_written (receipt_line_text imported.receipt) (open_statement book ∷ dispute_text book ∷ []) _ _ end refused
+    others_written (receipt_line_text imported.receipt)
+    (open_statement book ∷ dispute_text book ∷ []) _ _ end refused
     c.in_ok-write_receipt.ensures.text statement in
-    rw failed.1 (is_trial imported c.in_ok-ledger.ensures.book import.booked import.read_out written tt)
+    rw failed.1
+    (is_trial imported c.in_ok-ledger.ensures.book import.booked import.read_out written tt)
 
 pub returns-clause-trial : goal.returns-clause-trial
 returns-clause-trial g c =
@@ -71,6 +78,7 @@ returns-clause-trial g c =
     others_written (open_statement book) (dispute_text book ∷ []) _ _ end answer
     c.in_ok-write_statement.ensures.text c.in_ok-write_disputes.ensures.text in
     let written =
-    others_written (receipt_line_text imported.receipt) (open_statement book ∷ dispute_text book ∷ []) _ _ end answer
+    others_written (receipt_line_text imported.receipt)
+    (open_statement book ∷ dispute_text book ∷ []) _ _ end answer
     c.in_ok-write_receipt.ensures.text statement in
     is_trial imported c.in_ok-ledger.ensures.book import.booked import.read_out written refl
