@@ -1,6 +1,6 @@
 -- Tariffs that stand in the order of their first days: the latest that has begun is the last.
 use Rattle.std.proofs.Common.{◌≡◌, ℕ, List, [], ◌∷◌, ◌++◌, refl, sym, ap, ◌∙◌, cond, true, false}
-use Rattle.std.proofs.Common.{Bool, ◌&&◌, Option, Some, None, arith}
+use Rattle.std.proofs.Common.{Bool, ◌&&◌, Option, Some, None}
 use Rattle.std.specs.Prelude.{ℤ, int_lt, filter, find, reverse}
 use Rattle.std.specs.Option.{option_map, option_map_or, option_or}
 use Rattle.std.specs.List.{list_all}

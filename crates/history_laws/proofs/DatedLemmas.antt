@@ -5,8 +5,8 @@ use Rattle.std.specs.Prelude.{slice_get, nat_lt, ℤ}
 use Rattle.std.proofs.lemmas.Bool.{ltb-true, ltb-false}
 use Rattle.std.proofs.lemmas.List.{length-append}
 use Rattle.std.proofs.lemmas.Option.{slice_get_within}
-use Rattle.book_model.specs.Periods.{Period}
-use Rattle.book_model.specs.Books.{open_period}
+use Rattle.book_model.specs.Periods.{Period, period_by}
+use Rattle.book_model.specs.Books.{open_period, all_periods}
 use Rattle.book_model.specs.Charged.{charged_now, is_dated_after}
 use Rattle.book_model.specs.Events.{Event}
 use Rattle.book_model.specs.History.{closes, rulings, day_of_close, held_before, charged_in}
@@ -16,9 +16,7 @@ use Rattle.book_model.specs.Sets.{without}
 use Rattle.book_model.proofs.HistoryLemmas.{charged_open, held_all, last_close-is}
 use Rattle.book_model.proofs.ListLemmas.{slice_get-front, slice_get-behind}
 use Rattle.book_model.proofs.StepLemmas.{books_follow_history}
-use Rattle.book_model.specs.Books.{all_periods}
 use Rattle.book_model.proofs.RecordSets.{passes_those, not_true}
-use Rattle.book_model.specs.Periods.{period_by}
 use Rattle.history_laws.specs.Laws.{AreDated, DatedRight}
 
 -- so many periods as are asked for

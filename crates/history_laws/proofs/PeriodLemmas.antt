@@ -1,24 +1,18 @@
 -- What the periods of a history give and take, each by what is charged before it and at its end.
-use Rattle.std.proofs.Common.{◌≡◌, ℕ, ◌+◌, List, [], ◌∷◌, ◌++◌, sym, ap, ◌∙◌, true, false}
-use Rattle.std.proofs.Common.{true≢false, Bool, ◌&&◌, Option, None, is_some, arith}
-use Rattle.std.specs.Prelude.{All, sum_by, ℤ, int_lt}
+use Rattle.std.proofs.Common.{◌≡◌, ℕ, ◌+◌, List, [], ◌∷◌, ◌++◌, sym, ap, ◌∙◌}
+use Rattle.std.proofs.Common.{true≢false, Option, None, is_some, arith}
+use Rattle.std.specs.Prelude.{All, sum_by, ℤ}
 use Rattle.std.specs.FinMap as map
 use Rattle.std.proofs.lemmas.List.Elements.{All-nil, All-cons, All-append}
 use Rattle.std.proofs.lemmas.List.Sums.{sum_by_push}
-use Rattle.smf_type30.specs.Usage.{day_of}
-use Rattle.book_model.specs.Periods.{Period}
-use Rattle.book_model.specs.Books.{Book}
-use Rattle.book_model.specs.Charged.{is_undisputed, is_dated_by, is_dated_after, charged_through}
+use Rattle.book_model.specs.Periods.{Period, period_by}
+use Rattle.book_model.specs.Books.{Book, all_periods, charged_of}
+use Rattle.book_model.specs.Charged.{is_dated_after, charged_through}
 use Rattle.book_model.specs.Events.{Event, RecordKept, TariffAccepted, PeriodClosed}
 use Rattle.book_model.specs.History.{book_after}
 use Rattle.book_model.specs.Records.{Records, by_bytes}
 use Rattle.book_model.specs.Rulings.{last_close}
-use Rattle.book_model.specs.Sets.{has}
 use Rattle.book_model.proofs.ListLemmas.{last_or-behind}
-use Rattle.book_model.specs.Books.{all_periods}
-use Rattle.book_model.proofs.RecordSets.{passes_those, second_of, not_true}
-use Rattle.book_model.specs.Books.{charged_of}
-use Rattle.book_model.specs.Periods.{period_by}
 use Rattle.book_model.specs.Sound.{AreDatedBy}
 use Rattle.book_model.proofs.SoundLemmas.{through_dated}
 

@@ -1,6 +1,6 @@
 -- What is read of a sound book: its lines, each once; and the balance of rows and lines.
 use Rattle.std.proofs.Common.{◌≡◌, ℕ, ◌+◌, List, [], ◌∷◌, length, refl, ap, ◌∙◌, true, false, Bool}
-use Rattle.std.proofs.Common.{not, ◌||◌, suc, Some, None, is_some, arith}
+use Rattle.std.proofs.Common.{◌||◌, suc, Some, None, is_some, arith}
 use Rattle.std.specs.Prelude.{All, sum_by}
 use Rattle.std.specs.FinMap as map
 use Rattle.std.specs.List.{list_any, filter_map, cons_option}
@@ -10,25 +10,20 @@ use Rattle.std.proofs.lemmas.List.Elements.{All-nil, All-cons, All-head, All-tai
 use Rattle.std.proofs.lemmas.List.Sorted.{length_permutation}
 use Rattle.std.proofs.lemmas.List.Sums.{sum_by-cons}
 use Rattle.book_model.specs.Periods.{Period}
-use Rattle.book_model.specs.Books.{Book, open_number, open_period}
-use Rattle.book_model.specs.Charged.{is_undisputed, is_dated_after}
-use Rattle.book_model.specs.History as history
-use Rattle.book_model.specs.Events.{Event, TariffAccepted, PeriodClosed}
+use Rattle.book_model.specs.Books.{Book, open_period, all_periods, charged_of}
+use Rattle.book_model.specs.Charged.{is_undisputed}
 use Rattle.book_model.specs.History.{book_after}
 use Rattle.book_model.specs.Lines.{lines_of}
 use Rattle.book_model.specs.Records.{Records, Naming, name_of}
 use Rattle.book_model.specs.Rulings.{price_in, last_close}
-use Rattle.book_model.specs.Sets.{members, has, those}
+use Rattle.book_model.specs.Sets.{members, has}
 use Rattle.book_model.specs.Accept.{total_of}
-use Rattle.book_model.specs.Answered.{IsAnswered}
 use Rattle.book_model.specs.Sound.{IsSound, AreHeld}
-use Rattle.book_model.specs.Books.{all_periods}
 use Rattle.book_model.proofs.RecordSets.{is, is_itself, in_those}
 use Rattle.book_model.proofs.SoundLemmas.{period_held}
 use Rattle.history_laws.specs.Amounts.{rows_amount, plus_of, minus_of, plus_amount, minus_amount}
 use Rattle.history_laws.specs.Amounts.{added_amount, taken_amount}
 use Rattle.history_laws.specs.Lines.{both_lines, AreReadOnce}
-use Rattle.book_model.specs.Books.{charged_of}
 use Rattle.book_model.proofs.AnsweredLemmas.{sound_after}
 use Rattle.history_laws.specs.Laws.{Conserved, LinesOnce}
 use Rattle.history_laws.proofs.AmountLemmas.{all_balance}

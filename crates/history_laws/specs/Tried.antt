@@ -1,12 +1,11 @@
 -- Other definitions of a period, which are wrong: with each of them the law of the net count is
 -- false.
 use Rattle.std.specs.Prelude.{◌≡◌, ℕ, List, [], ◌∷◌, ◌++◌, Option, ℤ, pos}
-use Rattle.book_model.specs.Periods.{Period}
+use Rattle.book_model.specs.Periods.{Period, period_by}
 use Rattle.book_model.specs.Books.{Book}
 use Rattle.book_model.specs.Charged.{charged_now, charged_through}
 use Rattle.book_model.specs.Events.{Event, RecordKept, TariffAccepted, PeriodClosed}
 use Rattle.book_model.specs.History.{book_after}
-use Rattle.book_model.specs.Periods.{period_by}
 use Rattle.book_model.specs.Records.{Records, by_bytes}
 use Rattle.book_model.specs.Rulings.{last_close}
 use Rattle.book_model.specs.Sets.{set_of, has, without}
