@@ -9,13 +9,13 @@ use Rattle.tariff_rules.specs.declared.fault.TariffFault.{TariffFault}
 use Rattle.book_model.specs.declared.answer.Accepted.{Accepted}
 use Rattle.book_model.specs.declared.answer.Ruled.{Ruled}
 use Rattle.book_model.specs.Accept.{accept_answer}
-use Rattle.book_model.specs.Answers.{Answers, IsCall}
+use Rattle.book_model.specs.Answers.{Answers, IsBookCall}
 use Rattle.book_model.specs.Books.{Book}
 use Rattle.book_model.specs.Events.{Event, after_any}
 use Rattle.book_model.specs.Outcomes.{Outcome, accept_event, accept_outcome, tariff_event}
 use Rattle.book_model.specs.Outcomes.{tariff_outcome}
 use Rattle.book_model.specs.Records.{Naming}
-use Rattle.book_model.specs.Ruling.{tariff_answer}
+use Rattle.book_model.specs.RulingAnswers.{tariff_answer}
 
 -- what is answered as it is
 pub answers_itself : {A : Type 0} (result answer : Result A LedgerFault) → answer ≡ result
@@ -40,7 +40,7 @@ pub calls : {A : Type 0} (old new : Book) (result : Result A LedgerFault)
     → ((fault : LedgerFault) → event (Err fault) ≡ None)
     → Answers (λ (value : A). value) result (outcome old).answer
     → new ≡ after_any (event result) old
-    → IsCall (λ (value : A). value) old new result outcome
+    → IsBookCall (λ (value : A). value) old new result outcome
 calls old new (Ok value) outcome event own none answer book =
     record {
       answer = answer;
@@ -60,7 +60,7 @@ pub accept_calls : (naming : Naming) (bytes : List ℕ) (old new : Book)
     (result : Result Accepted LedgerFault)
     → Answers (λ (value : Accepted). value) result (accept_answer naming old bytes)
     → new ≡ after_any (accept_event bytes result) old
-    → IsCall (λ (value : Accepted). value) old new result (accept_outcome naming bytes)
+    → IsBookCall (λ (value : Accepted). value) old new result (accept_outcome naming bytes)
 accept_calls naming bytes old new result answer book =
     calls old new result (accept_outcome naming bytes) (accept_event bytes)
     (λ answer is. ap (accept_event bytes) is) (accept_event-refused bytes) answer book
@@ -75,7 +75,7 @@ tariff_event-refused text (Err refused) fault = refl
 pub tariff_calls : (text : List ℕ) (old new : Book) (result : Result Ruled LedgerFault)
     → Answers (λ (value : Ruled). value) result (tariff_answer old text (terms_in text))
     → new ≡ after_any (tariff_event text (terms_in text) result) old
-    → IsCall (λ (value : Ruled). value) old new result (tariff_outcome text)
+    → IsBookCall (λ (value : Ruled). value) old new result (tariff_outcome text)
 tariff_calls text old new result answer book =
     calls old new result (tariff_outcome text) (tariff_event text (terms_in text))
     (λ answer is. ap (tariff_event text (terms_in text)) is)

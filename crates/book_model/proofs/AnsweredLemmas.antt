@@ -12,7 +12,8 @@ use Rattle.book_model.specs.Events.{Event, RecordKept, TariffAccepted, PeriodClo
 use Rattle.book_model.specs.History.{rulings, tariffs, book_after}
 use Rattle.book_model.specs.Laws.{LatestIsLast}
 use Rattle.book_model.specs.Records.{Naming}
-use Rattle.book_model.specs.Ruling.{has_text, is_effective, is_later, has_dated, terms_answer}
+use Rattle.book_model.specs.RulingAnswers.{has_text, is_effective, is_later, has_dated}
+use Rattle.book_model.specs.RulingAnswers.{terms_answer}
 use Rattle.book_model.specs.Rulings.{Rulings, Tariffed, are_rising, with_tariff, with_close}
 use Rattle.book_model.specs.Rulings.{last_close}
 use Rattle.book_model.specs.Sound.{IsSound}

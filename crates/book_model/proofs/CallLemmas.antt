@@ -16,8 +16,9 @@ use Rattle.book_model.specs.Limits.{last_period}
 use Rattle.book_model.specs.Books.{Book, open_number}
 use Rattle.book_model.specs.Laws.{IsAfterLastClose, CallsGoForward}
 use Rattle.book_model.specs.Rulings.{last_close}
-use Rattle.book_model.specs.Ruling.{has_text, is_effective, is_later, has_dated, terms_answer}
-use Rattle.book_model.specs.Ruling.{is_closed, is_early, close_answer}
+use Rattle.book_model.specs.RulingAnswers.{has_text, is_effective, is_later, has_dated}
+use Rattle.book_model.specs.RulingAnswers.{terms_answer}
+use Rattle.book_model.specs.RulingAnswers.{is_closed, is_early, close_answer}
 
 -- the answer by what each test gives, in their order
 abbrev pub by_tests : Bool → Bool → Bool → Bool → Result Ruled LedgerFault
@@ -57,7 +58,7 @@ tariff_done book text terms is =
     (is_later day book.rulings) (has_dated day book.held) is)
 
 -- the answer to a close, by the tests in their order
-abbrev close_by : ℕ → Bool → Bool → Bool → Bool → Result Ruled LedgerFault
+abbrev pub close_by : ℕ → Bool → Bool → Bool → Bool → Result Ruled LedgerFault
 close_by number_open closed is_open early full =
     if closed then Ok Already
     else if not is_open then Err (WrongPeriod number_open)

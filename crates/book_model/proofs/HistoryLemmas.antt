@@ -21,7 +21,7 @@ use Rattle.book_model.specs.History.{held_before, charged_in}
 use Rattle.book_model.specs.Records.{Records, by_bytes}
 use Rattle.book_model.specs.Rulings.{Rulings, Tariffed, rulings_before, last_close}
 use Rattle.book_model.specs.Sets.{set_of, has}
-use Rattle.book_model.proofs.ListLemmas.{slice_get-front, slice_get-behind, last_or-behind}
+use Rattle.book_model.proofs.ListLemmas.{slice_get-front, slice_get-behind}
 use Rattle.book_model.proofs.ListLemmas.{last_or-is}
 use Rattle.book_model.proofs.SetLemmas.{has-those}
 
@@ -118,12 +118,7 @@ closes_stay (RecordKept bytes) older = omega arith
 closes_stay (TariffAccepted text terms) older = omega arith
 closes_stay (PeriodClosed day) older = omega (arith, closed_once_more day older)
 
--- right after a close, it is the last one
-pub last_closed : (day : ℤ) (older : List Event) → last_close (rulings (PeriodClosed day ∷ older))
-    ≡ Some day
-last_closed day older = last_or-behind None (closes older) day
-
--- and its day is that of its number
+-- right after a close, its day is that of its number
 pub day_closed : (day : ℤ) (older : List Event)
     → day_of_close (suc (length (closes older))) (PeriodClosed day ∷ older) ≡ Some day
 day_closed day older = slice_get-behind (closes older) day

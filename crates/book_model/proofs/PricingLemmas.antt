@@ -11,7 +11,7 @@ use Rattle.tariff_rules.specs.declared.priced.Priced.{Priced}
 use Rattle.smf_type30.specs.Usage.{day_of}
 use Rattle.book_model.specs.Laws.{EarlierPricesStay}
 use Rattle.book_model.specs.Records.{Records}
-use Rattle.book_model.specs.Ruling.{has_dated}
+use Rattle.book_model.specs.RulingAnswers.{has_dated}
 use Rattle.book_model.specs.Rulings.{Rulings, Tariffed, latest, has_begun, price_in, with_tariff}
 use Rattle.book_model.specs.Sets.{has}
 use Rattle.book_model.proofs.SetLemmas.{fails_too}

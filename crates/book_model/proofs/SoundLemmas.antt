@@ -22,7 +22,8 @@ use Rattle.book_model.specs.Events.{keep, put_in_force, close}
 use Rattle.book_model.specs.Laws.{StepsStaySound}
 use Rattle.book_model.specs.Periods.{Period, period_by}
 use Rattle.book_model.specs.Records.{Records, Naming, name_of, by_bytes, same_bytes}
-use Rattle.book_model.specs.Ruling.{has_text, is_effective, is_later, has_dated, terms_answer}
+use Rattle.book_model.specs.RulingAnswers.{has_text, is_effective, is_later, has_dated}
+use Rattle.book_model.specs.RulingAnswers.{terms_answer}
 use Rattle.book_model.specs.Rulings.{Rulings, price_in, last_close}
 use Rattle.book_model.specs.Sets.{has, with, without}
 use Rattle.book_model.specs.Sound.{IsSound, AreHeld, AreDatedBy}
@@ -181,7 +182,7 @@ close_sound naming book day sound =
     }
 
 -- a tariff that comes into force is later than the records that are held
-undated : (told there later dated : Bool) → by_tests told there later dated ≡ Ok Done
+pub undated : (told there later dated : Bool) → by_tests told there later dated ≡ Ok Done
     → dated ≡ false
 undated true there later dated done = cc
 undated false true later dated done = cc

@@ -6,7 +6,7 @@ use Rattle.book_model.specs.Records.{Naming}
 use Rattle.book_model.specs.Books.{open_number}
 use Rattle.book_model.specs.Events.{Event, RecordKept, TariffAccepted, PeriodClosed}
 use Rattle.book_model.specs.Accept.{accept_answer}
-use Rattle.book_model.specs.Ruling.{terms_answer, close_answer}
+use Rattle.book_model.specs.RulingAnswers.{terms_answer, close_answer}
 use Rattle.book_model.specs.History.{book_after}
 
 -- Each event is one that the books answer Kept or Done, from new books on. A tariff without a text

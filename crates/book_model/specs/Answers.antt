@@ -20,7 +20,7 @@ event_of (Err fault) outcome = None
 
 -- A call on a book: it answered as the outcome says, by a view of what it returns, and its event is
 -- what changed of the book; or memory ran out, and nothing changed.
-pub record IsCall {V A : Type 0} (view : V → A) (old new : Book) (result : Result V LedgerFault)
+pub record IsBookCall {V A : Type 0} (view : V → A) (old new : Book) (result : Result V LedgerFault)
     (outcome : Book → Outcome A) : Type 0 where
   pub answer : Answers view result (outcome old).answer
   pub book : new ≡ after_any (event_of result (outcome old)) old

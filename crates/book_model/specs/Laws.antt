@@ -10,11 +10,12 @@ use Rattle.book_model.specs.Records.{Naming}
 use Rattle.book_model.specs.Rulings.{Rulings, Tariffed, price_in, with_tariff, are_rising}
 use Rattle.book_model.specs.Rulings.{has_begun, in_force, last_close}
 use Rattle.book_model.specs.Books.{Book, new_book, flat_book}
-use Rattle.book_model.specs.Events.{Event, keep, put_in_force, close}
+use Rattle.book_model.specs.Events.{Event, keep, put_in_force, close, after_all}
 use Rattle.book_model.specs.Accept.{accept_answer}
-use Rattle.book_model.specs.Ruling.{terms_answer, close_answer}
-use Rattle.book_model.specs.History.{tariffs, rulings, held_before, book_after, book_of}
+use Rattle.book_model.specs.RulingAnswers.{terms_answer, close_answer}
+use Rattle.book_model.specs.History.{tariffs, book_after, book_of}
 use Rattle.book_model.specs.Answered.{IsAnswered}
+use Rattle.book_model.specs.Stretches.{rulings_in, stretches}
 use Rattle.book_model.specs.Sound.{IsSound}
 
 -- a tariff that comes into force changes no price of a record that is dated before its first day
@@ -67,12 +68,12 @@ pub record StepsStaySound : Type 0 where
 abbrev pub BooksFollowHistory : Type 0
 BooksFollowHistory = (history : List Event) → book_after history ≡ book_of history
 
--- It makes no difference in which order, and how often, records came between two closes: histories
--- with the same rulings leave the same book, if the same set of records was held before each close
--- and at the end.
+-- It makes no difference in which order, and how often, records came between two rulings: events
+-- with the same rulings in the same order, and the same sets of records between neighbouring
+-- rulings, make the same book of any book.
 abbrev pub OrderIsFree : Type 0
 OrderIsFree =
-    (one other : List Event)
-    → rulings one ≡ rulings other
-    → ((k : ℕ) → held_before k one ≡ held_before k other)
-    → book_after one ≡ book_after other
+    (before : Book) (one other : List Event)
+    → rulings_in one ≡ rulings_in other
+    → stretches one ≡ stretches other
+    → after_all one before ≡ after_all other before

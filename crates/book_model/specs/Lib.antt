@@ -1,8 +1,9 @@
 -- Read in this order: sets and records; what the office ruled, and what a record costs by it; which
 -- records are undisputed and charged; what a period is, and the rows, lines and disputes that are
 -- read; the book, and the events that change it; what is answered to a record and to a ruling, and
--- what each call is; what a whole history defines; what is always true of a book; and laws. Then
--- the answers and the faults of a ledger.
+-- what each call is; what a whole history defines, which histories calls make, and how a history
+-- is cut at its rulings; what is always true of a book; and laws. Then the answers and the faults
+-- of a ledger.
 pub mod Sets
 pub mod Records
 pub mod Limits
@@ -15,10 +16,11 @@ pub mod Disputes
 pub mod Books
 pub mod Events
 pub mod Accept
-pub mod Ruling
+pub mod RulingAnswers
 pub mod Outcomes
 pub mod History
 pub mod Answered
+pub mod Stretches
 pub mod Sound
 pub mod Laws
 pub mod Answers

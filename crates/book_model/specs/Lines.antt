@@ -1,10 +1,11 @@
 -- Adjustment lines: what a period adds to closed periods and takes back, as it is read.
-use Rattle.std.specs.Prelude.{Bool, true, false, List, ◌++◌}
+use Rattle.std.specs.Prelude.{Bool, true, false, List, ◌++◌, ◌<◌, ◌^◌, All, sum_by}
 use Rattle.std.specs.declared.cmp.Ordering.{Ordering}
 use Rattle.std.specs.declared.cmp.Ordering.TheVariants.{Less, Equal, Greater}
 use Rattle.std.specs.Ordering.{int_cmp, ordering_then}
 use Rattle.std.specs.Option.{option_map}
 use Rattle.std.specs.List.{filter_map}
+use Rattle.smf_text.specs.Day.{IsDay}
 use Rattle.smf_type30.specs.Usage.{job_of}
 use Rattle.book_model.specs.declared.line.Line.{Line}
 use Rattle.book_model.specs.Sets.{set_of, members}
@@ -41,3 +42,9 @@ abbrev pub lines_of : Naming → Rulings → Period → List Line
 lines_of naming rulings period =
     members (set_of by_line
     (lines_for naming rulings true period.added ++ lines_for naming rulings false period.taken))
+
+-- lines that a list of adjustments can show: they are dated on days, and a signed number of 64 bits
+-- holds the total of any of them
+pub record AreLines (lines : List Line) : Type 0 where
+  pub days : All (λ line. IsDay line.priced.day) lines
+  pub amount : sum_by (λ line. line.priced.amount) lines < 2 ^ 63

@@ -20,7 +20,7 @@ use Rattle.book_model.specs.Disputes.{Disputed, disputes_in}
 use Rattle.book_model.specs.Books.{Book, period_of}
 use Rattle.book_model.specs.Events.{Event, RecordKept, TariffAccepted, PeriodClosed}
 use Rattle.book_model.specs.Accept.{accept_answer}
-use Rattle.book_model.specs.Ruling.{tariff_answer, close_answer}
+use Rattle.book_model.specs.RulingAnswers.{tariff_answer, close_answer}
 
 pub record Outcome (A : Type 0) : Type 0 where
   pub answer : Result A LedgerFault

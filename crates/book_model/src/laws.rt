@@ -25,15 +25,15 @@ pub fn steps_stay_sound()
     ensures { StepsStaySound }
 {}
 
-/// The book that a history leaves, step by step, is the one that the history defines, looked at as a
-/// whole: no later event changes a period that is closed.
+/// The book that a history leaves, step by step, is the one that the history defines, looked at as
+/// a whole: no later event changes a period that is closed.
 pub fn books_follow_history()
     ensures { BooksFollowHistory }
 {}
 
-/// It makes no difference in which order, and how often, records came between two closes: histories
-/// with the same rulings leave the same book, if the same set of records was held before each close
-/// and at the end.
+/// It makes no difference in which order, and how often, records came between two rulings:
+/// histories with the same rulings in the same order, and the same sets of records between
+/// neighbouring rulings, leave the same book.
 pub fn order_is_free()
     ensures { OrderIsFree }
 {}

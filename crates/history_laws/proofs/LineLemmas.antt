@@ -1,82 +1,37 @@
 -- The lines that are read: one for each record that is added or taken back.
-use Rattle.std.proofs.Common.{◌≡◌, ℕ, List, [], ◌∷◌, ◌++◌, refl, sym, ap, ◌∙◌, subst, true, false}
+use Rattle.std.proofs.Common.{◌≡◌, ℕ, List, [], ◌∷◌, ◌++◌, refl, sym, ap, ◌∙◌, true, false}
 use Rattle.std.proofs.Common.{true≢false, Bool, cond, not, ◌||◌, Option, Some, None, arith}
 use Rattle.std.specs.Prelude.{filter, sum_by}
-use Rattle.std.specs.BTreeSet.{insert_key}
-use Rattle.std.specs.Cmp.{IsTotalOrder}
 use Rattle.std.specs.FinMap as map
-use Rattle.std.specs.List.{list_any, filter_map, cons_option, AllByRecursion, IsDistinct}
+use Rattle.std.specs.List.{list_any, filter_map, cons_option, AllByRecursion}
 use Rattle.std.specs.List.Sorted.{IsPermutation}
-use Rattle.std.specs.Option.{option_map, option_map_or}
-use Rattle.std.specs.Ordering.{int_cmp, eq_by_cmp, match_ordering, is_eq, ordering_then}
-use Rattle.std.specs.Ordering.{ordering_reverse}
+use Rattle.std.specs.Option.{option_map_or}
+use Rattle.std.specs.Ordering.{int_cmp, eq_by_cmp, is_eq, ordering_then}
 use Rattle.std.specs.declared.cmp.Ordering.{Ordering}
 use Rattle.std.specs.declared.cmp.Ordering.TheVariants.{Less, Equal, Greater}
 use Rattle.std.proofs.Math.Bool.{or-true}
-use Rattle.std.proofs.lemmas.Cmp.{then_total, on_total, nat_list_cmp_total, int_cmp_total}
-use Rattle.std.proofs.lemmas.List.Elements.{All-from_recursion, filter-append}
-use Rattle.std.proofs.lemmas.List.Folds.{list_any_none, list_any-append}
-use Rattle.std.proofs.lemmas.List.Sorted.{IsPermutation-refl, IsPermutation-cons}
-use Rattle.std.proofs.lemmas.List.Sorted.{IsPermutation-trans, IsPermutation-middle}
+use Rattle.std.proofs.lemmas.Cmp.{nat_list_cmp_total}
+use Rattle.std.proofs.lemmas.List.Elements.{filter-append}
+use Rattle.std.proofs.lemmas.List.Folds.{list_any-append}
 use Rattle.std.proofs.lemmas.List.Sorted.{sum_by-IsPermutation}
 use Rattle.std.proofs.lemmas.List.Sums.{sum_by-append}
-use Rattle.std.proofs.lemmas.Map.Keys.{IsDistinct-from_sorted, IsDistinct-head, IsDistinct-tail}
+use Rattle.std.proofs.lemmas.Map.Keys.{IsDistinct-from_sorted}
 use Rattle.std.proofs.lemmas.Map.Lookups.{exact_bytes}
 use Rattle.tariff_rules.specs.declared.priced.Priced.{Priced}
-use Rattle.smf_type30.specs.Usage.{job_of}
 use Rattle.book_model.specs.declared.line.Line.{Line}
 use Rattle.book_model.specs.Lines.{plus_first, by_line, lines_for, lines_of}
 use Rattle.book_model.specs.Periods.{Period}
 use Rattle.book_model.specs.Records.{Records, Naming, name_of, by_bytes}
 use Rattle.book_model.specs.Rulings.{Rulings, price_in}
-use Rattle.book_model.specs.Sets.{set_of, members, has}
+use Rattle.book_model.specs.Sets.{members, has}
 use Rattle.book_model.specs.Accept.{total_of}
-use Rattle.book_model.proofs.SetLemmas.{members-empty, members-with, members_rise, any_tied-members}
+use Rattle.book_model.proofs.SetLemmas.{members_rise}
+use Rattle.book_model.proofs.PermutedSets.{Apart, apart_from_distinct, members_permuted}
+use Rattle.book_model.proofs.LineOrder.{by_line_total, name_ties, line_by, line_of}
 use Rattle.book_model.proofs.SumsAlike.{sum_by-filter, sum_by-filter_map}
 use Rattle.book_model.proofs.RecordSets.{is, is_itself}
 use Rattle.history_laws.specs.Amounts.{plus_of, minus_of}
 use Rattle.history_laws.specs.Lines.{both_lines}
-
--- no element ties with one after it
-abbrev Apart : {X : Type 0} → (X → X → Bool) → List X → Type 0
-Apart e [] = Unit {0}
-Apart e (x ∷ xs) = (list_any (e x) xs ≡ false) × Apart e xs
-
--- distinct elements are apart
-apart_from_distinct : {X : Type 0} (e : X → X → Bool) (xs : List X) → IsDistinct e xs → Apart e xs
-apart_from_distinct e [] distinct = tt
-apart_from_distinct e (x ∷ xs) distinct = (
-  list_any_none (e x) xs (All-from_recursion _ xs (IsDistinct-head e x xs distinct)),
-  apart_from_distinct e xs (IsDistinct-tail e x xs distinct),
-)
-
-module _ {K : Type 0} (R : K → K → Ordering) where
-  -- an element in its place, where it ties with none, stands among the others
-  insert_permuted : (k : K) (xs : List K) → list_any (eq_by_cmp R k) xs ≡ false
-      → IsPermutation (insert_key R xs k) (k ∷ xs)
-  insert_permuted k [] new = IsPermutation-refl (k ∷ [])
-  insert_permuted k (x ∷ xs) new =
-      elim (R k x) as (λ r. (is_eq r || list_any (eq_by_cmp R k) xs) ≡ false
-      → IsPermutation (match_ordering r (k ∷ x ∷ xs) (x ∷ xs) (x ∷ insert_key R xs k)) (k ∷ x ∷ xs)) [
-        | Less ↦ λ new. IsPermutation-refl (k ∷ x ∷ xs)
-        | Equal ↦ λ new. absurd (true≢false new)
-        | Greater ↦ λ new.
-            IsPermutation-trans (x ∷ insert_key R xs k) (x ∷ k ∷ xs) (k ∷ x ∷ xs)
-            (IsPermutation-cons x (insert_key R xs k) (k ∷ xs) (insert_permuted k xs new))
-            (IsPermutation-middle (x ∷ []) k xs)
-      ] new
-
-  -- the set of a list whose elements are apart has them, in another order
-  members_permuted : IsTotalOrder R → (ks : List K) → Apart (eq_by_cmp R) ks
-      → IsPermutation (members (set_of R ks)) ks
-  members_permuted o [] apart = subst (λ ms. IsPermutation ms []) (sym (members-empty R))
-      (IsPermutation-refl [])
-  members_permuted o (k ∷ ks) apart =
-      let others : List K = members (set_of R ks) in
-      subst (λ ms. IsPermutation ms (k ∷ ks)) (sym (members-with o (set_of R ks) k))
-      (IsPermutation-trans (insert_key R others k) (k ∷ others) (k ∷ ks)
-      (insert_permuted k others (any_tied-members o ks k ∙ apart.0))
-      (IsPermutation-cons k others ks (members_permuted o ks apart.1)))
 
 -- one of what a partial function gives passes a test
 any-given : {X Y : Type 0} (p : Y → Bool) (give : X → Option Y) (xs : List X)
@@ -134,48 +89,6 @@ given-apart {Y} e give (k ∷ ks) tells apart =
       )
     ] refl
 
--- the order of plus and minus is total
-plus_total : IsTotalOrder plus_first
-plus_total = record { antisymm = flips; trans = chains; congr = agrees }
-  where
-    flips : (a b : Bool) → plus_first a b ≡ ordering_reverse (plus_first b a)
-    flips true true = refl
-    flips true false = refl
-    flips false true = refl
-    flips false false = refl
-
-    chains : (a b c : Bool) → plus_first a b ≡ Less → plus_first b c ≡ Less → plus_first a c ≡ Less
-    chains true false c one two =
-        elim c as (λ c. plus_first false c ≡ Less → plus_first true c ≡ Less) [
-          | true ↦ λ two. cc
-          | false ↦ λ two. refl
-        ] two
-    chains true true c one two = cc
-    chains false true c one two = cc
-    chains false false c one two = cc
-
-    agrees : (a b c : Bool) → plus_first a b ≡ Equal → plus_first a c ≡ plus_first b c
-    agrees true true c tied = refl
-    agrees true false c tied = cc
-    agrees false true c tied = cc
-    agrees false false c tied = refl
-
--- the order of lines is total
-by_line_total : IsTotalOrder by_line
-by_line_total =
-    let by_day = on_total (λ (line : Line). line.priced.day) int_cmp_total in
-    let by_name = on_total (λ (line : Line). line.name) nat_list_cmp_total in
-    let by_sign = on_total (λ (line : Line). line.plus) plus_total in
-    then_total by_day (then_total by_name by_sign)
-
--- lines that tie have one name
-name_ties : (a b c : Ordering) → is_eq (ordering_then a (ordering_then b c)) ≡ true → b ≡ Equal
-name_ties Less b c tied = cc
-name_ties Greater b c tied = cc
-name_ties Equal Less c tied = cc
-name_ties Equal Equal c tied = refl
-name_ties Equal Greater c tied = cc
-
 -- lines whose signs do not tie do not
 signs_differ : (a b c : Ordering) → c ≡ Less → is_eq (ordering_then a (ordering_then b c)) ≡ false
 signs_differ Less b c less = refl
@@ -223,22 +136,9 @@ none_chosen p (line ∷ lines) all = λ i. cond (all.0 i) (line ∷ none_chosen 
     (none_chosen p lines all.1 i)
 
 module _ (naming : Naming) (rulings : Rulings) where
-  -- a line, where its record has a price
-  abbrev pub line_by : Bool → List ℕ → Option Priced → Option Line
-  line_by plus bytes price =
-      option_map (λ priced. record {
-        plus = plus;
-        name = name_of naming bytes;
-        job = job_of bytes;
-        priced = priced;
-      }) price
-
-  abbrev pub line_of : Bool → List ℕ → Option Line
-  line_of plus bytes = line_by plus bytes (price_in rulings bytes)
-
   -- it has its record's name
   its_name : (plus : Bool) (bytes : List ℕ) (price : Option Priced) (line : Line)
-      → line_by plus bytes price ≡ Some line → line.name ≡ name_of naming bytes
+      → line_by naming rulings plus bytes price ≡ Some line → line.name ≡ name_of naming bytes
   its_name plus bytes None line is = cc
   its_name plus bytes (Some priced) line is =
       sym (ap (λ found. option_map_or (λ line. line.name) found (name_of naming bytes)) is)
@@ -250,7 +150,8 @@ module _ (naming : Naming) (rulings : Rulings) where
       → Apart (eq_by_cmp by_line) (lines_for naming rulings plus records)
   lines_apart plus records named =
       let ks : List (List ℕ) = members records in
-      given-apart (eq_by_cmp by_line) (line_of plus) ks (λ a b one two y z of_a of_b tied.
+      let give : List ℕ → Option Line = line_of naming rulings plus in
+      given-apart (eq_by_cmp by_line) give ks (λ a b one two y z of_a of_b tied.
       named a b (map.contains_key-keys records a ∙ one) (map.contains_key-keys records b ∙ two)
       (sym (its_name plus a (price_in rulings a) y of_a)
       ∙ exact_bytes y.name z.name
@@ -262,13 +163,14 @@ module _ (naming : Naming) (rulings : Rulings) where
 
   -- lines have the sign that they are read with
   signed : (P : Bool → Type 0) (plus : Bool) → P plus → (ks : List (List ℕ))
-      → AllByRecursion (λ line. P line.plus) (filter_map (line_of plus) ks)
+      → AllByRecursion (λ line. P line.plus) (filter_map (line_of naming rulings plus) ks)
   signed P plus holds [] = tt
   signed P plus holds (k ∷ ks) =
       let rest = signed P plus holds ks in
+      let others : List Line = filter_map (line_of naming rulings plus) ks in
       elim (price_in rulings k)
       as (λ price. AllByRecursion (λ line. P line.plus)
-      (cons_option (line_by plus k price) (filter_map (line_of plus) ks))) [
+      (cons_option (line_by naming rulings plus k price) others)) [
         | None ↦ rest
         | Some priced ↦ (holds, rest)
       ]
@@ -279,16 +181,17 @@ module _ (naming : Naming) (rulings : Rulings) where
       ≡ total_of rulings records
   lines_cost plus records =
       let same : (bytes : List ℕ)
-      → option_map_or (λ line. line.priced.amount) (line_of plus bytes) 0
+      → option_map_or (λ line. line.priced.amount) (line_of naming rulings plus bytes) 0
       ≡ option_map_or (λ priced. priced.amount) (price_in rulings bytes) 0 =
       λ bytes.
       elim (price_in rulings bytes)
-      as (λ price. option_map_or (λ line. line.priced.amount) (line_by plus bytes price) 0
+      as (λ price.
+      option_map_or (λ line. line.priced.amount) (line_by naming rulings plus bytes price) 0
       ≡ option_map_or (λ priced. priced.amount) price 0) [
         | None ↦ refl
         | Some priced ↦ refl
       ] in
-      sum_by-filter_map (λ line. line.priced.amount) (line_of plus) (members records)
+      sum_by-filter_map (λ line. line.priced.amount) (line_of naming rulings plus) (members records)
       ∙ (λ i. sum_by (λ bytes. same bytes i) (members records))
       ∙ sym (sum_by-filter_map (λ priced. priced.amount) (price_in rulings) (members records))
 

@@ -27,7 +27,8 @@ use Rattle.history_laws.specs.Lines.{both_lines, AreReadOnce}
 use Rattle.book_model.proofs.AnsweredLemmas.{sound_after}
 use Rattle.history_laws.specs.Laws.{Conserved, LinesOnce}
 use Rattle.history_laws.proofs.AmountLemmas.{all_balance}
-use Rattle.history_laws.proofs.LineLemmas.{line_of, line_by, read_once, plus_cost, minus_cost}
+use Rattle.book_model.proofs.LineOrder.{line_of, line_by}
+use Rattle.history_laws.proofs.LineLemmas.{read_once, plus_cost, minus_cost}
 use Rattle.history_laws.proofs.SumLemmas.{net}
 
 -- sums of numbers that agree on each element

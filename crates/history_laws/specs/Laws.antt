@@ -1,6 +1,6 @@
 -- The laws of whole histories.
 use Rattle.std.specs.Prelude.{◌≡◌, ℕ, ◌+◌, true, false, All, List, Option, Some, slice_get, ℤ, pos}
-use Rattle.std.specs.Prelude.{◌-ℤ◌}
+use Rattle.std.specs.Prelude.{◌-ℤ◌, ◌++◌}
 use Rattle.book_model.specs.Periods.{Period}
 use Rattle.book_model.specs.Books.{Book, charged_of, all_periods}
 use Rattle.book_model.specs.Charged.{is_dated_after}
@@ -14,12 +14,12 @@ use Rattle.book_model.specs.Answered.{IsAnswered}
 use Rattle.book_model.specs.Sound.{IsSound}
 use Rattle.history_laws.specs.Net.{net_count, one_if, NamesOnce}
 use Rattle.history_laws.specs.Lines.{AreReadOnce}
+use Rattle.history_laws.specs.Closed.{IsClosed, IsReadAlike}
 use Rattle.history_laws.specs.Amounts.{rows_amount, plus_amount, minus_amount, added_amount}
 use Rattle.history_laws.specs.Amounts.{taken_amount}
 
 -- Over all periods of the book that a history leaves, the open one with them, a record that is
--- charged now
--- is charged once net; any other nets to nothing.
+-- charged now is charged once net; any other nets to nothing.
 abbrev pub ChargedOnce : Type 0
 ChargedOnce =
     (history : List Event) (bytes : List ℕ)
@@ -79,3 +79,12 @@ abbrev pub LinesOnce : Type 0
 LinesOnce =
     (naming : Naming) (book : Book) → IsSound naming book
     → All (λ period. AreReadOnce naming book.rulings period) (all_periods book)
+
+-- What is closed never changes: whatever comes after a period is closed, by calls, the period is
+-- read as it was.
+abbrev pub ClosedStays : Type 0
+ClosedStays =
+    (naming : Naming) (later earlier : List Event) (number : ℕ)
+    → IsAnswered naming (later ++ earlier)
+    → IsClosed number (book_after earlier)
+    → IsReadAlike naming number (book_after earlier) (book_after (later ++ earlier))
