@@ -1,4 +1,7 @@
--- Entries of a map, and what those of a plain ledger hold, charge and dispute.
+-- Work on a ledger, and on the books of a history; entries of a map, and what those of a plain
+-- ledger hold, charge and dispute.
+pub mod WorkLemmas
+pub mod FollowLemmas
 pub mod EntryLemmas
 pub mod HeldLemmas
 pub mod AcceptLemmas
@@ -10,3 +13,9 @@ pub mod ShownLemmas
 pub mod RepeatLemmas
 pub mod IdentityLemmas
 pub mod TariffLemmas
+pub mod DayLemmas
+pub mod NameLemmas
+pub mod ShareLemmas
+pub mod BookLemmas
+pub mod MemoryLemmas
+pub mod LineLemmas

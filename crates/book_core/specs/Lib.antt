@@ -1,3 +1,10 @@
--- What a plain ledger holds, as a book.
+-- Read in this order: what is seen of a ledger, work on it, one call, and work on the books of a
+-- history. Then how a plain ledger keeps its book.
+pub mod Ledgers
+pub mod Work
+pub mod Calls
+pub mod Follow
 pub mod Plain
+pub mod Shares
 pub mod PlainBook
+pub mod Effects

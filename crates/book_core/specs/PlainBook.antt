@@ -1,11 +1,49 @@
 -- What is seen of a plain ledger.
+use Rattle.std.specs.Prelude.{◌≡◌, List, map, Result}
+use Rattle.book_model.specs.declared.fault.LedgerFault.{LedgerFault}
 use Rattle.book_model.specs.declared.naming.Naming.{Ghosts}
-use Rattle.book_core.specs.declared.plain.PlainLedger.{PlainLedger}
+use Rattle.book_model.specs.Sets.{set_of}
+use Rattle.book_model.specs.Records.{by_bytes}
+use Rattle.book_model.specs.Rulings.{Tariffed}
+use Rattle.book_model.specs.Periods.{Period}
 use Rattle.book_model.specs.Books.{Book}
-use Rattle.book_core.specs.Plain.{ruled_by, book_holding}
+use Rattle.book_model.specs.Outcomes.{Outcome}
+use Rattle.book_model.specs.Answers.{IsBookCall}
+use Rattle.book_core.specs.declared.closed.ClosedPeriod.{ClosedPeriod}
+use Rattle.book_core.specs.declared.period.Period.{Period as ReadPeriod}
+use Rattle.book_core.specs.declared.plain.PlainLedger.{PlainLedger}
+use Rattle.book_core.specs.Ledgers.{Seen, in_memory}
+use Rattle.book_core.specs.Plain.{Entry, entry_records, ruled_by}
+use Rattle.book_core.specs.Shares.{Names, records_where, is_named, period_with}
+use Rattle.book_core.specs.Shares.{share_closed, share_in}
 
-abbrev pub naming_in : {N : Type 0} {names : Ghosts N} → PlainLedger N names → N
-naming_in ledger = ledger.naming
+-- the book of such tariffs, entries, posted names and closed periods
+abbrev pub book_with : List Tariffed → List Entry → Names → List ClosedPeriod → Book
+book_with tariffs entries posted closed = record {
+  rulings = ruled_by tariffs closed;
+  held = set_of by_bytes (entry_records entries);
+  posted = records_where (is_named posted) entries;
+  past = map (λ period. period_with (share_closed period) entries) closed;
+}
 
-abbrev pub book_in : {N : Type 0} {names : Ghosts N} → PlainLedger N names → Book
-book_in ledger = book_holding (ruled_by ledger.tariffs.items) ledger.held.entries
+module _ {N : Type 0} {names : Ghosts N} where
+  abbrev pub naming_in : PlainLedger N names → N
+  naming_in ledger = ledger.naming
+
+  abbrev pub book_in : PlainLedger N names → Book
+  book_in ledger =
+      book_with ledger.tariffs.items ledger.held.entries ledger.posted ledger.closed.items
+
+  -- what is seen of the ledger as one that is kept in memory
+  abbrev pub seen_in : PlainLedger N names → Seen
+  seen_in ledger = in_memory (names.name_of ledger.naming) (book_in ledger)
+
+  -- a period that is read of a ledger
+  abbrev pub period_in : PlainLedger N names → ReadPeriod → Period
+  period_in ledger period = period_with (share_in period ledger.posted) ledger.held.entries
+
+  -- A call of a plain ledger is one on its book. It names records as before.
+  pub record IsPlainCall {V A : Type 0} (view : V → A) (old new : PlainLedger N names)
+      (result : Result V LedgerFault) (outcome : Book → Outcome A) : Type 0 where
+    pub call : IsBookCall view (book_in old) (book_in new) result outcome
+    pub naming : naming_in new ≡ naming_in old

@@ -1,55 +1,25 @@
-ghost use Rattle.std.specs.Prelude.{◌≡◌, ◌≤◌, ◌+◌, ◌||◌, Ok, Err, length, nat_le, nat_lt};
-ghost use Rattle.std.specs.Prelude.{if◌then◌else◌};
-ghost use Rattle.tariff_rules.specs.Price.{most_amount};
-ghost use Rattle.book_model.specs.Limits.{most_cost, most_held};
-ghost use Rattle.book_model.specs.Records as spec;
-ghost use Rattle.book_model.specs.Records.{IsUsageRecord, by_bytes, same_bytes};
+ghost use Rattle.std.specs.Prelude.{◌<◌, length, true};
 ghost use Rattle.std.specs.List.Sorted.{IsStrictlySortedBy};
 ghost use Rattle.std.specs.Map.{keys_of};
 ghost use Rattle.std.proofs.Props.{props};
+ghost use Rattle.book_model.specs.Limits.{last_period};
+ghost use Rattle.book_model.specs.Records.{by_bytes};
+ghost use Rattle.book_model.specs.Rulings.{are_rising};
 ghost use Rattle.book_core.specs.Plain.{AreBooked, ruled_by};
+ghost use Rattle.book_core.specs.Shares.{AreNamed};
 
-use crate::accepted_tariff::{AcceptedTariff, are_before, has_day_of, has_text};
-use crate::charge_rows::charge_rows;
-use crate::held::{HeldRecord, has_dated};
-use crate::identities::{disputes, undisputed_prices};
-use crate::limits::{MAX_COST, MAX_HELD};
-use crate::pricing::price_in;
-use book_model::{Accepted, ChargeRow, Dispute, LedgerFault, Naming, Ruled};
-use smf_type30::Type30;
+mod lists;
+mod records;
+mod rulings;
+
+use crate::accepted_tariff::AcceptedTariff;
+use crate::closed::ClosedPeriod;
+use crate::held::HeldRecord;
+use crate::ledger::Ledger;
+use book_model::{Accepted, ChargeRow, Dispute, LedgerFault, Line, Naming, Ruled};
 use std::alloc::{AllocError, Global};
-use std::collections::BTreeMap;
+use std::collections::{BTreeMap, BTreeSet};
 use tariff_rules::Tariff;
-
-/// The name of a record: that of its data.
-fn name_of<N: Naming>(naming: &N, bytes: &[u8]) -> [u8; 32]
-    requires { 4 ≤ length bytes.now }
-    ensures { result ≡ spec.name_of (N.name_of naming.now) bytes.now }
-{
-    let (_, data) = bytes.split_at(4);
-    naming.name(data)
-}
-
-/// What is answered to a record whose name one has that is held.
-fn known_or_clash(held: &HeldRecord, bytes: &[u8]) -> Result<Accepted, LedgerFault>
-    ensures { result ≡ (if same_bytes held.now.bytes.items bytes.now
-        then Ok Accepted.Known else Err LedgerFault.DigestClash) }
-{
-    if held.bytes.as_slice() == bytes {
-        Ok(Accepted::Known)
-    } else {
-        Err(LedgerFault::DigestClash)
-    }
-}
-
-/// There is no room for a record that costs so much beside so many, which cost so much together.
-fn is_full(count: usize, total: u64, amount: u64) -> bool
-    requires total { total ≤ most_cost }
-    requires amount { amount ≤ most_amount }
-    ensures { result ≡ (nat_le most_held count || nat_lt most_cost (total + amount)) }
-{
-    count >= MAX_HELD || total + amount > MAX_COST
-}
 
 /// Books that are kept in memory: records by their names, and every list computed from them anew.
 #[derive(Drop)]
@@ -57,36 +27,36 @@ pub struct PlainLedger<N: Naming + Drop> {
     naming: N,
     tariffs: Vec<AcceptedTariff>,
     held: BTreeMap<[u8; 32], HeldRecord>,
+    /// What the records cost together.
     total: u64,
+    /// The names of the records that the last close charged.
+    posted: BTreeSet<[u8; 32]>,
+    closed: Vec<ClosedPeriod>,
     alloc: Global,
     ghost rising: { IsStrictlySortedBy by_bytes (keys_of held.entries) } by { Prim.hlevel props },
-    ghost kept: { AreBooked (N.name_of naming) (ruled_by tariffs.items) held.entries total },
+    ghost kept: { AreBooked (N.name_of naming) (ruled_by tariffs.items closed.items)
+        held.entries total },
+    ghost named: { AreNamed held.entries posted closed.items },
+    ghost few: { length closed.items < last_period },
 }
 
 impl<N: Naming + Drop> PlainLedger<N> {
-    ghost use Rattle.std.specs.Prelude.{◌≡◌, ℕ, List, IfOk, IsTrue, map, true};
-    ghost use Rattle.book_model.specs.Sets.{has};
-    ghost use Rattle.book_model.specs.Rulings.{are_rising, price_in};
-    ghost use Rattle.book_model.specs.Rows.{AreRows};
-    ghost use Rattle.book_model.specs.Disputes.{AreDisputes, dispute_shown};
+    ghost use Rattle.std.specs.Prelude.{◌≡◌, [], IfOk};
     ghost use Rattle.book_model.specs.Books.{flat_book, new_book};
-    ghost use Rattle.book_model.specs.Outcomes.{accept_outcome, tariff_outcome};
-    ghost use Rattle.book_model.specs.Outcomes.{charges_outcome, disputes_outcome};
-    ghost use Rattle.book_model.specs.Answers.{Answers, IsCall};
-    ghost use Rattle.book_core.specs.PlainBook.{book_in, naming_in};
+    ghost use Rattle.book_core.specs.Ledgers.{IsOpenAt};
 
     /// New books, under no tariff yet.
     pub fn new(alloc: Global, naming: N) -> Result<PlainLedger<N>, AllocError>
-        ensures book { IfOk result (λ ledger. book_in ledger ≡ new_book) }
-        ensures naming { IfOk result (λ ledger. naming_in ledger ≡ naming) }
+        ensures { IfOk result (λ ledger. IsOpenAt (N.name_of naming) new_book
+            (⟦<PlainLedger<N> as Ledger>⟧.seen ledger)) }
     {
         Ok(PlainLedger::under(alloc, naming, Vec::new(alloc)))
     }
 
     /// New books under one tariff, which stands for every day from its first on.
     pub fn flat(alloc: Global, naming: N, tariff: Tariff) -> Result<PlainLedger<N>, AllocError>
-        ensures book { IfOk result (λ ledger. book_in ledger ≡ flat_book tariff) }
-        ensures naming { IfOk result (λ ledger. naming_in ledger ≡ naming) }
+        ensures { IfOk result (λ ledger. IsOpenAt (N.name_of naming) (flat_book tariff)
+            (⟦<PlainLedger<N> as Ledger>⟧.seen ledger)) }
     {
         let mut tariffs = Vec::with_capacity(alloc, 1)?;
         tariffs.push(AcceptedTariff { text: None, tariff })?;
@@ -96,98 +66,54 @@ impl<N: Naming + Drop> PlainLedger<N> {
     /// Books that hold no record, under these tariffs.
     fn under(alloc: Global, naming: N, tariffs: Vec<AcceptedTariff>) -> PlainLedger<N>
         requires { are_rising tariffs.items ≡ true }
-        ensures book { book_in result ≡ record new_book { rulings = ruled_by tariffs.items } }
-        ensures naming { naming_in result ≡ naming }
+        ensures { IsOpenAt (N.name_of naming)
+            (record new_book { rulings = ruled_by tariffs.items [] })
+            (⟦<PlainLedger<N> as Ledger>⟧.seen result) }
     {
         PlainLedger {
             naming,
             tariffs,
             held: BTreeMap::new(alloc),
             total: 0,
+            posted: BTreeSet::new(alloc),
+            closed: Vec::new(alloc),
             alloc,
         }
     }
+}
 
-    /// Hands in a tariff file. Its tariff is in force from its first day on, where that day is later
-    /// than every other tariff's and no record that is held is dated on it or after it. So what
-    /// records that are held cost stays.
-    pub fn tariff(&mut self, text: &str) -> Result<Ruled, LedgerFault>
-        ensures call { IsCall (λ ruled. ruled) (book_in self.old) (book_in self.new) result
-            (tariff_outcome text.now) }
-        ensures naming { naming_in self.new ≡ naming_in self.old }
-        ensures prices { (bytes : List ℕ) → IsTrue (has (book_in self.old).held bytes)
-            → price_in (book_in self.new).rulings bytes
-            ≡ price_in (book_in self.old).rulings bytes }
-    {
-        let alloc = self.alloc;
-        let tariff = Tariff::parse(alloc, text)?;
-        if has_text(&self.tariffs, text) {
-            return Ok(Ruled::Already);
-        }
-        if has_day_of(&self.tariffs, &tariff) {
-            return Err(LedgerFault::TariffExists);
-        }
-        if !are_before(&self.tariffs, &tariff) {
-            return Err(LedgerFault::TariffDate);
-        }
-        if has_dated(&self.held, &tariff) {
-            return Err(LedgerFault::RecordsDated);
-        }
-        let text = Some(String::from_str(alloc, text)?);
-        self.tariffs.push(AcceptedTariff { text, tariff })?;
-        Ok(Ruled::Done)
+impl<N: Naming + Drop> Ledger for PlainLedger<N> {
+    ghost use Rattle.book_core.specs.PlainBook.{seen_in};
+
+    ghost seen = { seen_in };
+
+    fn tariff(&mut self, text: &str) -> Result<Ruled, LedgerFault> {
+        self.put_in_force(text)
     }
 
-    /// Hands in a record, which is held from now on where it is new, a tariff is in force on its
-    /// day, and there is room for it.
-    pub fn accept(&mut self, bytes: &[u8]) -> Result<Accepted, LedgerFault>
-        requires { IsUsageRecord bytes.now }
-        ensures call { IsCall (λ accepted. accepted) (book_in self.old) (book_in self.new) result
-            (accept_outcome (N.name_of (naming_in self.old)) bytes.now) }
-        ensures naming { naming_in self.new ≡ naming_in self.old }
-    {
-        let name = name_of(&self.naming, bytes);
-        let count = self.held.len();
-        if let Some(held) = self.held.get(&name) {
-            return known_or_clash(held, bytes);
-        }
-        let usage = Type30::of_usage(bytes);
-        let Some(priced) = price_in(&self.tariffs, &usage) else {
-            return Ok(Accepted::Unpriced);
-        };
-        let amount = priced.amount;
-        if is_full(count, self.total, amount) {
-            return Err(LedgerFault::Full);
-        }
-        let alloc = self.alloc;
-        let held = HeldRecord::new(alloc, &usage, bytes, priced)?;
-        self.held.insert(name, held)?;
-        self.total += amount;
-        Ok(Accepted::Kept)
+    fn close(&mut self, period: u16, through: i32) -> Result<Ruled, LedgerFault> {
+        self.close_period(period, through)
     }
 
-    /// The charge rows of a period, by day, then centre, then shift.
-    pub fn charges(&self, period: u16) -> Result<Vec<ChargeRow>, LedgerFault>
-        ensures rows { Answers (λ rows. rows.items) result
-            (charges_outcome period (book_in self.now)).answer }
-        ensures shown { IfOk result (λ rows. AreRows rows.items) }
-    {
-        if period != 1 {
-            return Err(LedgerFault::NoSuchPeriod);
-        }
-        let alloc = self.alloc;
-        let prices = undisputed_prices(alloc, &self.held)?;
-        Ok(charge_rows(alloc, &prices)?)
+    fn accept(&mut self, bytes: &[u8]) -> Result<Accepted, LedgerFault> {
+        self.keep_record(bytes)
     }
 
-    /// The identities of two or more records that are held, by their bytes, each with its records
-    /// by name.
-    pub fn disputes(&self) -> Result<Vec<Dispute>, LedgerFault>
-        ensures disputes { Answers (λ found. map dispute_shown found.items) result
-            (disputes_outcome (N.name_of (naming_in self.now)) (book_in self.now)).answer }
-        ensures shown { IfOk result (λ found. AreDisputes (map dispute_shown found.items)) }
-    {
-        let alloc = self.alloc;
-        Ok(disputes(alloc, &self.held)?)
+    fn charges(&mut self, period: u16) -> Result<Vec<ChargeRow>, LedgerFault> {
+        self.charge_rows(period)
     }
+
+    fn adjustments(&mut self, period: u16) -> Result<Vec<Line>, LedgerFault> {
+        self.lines(period)
+    }
+
+    fn disputes(&mut self) -> Result<Vec<Dispute>, LedgerFault> {
+        self.disputes_held()
+    }
+
+    fn periods(&mut self) -> Result<Vec<i32>, LedgerFault> {
+        self.close_days()
+    }
+
+    ghost settled = { λ ledger honest books is_open book left. absurd left };
 }

@@ -1,0 +1,198 @@
+-- The book of a plain ledger: a period of it by its number, and what a close and a record change.
+use Rattle.std.proofs.Common.{◌≡◌, ◌∙◌, ℕ, ◌+◌, ◌-◌, ◌≤◌, List, [], ◌∷◌, ◌++◌, length, map, refl}
+use Rattle.std.proofs.Common.{sym, ap, Bool, true, false, Option, Some, None, slice_get, arith, inl}
+use Rattle.std.proofs.Common.{inr}
+use Rattle.std.proofs.Common.{Result, Ok, Err}
+use Rattle.std.specs.Prelude.{◌==◌, ℤ, if◌then◌else◌, ok_or}
+use Rattle.std.specs.BTreeMap.{insert_entry}
+use Rattle.std.specs.List.{last_or}
+use Rattle.std.specs.List.Sorted.{IsStrictlySortedBy}
+use Rattle.std.specs.Map.{keys_of}
+use Rattle.std.specs.Option.{option_map}
+use Rattle.std.proofs.lemmas.Bool.Decides.{nat_tests}
+use Rattle.std.proofs.lemmas.List.{length-map, map-append}
+use Rattle.std.proofs.lemmas.Option.{slice_get-map, slice_get_past, slice_get_cases}
+use Rattle.book_model.specs.declared.fault.LedgerFault.{LedgerFault}
+use Rattle.book_model.specs.declared.fault.LedgerFault.TheVariants.{NoSuchPeriod}
+use Rattle.book_model.specs.Books.{Book, open_number, open_period, period_of}
+use Rattle.book_model.specs.Events.{keep, close}
+use Rattle.book_model.specs.Periods.{Period}
+use Rattle.book_model.specs.Records.{Naming, by_bytes}
+use Rattle.book_model.specs.Rulings.{Tariffed, last_close}
+use Rattle.book_model.proofs.ListLemmas.{last_or-is}
+use Rattle.book_core.specs.declared.closed.ClosedPeriod.{ClosedPeriod}
+use Rattle.book_core.specs.declared.ending.Ending.{Ending}
+use Rattle.book_core.specs.declared.held.HeldRecord.{HeldRecord}
+use Rattle.book_core.specs.declared.share.Share.{Share}
+use Rattle.book_core.specs.Plain.{Entry, ruled_by, AreBooked}
+use Rattle.book_core.specs.PlainBook.{book_with}
+use Rattle.book_core.specs.Shares.{Names, NamesOf, SharesOf, AreNamed, IsEnding, under_name}
+use Rattle.book_core.specs.Shares.{charges, is_named, period_with, share_at}
+use Rattle.book_core.specs.Shares.{share_closed}
+use Rattle.book_core.proofs.HeldLemmas.{held_in, held_in-more}
+use Rattle.book_core.proofs.NameLemmas.{each_named_by, each_shared_by}
+use Rattle.book_core.proofs.NameLemmas.{posted-kept, past-kept}
+use Rattle.book_core.proofs.ShareLemmas.{where-agree, with-agree, charged-ends, period-ends}
+
+-- what is read of a period, where there is one
+pub read_of : {P A : Type 0} (read : P → A) (found : Option P) (period : P)
+    → ok_or found NoSuchPeriod ≡ Ok period
+    → ok_or (option_map read found) NoSuchPeriod ≡ Ok (read period)
+read_of read None period is = cc
+read_of read (Some one) period is =
+    ap (λ (got : Result _ LedgerFault). Ok (read (unwrap_ok got one))) is
+  where
+    unwrap_ok : {P : Type 0} → Result P LedgerFault → P → P
+    unwrap_ok (Ok one) other = one
+    unwrap_ok (Err fault) other = other
+
+-- the last of a list is found at its end
+last_or-found : {X : Type 0} (xs : List X) → last_or None xs ≡ slice_get xs (length xs - 1)
+last_or-found [] = refl
+last_or-found (x ∷ xs) = last_or-is x xs ∙ ap (slice_get (x ∷ xs)) (omega arith)
+
+-- the day of the last close, by the last period that is closed
+pub last_close-by : (tariffs : List Tariffed) (closed : List ClosedPeriod)
+    → last_close (ruled_by tariffs closed)
+    ≡ option_map (λ period. period.through) (slice_get closed (length closed - 1))
+last_close-by tariffs closed =
+    let day : ClosedPeriod → ℤ = λ period. period.through in
+    last_or-found (map day closed)
+    ∙ ap (λ n. slice_get (map day closed) (n - 1)) (length-map closed day)
+    ∙ slice_get-map day closed (length closed - 1)
+
+-- the number of the open period
+pub open_number-by : (tariffs : List Tariffed) (entries : List Entry) (posted : Names)
+    (closed : List ClosedPeriod)
+    → open_number (book_with tariffs entries posted closed) ≡ length closed + 1
+open_number-by tariffs entries posted closed =
+    ap (λ n. n + 1) (length-map closed (λ period. period.through))
+
+-- by the tests of its number, a period is the open one, or stands among those that are closed
+period_by_tests : (book : Book) (number : ℕ) (none next : Bool)
+    → (number == 0) ≡ none → (number == open_number book) ≡ next
+    → period_of book number
+    ≡ (if none then None else if next then Some (open_period book)
+    else slice_get book.past (number - 1))
+period_by_tests book number none next is_none is_next =
+    λ i. if is_none i then None else if is_next i then Some (open_period book)
+    else slice_get book.past (number - 1)
+
+-- a period's number
+not_none : (number : ℕ) → 1 ≤ number → (number == 0) ≡ false
+not_none number some = grind (arith, nat_tests)
+
+-- a number is not the next one where something stands there
+not_next : {X : Type 0} (xs : List X) (number : ℕ) (x : X) → slice_get xs (number - 1) ≡ Some x
+    → (number == length xs + 1) ≡ false
+not_next xs number x found =
+    elim (number == length xs + 1) as (λ b. (number == length xs + 1) ≡ b → b ≡ false) [
+      | true ↦ λ same.
+          let next : length xs ≤ number - 1 = grind (arith, nat_tests) in
+          cc_none (slice_get xs (number - 1)) x (slice_get_past xs (number - 1) next) found
+      | false ↦ λ other. refl
+    ] refl
+  where
+    cc_none : {X : Type 0} {P : Type 0} (got : Option X) (x : X) → got ≡ None → got ≡ Some x → P
+    cc_none None x none some = cc
+    cc_none (Some y) x none some = cc
+
+-- it is where nothing does
+is_next : {X : Type 0} (xs : List X) (number : ℕ) → 1 ≤ number
+    → number ≤ length xs + 1 → slice_get xs (number - 1) ≡ None → (number == length xs + 1) ≡ true
+is_next {X} xs number some most none =
+    elim (slice_get_cases xs (number - 1)).1 [
+      | inl found ↦ never (slice_get xs (number - 1)) found.0 none found.2
+      | inr past ↦
+          let behind = past.0 in
+          grind (arith, nat_tests)
+    ]
+  where
+    never : {P : Type 0} (got : Option X) (x : X) → got ≡ None → got ≡ Some x → P
+    never None x none some = cc
+    never (Some y) x none some = cc
+
+-- a period that is closed, by its number
+pub period_of-closed : (tariffs : List Tariffed) (entries : List Entry) (posted : Names)
+    (closed : List ClosedPeriod) (number : ℕ) (one : ClosedPeriod) → 1 ≤ number
+    → slice_get closed (number - 1) ≡ Some one
+    → period_of (book_with tariffs entries posted closed) number
+    ≡ Some (period_with (share_closed one) entries)
+period_of-closed tariffs entries posted closed number one some found =
+    let read : ClosedPeriod → Period = λ period. period_with (share_closed period) entries in
+    period_by_tests (book_with tariffs entries posted closed) number false false
+    (not_none number some)
+    (ap (λ n. number == n) (open_number-by tariffs entries posted closed)
+    ∙ not_next closed number one found)
+    ∙ slice_get-map read closed (number - 1)
+    ∙ ap (option_map read) found
+
+module _ {naming : Naming} (tariffs : List Tariffed) (closed : List ClosedPeriod)
+    {entries : List Entry} {total : ℕ}
+    (kept : AreBooked naming (ruled_by tariffs closed) entries total)
+    (rising : IsStrictlySortedBy by_bytes (keys_of entries)) where
+  -- the open period, by its number
+  pub period_of-open : (posted : Names) (ending : Ending) (number : ℕ)
+      → IsEnding entries (last_close (ruled_by tariffs closed)) None ending
+      → 1 ≤ number → number ≤ length closed + 1 → slice_get closed (number - 1) ≡ None
+      → period_of (book_with tariffs entries posted closed) number
+      ≡ Some (period_with (λ entry. share_at ending (is_named posted entry) entry.1) entries)
+  period_of-open posted ending number ends some most none =
+      period_by_tests (book_with tariffs entries posted closed) number false true
+      (not_none number some)
+      (ap (λ n. number == n) (open_number-by tariffs entries posted closed)
+      ∙ is_next closed number some most none)
+      ∙ ap Some (sym (period-ends kept rising (is_named posted)
+      (last_close (ruled_by tariffs closed)) None ending ends))
+
+  -- the book after a close, by the names of the records that it charges and the shares that the
+  -- period has
+  pub book-closed : (posted after : Names) (ending : Ending) (one : ClosedPeriod)
+      (all : List ClosedPeriod) (told day : ℤ) → all ≡ closed ++ one ∷ [] → told ≡ day
+      → IsEnding entries (last_close (ruled_by tariffs closed)) (Some told) ending
+      → NamesOf (λ entry. charges ending entry.1) entries after
+      → SharesOf (λ entry. share_at ending (is_named posted entry) entry.1) entries one.shares
+      → one.through ≡ told
+      → book_with tariffs entries after all ≡ close day (book_with tariffs entries posted closed)
+  book-closed posted after ending one all told day is_all is_day ends names shares through =
+      let last : Option ℤ = last_close (ruled_by tariffs closed) in
+      let charges_it : Entry → Bool = λ entry. charges ending entry.1 in
+      let share : Entry → Option Share =
+      λ entry. share_at ending (is_named posted entry) entry.1 in
+      let read : ClosedPeriod → Period = λ period. period_with (share_closed period) entries in
+      let day_of : ClosedPeriod → ℤ = λ period. period.through in
+      let closes = map-append day_of closed (one ∷ [])
+      ∙ ap (λ d. map day_of closed ++ d ∷ []) through in
+      let now = where-agree (is_named after) charges_it entries
+      (each_named_by entries rising charges_it after names)
+      ∙ charged-ends kept rising last (Some told) ending ends in
+      let ended = with-agree (share_closed one) share entries
+      (each_shared_by entries rising share one.shares shares)
+      ∙ period-ends kept rising (is_named posted) last (Some told) ending ends in
+      let past = map-append read closed (one ∷ [])
+      ∙ ap (λ period. map read closed ++ period ∷ []) ended in
+      ap (book_with tariffs entries after) is_all
+      ∙ (λ i. record {
+        rulings = record { tariffs = tariffs; closes = closes i };
+        held = held_in entries;
+        posted = now i;
+        past = past i;
+      })
+      ∙ ap (λ d. close d (book_with tariffs entries posted closed)) is_day
+
+-- the book with one entry more, under a name that none has
+pub book-kept : (tariffs : List Tariffed) (entries : List Entry) (posted : Names)
+    (closed : List ClosedPeriod) (name : List ℕ) (h : HeldRecord)
+    → under_name name entries ≡ None → AreNamed entries posted closed
+    → book_with tariffs (insert_entry by_bytes entries name h) posted closed
+    ≡ keep h.bytes.items (book_with tariffs entries posted closed)
+book-kept tariffs entries posted closed name h missing named =
+    let held = held_in-more entries name h missing in
+    let stays = posted-kept entries name h missing posted closed named in
+    let past = past-kept entries name h missing posted closed named in
+    λ i. record {
+      rulings = ruled_by tariffs closed;
+      held = held i;
+      posted = stays i;
+      past = past i;
+    }

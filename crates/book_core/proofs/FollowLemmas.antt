@@ -1,0 +1,181 @@
+-- Work on books that are those of a history goes on with it.
+use Rattle.std.proofs.Common.{◌≡◌, ◌∙◌, ℕ, Bool, true, false, List, [], ◌++◌, refl, sym, ap, subst}
+use Rattle.std.proofs.Common.{Result, Ok, Err, ◌⊎◌, inl, inr, append_assoc, not}
+use Rattle.std.proofs.lemmas.Bool.{eqb-true}
+use Rattle.std.specs.Prelude.{ℤ, ◌==◌, if◌then◌else◌}
+use Rattle.tariff_rules.specs.Terms.{Terms}
+use Rattle.tariff_rules.specs.TariffFile.{terms_in}
+use Rattle.tariff_rules.specs.declared.fault.TariffFault.{TariffFault}
+use Rattle.book_model.specs.declared.fault.LedgerFault.{LedgerFault}
+use Rattle.book_model.specs.declared.fault.LedgerFault.TheVariants.{Memory, Store, Reopen}
+use Rattle.book_model.specs.declared.fault.LedgerFault.TheVariants.{WrongPeriod, NotLater, Full}
+use Rattle.book_model.specs.declared.answer.Accepted.{Accepted}
+use Rattle.book_model.specs.declared.answer.Accepted.TheVariants.{Kept, Known, Unpriced}
+use Rattle.book_model.specs.declared.answer.Ruled.{Ruled}
+use Rattle.book_model.specs.declared.answer.Ruled.TheVariants.{Done, Already}
+use Rattle.book_model.specs.Records.{Naming}
+use Rattle.book_model.specs.Books.{Book, new_book, open_number}
+use Rattle.book_model.specs.Events.{Event, after_all}
+use Rattle.book_model.specs.Accept.{accept_answer}
+use Rattle.book_model.specs.RulingAnswers.{tariff_answer, terms_answer, close_answer, is_closed}
+use Rattle.book_model.specs.RulingAnswers.{is_early}
+use Rattle.book_model.specs.Limits.{last_period}
+use Rattle.book_model.specs.Outcomes.{Outcome, accept_event, tariff_event, close_event}
+use Rattle.book_model.specs.Outcomes.{tariff_outcome, close_outcome}
+use Rattle.book_model.specs.History.{book_after, book_of}
+use Rattle.book_model.specs.Answered.{IsAnswered}
+use Rattle.book_model.proofs.StepLemmas.{books_follow_history}
+use Rattle.book_core.specs.Ledgers.{Seen}
+use Rattle.book_core.specs.Work.{Work, Then, IsWork}
+use Rattle.book_core.specs.Calls.{Makes, Calls, listed}
+use Rattle.book_core.specs.Follow.{FollowsHistory}
+use Rattle.book_core.proofs.WorkLemmas.{after_all-append}
+
+-- such work makes answered events of the book of any history that calls made
+abbrev pub MakesAnswered : Naming → Work → Type 0
+MakesAnswered naming Made =
+    (history : List Event) (was : Bool) (events : List Event) (is : Bool)
+    → Made was (book_after history) events is
+    → IsAnswered naming history → IsAnswered naming (events ++ history)
+
+-- the book after events is that of the history with them
+pub after_all-book_of : (events history : List Event)
+    → after_all events (book_of history) ≡ book_of (events ++ history)
+after_all-book_of events history =
+    ap (after_all events) (sym (books_follow_history history))
+    ∙ sym (after_all-append events history new_book) ∙ books_follow_history (events ++ history)
+
+-- so work whose events are answered follows the history
+pub follows : (old new : Seen) (Made : Work) → MakesAnswered old.naming Made
+    → IsWork old new Made → FollowsHistory old new Made
+follows old new Made answers work honest books history of book stands =
+    let come = work.moves honest books book stands in
+    let was : come.before ≡ book_of history = of come.before come.stood in
+    let made : Made old.must_reopen (book_of history) come.events new.must_reopen =
+    subst (λ before. Made old.must_reopen before come.events new.must_reopen) was come.made in
+    record {
+      events = come.events;
+      made = made;
+      answered = answers history old.must_reopen come.events new.must_reopen
+          (subst (λ before. Made old.must_reopen before come.events new.must_reopen)
+          (sym (books_follow_history history)) made);
+      is = come.leads ∙ ap (after_all come.events) was ∙ after_all-book_of come.events history;
+    }
+
+-- work, and then other work
+pub then_answered : (naming : Naming) (First Next : Work) → MakesAnswered naming First
+    → MakesAnswered naming Next → MakesAnswered naming (Then First Next)
+then_answered naming First Next first next history was events is both answered =
+    let early : IsAnswered naming (both.early ++ history) =
+    first history was both.early both.between both.first answered in
+    let late : IsAnswered naming (both.late ++ (both.early ++ history)) =
+    next (both.early ++ history) both.between both.late is
+    (subst (λ middle. Next both.between middle both.late is)
+    (sym (after_all-append both.early history new_book)) both.next) early in
+    subst (IsAnswered naming)
+    (sym (append_assoc both.late both.early history)
+    ∙ ap (λ events. events ++ history) (sym both.all)) late
+
+-- a call makes the event of its outcome, or none
+pub called_events : {V A : Type 0} (view : V → A) (outcome : Outcome A)
+    (result : Result V LedgerFault) (events : List Event)
+    → Makes view outcome result events → (events ≡ []) ⊎ (events ≡ listed outcome.event)
+called_events view outcome (Ok value) events is = inr is.1
+called_events view outcome (Err Memory) events is = inl is
+called_events view outcome (Err Store) events is = is
+called_events view outcome (Err Reopen) events is = inl is
+called_events view outcome (Err fault) events is = inl is.1
+
+-- a call whose outcome's event is answered
+pub calls_answered : {V A : Type 0} (naming : Naming) (view : V → A) (outcome : Book → Outcome A)
+    (result : Result V LedgerFault)
+    → ((history : List Event) → IsAnswered naming history
+    → IsAnswered naming (listed (outcome (book_after history)).event ++ history))
+    → MakesAnswered naming (Calls view outcome result)
+calls_answered naming view outcome result answers history was events is called answered =
+    elim (called_events view (outcome (book_after history)) result events called.makes) [
+      | inl none ↦ subst (λ events. IsAnswered naming (events ++ history)) (sym none) answered
+      | inr all ↦
+          subst (λ events. IsAnswered naming (events ++ history)) (sym all)
+          (answers history answered)
+    ]
+
+-- the event of the answer to a record
+pub accept_event-answered : (naming : Naming) (bytes : List ℕ) (history : List Event)
+    (answer : Result Accepted LedgerFault)
+    → accept_answer naming (book_after history) bytes ≡ answer → IsAnswered naming history
+    → IsAnswered naming (listed (accept_event bytes answer) ++ history)
+accept_event-answered naming bytes history (Ok Kept) is answered = (is, answered)
+accept_event-answered naming bytes history (Ok Known) is answered = answered
+accept_event-answered naming bytes history (Ok Unpriced) is answered = answered
+accept_event-answered naming bytes history (Err fault) is answered = answered
+
+-- the event of the answer to a tariff's terms
+terms_event-answered : (naming : Naming) (text : List ℕ) (terms : Terms) (history : List Event)
+    (answer : Result Ruled LedgerFault)
+    → terms_answer (book_after history) text terms ≡ answer → IsAnswered naming history
+    → IsAnswered naming (listed (tariff_event text (Ok terms) answer) ++ history)
+terms_event-answered naming text terms history (Ok Done) is answered = (is, answered)
+terms_event-answered naming text terms history (Ok Already) is answered = answered
+terms_event-answered naming text terms history (Err fault) is answered = answered
+
+-- the event of the answer to a tariff's text, by what reading it gives
+tariff_event-answered : (naming : Naming) (text : List ℕ) (said : Result Terms TariffFault)
+    (history : List Event) → IsAnswered naming history
+    → IsAnswered naming
+    (listed (tariff_event text said (tariff_answer (book_after history) text said)) ++ history)
+tariff_event-answered naming text (Ok terms) history answered =
+    terms_event-answered naming text terms history
+    (terms_answer (book_after history) text terms) refl answered
+tariff_event-answered naming text (Err fault) history answered = answered
+
+-- a tariff that is handed in
+pub tariff_answered : {V : Type 0} (naming : Naming) (view : V → Ruled) (text : List ℕ)
+    (result : Result V LedgerFault)
+    → MakesAnswered naming (Calls view (tariff_outcome text) result)
+tariff_answered naming view text result =
+    calls_answered naming view (tariff_outcome text) result
+    (tariff_event-answered naming text (terms_in text))
+
+-- the answer to a close, by whether the period is closed already and whether it is the open one
+abbrev close_by : Bool → Bool → LedgerFault → Result Ruled LedgerFault → Result Ruled LedgerFault
+close_by closed is_open wrong rest =
+    if closed then Ok Already else if not is_open then Err wrong else rest
+
+-- a period that is closed now was the open one
+done_is_open : (closed is_open : Bool) (wrong : LedgerFault) (rest : Result Ruled LedgerFault)
+    → close_by closed is_open wrong rest ≡ Ok Done → is_open ≡ true
+done_is_open true is_open wrong rest is = cc
+done_is_open false true wrong rest is = refl
+done_is_open false false wrong rest is = cc
+
+-- so it is the open one by its number
+closes_open : (number : ℕ) (day : ℤ) (book : Book) → close_answer book number day ≡ Ok Done
+    → number ≡ open_number book
+closes_open number day book is =
+    eqb-true number (open_number book)
+    (done_is_open (is_closed number day book.rulings) (number == open_number book)
+    (WrongPeriod (open_number book))
+    (if is_early day book.rulings then Err NotLater
+    else if number == last_period then Err Full else Ok Done) is)
+
+-- the event of the answer to a close
+close_event-answered : (naming : Naming) (number : ℕ) (day : ℤ) (history : List Event)
+    (answer : Result Ruled LedgerFault)
+    → close_answer (book_after history) number day ≡ answer → IsAnswered naming history
+    → IsAnswered naming (listed (close_event day answer) ++ history)
+close_event-answered naming number day history (Ok Done) is answered =
+    let book : Book = book_after history in
+    let its_number : number ≡ open_number book = closes_open number day book is in
+    (subst (λ number. close_answer book number day ≡ Ok Done) its_number is, answered)
+close_event-answered naming number day history (Ok Already) is answered = answered
+close_event-answered naming number day history (Err fault) is answered = answered
+
+-- a close
+pub close_answered : {V : Type 0} (naming : Naming) (view : V → Ruled) (number : ℕ) (day : ℤ)
+    (result : Result V LedgerFault)
+    → MakesAnswered naming (Calls view (close_outcome number day) result)
+close_answered naming view number day result =
+    calls_answered naming view (close_outcome number day) result (λ history.
+    close_event-answered naming number day history
+    (close_answer (book_after history) number day) refl)

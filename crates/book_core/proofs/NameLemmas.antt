@@ -1,0 +1,260 @@
+-- Names: what stands under each, and what sets and maps by name say of the entries.
+use Rattle.std.proofs.Common.{◌≡◌, ◌∙◌, ℕ, List, [], ◌∷◌, ◌++◌, refl, sym, ap, subst, Bool}
+use Rattle.std.proofs.Common.{true, false, cond, Option, Some, None, get_or}
+use Rattle.std.proofs.Common.{map}
+use Rattle.std.proofs.lemmas.Option.{slice_get-get_or}
+use Rattle.book_model.proofs.ListLemmas.{map-agree}
+use Rattle.std.specs.Prelude.{All, filter}
+use Rattle.std.specs.BTreeMap as tree
+use Rattle.std.specs.BTreeMap.{is_at, insert_entry}
+use Rattle.std.specs.BTreeSet as set
+use Rattle.std.specs.List.{AllByRecursion, IsDistinct}
+use Rattle.std.specs.List.Sorted.{IsStrictlySortedBy}
+use Rattle.std.specs.Map.{keys_of, lookup}
+use Rattle.std.specs.Option.{option_map_or, option_and_then, option_or}
+use Rattle.std.specs.Ordering.{eq_by_cmp}
+use Rattle.std.proofs.lemmas.Cmp.{nat_list_cmp_total, eq_by_cmp_equiv}
+use Rattle.std.proofs.lemmas.Map.Entries.{lookup_from_place}
+use Rattle.std.proofs.lemmas.Map.Keys.{IsDistinct-from_sorted, IsDistinct-head, IsDistinct-tail}
+use Rattle.std.proofs.lemmas.Map.Lookups.{exact_bytes}
+use Rattle.std.proofs.lemmas.Map.Views.{tells_apart}
+use Rattle.book_model.specs.Records.{by_bytes}
+use Rattle.book_model.specs.Sets.{set_of}
+use Rattle.book_model.proofs.SetLemmas.{set_of-alike}
+use Rattle.book_model.proofs.SumsAlike.{filter-alike, map-alike}
+use Rattle.book_core.specs.declared.closed.ClosedPeriod.{ClosedPeriod}
+use Rattle.book_core.specs.declared.held.HeldRecord.{HeldRecord}
+use Rattle.book_core.specs.declared.share.Share.{Share}
+use Rattle.book_core.specs.Plain.{Entry, entry_records}
+use Rattle.book_core.specs.Shares.{Names, NamesOf, SharesOf, AreNamed, under_name, is_named}
+use Rattle.book_core.specs.Shares.{records_where, period_with, share_closed}
+use Rattle.book_core.specs.Shares.{is_counted, is_added, is_taken}
+use Rattle.book_core.proofs.EntryLemmas.{insert_entry-alike}
+use Rattle.book_core.proofs.HeldLemmas.{bytes_of}
+
+-- what is found with one entry more behind
+lookup-behind : (test : List ℕ → Bool) (done : List Entry) (entry : Entry)
+    → lookup test (done ++ entry ∷ [])
+    ≡ option_or (lookup test done) (cond (test entry.0) (Some entry.1) None)
+lookup-behind test [] entry = refl
+lookup-behind test (e ∷ done) entry =
+    elim (test e.0) as (λ b. cond b (Some e.1) (lookup test (done ++ entry ∷ []))
+    ≡ option_or (cond b (Some e.1) (lookup test done))
+    (cond (test entry.0) (Some entry.1) None)) [
+      | true ↦ refl
+      | false ↦ lookup-behind test done entry
+    ]
+
+-- what stands under a name, with one entry more behind, whose name none has
+under_name-more : (done : List Entry) (entry : Entry) (name : List ℕ)
+    → under_name entry.0 done ≡ None
+    → under_name name (done ++ entry ∷ [])
+    ≡ cond (is_at (by_bytes entry.0) name) (Some entry.1) (under_name name done)
+under_name-more done entry name missing =
+    let laws = eq_by_cmp_equiv nat_list_cmp_total in
+    lookup-behind (is_at (by_bytes name)) done entry
+    ∙ ap (λ b. option_or (under_name name done) (cond b (Some entry.1) None))
+    (laws.symm name entry.0)
+    ∙ elim (eq_by_cmp by_bytes entry.0 name) as (λ b. eq_by_cmp by_bytes entry.0 name ≡ b
+    → option_or (under_name name done) (cond b (Some entry.1) None)
+    ≡ cond b (Some entry.1) (under_name name done)) [
+      | true ↦ λ tied.
+          let same = tells_apart exact_bytes entry.0 name tied in
+          ap (λ found. option_or found (Some entry.1))
+          (ap (λ n. under_name n done) (sym same) ∙ missing)
+      | false ↦ λ other. nothing_or (under_name name done)
+    ] refl
+  where
+    nothing_or : (found : Option HeldRecord) → option_or found None ≡ found
+    nothing_or None = refl
+    nothing_or (Some h) = refl
+
+-- an entry's name stands under none before it
+pub missing_so_far : (all done rest : List Entry) (entry : Entry) → all ≡ done ++ entry ∷ rest
+    → IsStrictlySortedBy by_bytes (keys_of all) → under_name entry.0 done ≡ None
+missing_so_far all done rest entry is rising =
+    missing done (IsDistinct-from_sorted by_bytes (keys_of (done ++ entry ∷ rest))
+    (subst (λ es. IsStrictlySortedBy by_bytes (keys_of es)) is rising))
+  where
+    among : (P : List ℕ → Type 0) (done : List Entry)
+        → AllByRecursion P (keys_of (done ++ entry ∷ rest)) → P entry.0
+    among P [] all = all.0
+    among P (e ∷ done) all = among P done all.1
+
+    missing : (done : List Entry)
+        → IsDistinct (eq_by_cmp by_bytes) (keys_of (done ++ entry ∷ rest))
+        → under_name entry.0 done ≡ None
+    missing [] apart = refl
+    missing (e ∷ done) apart =
+        let later = keys_of (done ++ entry ∷ rest) in
+        let laws = eq_by_cmp_equiv nat_list_cmp_total in
+        let other = laws.symm entry.0 e.0
+        ∙ among (λ key. eq_by_cmp by_bytes e.0 key ≡ false) done
+        (IsDistinct-head (eq_by_cmp by_bytes) e.0 later apart) in
+        ap (λ b. cond b (Some e.1) (under_name entry.0 done)) other
+        ∙ missing done (IsDistinct-tail (eq_by_cmp by_bytes) e.0 later apart)
+
+-- the names so far, with one more
+pub names-more : (test : Entry → Bool) (done : List Entry) (entry : Entry) (names next : Names)
+    → under_name entry.0 done ≡ None → NamesOf test done names → test entry ≡ true
+    → ((name : List ℕ) → set.contains by_bytes next name
+    ≡ cond (is_at (by_bytes entry.0) name) true (set.contains by_bytes names name))
+    → NamesOf test (done ++ entry ∷ []) next
+names-more test done entry names next missing are passes put name =
+    put name
+    ∙ elim (is_at (by_bytes entry.0) name) as (λ b. is_at (by_bytes entry.0) name ≡ b
+    → cond b true (set.contains by_bytes names name)
+    ≡ option_map_or (λ held. test (name, held))
+    (cond b (Some entry.1) (under_name name done)) false) [
+      | true ↦ λ tied.
+          sym (ap (λ n. test (n, entry.1)) (sym (tells_apart exact_bytes entry.0 name tied))
+          ∙ passes)
+      | false ↦ λ other. are name
+    ] refl
+    ∙ ap (λ found. option_map_or (λ held. test (name, held)) found false)
+    (sym (under_name-more done entry name missing))
+
+-- with one that is not among them
+pub names-skip : (test : Entry → Bool) (done : List Entry) (entry : Entry) (names : Names)
+    → under_name entry.0 done ≡ None → NamesOf test done names → test entry ≡ false
+    → NamesOf test (done ++ entry ∷ []) names
+names-skip test done entry names missing are fails name =
+    are name
+    ∙ elim (is_at (by_bytes entry.0) name) as (λ b. is_at (by_bytes entry.0) name ≡ b
+    → option_map_or (λ held. test (name, held)) (under_name name done) false
+    ≡ option_map_or (λ held. test (name, held))
+    (cond b (Some entry.1) (under_name name done)) false) [
+      | true ↦ λ tied.
+          let same = tells_apart exact_bytes entry.0 name tied in
+          ap (λ found. option_map_or (λ held. test (name, held)) found false)
+          (ap (λ n. under_name n done) (sym same) ∙ missing)
+          ∙ sym (ap (λ n. test (n, entry.1)) (sym same) ∙ fails)
+      | false ↦ λ other. refl
+    ] refl
+    ∙ ap (λ found. option_map_or (λ held. test (name, held)) found false)
+    (sym (under_name-more done entry name missing))
+
+-- the shares so far, with one more
+pub shares-more : (share : Entry → Option Share) (done : List Entry) (entry : Entry) (one : Share)
+    (shares next : tree.BTreeMap (List ℕ) Share)
+    → under_name entry.0 done ≡ None → SharesOf share done shares → share entry ≡ Some one
+    → ((name : List ℕ) → tree.get by_bytes next name
+    ≡ cond (is_at (by_bytes entry.0) name) (Some one) (tree.get by_bytes shares name))
+    → SharesOf share (done ++ entry ∷ []) next
+shares-more share done entry one shares next missing are is put name =
+    put name
+    ∙ elim (is_at (by_bytes entry.0) name) as (λ b. is_at (by_bytes entry.0) name ≡ b
+    → cond b (Some one) (tree.get by_bytes shares name)
+    ≡ option_and_then (λ held. share (name, held)) (cond b (Some entry.1) (under_name name done))) [
+      | true ↦ λ tied.
+          sym (ap (λ n. share (n, entry.1)) (sym (tells_apart exact_bytes entry.0 name tied)) ∙ is)
+      | false ↦ λ other. are name
+    ] refl
+    ∙ ap (option_and_then (λ held. share (name, held)))
+    (sym (under_name-more done entry name missing))
+
+pub shares-skip : (share : Entry → Option Share) (done : List Entry) (entry : Entry)
+    (shares : tree.BTreeMap (List ℕ) Share)
+    → under_name entry.0 done ≡ None → SharesOf share done shares → share entry ≡ None
+    → SharesOf share (done ++ entry ∷ []) shares
+shares-skip share done entry shares missing are is name =
+    are name
+    ∙ elim (is_at (by_bytes entry.0) name) as (λ b. is_at (by_bytes entry.0) name ≡ b
+    → option_and_then (λ held. share (name, held)) (under_name name done)
+    ≡ option_and_then (λ held. share (name, held)) (cond b (Some entry.1) (under_name name done))) [
+      | true ↦ λ tied.
+          let same = tells_apart exact_bytes entry.0 name tied in
+          ap (option_and_then (λ held. share (name, held)))
+          (ap (λ n. under_name n done) (sym same) ∙ missing)
+          ∙ sym (ap (λ n. share (n, entry.1)) (sym same) ∙ is)
+      | false ↦ λ other. refl
+    ] refl
+    ∙ ap (option_and_then (λ held. share (name, held)))
+    (sym (under_name-more done entry name missing))
+
+module _ (entries : List Entry) (rising : IsStrictlySortedBy by_bytes (keys_of entries)) where
+  -- each entry stands under its name
+  pub own_name : All (λ (entry : Entry). under_name entry.0 entries ≡ Some entry.1) entries
+  own_name k d within =
+      lookup_from_place (eq_by_cmp_equiv nat_list_cmp_total) entries k (get_or entries k d).0
+      (get_or entries k d).1 (IsDistinct-from_sorted by_bytes (keys_of entries) rising)
+      (slice_get-get_or entries k d within)
+
+  -- so an entry is named where it passes the test
+  pub each_named_by : (test : Entry → Bool) (names : Names) → NamesOf test entries names
+      → All (λ (entry : Entry). is_named names entry ≡ test entry) entries
+  each_named_by test names are k d within =
+      let entry = get_or entries k d in
+      are entry.0
+      ∙ ap (λ found. option_map_or (λ held. test (entry.0, held)) found false) (own_name k d within)
+
+  -- and has the share
+  pub each_shared_by : (share : Entry → Option Share) (shares : tree.BTreeMap (List ℕ) Share)
+      → SharesOf share entries shares
+      → All (λ (entry : Entry). tree.get by_bytes shares entry.0 ≡ share entry) entries
+  each_shared_by share shares are k d within =
+      let entry = get_or entries k d in
+      are entry.0 ∙ ap (option_and_then (λ held. share (entry.0, held))) (own_name k d within)
+
+-- With one entry more, under a name that none has.
+module _ (entries : List Entry) (name : List ℕ) (h : HeldRecord)
+    (missing : under_name name entries ≡ None) where
+  abbrev after : List Entry
+  after = insert_entry by_bytes entries name h
+
+  -- what a test chooses that it does not pass stays
+  pub where-kept : (test : Entry → Bool) → test (name, h) ≡ false
+      → records_where test after ≡ records_where test entries
+  where-kept test fails =
+      set_of-alike nat_list_cmp_total exact_bytes
+      (map-alike bytes_of (filter-alike test (insert_entry-alike by_bytes name h entries missing)))
+      ∙ ap (λ b. set_of by_bytes
+      (entry_records (cond b ((name, h) ∷ filter test entries) (filter test entries)))) fails
+
+  -- so does a period in which it has no share
+  pub with-kept : (share : Entry → Option Share) → share (name, h) ≡ None
+      → period_with share after ≡ period_with share entries
+  with-kept share none =
+      let each : (is : Option Share → Bool) → is None ≡ false
+      → records_where (λ e. is (share e)) after ≡ records_where (λ e. is (share e)) entries =
+      λ is fails. where-kept (λ e. is (share e)) (ap is none ∙ fails) in
+      λ i. record {
+        counted = each is_counted refl i;
+        added = each is_added refl i;
+        taken = each is_taken refl i;
+      }
+
+  module _ (posted : Names) (closed : List ClosedPeriod) (named : AreNamed entries posted closed)
+    where
+      -- what was charged at the last close stays
+      pub posted-kept : records_where (is_named posted) after
+          ≡ records_where (is_named posted) entries
+      posted-kept = where-kept (is_named posted) (named.posted name missing)
+
+      -- and so do closed periods
+      pub past-kept : map (λ period. period_with (share_closed period) after) closed
+          ≡ map (λ period. period_with (share_closed period) entries) closed
+      past-kept =
+          map-agree (λ period. period_with (share_closed period) after)
+          (λ period. period_with (share_closed period) entries) closed
+          (λ k d within. with-kept (share_closed (get_or closed k d))
+          (named.past k d within name missing))
+
+      -- nobody has a share who is not held
+      pub still_named : ((other : List ℕ) → under_name other after
+          ≡ cond (is_at (by_bytes name) other) (Some h) (under_name other entries))
+          → AreNamed after posted closed
+      still_named put =
+          let was_missing : (other : List ℕ) → under_name other after ≡ None
+          → under_name other entries ≡ None =
+          λ other none. not_put (is_at (by_bytes name) other) (under_name other entries)
+          (sym (put other) ∙ none) in
+          record {
+            posted = λ other none. named.posted other (was_missing other none);
+            past = λ k d within other none. named.past k d within other (was_missing other none);
+          }
+        where
+          not_put : (b : Bool) (found : Option HeldRecord) → cond b (Some h) found ≡ None
+              → found ≡ None
+          not_put true found none = cc
+          not_put false found none = none

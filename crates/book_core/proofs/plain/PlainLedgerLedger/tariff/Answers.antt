@@ -1,0 +1,14 @@
+use Rattle.tariff_rules.specs.TariffFile.{terms_in}
+use Rattle.book_model.specs.declared.answer.Ruled.{Ruled}
+use Rattle.book_model.specs.Outcomes.{tariff_outcome}
+use Rattle.book_core.specs.PlainBook.{book_in}
+use Rattle.book_core.proofs.MemoryLemmas.{plain_call, tariff-of_books}
+use Rattle.book_core.proofs.plain.PlainLedgerLedger.tariff.Goals as goal
+
+pub returns : goal.returns
+returns g c =
+    let old = c.args.self.now in
+    let text = c.args.text.now in
+    plain_call (λ (ruled : Ruled). ruled) old c.put_in_force.new.self c.put_in_force.result
+    (tariff_outcome text) (tariff-of_books (book_in old) text (terms_in text))
+    c.put_in_force.ensures

@@ -1,0 +1,54 @@
+-- One call of a ledger: what it answers, and what it does to the books.
+use Rattle.std.specs.Prelude.{◌≡◌, ◌⊎◌, ◌||◌, Bool, true, false, List, [], ◌∷◌}
+use Rattle.std.specs.Prelude.{Option, None, Some, Result, Ok, Err}
+use Rattle.book_model.specs.declared.fault.LedgerFault.{LedgerFault}
+use Rattle.book_model.specs.declared.fault.LedgerFault.TheVariants.{Memory, Store, Reopen}
+use Rattle.book_model.specs.Books.{Book}
+use Rattle.book_model.specs.Events.{Event}
+use Rattle.book_model.specs.Outcomes.{Outcome}
+use Rattle.book_core.specs.Ledgers.{Seen}
+use Rattle.book_core.specs.Work.{IsWork}
+
+-- the events of an outcome: the one that it is, or none
+abbrev pub listed : Option Event → List Event
+listed None = []
+listed (Some event) = event ∷ []
+
+-- The call answered as the outcome says, by a view of what it returns, and made the outcome's
+-- event, its one commit. Want of memory, a fault of the store or Reopen may stand in place of any
+-- answer; of a fault of the store only the next open tells whether the event was made. A refusal
+-- makes none.
+abbrev pub Makes : {V A : Type 0} → (V → A) → Outcome A → Result V LedgerFault → List Event → Type 0
+Makes view outcome (Ok value) events =
+    (outcome.answer ≡ Ok (view value)) × (events ≡ listed outcome.event)
+Makes view outcome (Err Memory) events = events ≡ []
+Makes view outcome (Err Store) events = (events ≡ []) ⊎ (events ≡ listed outcome.event)
+Makes view outcome (Err Reopen) events = events ≡ []
+Makes view outcome (Err fault) events = (outcome.answer ≡ Err fault) × (events ≡ [])
+
+abbrev pub is_store : {V : Type 0} → Result V LedgerFault → Bool
+is_store (Err Store) = true
+is_store result = false
+
+abbrev pub is_reopen : {V : Type 0} → Result V LedgerFault → Bool
+is_reopen (Err Reopen) = true
+is_reopen result = false
+
+-- A call answers Reopen exactly where the ledger is to be reopened, as it is from the first fault
+-- of the store on.
+pub record Reopens {V : Type 0} (result : Result V LedgerFault) (was is : Bool) : Type 0 where
+  pub reopen : is_reopen result ≡ was
+  pub store : is ≡ (was || is_store result)
+
+-- the call as work: what it answered and made, by the book before it
+pub record Calls {V A : Type 0} (view : V → A) (outcome : Book → Outcome A)
+    (result : Result V LedgerFault) (was : Bool) (before : Book) (events : List Event) (is : Bool)
+    : Type 0 where
+  pub makes : Makes view (outcome before) result events
+  pub reopens : Reopens result was is
+
+-- One call of a ledger: the one that the definitions say of the book before it.
+pub record IsCall {V A : Type 0} (view : V → A) (old new : Seen) (result : Result V LedgerFault)
+    (outcome : Book → Outcome A) : Type 0 where
+  pub work : IsWork old new (Calls view outcome result)
+  pub reopens : Reopens result old.must_reopen new.must_reopen

@@ -1,0 +1,13 @@
+ghost use Rattle.smf_text.specs.Day.{IsDay};
+
+use crate::share::Share;
+use std::collections::BTreeMap;
+
+/// A closed period: the day through which it was closed, in days since 1970-01-01, and what it does
+/// with each record, by name. It never changes.
+#[derive(Drop)]
+pub(crate) struct ClosedPeriod {
+    pub(crate) through: i32,
+    pub(crate) shares: BTreeMap<[u8; 32], Share>,
+    ghost day: { IsDay through },
+}

@@ -1,0 +1,100 @@
+//! How the open period ends: now, or by a close.
+
+ghost use Rattle.std.specs.Prelude.{◌≡◌, IfOk};
+ghost use Rattle.std.specs.BTreeSet.{contains};
+ghost use Rattle.std.specs.Option.{option_map_or};
+ghost use Rattle.std.specs.Prelude.{int_lt, not, true};
+ghost use Rattle.book_model.specs.Records.{by_bytes};
+ghost use Rattle.book_core.specs.Shares as spec;
+ghost use Rattle.book_core.specs.Shares.{NamesOf, SharesOf};
+
+use crate::held::HeldRecord;
+use crate::share::{Share, share_of};
+use std::alloc::{AllocError, Global};
+use std::collections::{BTreeMap, BTreeSet};
+
+/// What decides how the open period has a record.
+#[derive(Drop)]
+pub(crate) struct Ending {
+    /// The identities that two or more records have.
+    pub(crate) shared: BTreeSet<[u8; 24]>,
+    /// The day of the close before the period, if there was one.
+    pub(crate) last: Option<i32>,
+    /// The day through which it is closed; none where it stays open.
+    pub(crate) through: Option<i32>,
+}
+
+/// A day is later than that of a close, if there was one.
+pub(crate) fn is_after(close: Option<i32>, day: i32) -> bool
+    ensures { result ≡ option_map_or (λ close. int_lt close day) close true }
+{
+    match close {
+        Some(close) => close < day,
+        None => true,
+    }
+}
+
+/// A day is no later than another, if there is one.
+fn is_by(through: Option<i32>, day: i32) -> bool
+    ensures { result ≡ option_map_or (λ through. not (int_lt through day)) through true }
+{
+    match through {
+        Some(through) => !(through < day),
+        None => true,
+    }
+}
+
+impl Ending {
+    /// The record is charged at the end of the period.
+    fn charges(&self, kept: &HeldRecord) -> bool
+        ensures { result ≡ spec.charges self.now kept.now }
+    {
+        !self.shared.contains(&kept.identity) && is_by(self.through, kept.priced.day)
+    }
+
+    /// How the period has a record, which the last close charged or not.
+    pub(crate) fn share(&self, was_posted: bool, kept: &HeldRecord) -> Option<Share>
+        ensures { result ≡ spec.share_at self.now was_posted kept.now }
+    {
+        let is_new = is_after(self.last, kept.priced.day);
+        share_of(self.charges(kept), was_posted, is_new)
+    }
+
+    /// The names of the records that are charged at the end of the period.
+    pub(crate) fn charged_names(
+        &self,
+        alloc: Global,
+        held: &BTreeMap<[u8; 32], HeldRecord>,
+    ) -> Result<BTreeSet<[u8; 32]>, AllocError>
+        ensures { IfOk result (NamesOf (λ entry. spec.charges self.now entry.1)
+            held.now.entries) }
+    {
+        let mut names = BTreeSet::new(alloc);
+        for (name, kept) in held {
+            if self.charges(kept) {
+                names.insert(*name)?;
+            }
+        }
+        Ok(names)
+    }
+
+    /// How the period has each record at its end, by name.
+    pub(crate) fn shares(
+        &self,
+        alloc: Global,
+        held: &BTreeMap<[u8; 32], HeldRecord>,
+        posted: &BTreeSet<[u8; 32]>,
+    ) -> Result<BTreeMap<[u8; 32], Share>, AllocError>
+        ensures { IfOk result (SharesOf
+            (λ entry. spec.share_at self.now (contains by_bytes posted.now entry.0) entry.1)
+            held.now.entries) }
+    {
+        let mut shares = BTreeMap::new(alloc);
+        for (name, kept) in held {
+            if let Some(share) = self.share(posted.contains(name), kept) {
+                shares.insert(*name, share)?;
+            }
+        }
+        Ok(shares)
+    }
+}

@@ -1,0 +1,72 @@
+ghost use Rattle.std.specs.Prelude.{All, IfOk, map};
+ghost use Rattle.smf_text.specs.Day.{IsDay};
+ghost use Rattle.book_model.specs.Records.{IsUsageRecord};
+ghost use Rattle.book_model.specs.Rows.{AreRows};
+ghost use Rattle.book_model.specs.Lines.{AreLines};
+ghost use Rattle.book_model.specs.Disputes.{AreDisputes, dispute_shown};
+ghost use Rattle.book_model.specs.Outcomes.{accept_outcome, close_outcome, tariff_outcome};
+ghost use Rattle.book_model.specs.Outcomes.{adjustments_outcome, charges_outcome};
+ghost use Rattle.book_model.specs.Outcomes.{disputes_outcome, periods_outcome};
+ghost use Rattle.book_core.specs.Ledgers.{IsSettled, Seen};
+ghost use Rattle.book_core.specs.Calls.{IsCall};
+
+use book_model::{Accepted, ChargeRow, Dispute, LedgerFault, Line, Ruled};
+
+/// The books of an office, however they are kept. Each call is at most one change of them: it is
+/// made whole, or not at all. After `Store` every call answers `Reopen`, and only the next open of
+/// the books tells whether the change was made.
+pub trait Ledger {
+    /// What is seen of the books, and what a stop leaves of them.
+    ghost seen: { Self → Seen };
+
+    /// Hands in a tariff file. Its tariff is in force from its first day on, where that day is later
+    /// than the last close and every other tariff's, and no record that is held is dated on it or
+    /// after it.
+    fn tariff(&mut self, text: &str) -> Result<Ruled, LedgerFault>
+        ensures { IsCall (λ ruled. ruled) (seen self.old) (seen self.new) result
+            (tariff_outcome text.now) };
+
+    /// Closes the open period, which is to be this one, through a day later than the last close. The
+    /// day is counted from 1970-01-01.
+    fn close(&mut self, period: u16, through: i32) -> Result<Ruled, LedgerFault>
+        requires { IsDay through }
+        ensures { IsCall (λ ruled. ruled) (seen self.old) (seen self.new) result
+            (close_outcome period through) };
+
+    /// Hands in a record, which is held from now on where it is new, a tariff is in force on its
+    /// day, and there is room for it.
+    fn accept(&mut self, bytes: &[u8]) -> Result<Accepted, LedgerFault>
+        requires { IsUsageRecord bytes.now }
+        ensures { IsCall (λ accepted. accepted) (seen self.old) (seen self.new) result
+            (accept_outcome (seen self.old).naming bytes.now) };
+
+    /// The charge rows of a period, by day, then centre, then shift.
+    fn charges(&mut self, period: u16) -> Result<Vec<ChargeRow>, LedgerFault>
+        ensures rows { IsCall (λ rows. rows.items) (seen self.old) (seen self.new) result
+            (charges_outcome period) }
+        ensures shown { IfOk result (λ rows. AreRows rows.items) };
+
+    /// The adjustment lines of a period, by day, then name.
+    fn adjustments(&mut self, period: u16) -> Result<Vec<Line>, LedgerFault>
+        ensures lines { IsCall (λ lines. lines.items) (seen self.old) (seen self.new) result
+            (adjustments_outcome (seen self.old).naming period) }
+        ensures shown { IfOk result (λ lines. AreLines lines.items) };
+
+    /// The identities of two or more records that are held, by their bytes, each with its records
+    /// by name.
+    fn disputes(&mut self) -> Result<Vec<Dispute>, LedgerFault>
+        ensures disputes { IsCall (λ found. map dispute_shown found.items)
+            (seen self.old) (seen self.new) result (disputes_outcome (seen self.old).naming) }
+        ensures shown { IfOk result (λ found. AreDisputes (map dispute_shown found.items)) };
+
+    /// The days through which periods were closed, in order, from 1970-01-01. The open period comes
+    /// behind them.
+    fn periods(&mut self) -> Result<Vec<i32>, LedgerFault>
+        ensures days { IsCall (λ days. days.items) (seen self.old) (seen self.new) result
+            periods_outcome }
+        ensures shown { IfOk result (λ days. All IsDay days.items) };
+
+    /// While the books are open, a stop leaves them as they are.
+    ghost settled: { (ledger : Self) → (seen ledger).is_honest → (seen ledger).is_books
+        → IsSettled (seen ledger) };
+}

@@ -1,0 +1,82 @@
+//! Periods that are read: what the records cost that they count, and their lines.
+
+ghost use Rattle.std.specs.Prelude.{◌≡◌, IfOk, filter, map};
+ghost use Rattle.std.specs.List.{filter_map};
+ghost use Rattle.book_core.specs.Shares as spec;
+ghost use Rattle.book_core.specs.Shares.{is_counted, line_at};
+
+use crate::closed::ClosedPeriod;
+use crate::ending::Ending;
+use crate::held::HeldRecord;
+use crate::lines::line;
+use crate::share::Share;
+use book_model::Line;
+use std::alloc::{AllocError, Global};
+use std::collections::{BTreeMap, BTreeSet};
+use tariff_rules::Priced;
+
+/// A period that is read.
+#[derive(Drop)]
+pub(crate) enum Period<'a> {
+    /// As it was at its close.
+    Closed(&'a ClosedPeriod),
+    /// As it would end now.
+    Open(Ending),
+}
+
+impl Period<'_> {
+    /// How the period has the record of a name, which the last close charged or not.
+    fn share(
+        &self,
+        posted: &BTreeSet<[u8; 32]>,
+        name: &[u8; 32],
+        kept: &HeldRecord,
+    ) -> Option<Share>
+        ensures { result ≡ spec.share_in self.now posted.now (name.now, kept.now) }
+    {
+        match self {
+            Period::Closed(closed) => closed.shares.get(name).copied(),
+            Period::Open(ending) => ending.share(posted.contains(name), kept),
+        }
+    }
+
+    /// What the records cost that the period counts, by name.
+    pub(crate) fn prices(
+        &self,
+        alloc: Global,
+        held: &BTreeMap<[u8; 32], HeldRecord>,
+        posted: &BTreeSet<[u8; 32]>,
+    ) -> Result<Vec<Priced>, AllocError>
+        ensures { IfOk result (λ prices. prices.items ≡ map (λ entry. entry.1.priced)
+            (filter (λ entry. is_counted (spec.share_in self.now posted.now entry))
+            held.now.entries)) }
+    {
+        let mut prices = Vec::new(alloc);
+        for (name, kept) in held {
+            if let Some(Share::Counted) = self.share(posted, name, kept) {
+                prices.push(kept.priced)?;
+            }
+        }
+        Ok(prices)
+    }
+
+    /// The lines of the period, by name.
+    pub(crate) fn lines(
+        &self,
+        alloc: Global,
+        held: &BTreeMap<[u8; 32], HeldRecord>,
+        posted: &BTreeSet<[u8; 32]>,
+    ) -> Result<Vec<Line>, AllocError>
+        ensures { IfOk result (λ lines. lines.items ≡ filter_map
+            (λ entry. line_at (spec.share_in self.now posted.now entry) entry)
+            held.now.entries) }
+    {
+        let mut lines = Vec::new(alloc);
+        for (name, kept) in held {
+            if let Some(line) = line(self.share(posted, name, kept), name, kept) {
+                lines.push(line)?;
+            }
+        }
+        Ok(lines)
+    }
+}

@@ -1,0 +1,109 @@
+//! Rulings that a plain ledger is handed: tariffs and closes.
+
+ghost use Rattle.std.specs.Prelude.{◌≡◌, []};
+ghost use Rattle.book_model.specs.RulingAnswers as spec;
+ghost use Rattle.book_core.specs.Plain.{ruled_by};
+
+use super::PlainLedger;
+use super::lists::last_close;
+use crate::accepted_tariff::{AcceptedTariff, are_before, has_day_of, has_text};
+use crate::closed::ClosedPeriod;
+use crate::ending::is_after;
+use crate::held::has_dated;
+use crate::limits::LAST_PERIOD;
+use book_model::{LedgerFault, Naming, Ruled};
+use std::alloc::AllocError;
+use tariff_rules::Tariff;
+
+/// A tariff begins later than every other one, and after the last close.
+fn is_later(tariffs: &[AcceptedTariff], closed: &[ClosedPeriod], tariff: &Tariff) -> bool
+    ensures { result ≡ spec.is_later tariff.now.effective (ruled_by tariffs.now closed.now) }
+{
+    are_before(tariffs, tariff) && is_after(last_close(closed), tariff.effective())
+}
+
+/// The period is closed, through this day.
+fn is_closed(closed: &[ClosedPeriod], period: u16, through: i32) -> bool
+    ensures { result ≡ spec.is_closed period through (ruled_by [] closed.now) }
+{
+    if period == 0 {
+        return false;
+    }
+    match closed.get(period as usize - 1) {
+        Some(closed) => through == closed.through,
+        None => false,
+    }
+}
+
+impl<N: Naming + Drop> PlainLedger<N> {
+    ghost use Rattle.std.specs.Prelude.{◌≡◌, ◌+◌, ◌<◌, OnErr, OnOk, length};
+    ghost use Rattle.smf_text.specs.Day.{IsDay};
+    ghost use Rattle.book_model.specs.Events.{close};
+    ghost use Rattle.book_model.specs.Limits.{last_period};
+    ghost use Rattle.book_model.specs.Outcomes.{close_outcome, tariff_outcome};
+    ghost use Rattle.book_core.specs.PlainBook.{IsPlainCall, book_in, naming_in};
+
+    /// Puts the tariff of a file in force.
+    pub(super) fn put_in_force(&mut self, text: &str) -> Result<Ruled, LedgerFault>
+        ensures { IsPlainCall (λ ruled. ruled) self.old self.new result
+            (tariff_outcome text.now) }
+    {
+        let alloc = self.alloc;
+        let tariff = Tariff::parse(alloc, text)?;
+        if has_text(&self.tariffs, text) {
+            return Ok(Ruled::Already);
+        }
+        if has_day_of(&self.tariffs, &tariff) {
+            return Err(LedgerFault::TariffExists);
+        }
+        if !is_later(&self.tariffs, &self.closed, &tariff) {
+            return Err(LedgerFault::TariffDate);
+        }
+        if has_dated(&self.held, &tariff) {
+            return Err(LedgerFault::RecordsDated);
+        }
+        let text = Some(String::from_str(alloc, text)?);
+        self.tariffs.push(AcceptedTariff { text, tariff })?;
+        Ok(Ruled::Done)
+    }
+
+    /// Closes the open period.
+    pub(super) fn close_period(&mut self, period: u16, through: i32) -> Result<Ruled, LedgerFault>
+        requires { IsDay through }
+        ensures { IsPlainCall (λ ruled. ruled) self.old self.new result
+            (close_outcome period through) }
+    {
+        if is_closed(&self.closed, period, through) {
+            return Ok(Ruled::Already);
+        }
+        let number = self.closed.len() as u16 + 1;
+        if period != number {
+            return Err(LedgerFault::WrongPeriod(number));
+        }
+        if !is_after(last_close(&self.closed), through) {
+            return Err(LedgerFault::NotLater);
+        }
+        if period == LAST_PERIOD {
+            return Err(LedgerFault::Full);
+        }
+        self.end_period(through)?;
+        Ok(Ruled::Done)
+    }
+
+    /// Ends the open period through a day. Want of memory leaves the books as they were.
+    fn end_period(&mut self, through: i32) -> Result<(), AllocError>
+        requires day { IsDay through }
+        requires few { length self.old.closed.items + 1 < last_period }
+        ensures book { OnOk result (book_in self.new ≡ close through (book_in self.old)) }
+        ensures refused { OnErr result (book_in self.new ≡ book_in self.old) }
+        ensures naming { naming_in self.new ≡ naming_in self.old }
+    {
+        let alloc = self.alloc;
+        let ending = self.ending(Some(through))?;
+        let posted = ending.charged_names(alloc, &self.held)?;
+        let shares = ending.shares(alloc, &self.held, &self.posted)?;
+        self.closed.push(ClosedPeriod { through, shares })?;
+        self.posted = posted;
+        Ok(())
+    }
+}
