@@ -1,22 +1,33 @@
--- Records that are handled one after another.
-use Rattle.std.proofs.Common.{◌≡◌, ℕ, ◌+◌, ◌<◌, ◌≤◌, List, [], ◌∷◌, ◌++◌, length, take, drop}
-use Rattle.std.proofs.Common.{get_or, drop-cons, add-one, take_all, sym, ap, subst, ◌∙◌, Ok, Err}
-use Rattle.std.proofs.Common.{Option, append_assoc, append-nil, Vec, Global, ◌⊎◌, inl, inr}
-use Rattle.std.proofs.lemmas.List.{take_more, take-append-drop, get_or-map}
+-- Records that are handed to the books one after another.
+use Rattle.std.proofs.Common.{◌≡◌, ◌∙◌, ℕ, ◌+◌, ◌<◌, ◌≤◌, Bool, false, ◌||◌, List, [], ◌∷◌, ◌++◌}
+use Rattle.std.proofs.Common.{length, take, get_or, take_all, refl, sym, ap, subst, Result, Ok, Err}
+use Rattle.std.proofs.Common.{Option, None, Some, append_assoc, append-nil, Vec, Global}
+use Rattle.std.proofs.lemmas.List.{take_more, get_or-map}
 use Rattle.smf_frames.specs.declared.dump.Layout.{Layout}
 use Rattle.smf_frames.specs.Front.{front}
 use Rattle.smf_frames.specs.Texts.{texts}
+use Rattle.smf_type30.specs.declared.classes.Class.{Class}
+use Rattle.smf_type30.specs.declared.classes.Class.TheVariants.{Usage}
+use Rattle.smf_type30.specs.Class.{class_of}
+use Rattle.book_model.specs.declared.answer.Accepted.{Accepted}
 use Rattle.book_model.specs.declared.fault.LedgerFault.{LedgerFault}
 use Rattle.book_model.specs.declared.fault.LedgerFault.TheVariants.{Memory}
 use Rattle.book_model.specs.Records.{Naming}
 use Rattle.book_model.specs.Books.{Book}
+use Rattle.book_model.specs.Events.{Event, after_any, after_all}
+use Rattle.book_model.specs.Outcomes.{Outcome, accept_outcome}
+use Rattle.book_core.specs.Work.{NoEvent, Then}
+use Rattle.book_core.specs.Calls.{Calls, listed}
+use Rattle.book_import.specs.declared.receipt.Receipt.{Receipt}
 use Rattle.book_import.specs.declared.receipt.Stop.{Stop}
-use Rattle.book_import.specs.declared.receipt.Stop.TheVariants.{Ledger}
+use Rattle.book_import.specs.declared.receipt.Stop.TheVariants.{End, Ledger}
 use Rattle.book_import.specs.declared.dump.ReadDump.{ReadDump}
 use Rattle.book_import.specs.Dumps.{IsReadDump, stop_behind}
-use Rattle.book_import.specs.Imports.{Imported, handle, handle_all, go_on, stop_with, start_of}
-use Rattle.book_import.specs.Imports.{Handles, whole, out_of_memory, Imports}
-use Rattle.book_import.specs.Receipts.{receipt_stopped}
+use Rattle.book_import.specs.Receipts.{receipt_stopped, count_accepted, count_class}
+use Rattle.book_import.specs.Handled.{Imported, Answering, answers_of, after_answer, handle_by}
+use Rattle.book_import.specs.Handled.{handle, go_on, handle_all, start_of, stop_with}
+use Rattle.book_import.specs.Imports.{IsCounted, HandsIn, counts_by, Counts, Handles, whole}
+use Rattle.book_import.specs.Imports.{out_of_memory, Imports}
 
 -- the text of the vector at an index
 pub text_at : (vectors : List (Vec ℕ Global)) (i : ℕ) (vector : Vec ℕ Global) → i < length vectors
@@ -25,93 +36,199 @@ pub text_at : (vectors : List (Vec ℕ Global)) (i : ℕ) (vector : Vec ℕ Glob
 text_at vectors i vector within is = get_or-map (λ v. v.items) vectors i vector [] within
     ∙ ap (λ v. v.items) (sym is)
 
--- whatever comes behind the first records, handling them leads to so_far
-abbrev pub LeadsTo : Naming → List (List ℕ) → Book → Imported → Type 0
-LeadsTo naming first before so_far =
-    (stop : Stop) (rest : List (List ℕ)) → handle_all naming stop (first ++ rest) (start_of before)
-    ≡ handle_all naming stop rest so_far
+-- a usage record that was handed in is counted by the answer
+pub usage_counts : (naming : Naming) (bytes : List ℕ) (old new : Receipt)
+    (result : Result (Unit {0}) LedgerFault) (was : Bool) (before : Book) (events : List Event)
+    (is : Bool) → class_of bytes ≡ Usage → (answer : Result Accepted LedgerFault)
+    → Calls (λ (a : Accepted). a) (accept_outcome naming bytes) answer was before events is
+    → IsCounted answer old new result
+    → Counts naming bytes old new result was before events is
+usage_counts naming bytes old new result was before events is usage answer called counted =
+    let handed : HandsIn naming bytes old new result was before events is =
+    record { answer = answer; called = called; counted = counted } in
+    subst (λ class. counts_by class naming bytes old new result was before events is) (sym usage)
+    handed
 
--- a record at its index, under the naming that stayed the same
-pub record IsHandledAt (naming now : Naming) (records : List (List ℕ)) (i : ℕ)
-    (bytes : List ℕ) : Type 0 where
-  pub within : i < length records
-  pub same : now ≡ naming
-  pub is : get_or records i [] ≡ bytes
+-- a record of another class is no event
+pub other_counts : (naming : Naming) (bytes : List ℕ) (old new : Receipt) (class : Class)
+    (was : Bool) (before : Book) (events : List Event) (is : Bool) → class_of bytes ≡ class
+    → (class ≡ Usage → ⊥) → new ≡ count_class class old → NoEvent was before events is
+    → Counts naming bytes old new (Ok tt) was before events is
+other_counts naming bytes old new Usage was before events is of other counted none =
+    absurd (other refl)
+other_counts naming bytes old new class was before events is of other counted none =
+    subst (λ class. counts_by class naming bytes old new (Ok tt) was before events is) (sym of)
+    (record { none = none; counted = counted; done = refl })
 
--- handling the record at the index is handling those bytes
-same_handled : (naming now : Naming) (records : List (List ℕ)) (i : ℕ) (bytes : List ℕ)
-    (so_far : Imported)
-    → IsHandledAt naming now records i bytes → handle naming (get_or records i []) so_far
-    ≡ handle now bytes so_far
-same_handled naming now records i bytes so_far here =
-    ap (λ text. handle naming text so_far) here.is
-    ∙ ap (λ names. handle names bytes so_far) (sym here.same)
+-- this receipt, with these events on the book before them
+abbrev pub so_far_at : Receipt → Book → List Event → Imported
+so_far_at receipt before events =
+    record { receipt = receipt; book = after_all events before; events = events }
 
--- one record more, which the books did not refuse
-pub one_more : (naming now : Naming) (records : List (List ℕ)) (i : ℕ) (bytes : List ℕ)
-    (before : Book) (so_far next : Imported)
-    → IsHandledAt naming now records i bytes → LeadsTo naming (take i records) before so_far
-    → handle now bytes so_far ≡ Ok next
-    → LeadsTo naming (take (i + 1) records) before next
-one_more naming now records i bytes before so_far next here leads handled = λ stop rest.
-    let within : i < length records = here.within in
-    ap (λ first. handle_all naming stop (first ++ rest) (start_of before))
+-- Whatever comes behind the first records, handling them leads to this receipt and these events.
+-- The books are open or not as they were.
+pub record LeadsTo (naming : Naming) (first : List (List ℕ)) (receipt : Receipt) (was : Bool)
+    (before : Book) (events : List Event) (is : Bool) : Type 0 where
+  pub same : is ≡ was
+  pub leads : (stop : Stop) (rest : List (List ℕ))
+      → handle_all (answers_of was naming) stop (first ++ rest) (start_of before)
+      ≡ handle_all (answers_of was naming) stop rest (so_far_at receipt before events)
+
+-- no record was handled yet
+pub none_yet : (naming : Naming) (told : Receipt) → told ≡ receipt_stopped End
+    → (was : Bool) (before : Book) (events : List Event) (is : Bool) → NoEvent was before events is
+    → LeadsTo naming [] told was before events is
+none_yet naming told so was before events is none = record {
+  same = none.same;
+  leads = λ stop rest i.
+      handle_all (answers_of was naming) stop rest (so_far_at (sym so i) before (sym none.none i));
+}
+
+-- an event, and those before it
+pub after_listed : (event : Option Event) (early : List Event) (before : Book)
+    → after_any event (after_all early before) ≡ after_all (listed event ++ early) before
+after_listed None early before = refl
+after_listed (Some event) early before = refl
+
+-- a usage record that the books did not refuse
+is_accepted : (outcome : Outcome Accepted) (given : Accepted) (receipt next : Receipt)
+    (before : Book) (early late : List Event)
+    → outcome.answer ≡ Ok given → late ≡ listed outcome.event
+    → next ≡ count_accepted given receipt
+    → after_answer (so_far_at receipt before early) outcome.event outcome.answer
+    ≡ Ok (so_far_at next before (late ++ early))
+is_accepted outcome given receipt next before early late answer made counted =
+    ap (after_answer (so_far_at receipt before early) outcome.event) answer
+    ∙ (λ i. Ok (record {
+      receipt = sym counted i;
+      book = (after_listed outcome.event early before
+          ∙ ap (λ late. after_all (late ++ early) before) (sym made)) i;
+      events = sym made i ++ early;
+    }))
+
+-- What a record that was counted leads to: the books are open or not as they were.
+record IsCountedBy (answers : Answering) (bytes : List ℕ) (class : Class) (receipt next : Receipt)
+    (before : Book) (early late : List Event) (was is : Bool) : Type 0 where
+  same : is ≡ was
+  handled : handle_by answers bytes (so_far_at receipt before early) class
+      ≡ Ok (so_far_at next before (late ++ early))
+
+-- what a call returned is no error
+abbrev IsDone : Result (Unit {0}) LedgerFault → Type 0
+IsDone (Ok done) = Unit {0}
+IsDone (Err fault) = ⊥
+
+-- a usage record, by what the books answered
+usage_counted : (naming : Naming) (bytes : List ℕ) (receipt next : Receipt) (was : Bool)
+    (before : Book) (early late : List Event) (is : Bool) (answer : Result Accepted LedgerFault)
+    → Calls (λ (a : Accepted). a) (accept_outcome naming bytes) answer was
+    (after_all early before) late is
+    → IsCounted answer receipt next (Ok tt)
+    → IsCountedBy (answers_of was naming) bytes Usage receipt next before early late was is
+usage_counted naming bytes receipt next was before early late is (Ok answer) called counted =
+    let open_before : false ≡ was = called.reopens.reopen in
+    record {
+      same = called.reopens.store ∙ ap (λ b. b || false) (sym open_before) ∙ open_before;
+      handled = subst (λ b. handle_by (answers_of b naming) bytes (so_far_at receipt before early)
+          Usage ≡ Ok (so_far_at next before (late ++ early))) open_before
+          (is_accepted (accept_outcome naming bytes (after_all early before)) answer receipt next
+          before early late called.makes.0 called.makes.1 counted.0);
+    }
+usage_counted naming bytes receipt next was before early late is (Err fault) called counted =
+    absurd (subst IsDone counted.1 tt)
+
+-- a record, by its class
+counted_by : (naming : Naming) (bytes : List ℕ) (class : Class) (receipt next : Receipt)
+    (was : Bool) (before : Book) (early late : List Event) (is : Bool)
+    → counts_by class naming bytes receipt next (Ok tt) was (after_all early before) late is
+    → IsCountedBy (answers_of was naming) bytes class receipt next before early late was is
+counted_by naming bytes Usage receipt next was before early late is counts =
+    usage_counted naming bytes receipt next was before early late is counts.answer counts.called
+    counts.counted
+counted_by naming bytes class receipt next was before early late is counts = record {
+  same = counts.none.same;
+  handled = λ i. Ok (record {
+    receipt = sym counts.counted i;
+    book = after_all (sym counts.none.none i ++ early) before;
+    events = sym counts.none.none i ++ early;
+  });
+}
+
+-- one record more, whatever comes of it
+pub one_more_handled : (answers : Answering) (records : List (List ℕ)) (i : ℕ) (before : Book)
+    (so_far : Imported) → i < length records
+    → ((stop : Stop) (rest : List (List ℕ))
+    → handle_all answers stop (take i records ++ rest) (start_of before)
+    ≡ handle_all answers stop rest so_far)
+    → (stop : Stop) (rest : List (List ℕ))
+    → handle_all answers stop (take (i + 1) records ++ rest) (start_of before)
+    ≡ go_on (handle_all answers stop rest) so_far (handle answers (get_or records i []) so_far)
+one_more_handled answers records i before so_far within leads stop rest =
+    ap (λ first. handle_all answers stop (first ++ rest) (start_of before))
     (take_more records i [] within)
-    ∙ ap (λ all. handle_all naming stop all (start_of before))
+    ∙ ap (λ all. handle_all answers stop all (start_of before))
     (append_assoc (take i records) (get_or records i [] ∷ []) rest)
     ∙ leads stop (get_or records i [] ∷ rest)
-    ∙ ap (go_on (handle_all naming stop rest) so_far)
-    (same_handled naming now records i bytes so_far here ∙ handled)
 
--- a record that the books refused, or for which there was no memory: the first are those before it
-pub refused : (naming now : Naming) (records : List (List ℕ)) (i : ℕ) (bytes : List ℕ)
-    (before : Book) (so_far imported : Imported) (stop : Stop) (fault : LedgerFault)
-    → IsHandledAt naming now records i bytes → LeadsTo naming (take i records) before so_far
-    → (fault ≡ Memory) ⊎ (handle now bytes so_far ≡ Err fault)
-    → imported ≡ stop_with (Ledger fault) so_far
-    → Handles naming stop records before imported
-refused naming now records i bytes before so_far imported stop fault here leads (inl memory) is =
-    out_of_memory i
-    (is ∙ ap (λ f. stop_with (Ledger f) so_far) memory ∙ sym (leads (Ledger Memory) [])
-    ∙ ap (λ all. handle_all naming (Ledger Memory) all (start_of before))
-    (append-nil (take i records)))
-refused naming now records i bytes before so_far imported stop fault here leads (inr handled) is =
-    let within : i < length records = here.within in
-    whole (is
-    ∙ sym (ap (λ all. handle_all naming stop all (start_of before))
-    (sym (take-append-drop i records))
-    ∙ leads stop (drop i records)
-    ∙ ap (λ rest. handle_all naming stop rest so_far)
-    (drop-cons records i [] within
-    ∙ ap (λ n. get_or records i [] ∷ drop n records) (sym (add-one i)))
-    ∙ ap (go_on (handle_all naming stop (drop (i + 1) records)) so_far)
-    (same_handled naming now records i bytes so_far here ∙ handled)))
+-- one record more, which was counted
+pub one_more : (naming : Naming) (records : List (List ℕ)) (i : ℕ) (receipt next : Receipt)
+    → i < length records → (was : Bool) (before : Book) (events : List Event) (is : Bool)
+    → Then (LeadsTo naming (take i records) receipt)
+    (Counts naming (get_or records i []) receipt next (Ok tt)) was before events is
+    → LeadsTo naming (take (i + 1) records) next was before events is
+one_more naming records i receipt next within was before events is both =
+    let bytes : List ℕ = get_or records i [] in
+    let so_far : Imported = so_far_at receipt before both.early in
+    let answers : Answering = answers_of was naming in
+    let counts : Counts naming bytes receipt next (Ok tt) was (after_all both.early before)
+    both.late is =
+    subst (λ b. Counts naming bytes receipt next (Ok tt) b (after_all both.early before)
+    both.late is) both.first.same both.next in
+    let one = counted_by naming bytes (class_of bytes) receipt next was before both.early
+    both.late is counts in
+    record {
+      same = one.same;
+      leads = λ stop rest.
+          one_more_handled answers records i before so_far within both.first.leads stop rest
+          ∙ ap (go_on (handle_all answers stop rest) so_far) one.handled
+          ∙ ap (λ events. handle_all answers stop rest (so_far_at next before events))
+          (sym both.all);
+    }
 
 -- no record is left
-pub all_handled : (naming : Naming) (records : List (List ℕ)) (i : ℕ) (before : Book)
-    (so_far imported : Imported) (stop : Stop) → length records ≤ i
-    → LeadsTo naming (take i records) before so_far → imported ≡ stop_with stop so_far
-    → Handles naming stop records before imported
-all_handled naming records i before so_far imported stop end leads is =
+pub all_handled : (naming : Naming) (records : List (List ℕ)) (i : ℕ) (receipt told : Receipt)
+    (stop : Stop) → length records ≤ i → told ≡ record receipt { stop = stop }
+    → (was : Bool) (before : Book) (events : List Event) (is : Bool)
+    → LeadsTo naming (take i records) receipt was before events is
+    → Handles naming stop records told was before events is
+all_handled naming records i receipt told stop end as_told was before events is so =
     let all : take i records ++ [] ≡ records = append-nil (take i records)
     ∙ take_all i records end in
-    whole (is
-    ∙ sym (ap (λ list. handle_all naming stop list (start_of before)) (sym all) ∙ leads stop []))
+    let handled : handle_all (answers_of was naming) stop records (start_of before)
+    ≡ stop_with stop (so_far_at receipt before events) =
+    ap (λ list. handle_all (answers_of was naming) stop list (start_of before)) (sym all)
+    ∙ so.leads stop [] in
+    whole so.same (record {
+      receipt = ap (λ (one : Imported). one.receipt) handled ∙ sym as_told;
+      events = ap (λ (one : Imported). one.events) handled;
+    })
 
 -- no record was handled, for want of memory
-pub none_handled : (naming : Naming) (records : List (List ℕ)) (before : Book) (imported : Imported)
-    (stop : Stop)
-    → imported ≡ record { receipt = receipt_stopped (Ledger Memory); book = before }
-    → Handles naming stop records before imported
-none_handled naming records before imported stop is = out_of_memory 0 is
+pub none_handled : (naming : Naming) (stop : Stop) (records : List (List ℕ)) (told : Receipt)
+    → told ≡ receipt_stopped (Ledger Memory)
+    → (was : Bool) (before : Book) (events : List Event) (is : Bool) → NoEvent was before events is
+    → Handles naming stop records told was before events is
+none_handled naming stop records told so was before events is none =
+    out_of_memory 0 none.same (record { receipt = sym so; events = sym none.none })
 
 -- the records of a dump that was read, with the stop behind them
 pub dump_handled : (naming : Naming) (layout : Layout) (cut : Option Stop) (bytes : List ℕ)
-    (dump : ReadDump) (before : Book)
-    (imported : Imported) → IsReadDump layout cut bytes dump
-    → Handles naming dump.stop (texts dump.records.items) before imported
-    → Imports naming layout cut bytes before imported
-dump_handled naming layout cut bytes dump before imported is handled =
-    subst (λ records. Handles naming (stop_behind cut (front layout bytes)) records before imported)
-    is.records
-    (subst (λ stop. Handles naming stop (texts dump.records.items) before imported) is.stop handled)
+    (dump : ReadDump) (told : Receipt) → IsReadDump layout cut bytes dump
+    → (was : Bool) (before : Book) (events : List Event) (is : Bool)
+    → Handles naming dump.stop (texts dump.records.items) told was before events is
+    → Imports naming layout cut bytes told was before events is
+dump_handled naming layout cut bytes dump told read was before events is handled =
+    subst (λ records. Handles naming (stop_behind cut (front layout bytes)) records told was before
+    events is) read.records
+    (subst (λ stop. Handles naming stop (texts dump.records.items) told was before events is)
+    read.stop handled)

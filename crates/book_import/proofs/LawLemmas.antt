@@ -23,14 +23,16 @@ use Rattle.book_model.specs.Rulings.{Rulings, price_in}
 use Rattle.book_model.specs.Sets.{set_of, has, those}
 use Rattle.book_model.specs.Accept.{clashes, is_full, accept_priced}
 use Rattle.book_model.specs.Events.{keep}
-use Rattle.book_model.specs.Outcomes.{accept_event}
+use Rattle.book_model.specs.Outcomes.{accept_event, accept_outcome}
 use Rattle.book_model.proofs.SetLemmas.{has-with, same_set, those-set_of}
 use Rattle.book_import.specs.declared.receipt.Stop.{Stop}
-use Rattle.book_import.specs.Imports.{Imported, after_answer, handle_by, handle, go_on, handle_all}
-use Rattle.book_import.specs.Imports.{start_of}
+use Rattle.book_import.specs.Handled.{Imported, after_answer, handle_by, handle, go_on, handle_all}
+use Rattle.book_import.specs.Handled.{start_of}
 use Rattle.book_import.specs.Laws.{is_class_of_usage, is_priced_usage, priced_usage, IsUnrefused}
-use Rattle.book_import.specs.Laws.{import_of_records, HoldsMore, HoldsWhatCame, Batch, all_records}
-use Rattle.book_import.specs.Laws.{book_after_batches, AreUnrefused, CutsMakeNoDifference}
+use Rattle.book_import.specs.Laws.{import_of_records, book_left, HoldsMore, HoldsWhatCame, Batch}
+use Rattle.book_import.specs.Laws.{all_records, book_after_batches, AreUnrefused}
+use Rattle.book_import.specs.Laws.{CutsMakeNoDifference}
+use Rattle.book_import.proofs.BookLemmas.{left_is}
 
 -- two records are one
 abbrev pub is_same : List ℕ → List ℕ → Bool
@@ -112,13 +114,13 @@ usage_handled bytes so_far false false (Some priced) new =
     ]
 
 -- a record of a class counts where the class is that of usage records, and it has a price
-abbrev pub counts_by : Class → Rulings → List ℕ → Bool
-counts_by class rulings bytes = is_class_of_usage class && is_some (price_in rulings bytes)
+abbrev pub is_priced_by : Class → Rulings → List ℕ → Bool
+is_priced_by class rulings bytes = is_class_of_usage class && is_some (price_in rulings bytes)
 
 -- a record that the books do not refuse counts where it is usage and has a price
 pub one_handled : (naming : Naming) (bytes : List ℕ) (so_far : Imported) (class : Class)
-    → IfOk (handle_by naming bytes so_far class)
-    (λ next. HoldsIt (counts_by class so_far.book.rulings bytes) bytes so_far.book next.book)
+    → IfOk (handle_by (accept_outcome naming) bytes so_far class)
+    (λ next. HoldsIt (is_priced_by class so_far.book.rulings bytes) bytes so_far.book next.book)
 one_handled naming bytes so_far Usage =
     usage_handled bytes so_far (has so_far.book.held bytes) (clashes naming so_far.book.held bytes)
     (price_in so_far.book.rulings bytes) refl
@@ -170,13 +172,13 @@ none_came book = record {
 
 -- from any point of an import on, the books hold what came, where they refuse no record
 holds_from : (naming : Naming) (stop : Stop) (records : List (List ℕ)) (so_far : Imported)
-    → IsUnrefused (handle_all naming stop records so_far)
+    → IsUnrefused (handle_all (accept_outcome naming) stop records so_far)
     → HoldsMore (priced_usage so_far.book.rulings records) so_far.book
-    (handle_all naming stop records so_far).book
+    (handle_all (accept_outcome naming) stop records so_far).book
 holds_from naming stop [] so_far unrefused = none_came so_far.book
 holds_from naming stop (bytes ∷ rest) so_far unrefused =
-    let later : Imported → Imported = handle_all naming stop rest in
-    elim (handle naming bytes so_far) as (λ handled.
+    let later : Imported → Imported = handle_all (accept_outcome naming) stop rest in
+    elim (handle (accept_outcome naming) bytes so_far) as (λ handled.
     IfOk handled
     (λ next. HoldsIt (is_priced_usage so_far.book.rulings bytes) bytes so_far.book next.book)
     → IsUnrefused (go_on later so_far handled)
@@ -190,7 +192,9 @@ holds_from naming stop (bytes ∷ rest) so_far unrefused =
 -- the law of it
 pub holds_what_came : HoldsWhatCame
 holds_what_came naming before stop records unrefused =
-    holds_from naming stop records (start_of before) unrefused
+    subst (HoldsMore (priced_usage before.rulings records) before)
+    (left_is naming before stop records)
+    (holds_from naming stop records (start_of before) unrefused)
 
 -- who is among the priced usage records of two lists
 has-both : (rulings : Rulings) (records later : List (List ℕ)) (other : List ℕ)
@@ -234,10 +238,9 @@ holds_batches : (naming : Naming) (before : Book) (batches : List Batch)
     (book_after_batches naming before batches)
 holds_batches naming before [] unrefused = none_came before
 holds_batches naming before (batch ∷ later) unrefused =
-    let imported = import_of_records naming before batch.stop batch.records in
     then_later batch.records (all_records later)
     (holds_what_came naming before batch.stop batch.records unrefused.0)
-    (holds_batches naming imported.book later unrefused.1)
+    (holds_batches naming (book_left naming before batch.stop batch.records) later unrefused.1)
 
 -- lists with one set have one set of priced usage records
 same_priced : (rulings : Rulings) (records others : List (List ℕ))
@@ -277,8 +280,7 @@ pub one_import_each : (naming : Naming) (before : Book) (stop other_stop : Stop)
     → set_of by_bytes records ≡ set_of by_bytes others
     → IsUnrefused (import_of_records naming before stop records)
     → IsUnrefused (import_of_records naming before other_stop others)
-    → (import_of_records naming before stop records).book
-    ≡ (import_of_records naming before other_stop others).book
+    → book_left naming before stop records ≡ book_left naming before other_stop others
 one_import_each naming before stop other_stop records others same unrefused other_unrefused =
     let batch : Batch = record { records = records; stop = stop } in
     let other_batch : Batch = record { records = others; stop = other_stop } in

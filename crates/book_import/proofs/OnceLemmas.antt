@@ -1,7 +1,6 @@
 -- The same records imported twice in a row.
-use Rattle.std.proofs.Common.{◌≡◌, ◌∙◌, ℕ, zero, suc, List, [], ◌∷◌, length, take, take_all, refl}
-use Rattle.std.proofs.Common.{sym, ap, subst, Bool, true, false, ◌&&◌, ◌||◌, ◌⊎◌, inl, inr, Option}
-use Rattle.std.proofs.Common.{Result, Ok, Err, arith}
+use Rattle.std.proofs.Common.{◌≡◌, ◌∙◌, ℕ, zero, suc, List, [], ◌∷◌, take, refl, sym, ap, subst}
+use Rattle.std.proofs.Common.{Bool, true, false, ◌&&◌, ◌||◌, Option, Result, Ok, Err}
 use Rattle.std.specs.Prelude.{IfOk}
 use Rattle.std.specs.Ordering.{is_eq}
 use Rattle.std.proofs.Math.Bool.{or-true}
@@ -13,21 +12,17 @@ use Rattle.smf_type30.specs.declared.classes.Class.TheVariants.{Usage}
 use Rattle.smf_type30.specs.Class.{class_of}
 use Rattle.book_model.specs.declared.answer.Accepted.{Accepted}
 use Rattle.book_model.specs.declared.fault.LedgerFault.{LedgerFault}
-use Rattle.book_model.specs.declared.fault.LedgerFault.TheVariants.{Memory}
 use Rattle.book_model.specs.Books.{Book}
 use Rattle.book_model.specs.Records.{Naming}
 use Rattle.book_model.specs.Sets.{has}
 use Rattle.book_model.specs.Accept.{accept_answer}
 use Rattle.book_model.specs.Events.{Event}
-use Rattle.book_model.specs.Outcomes.{accept_event}
+use Rattle.book_model.specs.Outcomes.{accept_event, accept_outcome}
 use Rattle.book_model.proofs.SetLemmas.{same_set}
-use Rattle.book_import.specs.declared.receipt.Receipt.{Receipt}
 use Rattle.book_import.specs.declared.receipt.Stop.{Stop}
-use Rattle.book_import.specs.declared.receipt.Stop.TheVariants.{Ledger}
-use Rattle.book_import.specs.Imports.{Imported, after_answer, handle_by, handle, go_on, handle_all}
-use Rattle.book_import.specs.Imports.{start_of, Handles}
-use Rattle.book_import.specs.Imports.Handles.{whole, out_of_memory}
-use Rattle.book_import.specs.Laws.{is_priced_usage, import_of_records, HadMemory, TwiceIsOnce}
+use Rattle.book_import.specs.Handled.{Imported, after_answer, after_accept, handle_by, handle}
+use Rattle.book_import.specs.Handled.{go_on, handle_all}
+use Rattle.book_import.specs.Laws.{is_priced_usage}
 use Rattle.book_import.proofs.LawLemmas.{is_same, HoldsIt, one_handled}
 
 -- a record that these books hold, if it is one that they would hold
@@ -105,13 +100,14 @@ then_grows first second = record {
 
 -- an import takes no record from the books
 all_grow : (naming : Naming) (stop : Stop) (records : List (List ℕ)) (so_far : Imported)
-    → Grows so_far.book (handle_all naming stop records so_far).book
+    → Grows so_far.book (handle_all (accept_outcome naming) stop records so_far).book
 all_grow naming stop [] so_far = grows_none so_far.book
 all_grow naming stop (bytes ∷ rest) so_far =
-    elim (handle naming bytes so_far) as (λ handled.
+    elim (handle (accept_outcome naming) bytes so_far) as (λ handled.
     IfOk handled
     (λ next. HoldsIt (is_priced_usage so_far.book.rulings bytes) bytes so_far.book next.book)
-    → Grows so_far.book (go_on (handle_all naming stop rest) so_far handled).book) [
+    → Grows so_far.book
+    (go_on (handle_all (accept_outcome naming) stop rest) so_far handled).book) [
       | Ok next ↦ λ one. then_grows (grows_by bytes one) (all_grow naming stop rest next)
       | Err fault ↦ λ one. grows_none so_far.book
     ] (one_handled naming bytes so_far (class_of bytes))
@@ -124,34 +120,25 @@ still_refused : (so_far again : Imported) (event : Option Event)
 still_refused so_far again event (Err refusal) fault refused = refused
 still_refused so_far again event (Ok accepted) fault refused = cc
 
--- the same, by the record's class
-refused_by : (naming : Naming) (bytes : List ℕ) (so_far : Imported) (receipt : Receipt)
-    (class : Class)
-    (fault : LedgerFault) → handle_by naming bytes so_far class ≡ Err fault
-    → handle_by naming bytes (record { receipt = receipt; book = so_far.book }) class ≡ Err fault
-refused_by naming bytes so_far receipt Usage fault refused =
+-- the same, by the record's class, where the books are the same
+refused_again : (naming : Naming) (bytes : List ℕ) (class : Class) (so_far again : Imported)
+    (fault : LedgerFault) → again.book ≡ so_far.book
+    → handle_by (accept_outcome naming) bytes so_far class ≡ Err fault
+    → handle_by (accept_outcome naming) bytes again class ≡ Err fault
+refused_again naming bytes Usage so_far again fault same refused =
     let answer = accept_answer naming so_far.book bytes in
-    still_refused so_far (record { receipt = receipt; book = so_far.book })
-    (accept_event bytes answer) answer fault refused
-refused_by naming bytes so_far receipt class fault refused = cc
-
--- what books refuse they refuse again
-refused_again : (naming : Naming) (bytes : List ℕ) (so_far again : Imported) (fault : LedgerFault)
-    → again.book ≡ so_far.book → handle naming bytes so_far ≡ Err fault
-    → handle naming bytes again ≡ Err fault
-refused_again naming bytes so_far again fault same refused =
-    subst (λ book. handle naming bytes (record { receipt = again.receipt; book = book })
-    ≡ Err fault)
-    (sym same) (refused_by naming bytes so_far again.receipt (class_of bytes) fault refused)
+    subst (λ book. after_accept again (accept_outcome naming bytes book) ≡ Err fault) (sym same)
+    (still_refused so_far again (accept_event bytes answer) answer fault refused)
+refused_again naming bytes class so_far again fault same refused = cc
 
 -- a record that is settled leaves the books, and what comes behind it leaves them too
 once_more : (naming : Naming) (bytes : List ℕ) (again : Imported) (later : Imported → Imported)
     (end : Book)
     → again.book ≡ end → IsSettled again.book bytes
     → ((after : Imported) → after.book ≡ end → (later after).book ≡ end)
-    → (go_on later again (handle naming bytes again)).book ≡ end
+    → (go_on later again (handle (accept_outcome naming) bytes again)).book ≡ end
 once_more naming bytes again later end same settled rest =
-    elim (handle naming bytes again) as (λ handled.
+    elim (handle (accept_outcome naming) bytes again) as (λ handled.
     IfOk handled
     (λ after. HoldsIt (is_priced_usage again.book.rulings bytes) bytes again.book after.book)
     → (go_on later again handled).book ≡ end) [
@@ -160,22 +147,23 @@ once_more naming bytes again later end same settled rest =
     ] (one_handled naming bytes again (class_of bytes))
 
 -- the first of the same records leave the books that all of them left
-again_from : (naming : Naming) (stop other : Stop) (count : ℕ) (records : List (List ℕ))
+pub again_from : (naming : Naming) (stop other : Stop) (count : ℕ) (records : List (List ℕ))
     (so_far again : Imported)
-    → again.book ≡ (handle_all naming stop records so_far).book
-    → (handle_all naming other (take count records) again).book
-    ≡ (handle_all naming stop records so_far).book
+    → again.book ≡ (handle_all (accept_outcome naming) stop records so_far).book
+    → (handle_all (accept_outcome naming) other (take count records) again).book
+    ≡ (handle_all (accept_outcome naming) stop records so_far).book
 again_from naming stop other zero records so_far again same = same
 again_from naming stop other (suc count) [] so_far again same = same
 again_from naming stop other (suc count) (bytes ∷ rest) so_far again same =
-    let later : Imported → Imported = handle_all naming stop rest in
-    let again_later : Imported → Imported = handle_all naming other (take count rest) in
-    elim (handle naming bytes so_far) as (λ handled.
-    handle naming bytes so_far ≡ handled
+    let later : Imported → Imported = handle_all (accept_outcome naming) stop rest in
+    let again_later : Imported → Imported =
+    handle_all (accept_outcome naming) other (take count rest) in
+    elim (handle (accept_outcome naming) bytes so_far) as (λ handled.
+    handle (accept_outcome naming) bytes so_far ≡ handled
     → IfOk handled
     (λ next. HoldsIt (is_priced_usage so_far.book.rulings bytes) bytes so_far.book next.book)
     → again.book ≡ (go_on later so_far handled).book
-    → (go_on again_later again (handle naming bytes again)).book
+    → (go_on again_later again (handle (accept_outcome naming) bytes again)).book
     ≡ (go_on later so_far handled).book) [
       | Ok next ↦ λ is one same.
           let settled = still_settled bytes (all_grow naming stop rest next)
@@ -185,59 +173,5 @@ again_from naming stop other (suc count) (bytes ∷ rest) so_far again same =
           (λ after kept. again_from naming stop other count rest next after kept)
       | Err fault ↦ λ is one same.
           ap (λ handled. (go_on again_later again handled).book)
-          (refused_again naming bytes so_far again fault same is) ∙ same
+          (refused_again naming bytes (class_of bytes) so_far again fault same is) ∙ same
     ] refl (one_handled naming bytes so_far (class_of bytes)) same
-
--- memory ran out behind the first records, or one of them was refused, as it is in the whole import
-memory_or_whole : (naming : Naming) (stop : Stop) (count : ℕ) (records : List (List ℕ))
-    (so_far : Imported)
-    → ((handle_all naming (Ledger Memory) (take count records) so_far).receipt.stop ≡ Ledger Memory)
-    ⊎ (handle_all naming (Ledger Memory) (take count records) so_far
-    ≡ handle_all naming stop records so_far)
-memory_or_whole naming stop zero records so_far = inl refl
-memory_or_whole naming stop (suc count) [] so_far = inl refl
-memory_or_whole naming stop (suc count) (bytes ∷ rest) so_far =
-    let first : Imported → Imported = handle_all naming (Ledger Memory) (take count rest) in
-    elim (handle naming bytes so_far) as (λ handled.
-    ((go_on first so_far handled).receipt.stop ≡ Ledger Memory)
-    ⊎ (go_on first so_far handled ≡ go_on (handle_all naming stop rest) so_far handled)) [
-      | Ok next ↦ memory_or_whole naming stop count rest next
-      | Err fault ↦ inr refl
-    ]
-
--- where memory did not run out, the import is a whole one
-is_whole : (naming : Naming) (stop : Stop) (records : List (List ℕ)) (before : Book)
-    (once : Imported)
-    → Handles naming stop records before once → HadMemory once
-    → once ≡ import_of_records naming before stop records
-is_whole naming stop records before once (whole is) had = is
-is_whole naming stop records before once (out_of_memory count is) had =
-    elim (memory_or_whole naming stop count records (start_of before)) [
-      | inl memory ↦ absurd (had (ap (λ (one : Imported). one.receipt.stop) is ∙ memory))
-      | inr same ↦ is ∙ same
-    ]
-
--- so many of the records again leave the books of an import of them all
-first_again : (naming : Naming) (before : Book) (stop other : Stop) (count : ℕ)
-    (records : List (List ℕ))
-    (once : Imported) → once ≡ import_of_records naming before stop records
-    → (import_of_records naming once.book other (take count records)).book ≡ once.book
-first_again naming before stop other count records once is =
-    let book : once.book ≡ (import_of_records naming before stop records).book =
-    ap (λ (one : Imported). one.book) is in
-    again_from naming stop other count records (start_of before) (start_of once.book) book
-    ∙ sym book
-
--- the law of it
-pub twice_is_once : TwiceIsOnce
-twice_is_once naming before stop again records once twice first had (whole is) =
-    let all : take (length records) records
-    ≡ records = take_all (length records) records (omega arith) in
-    ap (λ (one : Imported). one.book) is
-    ∙ sym (ap (λ those. (import_of_records naming once.book again those).book) all)
-    ∙ first_again naming before stop again (length records) records once
-    (is_whole naming stop records before once first had)
-twice_is_once naming before stop again records once twice first had (out_of_memory count is) =
-    ap (λ (one : Imported). one.book) is
-    ∙ first_again naming before stop (Ledger Memory) count records once
-    (is_whole naming stop records before once first had)

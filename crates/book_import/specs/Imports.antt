@@ -1,5 +1,6 @@
--- What the import of a dump answers, and the book that it leaves.
-use Rattle.std.specs.Prelude.{◌≡◌, ℕ, List, [], ◌∷◌, take, Option, Result, Ok, Err}
+-- What the import of a dump answers, and what it does to the books.
+use Rattle.std.specs.Prelude.{◌≡◌, ◌⊎◌, ℕ, ◌+◌, ◌<◌, Bool, true, false, List, length, Option}
+use Rattle.std.specs.Prelude.{Result, Ok, Err}
 use Rattle.smf_frames.specs.declared.dump.Layout.{Layout}
 use Rattle.smf_frames.specs.Front.{front}
 use Rattle.smf_type30.specs.declared.classes.Class.{Class}
@@ -7,76 +8,76 @@ use Rattle.smf_type30.specs.declared.classes.Class.TheVariants.{Usage}
 use Rattle.smf_type30.specs.Class.{class_of}
 use Rattle.book_model.specs.declared.answer.Accepted.{Accepted}
 use Rattle.book_model.specs.declared.fault.LedgerFault.{LedgerFault}
-use Rattle.book_model.specs.declared.fault.LedgerFault.TheVariants.{Memory}
+use Rattle.book_model.specs.declared.fault.LedgerFault.TheVariants.{Memory, Store}
 use Rattle.book_model.specs.Records.{Naming}
 use Rattle.book_model.specs.Books.{Book}
-use Rattle.book_model.specs.Events.{Event, after_any}
-use Rattle.book_model.specs.Outcomes.{Outcome, accept_outcome}
+use Rattle.book_model.specs.Events.{Event}
+use Rattle.book_model.specs.Outcomes.{accept_outcome}
+use Rattle.book_core.specs.Work.{Work, NoEvent}
+use Rattle.book_core.specs.Calls.{Calls}
 use Rattle.book_import.specs.declared.receipt.Receipt.{Receipt}
 use Rattle.book_import.specs.declared.receipt.Stop.{Stop}
-use Rattle.book_import.specs.declared.receipt.Stop.TheVariants.{End, Ledger}
+use Rattle.book_import.specs.declared.receipt.Stop.TheVariants.{Ledger}
 use Rattle.book_import.specs.Dumps.{stop_behind}
-use Rattle.book_import.specs.Receipts.{receipt_stopped, count_class, count_accepted}
+use Rattle.book_import.specs.Receipts.{count_class, count_accepted}
+use Rattle.book_import.specs.Handled.{Imported, answers_of, handle_all, handle_first, start_of}
 
--- a receipt, and the book
-pub record Imported : Type 0 where
-  pub receipt : Receipt
-  pub book : Book
+-- what becomes of a receipt, and of the import, by what the books answered to a usage record
+abbrev pub IsCounted : Result Accepted LedgerFault → Receipt → Receipt
+    → Result (Unit {0}) LedgerFault → Type 0
+IsCounted (Ok accepted) old new result = (new ≡ count_accepted accepted old) × (result ≡ Ok tt)
+IsCounted (Err fault) old new result = (new ≡ old) × (result ≡ Err fault)
 
-abbrev pub stop_with : Stop → Imported → Imported
-stop_with stop so_far = record so_far { receipt = record so_far.receipt { stop = stop } }
+-- a usage record was handed to the books
+pub record HandsIn (naming : Naming) (bytes : List ℕ) (old new : Receipt)
+    (result : Result (Unit {0}) LedgerFault) (was : Bool) (before : Book) (events : List Event)
+    (is : Bool) : Type 0 where
+  pub answer : Result Accepted LedgerFault
+  pub called :
+      Calls (λ accepted. accepted) (accept_outcome naming bytes) answer was before events is
+  pub counted : IsCounted answer old new result
 
--- The books answered to a usage record, and that was this event: the record is counted, unless
--- they refused it.
-abbrev pub after_answer : Imported → Option Event → Result Accepted LedgerFault
-    → Result Imported LedgerFault
-after_answer so_far event (Err fault) = Err fault
-after_answer so_far event (Ok accepted) =
-    Ok (record {
-      receipt = count_accepted accepted so_far.receipt;
-      book = after_any event so_far.book;
-    })
+-- a record of another class was counted
+pub record CountsOther (class : Class) (old new : Receipt) (result : Result (Unit {0}) LedgerFault)
+    (was : Bool) (before : Book) (events : List Event) (is : Bool) : Type 0 where
+  pub none : NoEvent was before events is
+  pub counted : new ≡ count_class class old
+  pub done : result ≡ Ok tt
 
-abbrev pub after_accept : Imported → Outcome Accepted → Result Imported LedgerFault
-after_accept so_far outcome = after_answer so_far outcome.event outcome.answer
+abbrev pub counts_by : Class → Naming → List ℕ → Receipt → Receipt
+    → Result (Unit {0}) LedgerFault → Work
+counts_by Usage naming bytes old new result = HandsIn naming bytes old new result
+counts_by class naming bytes old new result = CountsOther class old new result
 
-abbrev pub handle_by : Naming → List ℕ → Imported → Class → Result Imported LedgerFault
-handle_by naming bytes so_far Usage =
-    after_accept so_far (accept_outcome naming bytes so_far.book)
-handle_by naming bytes so_far class =
-    Ok (record so_far { receipt = count_class class so_far.receipt })
+-- one record was handled, by its class: this receipt came of that one
+abbrev pub Counts : Naming → List ℕ → Receipt → Receipt → Result (Unit {0}) LedgerFault → Work
+Counts naming bytes = counts_by (class_of bytes) naming bytes
 
--- one record, by its class
-abbrev pub handle : Naming → List ℕ → Imported → Result Imported LedgerFault
-handle naming bytes so_far = handle_by naming bytes so_far (class_of bytes)
+-- the import is told by this receipt and these events
+pub record IsTold (imported : Imported) (told : Receipt) (made : List Event) : Type 0 where
+  pub receipt : imported.receipt ≡ told
+  pub events : imported.events ≡ made
 
--- a record that was refused ends the import; behind any other it goes on
-abbrev pub go_on : (Imported → Imported) → Imported → Result Imported LedgerFault → Imported
-go_on later so_far (Err fault) = stop_with (Ledger fault) so_far
-go_on later so_far (Ok next) = later next
-
--- records in order, up to the first that the books refuse; where they refuse none, there is this
--- stop behind the last
-abbrev pub handle_all : Naming → Stop → List (List ℕ) → Imported → Imported
-handle_all naming stop [] so_far = stop_with stop so_far
-handle_all naming stop (bytes ∷ rest) so_far =
-    go_on (handle_all naming stop rest) so_far (handle naming bytes so_far)
-
-abbrev pub start_of : Book → Imported
-start_of book = record { receipt = receipt_stopped End; book = book }
-
--- These records were handled so; or memory ran out, and the first of them were.
-pub data Handles (naming : Naming) (stop : Stop) (records : List (List ℕ)) (before : Book)
-    (imported : Imported) : Type 0 where
-  whole : imported ≡ handle_all naming stop records (start_of before)
-      → Handles naming stop records before imported
-  out_of_memory : (count : ℕ)
-      → imported ≡ handle_all naming (Ledger Memory) (take count records) (start_of before)
-      → Handles naming stop records before imported
+-- These records were handled so. Or memory ran out, and the first of them were. Or the store of
+-- open books failed at a record: those before it were handled, and it may have been kept.
+pub data Handles (naming : Naming) (stop : Stop) (records : List (List ℕ)) (receipt : Receipt)
+    (was : Bool) (before : Book) (events : List Event) (is : Bool) : Type 0 where
+  whole : is ≡ was
+      → IsTold (handle_all (answers_of was naming) stop records (start_of before)) receipt events
+      → Handles naming stop records receipt was before events is
+  out_of_memory : (count : ℕ) → is ≡ was
+      → IsTold (handle_first (answers_of was naming) count Memory records before) receipt events
+      → Handles naming stop records receipt was before events is
+  store_failed : (count kept : ℕ) → was ≡ false → is ≡ true
+      → count < length records → (kept ≡ count) ⊎ (kept ≡ count + 1)
+      → receipt.stop ≡ Ledger Store
+      → (handle_first (accept_outcome naming) count Store records before).receipt ≡ receipt
+      → (handle_first (accept_outcome naming) kept Store records before).events ≡ events
+      → Handles naming stop records receipt was before events is
 
 -- The import of these bytes, whose reading something may have cut short, answered this receipt and
--- left this book.
-abbrev pub Imports : Naming → Layout → Option Stop → List ℕ → Book → Imported → Type 0
-Imports naming layout cut bytes before imported =
+-- made these events.
+abbrev pub Imports : Naming → Layout → Option Stop → List ℕ → Receipt → Work
+Imports naming layout cut bytes =
     let dump = front layout bytes in
-    Handles naming (stop_behind cut dump) dump.records before imported
+    Handles naming (stop_behind cut dump) dump.records

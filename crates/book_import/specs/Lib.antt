@@ -1,7 +1,12 @@
--- Read in this order: why reading stops, what a dump is that was read, what a receipt counts, what
--- the import of a dump leaves, and laws that follow.
+-- Read in this order: why reading stops, what a dump is that was read, what a receipt counts, how
+-- records are handled one after another, what the import of a dump does, what commands do, and laws
+-- that follow.
 pub mod Reading
 pub mod Dumps
 pub mod Receipts
+pub mod Handled
 pub mod Imports
+pub mod Commands
 pub mod Laws
+pub mod Repeats
+pub mod Stops

@@ -38,7 +38,8 @@ fn cut<R: Read + Drop>(source: &Source<R>) -> Option<Stop>
     }
 }
 
-fn frame_stop(fault: Option<FrameFault>) -> Stop
+/// The stop that a dump's front asks for.
+pub(crate) fn frame_stop(fault: Option<FrameFault>) -> Stop
     ensures { result ≡ spec.frame_stop fault }
 {
     match fault {

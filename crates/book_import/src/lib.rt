@@ -1,6 +1,8 @@
-//! Dumps into a ledger, and the receipts for them.
+//! Dumps into a ledger, the receipts for them, and lists of commands.
 #![tactic(auto)]
 
+mod command;
+mod command_list;
 mod dump;
 mod laws;
 mod reading;
@@ -8,8 +10,13 @@ mod receipt;
 mod records;
 mod whole;
 
+pub use command::{Command, Reply};
+pub use command_list::{import_bytes, run};
 pub use dump::{ReadDump, read_dump};
-pub use laws::{books_hold_what_came, cuts_make_no_difference, reading_is_limited, twice_is_once};
+pub use laws::{
+    books_hold_what_came, cuts_make_no_difference, reading_is_limited, run_twice_is_once,
+    stops_tell, twice_is_once,
+};
 pub use reading::MAX_READS;
 pub use receipt::{Receipt, Stop};
-pub use whole::import_whole;
+pub use whole::import;

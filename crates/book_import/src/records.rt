@@ -1,14 +1,13 @@
 ghost use Rattle.std.specs.Prelude.{◌≡◌, ◌+◌, ◌≤◌, ◌<◌, ◌^◌, OnErr, All};
 ghost use Rattle.smf_frames.specs.Framed.{IsFramed};
 ghost use Rattle.smf_frames.specs.Texts.{texts};
-ghost use Rattle.book_model.specs.Answers.{Answers};
-ghost use Rattle.book_core.specs.PlainBook.{book_in, naming_in};
-ghost use Rattle.book_import.specs.Imports.{Handles, handle as handled};
+ghost use Rattle.book_core.specs.Work.{IsWork};
+ghost use Rattle.book_import.specs.Imports.{Counts, Handles};
 ghost use Rattle.book_import.specs.Receipts as spec;
 ghost use Rattle.book_import.specs.Receipts.{counted};
 
 use crate::receipt::{Receipt, Stop};
-use book_core::{Accepted, LedgerFault, Naming, PlainLedger};
+use book_core::{Accepted, Ledger, LedgerFault};
 use smf_type30::{Class, class};
 
 /// Counts what the books answered to a usage record.
@@ -40,20 +39,12 @@ fn count_class(receipt: &mut Receipt, class: Class)
 }
 
 /// Hands one record to the books where it is usage, and counts it.
-fn handle<N: Naming + Drop>(
-    ledger: &mut PlainLedger<N>,
-    receipt: &mut Receipt,
-    bytes: &[u8],
-) -> Result<(), LedgerFault>
+fn handle<L: Ledger>(ledger: &mut L, receipt: &mut Receipt, bytes: &[u8]) -> Result<(), LedgerFault>
     requires framed { IsFramed bytes.now }
     requires few { counted receipt.old < 2 ^ 63 }
-    ensures handled { Answers
-        (λ _. record { receipt = receipt.new; book = book_in ledger.new }) result
-        (handled (N.name_of (naming_in ledger.old)) bytes.now
-        (record { receipt = receipt.old; book = book_in ledger.old })) }
-    ensures refused { OnErr result
-        ((receipt.new ≡ receipt.old) × (book_in ledger.new ≡ book_in ledger.old)) }
-    ensures naming { naming_in ledger.new ≡ naming_in ledger.old }
+    ensures handled { IsWork (L.seen ledger.old) (L.seen ledger.new)
+        (Counts (L.seen ledger.old).naming bytes.now receipt.old receipt.new result) }
+    ensures refused { OnErr result (receipt.new ≡ receipt.old) }
     ensures counted { counted receipt.new ≤ counted receipt.old + 1 }
 {
     match class(bytes) {
@@ -68,15 +59,10 @@ fn handle<N: Naming + Drop>(
 
 /// Hands the records of a dump to the books, in order, up to the first that they refuse; where they
 /// refuse none, the receipt has this stop.
-pub fn import_records<N: Naming + Drop>(
-    ledger: &mut PlainLedger<N>,
-    records: &[Vec<u8>],
-    stop: Stop,
-) -> Receipt
+pub fn import_records<L: Ledger>(ledger: &mut L, records: &[Vec<u8>], stop: Stop) -> Receipt
     requires { All IsFramed (texts records.now) }
-    ensures handled { Handles (N.name_of (naming_in ledger.old)) stop (texts records.now)
-        (book_in ledger.old) (record { receipt = result; book = book_in ledger.new }) }
-    ensures naming { naming_in ledger.new ≡ naming_in ledger.old }
+    ensures { IsWork (L.seen ledger.old) (L.seen ledger.new)
+        (Handles (L.seen ledger.old).naming stop (texts records.now) result) }
 {
     let mut receipt = Receipt::stopped(Stop::End);
     for bytes in records {

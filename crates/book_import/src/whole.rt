@@ -2,26 +2,26 @@ ghost use Rattle.std.specs.Prelude.{◌≡◌, ◌+◌, ◌≤◌, ◌^◌, ℕ,
 ghost use Rattle.std.specs.Io.KnownBytes.{Consumes};
 ghost use Rattle.streams.specs.Sources.{reader_of, reads_of, has_failed, has_ended};
 ghost use Rattle.streams.specs.Marks.{NothingIsLeft};
-ghost use Rattle.book_core.specs.PlainBook.{book_in, naming_in};
+ghost use Rattle.book_core.specs.Work.{IsWork};
 ghost use Rattle.book_import.specs.Imports.{Imports};
 ghost use Rattle.book_import.specs.Reading.{ReadsOutFor, cut_of, most_reads};
 
 use crate::dump::read_dump;
 use crate::receipt::{Receipt, Stop};
 use crate::records::import_records;
-use book_core::{LedgerFault, Naming, PlainLedger, Source};
+use book_core::{Ledger, LedgerFault, Source};
 use smf_frames::Layout;
 use std::alloc::Global;
 use std::io::Read;
 
 /// Reads a dump to its end, in at most so many reads, and hands its records to the books in order.
 /// The dump is held whole meanwhile.
-pub fn import_whole<R: Read + Drop, N: Naming + Drop>(
+pub fn import<R: Read + Drop, L: Ledger>(
     alloc: Global,
     source: &mut Source<R>,
     layout: Layout,
     reads: u64,
-    ledger: &mut PlainLedger<N>,
+    ledger: &mut L,
 ) -> Receipt
     requires asked { reads_of source.old ≤ 2 ^ 62 }
     requires failed { has_failed source.old ≡ false }
@@ -32,13 +32,12 @@ pub fn import_whole<R: Read + Drop, N: Naming + Drop>(
     // that a reader had which tells its bytes.
     ensures booked { (bytes : List ℕ)
         × Consumes (R.remaining (reader_of source.old)) (R.remaining (reader_of source.new)) bytes
-        × Imports (N.name_of (naming_in ledger.old)) layout (cut_of source.new) bytes
-        (book_in ledger.old) (record { receipt = result; book = book_in ledger.new }) }
+        × IsWork (L.seen ledger.old) (L.seen ledger.new)
+        (Imports (L.seen ledger.old).naming layout (cut_of source.new) bytes result) }
     ensures left { NothingIsLeft
         (has_ended source.new) (R.remaining (reader_of source.new)) }
     ensures asked { reads_of source.new ≤ reads_of source.old + reads }
     ensures read_out { ReadsOutFor reads source.old source.new result.stop }
-    ensures naming { naming_in ledger.new ≡ naming_in ledger.old }
 {
     let Ok(dump) = read_dump(alloc, source, layout, reads) else {
         return Receipt::stopped(Stop::Ledger(LedgerFault::Memory));

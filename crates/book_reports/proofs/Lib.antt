@@ -2,3 +2,4 @@ pub mod ColumnLemmas
 pub mod ListLemmas
 pub mod NumberLemmas
 pub mod WritingLemmas
+pub mod BookLemmas

@@ -12,7 +12,7 @@ use crate::fault::ReportFault;
 use crate::output::write_text;
 use crate::receipt_line::receipt_line_text;
 use crate::statement::statement_text;
-use book_core::{PlainLedger, ShaNames, Sink};
+use book_core::{Ledger, PlainLedger, ShaNames, Sink};
 use book_import::Receipt;
 use std::alloc::Global;
 use std::io::Write;
@@ -36,12 +36,14 @@ pub fn write_receipt<W: Write + Drop>(
 /// Writes the statement of the one period of books that were never closed.
 pub fn write_statement<W: Write + Drop>(
     alloc: Global,
-    ledger: &PlainLedger<ShaNames>,
+    ledger: &mut PlainLedger<ShaNames>,
     sink: &mut Sink<W>,
 ) -> Result<(), ReportFault>
-    requires { has_failed sink.old ≡ false }
-    ensures text { Writes (open_statement (book_in ledger.now) ∷ [])
+    requires unclosed { (book_in ledger.old).rulings.closes ≡ [] }
+    requires unwritten { has_failed sink.old ≡ false }
+    ensures text { Writes (open_statement (book_in ledger.old) ∷ [])
         (W.contents (writer_of sink.old)) (W.contents (writer_of sink.new)) result }
+    ensures book { book_in ledger.new ≡ book_in ledger.old }
     ensures failed { has_failed sink.new ≡ is_write_fault result }
     ensures fault { IfErr result (λ fault. is_write_or_memory fault ≡ true) }
 {
@@ -53,12 +55,13 @@ pub fn write_statement<W: Write + Drop>(
 /// Writes the disputes.
 pub fn write_disputes<W: Write + Drop>(
     alloc: Global,
-    ledger: &PlainLedger<ShaNames>,
+    ledger: &mut PlainLedger<ShaNames>,
     sink: &mut Sink<W>,
 ) -> Result<(), ReportFault>
     requires { has_failed sink.old ≡ false }
-    ensures text { Writes (dispute_text (book_in ledger.now) ∷ [])
+    ensures text { Writes (dispute_text (book_in ledger.old) ∷ [])
         (W.contents (writer_of sink.old)) (W.contents (writer_of sink.new)) result }
+    ensures book { book_in ledger.new ≡ book_in ledger.old }
     ensures failed { has_failed sink.new ≡ is_write_fault result }
     ensures fault { IfErr result (λ fault. is_write_or_memory fault ≡ true) }
 {

@@ -7,7 +7,7 @@ ghost use Rattle.book_reports.specs.Writing.{is_write_fault, is_write_or_memory}
 ghost use Rattle.chargectl.specs.Trials.{IsTrial};
 
 use book_core::{PlainLedger, ShaNames, Sink, Source};
-use book_import::{Receipt, import_whole};
+use book_import::{Receipt, import};
 use book_reports::{ReportFault, write_disputes, write_receipt, write_statement};
 use smf_frames::Layout;
 use std::alloc::Global;
@@ -49,9 +49,9 @@ pub fn trial<R: Read + Drop, W: Write + Drop>(
     ensures fault { IfErr result (λ fault. is_write_or_memory fault ≡ true) }
 {
     let mut ledger = PlainLedger::flat(alloc, ShaNames, tariff)?;
-    let receipt = import_whole(alloc, source, layout, reads, &mut ledger);
+    let receipt = import(alloc, source, layout, reads, &mut ledger);
     write_receipt(alloc, &receipt, sink)?;
-    write_statement(alloc, &ledger, sink)?;
-    write_disputes(alloc, &ledger, sink)?;
+    write_statement(alloc, &mut ledger, sink)?;
+    write_disputes(alloc, &mut ledger, sink)?;
     Ok(receipt)
 }

@@ -1,19 +1,15 @@
-use Rattle.std.proofs.Common.{◌≡◌, ◌≤◌, ◌++◌, List, ℕ, take}
+use Rattle.std.proofs.Common.{◌≤◌, take}
 use Rattle.smf_frames.specs.Texts.{texts}
-use Rattle.book_core.specs.PlainBook.{book_in, naming_in}
-use Rattle.book_import.specs.declared.receipt.Stop.{Stop}
-use Rattle.book_import.specs.Imports.{handle_all, start_of}
+use Rattle.book_core.specs.Work.{IsWork}
 use Rattle.book_import.specs.Receipts.{counted}
+use Rattle.book_import.proofs.ImportLemmas.{LeadsTo}
 use Rattle.book_import.proofs.records.import_records.Given as goal
 
--- whatever comes behind the records so far is handled from here on
+-- the work so far leads to this receipt, whatever comes behind the records so far
 abbrev pub invariant-loop-bytes : goal.invariant-loop-bytes
 invariant-loop-bytes g l = record {
-  naming : naming_in l.ledger ≡ naming_in l.initial.ledger;
-  handled : (stop : Stop) (rest : List (List ℕ)) →
-      handle_all (g.N.Naming.name_of (naming_in l.initial.ledger)) stop
-      (take l.bytes-index (texts l.records) ++ rest) (start_of (book_in l.initial.ledger))
-      ≡ handle_all (g.N.Naming.name_of (naming_in l.initial.ledger)) stop rest
-      (record { receipt = l.receipt; book = book_in l.ledger });
+  handled : IsWork (g.L.Ledger.seen l.initial.ledger) (g.L.Ledger.seen l.ledger)
+      (LeadsTo (g.L.Ledger.seen l.initial.ledger).naming
+      (take l.bytes-index (texts l.records)) l.receipt);
   few : counted l.receipt ≤ l.bytes-index;
 }

@@ -1,9 +1,13 @@
-use Rattle.std.proofs.Common.{◌∙◌, [], ◌∷◌, sym, ap, subst, map}
+use Rattle.std.proofs.Common.{◌∙◌, [], ◌∷◌, refl, sym, ap, subst, Vec, Global, map}
+use Rattle.book_model.specs.declared.dispute.Dispute.{Dispute}
 use Rattle.book_model.specs.Disputes.{dispute_shown}
 use Rattle.std.proofs.lemmas.Result.{err_from_is_err_and}
 use Rattle.streams.specs.Sinks.{writer_of}
 use Rattle.book_reports.specs.DisputeLists.{dispute_list_text}
-use Rattle.book_reports.specs.Writing.{Writes}
+use Rattle.book_reports.specs.Faults.{report_fault_of}
+use Rattle.book_reports.specs.Writing.{Writes, is_write_or_memory}
+use Rattle.book_core.proofs.MemoryLemmas.{answers_in_memory, stays_in_memory}
+use Rattle.book_reports.proofs.BookLemmas.{want_alone}
 use Rattle.book_reports.proofs.WritingLemmas.{refusal_not_write, memory_not_write, nothing_written}
 use Rattle.book_reports.proofs.WritingLemmas.{same_value, text_written}
 use Rattle.book_reports.proofs.reports.write_disputes.Goals as goal
@@ -25,8 +29,25 @@ returns-clause-text g c =
     let held = g.W.Write.contents (writer_of c.args.sink.now) in
     let holds = g.W.Write.contents (writer_of c.write_text.new.sink) in
     let disputes = ap (map dispute_shown) c.deref.ensures.value
-    ∙ sym (same_value c.in_ok-disputes.ensures.disputes) in
+    ∙ sym (same_value (answers_in_memory c.in_ok-disputes.ensures.disputes)) in
     let text = c.as_str.ensures.value ∙ c.in_ok-list.ensures ∙ ap dispute_list_text disputes in
     subst (λ text. Writes (text ∷ []) held holds c.write_text.result) text
     (text_written _ held holds c.as_str.result.now c.write_text.result
     c.write_text.ensures.whole c.write_text.ensures.fault c.write_text.ensures.prefix)
+
+pub returns-in_err-disputes-clause-book : goal.returns-in_err-disputes-clause-book
+returns-in_err-disputes-clause-book g c = stays_in_memory c.disputes.ensures.disputes refl
+
+pub returns-in_err-disputes-clause-fault : goal.returns-in_err-disputes-clause-fault
+returns-in_err-disputes-clause-fault g c =
+    let failed = err_from_is_err_and c.from_residual.result c.from_residual.ensures.1 in
+    let want = want_alone (λ (found : Vec Dispute Global). map dispute_shown found.items) _ _ _
+    (answers_in_memory c.in_err-disputes.ensures.disputes)
+    refl in
+    rw failed.1 (ap is_write_or_memory (failed.2 ∙ ap report_fault_of want))
+
+pub returns-in_err-list-clause-book : goal.returns-in_err-list-clause-book
+returns-in_err-list-clause-book g c = stays_in_memory c.disputes.ensures.disputes refl
+
+pub returns-clause-book : goal.returns-clause-book
+returns-clause-book g c = stays_in_memory c.disputes.ensures.disputes refl

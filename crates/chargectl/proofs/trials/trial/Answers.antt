@@ -1,84 +1,114 @@
-use Rattle.std.proofs.Common.{[], ◌∷◌, refl, inr, Result, Ok, Err}
+use Rattle.std.proofs.Common.{[], ◌∷◌, ◌∙◌, refl, inr, subst, Result, Ok, Err, Option}
 use Rattle.std.proofs.lemmas.Result.{err_from_is_err_and}
-use Rattle.book_core.specs.PlainBook.{book_in}
 use Rattle.streams.specs.Sinks.{writer_of}
+use Rattle.book_core.specs.PlainBook.{book_in}
 use Rattle.book_import.specs.declared.receipt.Receipt.{Receipt}
-use Rattle.book_import.specs.Imports.{Imported}
+use Rattle.book_import.specs.declared.receipt.Stop.{Stop}
+use Rattle.book_import.specs.Reading.{cut_of}
 use Rattle.book_reports.specs.declared.fault.ReportFault.{ReportFault}
 use Rattle.book_reports.specs.ReceiptLines.{receipt_line_text}
 use Rattle.book_reports.specs.BookTexts.{dispute_text, open_statement}
+use Rattle.book_reports.specs.Writing.{Writes}
 use Rattle.book_reports.proofs.WritingLemmas.{memory_not_write, others_unwritten, others_written}
-use Rattle.chargectl.proofs.TrialLemmas.{is_trial, no_trial}
+use Rattle.chargectl.proofs.TrialLemmas.{IsBooked, is_booked, never_closed, is_trial, no_trial}
+use Rattle.chargectl.proofs.trials.trial.Given.{Over}
 use Rattle.chargectl.proofs.trials.trial.Goals as goal
+use Rattle.chargectl.proofs.trials.trial.Goals.{After-import-receipt}
+
+-- what the import made of the new books
+booked : (g : Over) (c : After-import-receipt g)
+    → IsBooked c.args.tariff c.args.layout (cut_of c.import-receipt.new.source)
+    c.import-receipt.ensures.booked.0 c.import-receipt.result (book_in c.import-receipt.new.ledger)
+booked g c =
+    is_booked c.args.tariff c.args.layout (cut_of c.import-receipt.new.source)
+    c.import-receipt.ensures.booked.0 c.import-receipt.result _
+    (book_in c.in_ok-ledger.ledger) (book_in c.import-receipt.new.ledger)
+    c.in_ok-ledger.ensures.book c.import-receipt.ensures.booked.2
 
 pub returns-in_err-ledger-clause-trial : goal.returns-in_err-ledger-clause-trial
 returns-in_err-ledger-clause-trial g c =
     let failed = err_from_is_err_and c.from_residual.result c.from_residual.ensures.1 in
     rw failed.1 (no_trial _ _ failed.0 (memory_not_write failed.2) (inr refl))
 
+pub write_statement-requires-clause-unclosed : goal.write_statement-requires-clause-unclosed
+write_statement-requires-clause-unclosed g c =
+    never_closed c.args.tariff c.args.layout (cut_of c.import-receipt.new.source) _ _ _
+    (booked g (goal.at.write_statement-requires-clause-unclosed g c).After-import-receipt)
+
 pub returns-in_err-write_receipt-clause-trial : goal.returns-in_err-write_receipt-clause-trial
 returns-in_err-write_receipt-clause-trial g c =
     let answer = c.from_residual-in_err-write_receipt in
     let failed = err_from_is_err_and answer.result answer.ensures.1 in
-    let book = book_in c.import_whole-receipt.new.ledger in
-    let imported : Imported = record { receipt = c.import_whole-receipt.result; book = book } in
-    let import = c.import_whole-receipt.ensures in
+    let book = book_in c.import-receipt.new.ledger in
+    let import = c.import-receipt.ensures in
     let receipt = c.in_err-write_receipt.ensures.text in
     let written = others_unwritten failed.0 (open_statement book ∷ dispute_text book ∷ [])
     (rw failed.2 receipt) in
     rw failed.1
-    (is_trial imported c.in_ok-ledger.ensures.book import.booked import.read_out written tt)
+    (is_trial c.import-receipt.result import.booked.0 import.booked.1
+    (booked g (goal.at.returns-in_err-write_receipt-clause-trial g c).After-import-receipt)
+    import.read_out written tt)
 
 pub returns-in_err-write_statement-clause-trial : goal.returns-in_err-write_statement-clause-trial
 returns-in_err-write_statement-clause-trial g c =
     let answer = c.from_residual-in_err-write_statement in
     let failed = err_from_is_err_and answer.result answer.ensures.1 in
-    let book = book_in c.import_whole-receipt.new.ledger in
-    let imported : Imported = record { receipt = c.import_whole-receipt.result; book = book } in
-    let import = c.import_whole-receipt.ensures in
+    let book = book_in c.import-receipt.new.ledger in
+    let import = c.import-receipt.ensures in
     let end = g.W.Write.contents (writer_of c.write_statement.new.sink) in
     let refused : Result Receipt ReportFault = Err failed.0 in
     let statement =
     others_unwritten failed.0 (dispute_text book ∷ [])
     (rw failed.2 c.in_err-write_statement.ensures.text) in
     let written =
-    others_written (receipt_line_text imported.receipt)
+    others_written (receipt_line_text c.import-receipt.result)
     (open_statement book ∷ dispute_text book ∷ []) _ _ end refused
     c.in_ok-write_receipt.ensures.text statement in
     rw failed.1
-    (is_trial imported c.in_ok-ledger.ensures.book import.booked import.read_out written tt)
+    (is_trial c.import-receipt.result import.booked.0 import.booked.1
+    (booked g (goal.at.returns-in_err-write_statement-clause-trial g c).After-import-receipt)
+    import.read_out written tt)
 
 pub returns-in_err-write_disputes-clause-trial : goal.returns-in_err-write_disputes-clause-trial
 returns-in_err-write_disputes-clause-trial g c =
     let answer = c.from_residual-in_err-write_disputes in
     let failed = err_from_is_err_and answer.result answer.ensures.1 in
-    let book = book_in c.import_whole-receipt.new.ledger in
-    let imported : Imported = record { receipt = c.import_whole-receipt.result; book = book } in
-    let import = c.import_whole-receipt.ensures in
+    let book = book_in c.import-receipt.new.ledger in
+    let import = c.import-receipt.ensures in
     let end = g.W.Write.contents (writer_of c.write_disputes.new.sink) in
     let refused : Result Receipt ReportFault = Err failed.0 in
+    let disputes = subst (λ told. Writes (dispute_text told ∷ [])
+    (g.W.Write.contents (writer_of c.write_statement.new.sink)) end refused)
+    c.in_ok-write_statement.ensures.book (rw failed.2 c.in_err-write_disputes.ensures.text) in
     let statement =
     others_written (open_statement book) (dispute_text book ∷ []) _ _ end refused
-    c.in_ok-write_statement.ensures.text (rw failed.2 c.in_err-write_disputes.ensures.text) in
+    c.in_ok-write_statement.ensures.text disputes in
     let written =
-    others_written (receipt_line_text imported.receipt)
+    others_written (receipt_line_text c.import-receipt.result)
     (open_statement book ∷ dispute_text book ∷ []) _ _ end refused
     c.in_ok-write_receipt.ensures.text statement in
     rw failed.1
-    (is_trial imported c.in_ok-ledger.ensures.book import.booked import.read_out written tt)
+    (is_trial c.import-receipt.result import.booked.0 import.booked.1
+    (booked g (goal.at.returns-in_err-write_disputes-clause-trial g c).After-import-receipt)
+    import.read_out written tt)
 
 pub returns-clause-trial : goal.returns-clause-trial
 returns-clause-trial g c =
-    let book = book_in c.import_whole-receipt.new.ledger in
-    let imported : Imported = record { receipt = c.import_whole-receipt.result; book = book } in
-    let import = c.import_whole-receipt.ensures in
+    let book = book_in c.import-receipt.new.ledger in
+    let import = c.import-receipt.ensures in
     let end = g.W.Write.contents (writer_of c.write_disputes.new.sink) in
-    let answer : Result Receipt ReportFault = Ok imported.receipt in
+    let answer : Result Receipt ReportFault = Ok c.import-receipt.result in
+    let done : Result (Unit {0}) ReportFault = Ok tt in
+    let disputes = subst (λ told. Writes (dispute_text told ∷ [])
+    (g.W.Write.contents (writer_of c.write_statement.new.sink)) end done)
+    c.in_ok-write_statement.ensures.book c.in_ok-write_disputes.ensures.text in
     let statement =
     others_written (open_statement book) (dispute_text book ∷ []) _ _ end answer
-    c.in_ok-write_statement.ensures.text c.in_ok-write_disputes.ensures.text in
+    c.in_ok-write_statement.ensures.text disputes in
     let written =
-    others_written (receipt_line_text imported.receipt)
+    others_written (receipt_line_text c.import-receipt.result)
     (open_statement book ∷ dispute_text book ∷ []) _ _ end answer
     c.in_ok-write_receipt.ensures.text statement in
-    is_trial imported c.in_ok-ledger.ensures.book import.booked import.read_out written refl
+    is_trial c.import-receipt.result import.booked.0 import.booked.1
+    (booked g (goal.at.returns-clause-trial g c).After-import-receipt)
+    import.read_out written refl
