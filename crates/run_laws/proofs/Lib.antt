@@ -1,0 +1,2 @@
+-- The laws of runs, from those of histories.
+pub mod RunLemmas

@@ -1,0 +1,35 @@
+-- Runs: lists of commands, on books that calls made.
+use Rattle.std.specs.Prelude.{Bool, List, ◌++◌}
+use Rattle.book_model.specs.Records.{Naming}
+use Rattle.book_model.specs.Books.{Book}
+use Rattle.book_model.specs.Events.{Event, after_all}
+use Rattle.book_model.specs.History.{book_after}
+use Rattle.book_model.specs.Answered.{IsAnswered}
+use Rattle.book_import.specs.declared.command.Command.{Command}
+use Rattle.book_import.specs.declared.command.Reply.{Reply}
+use Rattle.book_import.specs.Commands.{Runs}
+
+-- commands, what was replied to them, and the events that they made, the newest first
+pub record Run : Type 0 where
+  pub commands : List Command
+  pub replies : List Reply
+  pub events : List Event
+
+-- the run was on these books, which were to be reopened before it or not, and are after it or not
+abbrev pub IsRunOn : Naming → Book → Bool → Run → Bool → Type 0
+IsRunOn naming before was run is = Runs naming run.commands run.replies was before run.events is
+
+-- The run came after a history that calls made: it was on the books of that history.
+pub record IsRunAfter (naming : Naming) (history : List Event) (run : Run) : Type 0 where
+  pub answered : IsAnswered naming history
+  pub was : Bool
+  pub is : Bool
+  pub runs : IsRunOn naming (book_after history) was run is
+
+-- the book that the run leaves of them
+abbrev pub book_left : List Event → Run → Book
+book_left history run = after_all run.events (book_after history)
+
+-- the history that goes on with the run
+abbrev pub history_with : List Event → Run → List Event
+history_with history run = run.events ++ history

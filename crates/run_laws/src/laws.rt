@@ -1,0 +1,46 @@
+//! Laws of runs, which hold over the definitions alone. Each stands on a function that does
+//! nothing.
+
+ghost use Rattle.run_laws.specs.Laws.{ClosedStatementsStay, OpenStatementIsFirst, RunOrderIsFree};
+ghost use Rattle.run_laws.specs.Laws.{RunsMakeHistory, RunsChargeOnce, RunsConserve};
+ghost use Rattle.run_laws.specs.Laws.{RunsFollowHistory};
+
+/// A run on new books, also under one tariff, comes after a history that calls made; and with the
+/// run it is such a history again.
+pub fn runs_make_history()
+    ensures { RunsMakeHistory }
+{}
+
+/// The book that a run leaves is the one that its history defines, looked at as a whole.
+pub fn runs_follow_history()
+    ensures { RunsFollowHistory }
+{}
+
+/// After any run each record that is held and undisputed is charged once net over all periods, and
+/// any other nets to nothing.
+pub fn runs_charge_once()
+    ensures { RunsChargeOnce }
+{}
+
+/// After any run all rows and plus lines, less all minus lines, come to what the records cost that
+/// are charged now.
+pub fn runs_conserve()
+    ensures { RunsConserve }
+{}
+
+/// However records are cut into dumps, commands and runs, repeated or reordered between two
+/// rulings: the books are the same, and so are their statements and their list of disputes.
+pub fn run_order_is_free()
+    ensures { RunOrderIsFree }
+{}
+
+/// A closed statement never changes, whatever commands are run after the close.
+pub fn closed_statements_stay()
+    ensures { ClosedStatementsStay }
+{}
+
+/// The statements that these laws speak of are the one that is written, of books that were never
+/// closed.
+pub fn open_statement_is_first()
+    ensures { OpenStatementIsFirst }
+{}

@@ -1,0 +1,10 @@
+//! Laws of runs: whatever commands are run on books, each record is charged once, all amounts are
+//! conserved, cuts and order make no difference, and a closed statement never changes.
+#![tactic(auto)]
+
+mod laws;
+
+pub use laws::{
+    closed_statements_stay, open_statement_is_first, run_order_is_free, runs_charge_once,
+    runs_conserve, runs_follow_history, runs_make_history,
+};
