@@ -1,0 +1,126 @@
+-- Tables that are kept step by step are those of the book.
+use Rattle.std.proofs.Common.{◌≡◌, ℕ, List, [], ◌∷◌, ◌++◌, map, length, refl, sym, ap, ◌∙◌, true}
+use Rattle.std.proofs.Common.{false, Bool, not, Option, Some, None, subst}
+use Rattle.std.specs.Prelude.{sum_by}
+use Rattle.std.specs.FinMap.{from_entries}
+use Rattle.std.specs.FinMap as fin
+use Rattle.std.specs.List.{filter_map}
+use Rattle.tariff_rules.specs.declared.priced.Priced.{Priced}
+use Rattle.book_model.specs.declared.row.ChargeRow.{ChargeRow}
+use Rattle.book_model.specs.declared.row.RowKey.{RowKey}
+use Rattle.book_model.specs.Answered.{IsAnswered}
+use Rattle.book_model.specs.Books.{Book, open_number, new_book}
+use Rattle.book_model.specs.Charged.{is_undisputed, is_dated_after}
+use Rattle.book_model.specs.Events.{Event, TariffAccepted, PeriodClosed, RecordKept, keep}
+use Rattle.book_model.specs.Events.{put_in_force}
+use Rattle.book_model.specs.History.{book_after}
+use Rattle.book_model.specs.Records.{Records, Naming, name_of, by_bytes}
+use Rattle.book_model.specs.Rows.{by_key, row_at}
+use Rattle.book_model.specs.Rulings.{no_rulings, Rulings, price_in, Tariffed}
+use Rattle.book_model.specs.Sets.{members, has, those}
+use Rattle.book_model.specs.Sound.{IsSound}
+use Rattle.book_model.proofs.AnsweredLemmas.{rulings_are, sound_after}
+use Rattle.book_model.proofs.SetChanges.{not_those}
+use Rattle.book_model.proofs.SetLemmas.{members-empty}
+use Rattle.book_model.proofs.SoundLemmas.{none_in}
+use Rattle.book_core.specs.Effects.{effects_of}
+use Rattle.kept_tables.specs.Keeping.{new_tables, keep_in, tables_after, open_of}
+use Rattle.kept_tables.specs.Laws.{TablesFollow}
+use Rattle.kept_tables.specs.Numbered.{under}
+use Rattle.kept_tables.specs.TableChanges.{close_tables, put_tariff, put_new}
+use Rattle.kept_tables.specs.TablesOf.{place_of, record_entry, tables_of, tariff_entries}
+use Rattle.kept_tables.proofs.CloseLemmas.{close_follows}
+use Rattle.kept_tables.proofs.ClosedLines.{no_members}
+use Rattle.kept_tables.proofs.DayChanges.{days_at}
+use Rattle.kept_tables.proofs.KeptLemmas.{kept_follows}
+use Rattle.kept_tables.proofs.KeptPrice.{kept_cost}
+use Rattle.kept_tables.proofs.LineChanges.{added, taken}
+use Rattle.kept_tables.proofs.TableParts.{same_tables}
+use Rattle.kept_tables.proofs.TariffChanges.{tariff_follows}
+use Rattle.kept_tables.proofs.ViewLemmas.{view_follows}
+
+-- new books under some tariffs have those tariffs alone in their tables
+new_under : (naming : Naming) (tariffs : List Tariffed)
+    → tables_of naming (record new_book { rulings = record no_rulings { tariffs = tariffs } })
+    ≡ record new_tables { tariffs = from_entries (tariff_entries tariffs) }
+new_under naming tariffs =
+    let ruled : Rulings = record no_rulings { tariffs = tariffs } in
+    let held : Records = fin.empty in
+    let undisputed : List ℕ → Bool = is_undisputed ruled held in
+    let current : List ℕ → Bool = is_dated_after None in
+    let charged : Records = those undisputed held in
+    let no_charged = λ (bytes : List ℕ). not_those undisputed held bytes (none_in bytes) in
+    let fresh : Records = those (λ k. not (has held k)) charged in
+    let no_fresh =
+    λ (bytes : List ℕ). not_those (λ k. not (has held k)) charged bytes (no_charged bytes) in
+    let price : List ℕ → Option Priced = price_in ruled in
+    let members_held : members held ≡ [] = members-empty by_bytes in
+    let counted =
+    no_members (those current charged)
+    (λ bytes. not_those current charged bytes (no_charged bytes)) in
+    let plus =
+    no_members (added None held charged)
+    (λ bytes. not_those (λ b. not (current b)) fresh bytes (no_fresh bytes)) in
+    let minus =
+    no_members (taken held charged)
+    (λ bytes. not_those (λ k. not (has charged k)) held bytes (none_in bytes)) in
+    let line : Bool → List (List ℕ) → List (List ℕ × Bool) =
+    λ sign. map (λ bytes. (name_of naming bytes, sign)) in
+    same_tables
+    (λ i. record new_tables.book {
+      held = length (members_held i);
+      amount = sum_by (λ one. one.amount) (filter_map price (members_held i));
+    })
+    refl refl
+    (ap (λ ks. from_entries (filter_map (record_entry naming ruled charged held) ks)) members_held)
+    (ap (λ ks. from_entries (under 1 (days_at (filter_map price ks)) ++ [])) counted
+    ∙ ap (λ keys. from_entries (under 1 (map {B = RowKey × ChargeRow} (λ row. (place_of row, row))
+    (map (row_at []) keys)) ++ [])) (members-empty by_key))
+    (λ i. from_entries (under 1 (line true (plus i) ++ line false (minus i)) ++ []))
+
+module _ (naming : Naming) (older : List Event) (bytes : List ℕ)
+    (answered : IsAnswered naming (RecordKept bytes ∷ older)) where
+  -- the book before the record
+  abbrev book : Book
+  book = book_after older
+
+  -- the book is sound before the record and after it
+  sound : IsSound naming book
+  sound = sound_after naming older answered.1
+
+  -- the record has a price
+  cost : (priced : Priced) × (price_in book.rulings bytes ≡ Some priced)
+  cost = kept_cost naming book bytes sound answered.0
+
+  -- a record that is kept
+  one_kept : tables_after naming older ≡ tables_of naming book
+      → tables_after naming (RecordKept bytes ∷ older) ≡ tables_of naming (keep bytes book)
+  one_kept before =
+      let ruled : Rulings = book.rulings in
+      let name : List ℕ = name_of naming bytes in
+      let same = sym (rulings_are older) in
+      (λ i. keep_in naming (same i) bytes (price_in (same i) bytes) (before i))
+      ∙ ap (λ price. keep_in naming ruled bytes price (tables_of naming book)) cost.1
+      ∙ ap (λ view. put_new naming ruled (open_number book) bytes cost.0
+      (effects_of view name cost.0) (tables_of naming book)) (view_follows naming book bytes sound)
+      ∙ sym (kept_follows naming book bytes cost.0 sound answered.0 cost.1)
+
+-- the law of it
+pub tables_follow : TablesFollow
+tables_follow naming [] answered = sym (new_under naming [])
+tables_follow naming (RecordKept bytes ∷ older) answered =
+    one_kept naming older bytes answered (tables_follow naming older answered.1)
+tables_follow naming (TariffAccepted (Some text) terms ∷ older) answered =
+    ap (put_tariff (Some text) terms) (tables_follow naming older answered.1)
+    ∙ sym (tariff_follows naming (book_after older) text terms
+    (sound_after naming older answered.1) answered.0)
+tables_follow naming (TariffAccepted None terms ∷ older) answered =
+    subst (λ (events : List Event). put_tariff None terms (tables_after naming events)
+    ≡ tables_of naming (put_in_force None terms (book_after events))) (sym answered)
+    (sym (new_under naming (record { text = None; terms = terms } ∷ [])))
+tables_follow naming (PeriodClosed day ∷ older) answered =
+    let book : Book = book_after older in
+    (λ i. close_tables (open_of (sym (rulings_are older) i)) day
+    (tables_follow naming older answered.1 i))
+    ∙ sym (close_follows naming book (open_number book) day
+    (sound_after naming older answered.1) answered.0)

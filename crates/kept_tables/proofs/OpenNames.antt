@@ -1,0 +1,78 @@
+-- Names of records that are held, and which of them the open period adds and takes back.
+use Rattle.std.proofs.Common.{◌≡◌, ℕ, List, refl, sym, ap, ◌∙◌, true, false, true≢false, not}
+use Rattle.std.proofs.Common.{Option}
+use Rattle.std.specs.Prelude.{ℤ}
+use Rattle.std.proofs.lemmas.Map.Lookups.{exact_bytes}
+use Rattle.std.proofs.lemmas.Map.Views.{tells_apart}
+use Rattle.book_model.specs.Books.{Book, charged_of}
+use Rattle.book_model.specs.Records.{Records, Naming, name_of}
+use Rattle.book_model.specs.Rulings.{last_close}
+use Rattle.book_model.specs.Sets.{has, those}
+use Rattle.book_model.specs.Sound.{IsSound}
+use Rattle.book_model.proofs.RecordSets.{is, is_itself, in_those, passes_those, not_true}
+use Rattle.book_model.proofs.SetChanges.{IsUnnamed}
+use Rattle.kept_tables.proofs.LineChanges.{added, taken}
+
+module _ (naming : Naming) (book : Book) (sound : IsSound naming book) where
+  -- the last close's day
+  abbrev last : Option ℤ
+  last = last_close book.rulings
+
+  -- what was charged before
+  abbrev before : Records
+  before = charged_of book
+
+  -- what was added and taken back
+  abbrev plus_before : Records
+  plus_before = added last book.posted before
+
+  -- what was taken back
+  abbrev minus_before : Records
+  minus_before = taken book.posted before
+
+  -- two records that are held and differ have two names
+  pub names_differ : (one other : List ℕ) → has book.held one ≡ true → has book.held other ≡ true
+      → is other one ≡ false
+      → is (name_of naming one) (name_of naming other) ≡ false
+  names_differ one other there too differ =
+      elim (is (name_of naming one) (name_of naming other)) as
+      (λ b. is (name_of naming one) (name_of naming other) ≡ b → b ≡ false) [
+        | true ↦ λ e.
+            let same =
+            sound.named one other there too
+            (tells_apart exact_bytes (name_of naming one) (name_of naming other) e) in
+            absurd (true≢false (sym (is_itself other) ∙ ap (λ b. is other b) (sym same) ∙ differ))
+        | false ↦ λ e. refl
+      ] refl
+
+  -- so one of them has no name of another set of such
+  pub unnamed_in : (one : List ℕ) (records : Records) → has book.held one ≡ true
+      → ((other : List ℕ) → has records other ≡ true → has book.held other ≡ true)
+      → ((other : List ℕ) → has records other ≡ true → is other one ≡ false)
+      → IsUnnamed naming one records
+  unnamed_in one records there within differ other in_it =
+      names_differ one other there (within other in_it) (differ other in_it)
+
+  -- what was charged is held
+  pub before_held : (other : List ℕ) → has before other ≡ true → has book.held other ≡ true
+  before_held other in_it = in_those _ book.held other in_it
+
+  -- what is added was charged
+  pub added_before : (other : List ℕ) → has plus_before other ≡ true → has before other ≡ true
+  added_before other in_it =
+      in_those _ before other (in_those _ (those (λ b. not (has book.posted b)) before) other in_it)
+
+  -- and was not posted
+  pub added_fresh : (other : List ℕ) → has plus_before other ≡ true → has book.posted other ≡ false
+  added_fresh other in_it =
+      not_true (has book.posted other) (passes_those (λ b. not (has book.posted b)) before other
+      (in_those _ (those (λ b. not (has book.posted b)) before) other in_it))
+
+  -- what is taken back was posted
+  pub taken_posted : (other : List ℕ) → has minus_before other ≡ true → has book.posted other ≡ true
+  taken_posted other in_it = in_those _ book.posted other in_it
+
+  -- and is charged no more
+  pub taken_gone : (other : List ℕ) → has minus_before other ≡ true → has before other ≡ false
+  taken_gone other in_it =
+      not_true (has before other) (passes_those (λ b. not (has before b)) book.posted other in_it)

@@ -1,0 +1,16 @@
+-- Changes of all rows of a finite map.
+use Rattle.std.specs.Prelude.{map}
+use Rattle.std.specs.FinMap.{FinMap, entries, from_entries}
+use Rattle.std.specs.declared.cmp.Ordering.{Ordering}
+
+-- each row with a change, under the keys that they have
+abbrev pub updated :
+    {K V : Type 0} {R : K → K → Ordering} → (V → V) → FinMap R V → FinMap R V
+updated {K} {V} change rows =
+    from_entries (map {B = K × V} (λ (row : K × V). (row.0, change row.1)) (entries rows))
+
+-- each row under a changed key
+abbrev pub moved :
+    {K V : Type 0} {R : K → K → Ordering} → (K → K) → FinMap R V → FinMap R V
+moved {K} {V} change rows =
+    from_entries (map {B = K × V} (λ (row : K × V). (change row.0, row.1)) (entries rows))

@@ -1,0 +1,63 @@
+//! Laws of the kept tables, which hold over their definitions alone. Each stands on a function that
+//! does nothing.
+
+ghost use Rattle.kept_tables.specs.Laws.{AtMostFourDiffer, CloseFollows, KeptFollows};
+ghost use Rattle.kept_tables.specs.Laws.{TablesFollow, TariffFollows, ViewFits, ViewFollows};
+ghost use Rattle.kept_tables.specs.ReadingLaws.{LinesFollow, LinesStay, PastStays, RowsFollow};
+
+/// The tables of a book with one record more are those without it, with the record's row, counted
+/// in the row of the book, and with its effects.
+pub fn kept_follows()
+    ensures { KeptFollows }
+{}
+
+/// The tables after a close are those before it, with the day of the close, with the records posted
+/// that it charges, and with the later rows of the open period moved to the next.
+pub fn close_follows()
+    ensures { CloseFollows }
+{}
+
+/// The tables after a tariff are those before it, with its row.
+pub fn tariff_follows()
+    ensures { TariffFollows }
+{}
+
+/// What a ledger looks at for a new record stands in the tables alone.
+pub fn view_follows()
+    ensures { ViewFollows }
+{}
+
+/// A view that is read from tables has a member alone where it counts one.
+pub fn view_fits()
+    ensures { ViewFits }
+{}
+
+/// Tables that are kept over a history, each step from what they held, are those of the book.
+pub fn tables_follow()
+    ensures { TablesFollow }
+{}
+
+/// A record that is kept changes four rows at most.
+pub fn at_most_four_differ()
+    ensures { AtMostFourDiffer }
+{}
+
+/// The charge rows of each period are read back from the tables.
+pub fn rows_follow()
+    ensures { RowsFollow }
+{}
+
+/// The adjustment lines of each period are read back from the tables.
+pub fn lines_follow()
+    ensures { LinesFollow }
+{}
+
+/// What reading them rests on is true of new books, and each event keeps it so.
+pub fn lines_stay()
+    ensures { LinesStay }
+{}
+
+/// No tariff changes the rows and lines of a closed period.
+pub fn past_stays()
+    ensures { PastStays }
+{}
