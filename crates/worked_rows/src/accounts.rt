@@ -112,6 +112,6 @@ fn each_centre_has_its_row(rt: HostRuntime) -> Result<(), Fail> {
         import(alloc, &by_account, &mut ledger),
         one_kept(Stop::End)
     );
-    assert_eq!(rt; report(alloc, &ledger)?.as_str(), BY_CENTRE);
+    assert_eq!(rt; report(alloc, &mut ledger)?.as_str(), BY_CENTRE);
     Ok(())
 }

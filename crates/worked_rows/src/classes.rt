@@ -115,7 +115,7 @@ fn every_class(rt: HostRuntime) -> Result<(), Fail> {
         stop: Stop::End,
     };
     assert_eq!(rt; receipt, want);
-    assert_eq!(rt; dispute_list(alloc, &ledger)?.as_str(), "DISPUTES 0\n");
+    assert_eq!(rt; dispute_list(alloc, &mut ledger)?.as_str(), "DISPUTES 0\n");
     Ok(())
 }
 

@@ -55,7 +55,7 @@ fn disputes_of(alloc: Global, one: Record, other: Record) -> Result<String, Fail
     let mut ledger = new_books(alloc)?;
     import(alloc, &one, &mut ledger);
     import(alloc, &other, &mut ledger);
-    dispute_list(alloc, &ledger)
+    dispute_list(alloc, &mut ledger)
 }
 
 #[test]
@@ -123,11 +123,21 @@ fn digest_clash(rt: HostRuntime) -> Result<(), Fail> {
         ..Receipt::stopped(Stop::End)
     };
     assert_eq!(rt; receipt, want);
-    assert_eq!(rt; report(alloc, &ledger)?.as_str(), ONE_STEP);
+    assert_eq!(rt; report(alloc, &mut ledger)?.as_str(), ONE_STEP);
 
     let receipt = import(alloc, &other_step(SAMPLE, 2), &mut ledger);
     let clash = Stop::Ledger(LedgerFault::DigestClash);
     assert_eq!(rt; receipt, Receipt::stopped(clash));
-    assert_eq!(rt; report(alloc, &ledger)?.as_str(), ONE_STEP);
+    let between = joined(alloc, &[&SAMPLE, &other_step(SAMPLE, 2), &SAMPLE])?;
+    let want = Receipt {
+        known: 1,
+        ..Receipt::stopped(clash)
+    };
+    assert_eq!(rt;
+        import(alloc, &between, &mut ledger),
+        want,
+        "none behind it"
+    );
+    assert_eq!(rt; report(alloc, &mut ledger)?.as_str(), ONE_STEP);
     Ok(())
 }

@@ -9,7 +9,7 @@ use crate::sample::{SAMPLE, joined, other_step};
 use crate::statements::{ONE_RECORD, ONE_STEP, TWO_STEPS};
 use crate::trials::trial_text;
 use book_core::Source;
-use book_import::{Receipt, Stop, import_whole};
+use book_import::{Receipt, Stop, import as import_source};
 use smf_frames::{FrameFault, Layout, split};
 use std::alloc::{AllocError, Global};
 use std::test::Fail;
@@ -183,7 +183,7 @@ fn pieces_make_no_difference(rt: HostRuntime) -> Result<(), Fail> {
         let receipt = import_from(alloc, reader, Layout::Rdw, &mut ledger);
         assert_eq!(rt; receipt, want, "pieces of {size}");
         assert_eq!(rt;
-            report(alloc, &ledger)?.as_str(),
+            report(alloc, &mut ledger)?.as_str(),
             TWO_STEPS,
             "pieces of {size}"
         );
@@ -196,7 +196,7 @@ fn readers_that_stop(rt: HostRuntime) -> Result<(), Fail> {
     let alloc = rt.alloc();
     let mut ledger = new_books(alloc)?;
     let mut source = Source::new(Endless::new());
-    let receipt = import_whole(alloc, &mut source, Layout::Rdw, 3, &mut ledger);
+    let receipt = import_source(alloc, &mut source, Layout::Rdw, 3, &mut ledger);
     assert_eq!(rt; receipt, one_kept(Stop::ReadLimit));
     assert_eq!(rt; source.asked(), 3);
 

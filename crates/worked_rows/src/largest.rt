@@ -51,11 +51,11 @@ fn largest_amounts(rt: HostRuntime) -> Result<(), Fail> {
         let receipt = import(alloc, &other_step(largest, step), &mut ledger);
         assert_eq!(rt; receipt, one_kept(Stop::End), "step {step}");
     }
-    assert_eq!(rt; report(alloc, &ledger)?.as_str(), FULL);
+    assert_eq!(rt; report(alloc, &mut ledger)?.as_str(), FULL);
 
     let receipt = import(alloc, &other_step(largest, 45), &mut ledger);
     let full = Receipt::stopped(Stop::Ledger(LedgerFault::Full));
     assert_eq!(rt; receipt, full, "step 45");
-    assert_eq!(rt; report(alloc, &ledger)?.as_str(), FULL);
+    assert_eq!(rt; report(alloc, &mut ledger)?.as_str(), FULL);
     Ok(())
 }

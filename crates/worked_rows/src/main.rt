@@ -5,9 +5,19 @@
 #[cfg(test)]
 mod accounts;
 #[cfg(test)]
+mod adjustments;
+#[cfg(test)]
+mod calls;
+#[cfg(test)]
 mod check_lists;
 #[cfg(test)]
 mod classes;
+#[cfg(test)]
+mod closed_periods;
+#[cfg(test)]
+mod closes;
+#[cfg(test)]
+mod command_lists;
 #[cfg(test)]
 mod commands;
 #[cfg(test)]
@@ -19,16 +29,28 @@ mod dump_reader;
 #[cfg(test)]
 mod dumps;
 #[cfg(test)]
+mod effects;
+#[cfg(test)]
 mod faults;
 #[cfg(test)]
 mod files;
 #[cfg(test)]
 mod frames;
 #[cfg(test)]
+mod history;
+#[cfg(test)]
+mod kept_history;
+#[cfg(test)]
+mod kept_rows;
+#[cfg(test)]
 mod largest;
+#[cfg(test)]
+mod long_history;
 #[cfg(test)]
 mod messages;
 mod office;
+#[cfg(test)]
+mod plain_tables;
 #[cfg(test)]
 mod prices;
 #[cfg(test)]
@@ -40,6 +62,8 @@ mod receipts;
 mod sample;
 mod sample_tariff;
 #[cfg(test)]
+mod slow_ledger;
+#[cfg(test)]
 mod statements;
 #[cfg(test)]
 mod tariff_files;
@@ -49,6 +73,8 @@ mod tariffs;
 mod texts;
 #[cfg(test)]
 mod trials;
+#[cfg(test)]
+mod twice_kept;
 #[cfg(test)]
 mod usage;
 #[cfg(test)]

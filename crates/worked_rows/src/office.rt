@@ -1,7 +1,7 @@
 //! The office's books under one tariff, and the texts that they give.
 
-use book_core::{Naming, PlainLedger, ShaNames, Sink, Source};
-use book_import::{MAX_READS, Receipt, import_whole};
+use book_core::{Ledger, PlainLedger, ShaNames, Sink, Source};
+use book_import::{MAX_READS, Receipt, import as import_source};
 use book_reports::{dispute_list_text, statement_text, write_text};
 use smf_frames::Layout;
 use std::alloc::Global;
@@ -38,38 +38,41 @@ pub fn books_under(alloc: Global, file: &str) -> Result<PlainLedger<ShaNames>, F
 }
 
 /// Hands what a reader gives to the books.
-pub fn import_from<R: Read + Drop, N: Naming + Drop>(
+pub fn import_from<R: Read + Drop, L: Ledger>(
     alloc: Global,
     reader: R,
     layout: Layout,
-    ledger: &mut PlainLedger<N>,
+    ledger: &mut L,
 ) -> Receipt {
     let mut source = Source::new(reader);
-    import_whole(alloc, &mut source, layout, MAX_READS, ledger)
+    import_source(alloc, &mut source, layout, MAX_READS, ledger)
 }
 
 /// Hands a dump of segments to the books.
-pub fn import<N: Naming + Drop>(
-    alloc: Global,
-    dump: &[u8],
-    ledger: &mut PlainLedger<N>,
-) -> Receipt {
+pub fn import<L: Ledger>(alloc: Global, dump: &[u8], ledger: &mut L) -> Receipt {
     import_from(alloc, dump, Layout::Rdw, ledger)
 }
 
 /// The list of disputes.
-pub fn dispute_list<N: Naming + Drop>(
-    alloc: Global,
-    ledger: &PlainLedger<N>,
-) -> Result<String, Fail> {
+pub fn dispute_list<L: Ledger>(alloc: Global, ledger: &mut L) -> Result<String, Fail> {
     let disputes = ledger.disputes()?;
     Ok(dispute_list_text(alloc, &disputes)?)
 }
 
-/// The statement of the one period and behind it the list of disputes, as they are written.
-pub fn report<N: Naming + Drop>(alloc: Global, ledger: &PlainLedger<N>) -> Result<String, Fail> {
-    let rows = ledger.charges(1)?;
-    let statement = statement_text(alloc, 1, None, &rows)?;
+/// The statement of a period of the books.
+pub fn statement<L: Ledger>(alloc: Global, ledger: &mut L, period: u16) -> Result<String, Fail> {
+    let rows = ledger.charges(period)?;
+    let days = ledger.periods()?;
+    let through = match period {
+        0 => None,
+        _ => days.get(period as usize - 1).copied(),
+    };
+    Ok(statement_text(alloc, period, through, &rows)?)
+}
+
+/// The statement of period 1 and behind it the list of disputes, as they are written.
+pub fn report<L: Ledger>(alloc: Global, ledger: &mut L) -> Result<String, Fail> {
+    let statement = statement(alloc, ledger, 1)?;
     let disputes = dispute_list(alloc, ledger)?;
     let mut sink = Sink::new(Vec::new(alloc));
     write_text(&mut sink, statement.as_str())?;

@@ -1,6 +1,8 @@
 //! Receipts, and the line that shows one.
 
-use crate::office::{import, new_books};
+use crate::office::{books_under, import, new_books};
+use crate::sample::{SAMPLE, dated, joined, other_step, variant_1201};
+use crate::tariffs::{CPU_RATE, file_from};
 use book_core::LedgerFault;
 use book_import::{Receipt, Stop};
 use book_reports::receipt_line_text;
@@ -41,6 +43,41 @@ pub fn one_damaged() -> Receipt {
 pub fn receipt_for(alloc: Global, record: &[u8]) -> Result<Receipt, Fail> {
     let mut ledger = new_books(alloc)?;
     Ok(import(alloc, record, &mut ledger))
+}
+
+#[test]
+fn a_receipt_counts_what_became_of_each_record(rt: HostRuntime) -> Result<(), Fail> {
+    let alloc = rt.alloc();
+    let file = file_from(alloc, "2024-01-01", CPU_RATE, "")?;
+    let mut ledger = books_under(alloc, file.as_str())?;
+    let unpriced = dated(SAMPLE, [0x01, 0x23, 0x36, 0x5F]);
+    let step = other_step(SAMPLE, 2);
+    let dump = joined(
+        alloc,
+        &[
+            &unpriced,
+            &SAMPLE,
+            &step,
+            &SAMPLE,
+            &unpriced,
+            &variant_1201(),
+            &[0x00, 0xA8],
+        ],
+    )?;
+    let want = Receipt {
+        kept: 3,
+        known: 1,
+        unpriced: 2,
+        ..Receipt::stopped(Stop::Frame(FrameFault::Truncated))
+    };
+    assert_eq!(rt; import(alloc, &dump, &mut ledger), want);
+    let want = Receipt {
+        known: 4,
+        unpriced: 2,
+        ..Receipt::stopped(Stop::Frame(FrameFault::Truncated))
+    };
+    assert_eq!(rt; import(alloc, &dump, &mut ledger), want, "again");
+    Ok(())
 }
 
 #[test]

@@ -159,6 +159,11 @@ pub fn variant_1201() -> Record {
     measuring(SAMPLE, 1201, 34)
 }
 
+/// The sample with 12.02 seconds of TCB time.
+pub fn variant_1202() -> Record {
+    measuring(SAMPLE, 1202, 34)
+}
+
 /// The record with so many accounting fields, which are the bytes behind it.
 pub fn with_accounts(
     alloc: Global,

@@ -91,6 +91,6 @@ pub fn report_under(alloc: Global, file: &str) -> Result<String, Fail> {
     let mut ledger = books_under(alloc, file)?;
     let receipt = import(alloc, &dump(alloc)?, &mut ledger);
     let mut text = receipt_line_text(alloc, &receipt)?;
-    text.push_str(report(alloc, &ledger)?.as_str())?;
+    text.push_str(report(alloc, &mut ledger)?.as_str())?;
     Ok(text)
 }

@@ -5,7 +5,7 @@ use crate::office::{flat, import, new_books, report};
 use crate::prices::price_of;
 use crate::sample::{SAMPLE, Section, joined, measuring, other_step, with_blocks, without};
 use crate::trials::trial_text;
-use book_core::{PlainLedger, ShaNames};
+use book_core::{Ledger, PlainLedger, ShaNames};
 use book_import::{Receipt, Stop};
 use book_reports::statement_text;
 use smf_frames::Layout;
@@ -132,7 +132,7 @@ fn repeated_and_overlapping(rt: HostRuntime) -> Result<(), Fail> {
             ..Receipt::stopped(Stop::End)
         };
         assert_eq!(rt; receipt, want, "{case}");
-        assert_eq!(rt; report(alloc, &ledger)?.as_str(), TWO_STEPS, "{case}");
+        assert_eq!(rt; report(alloc, &mut ledger)?.as_str(), TWO_STEPS, "{case}");
     }
     Ok(())
 }
@@ -142,7 +142,7 @@ fn without_an_io_section_no_blocks_are_charged(rt: HostRuntime) -> Result<(), Fa
     let alloc = rt.alloc();
     let mut ledger = new_books(alloc)?;
     import(alloc, &without(SAMPLE, Section::InputOutput), &mut ledger);
-    assert_eq!(rt; report(alloc, &ledger)?.as_str(), NO_BLOCKS);
+    assert_eq!(rt; report(alloc, &mut ledger)?.as_str(), NO_BLOCKS);
     Ok(())
 }
 

@@ -5,7 +5,7 @@ use crate::prices::price_of;
 use crate::receipts::{one_kept, one_unpriced};
 use crate::sample::{SAMPLE, dated, other_step, timed};
 use crate::statements::{NO_STEP, ONE_STEP};
-use book_core::{LedgerFault, PlainLedger, Ruled, ShaNames};
+use book_core::{Ledger, LedgerFault, PlainLedger, Ruled, ShaNames};
 use book_import::Stop;
 use std::alloc::{AllocError, Global};
 use std::test::Fail;
@@ -64,12 +64,12 @@ fn tariffs_in_order(rt: HostRuntime) -> Result<(), Fail> {
     let alloc = rt.alloc();
     let mut ledger = PlainLedger::new(alloc, ShaNames)?;
     assert_eq!(rt; import(alloc, &SAMPLE, &mut ledger), one_unpriced());
-    assert_eq!(rt; report(alloc, &ledger)?.as_str(), NO_STEP);
+    assert_eq!(rt; report(alloc, &mut ledger)?.as_str(), NO_STEP);
 
     let file = file_from(alloc, "2024-01-01", CPU_RATE, "")?;
     assert_eq!(rt; ledger.tariff(file.as_str()), Ok(Ruled::Done));
     assert_eq!(rt; import(alloc, &SAMPLE, &mut ledger), one_kept(Stop::End));
-    assert_eq!(rt; report(alloc, &ledger)?.as_str(), ONE_STEP);
+    assert_eq!(rt; report(alloc, &mut ledger)?.as_str(), ONE_STEP);
 
     let exists = Err(LedgerFault::TariffExists);
     let early = Err(LedgerFault::TariffDate);
@@ -83,7 +83,7 @@ fn tariffs_in_order(rt: HostRuntime) -> Result<(), Fail> {
     for (case, day, cpu, rules, want) in cases {
         let file = file_from(alloc, day, cpu, rules)?;
         assert_eq!(rt; ledger.tariff(file.as_str()), want, "{case}");
-        assert_eq!(rt; report(alloc, &ledger)?.as_str(), ONE_STEP, "{case}");
+        assert_eq!(rt; report(alloc, &mut ledger)?.as_str(), ONE_STEP, "{case}");
     }
     Ok(())
 }
@@ -119,7 +119,7 @@ fn records_dated(rt: HostRuntime) -> Result<(), Fail> {
     for (case, day, cpu, rules, want) in cases {
         let file = file_from(alloc, day, cpu, rules)?;
         assert_eq!(rt; ledger.tariff(file.as_str()), want, "{case}");
-        assert_eq!(rt; report(alloc, &ledger)?.as_str(), ONE_STEP, "{case}");
+        assert_eq!(rt; report(alloc, &mut ledger)?.as_str(), ONE_STEP, "{case}");
     }
     Ok(())
 }
@@ -137,7 +137,7 @@ fn each_tariff_prices_the_days_from_its_first_to_the_next(rt: HostRuntime) -> Re
         import(alloc, &first_of_february, &mut ledger),
         one_kept(Stop::End)
     );
-    assert_eq!(rt; report(alloc, &ledger)?.as_str(), TWO_TARIFFS);
+    assert_eq!(rt; report(alloc, &mut ledger)?.as_str(), TWO_TARIFFS);
     Ok(())
 }
 
@@ -166,6 +166,6 @@ fn night_shift(rt: HostRuntime) -> Result<(), Fail> {
             "{case}"
         );
     }
-    assert_eq!(rt; report(alloc, &ledger)?.as_str(), DAY_AND_NIGHT);
+    assert_eq!(rt; report(alloc, &mut ledger)?.as_str(), DAY_AND_NIGHT);
     Ok(())
 }
