@@ -35,7 +35,7 @@ stays_by false false longer due block segment block' segment' same broken =
     ap (λ l. cond l None (cond due block' segment')) is.0 ∙ λ i. cond due (is.1 i) (is.2 i)
 
 -- the fault at a descriptor
-descriptor_stays : (layout : Layout) (begun left : Option ℕ) (bytes more : List ℕ)
+pub descriptor_stays : (layout : Layout) (begun left : Option ℕ) (bytes more : List ℕ)
     → is_some (descriptor_fault layout begun left bytes) ≡ true
     → descriptor_fault layout begun left (bytes ++ more) ≡ descriptor_fault layout begun left bytes
 descriptor_stays layout begun left bytes more broken =

@@ -65,7 +65,7 @@ block_by false false false true named len taken = absurd cc
 block_by false false false false named len taken = absurd cc
 
 -- and a descriptor that is there has no fault where it has room and its own tests pass.
-descriptor_by : (lacks short due : Bool) (of_block of_segment : Option FrameFault)
+pub descriptor_by : (lacks short due : Bool) (of_block of_segment : Option FrameFault)
     → is_some (cond lacks (Some SegmentCrossesBlock)
     (cond short None (cond due of_block of_segment))) ≡ false
     → short ≡ false → (lacks ≡ false) × (cond due of_block of_segment ≡ None)
@@ -79,7 +79,7 @@ descriptor_by false false due of_block of_segment passes there =
     none (Some fault) passes = absurd cc
 
 -- where no test of a segment's descriptor is failed, none says yes
-passes_segment : (a b c d e : Bool)
+pub passes_segment : (a b c d e : Bool)
     → cond a (Some SegmentLength) (cond b (Some SegmentCrossesBlock) (cond c (Some OrphanSegment)
     (cond d (Some MissingLast) (cond e (Some RecordTooLong) None)))) ≡ None
     → (a ≡ false) × (b ≡ false) × (c ≡ false) × (d ≡ false) × (e ≡ false)

@@ -1,4 +1,5 @@
-ghost use Rattle.std.specs.Prelude.{◌≡◌, ◌≤◌, IfOk, length};
+ghost use Rattle.std.specs.Prelude.{◌≡◌, ◌+◌, ◌≤◌, IfOk, length};
+ghost use Rattle.smf_frames.specs.Segment.{descriptor_len};
 ghost use Rattle.smf_frames.specs.Framed as spec;
 
 use crate::descriptor::DESCRIPTOR_LEN;
@@ -21,4 +22,17 @@ pub fn record_with(alloc: Global, joined: &[u8]) -> Result<Vec<u8>, AllocError>
     bytes.push(0)?;
     bytes.extend_from_slice(joined)?;
     Ok(bytes)
+}
+
+/// Writes the descriptor of a record into the bytes that stand in front of its data.
+pub fn describe(bytes: &mut [u8])
+    requires long { descriptor_len ≤ length bytes.old }
+    requires short { length bytes.old ≤ descriptor_len + spec.most_data }
+    ensures { bytes.new ≡ spec.record_with (spec.data_of bytes.old) }
+{
+    let len = bytes.len();
+    bytes[0] = (len / 256) as u8;
+    bytes[1] = (len % 256) as u8;
+    bytes[2] = 0;
+    bytes[3] = 0;
 }

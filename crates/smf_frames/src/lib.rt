@@ -1,11 +1,14 @@
-//! Cuts a dump into joined records, and says why it stops.
+//! Cuts a dump into joined records, and says why it stops; a dump may come whole or in pieces.
 #![tactic(auto)]
 
+mod block;
 mod descriptor;
 mod dump;
 mod fault;
 mod framed;
 mod header;
+mod joiner;
+mod laws;
 mod next;
 mod whole;
 
@@ -13,4 +16,6 @@ pub use dump::{Layout, Split};
 pub use fault::FrameFault;
 pub use framed::MAX_DATA;
 pub use header::{HEADER_LEN, Header};
+pub use joiner::Joiner;
+pub use laws::feed_is_determined;
 pub use whole::split;

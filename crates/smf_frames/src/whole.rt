@@ -7,6 +7,7 @@ ghost use Rattle.smf_frames.specs.Longest.{Front, IsFront};
 ghost use Rattle.smf_frames.specs.Front as spec;
 ghost use Rattle.smf_frames.specs.Texts.{texts, text_in, front_of};
 
+use crate::block::{left_after, left_of_block};
 use crate::descriptor::{DESCRIPTOR_LEN, kind_of};
 use crate::dump::{Layout, Split};
 use crate::fault::{descriptor_fault, end_fault};
@@ -21,23 +22,6 @@ fn data_len(begun: &Option<Vec<u8>>) -> Option<usize>
     match begun {
         None => None,
         Some(joined) => Some(joined.len()),
-    }
-}
-
-/// What is left of a block, if anything is.
-fn left_of_block(n: usize) -> Option<usize>
-    ensures { result ≡ spec.left_of_block n }
-{
-    if n == 0 { None } else { Some(n) }
-}
-
-/// What is left of a block behind a segment of that length.
-fn left_after(left: Option<usize>, len: usize) -> Option<usize>
-    ensures { result ≡ spec.left_after left len }
-{
-    match left {
-        None => None,
-        Some(left) => left_of_block(left.saturating_sub(len)),
     }
 }
 
@@ -97,8 +81,8 @@ fn stopped(
 /// Cuts a dump into its records: each is the joined data of its segments, behind a descriptor of
 /// its own. A dump that stops being lawful gives the records before that, and says why.
 pub fn split(alloc: Global, layout: Layout, bytes: &[u8]) -> Result<Split, AllocError>
-    // By the public standard: the records of the longest prefix that is whole records, and why there
-    // are no more.
+    // By the public standard: the records of the longest prefix that is whole records, and why
+    // there are no more.
     ensures longest { IfOk result (λ s. IsFront layout bytes.now (front_of s)) }
     ensures only { IfOk result (λ s.
         (other : Front) → IsFront layout bytes.now other → other ≡ front_of s) }

@@ -1,0 +1,231 @@
+-- How a joiner goes on over the bytes that come.
+use Rattle.std.proofs.Common.{◌≡◌, ℕ, ◌+◌, ◌-◌, ◌≤◌, ◌<◌, Bool, true, false, cond, List, [], ◌∷◌}
+use Rattle.std.proofs.Common.{◌++◌, length, take, drop, refl, sym, ap, ◌∙◌, arith, length-append}
+use Rattle.std.proofs.Common.{length-drop, append_assoc, subst, Option, Some, None, inl, inr}
+use Rattle.std.specs.Prelude.{is_some}
+use Rattle.std.specs.Option.{option_to_list}
+use Rattle.std.proofs.lemmas.Bool.{le-ltb, cases_lt}
+use Rattle.std.proofs.lemmas.List.{take_at, drop_at, take-append-drop, take-append-le}
+use Rattle.std.proofs.Math.Seq.{take-append-add}
+use Rattle.smf_frames.specs.declared.dump.Layout.{Layout}
+use Rattle.smf_frames.specs.declared.fault.FrameFault.{FrameFault}
+use Rattle.smf_frames.specs.declared.next.Next.TheVariants.{Stops, Block, Segment}
+use Rattle.smf_frames.specs.Framed.{record_with}
+use Rattle.smf_frames.specs.Segment.{named_len, kind_of, goes_on}
+use Rattle.smf_frames.specs.Faults.{is_block_due, descriptor_fault}
+use Rattle.smf_frames.specs.Front.{Front, Progress, data_len, behind, front_from, completed}
+use Rattle.smf_frames.specs.Front.{joined_with, after_segment, after_block}
+use Rattle.smf_frames.specs.Joining.{Joining, next_held, fault_held, broken_by}
+use Rattle.smf_frames.specs.JoinerSteps.{holding, made, past_block, past_segment, HoldsBlock}
+use Rattle.smf_frames.specs.JoinerSteps.{HoldsSegment, HoldsLess, Steps, over_block, over_segment}
+use Rattle.smf_frames.proofs.Ways.{next_at, front_stops, front_block, front_segment}
+use Rattle.smf_frames.proofs.Lasting.{descriptor_stays}
+use Rattle.smf_frames.proofs.Waits.{short_stops, less_stops, before_stops, segment_before}
+use Rattle.smf_frames.proofs.Waits.{block_before}
+
+-- A joiner goes on over these bytes, and is another then: whatever bytes follow, the record that
+-- stands then comes first, and then what is found from its place; and it is not whole sooner.
+pub record GoesOver (old : Joining) (bytes : List ℕ) (new : Joining) : Type 0 where
+  pub layout_is : new.layout ≡ old.layout
+  pub on : (more : List ℕ) → front_from old.layout old.place (old.held ++ (bytes ++ more))
+      ≡ behind (option_to_list new.standing)
+      (front_from old.layout new.place (new.held ++ more))
+  pub soonest : (k : ℕ) → k < length bytes
+      → (front_from old.layout old.place (old.held ++ take k bytes)).records ≡ []
+
+-- where a reader stops there is no record
+pub stops_without : (layout : Layout) (place : Progress) (bytes : List ℕ)
+    → next_at layout place bytes ≡ Stops → (front_from layout place bytes).records ≡ []
+stops_without layout place bytes stops =
+    ap (λ (f : Front). f.records) (front_stops layout place bytes stops)
+
+-- not whole sooner, where all is at most one descriptor or one segment
+tight_soonest : (old : Joining) (bytes : List ℕ)
+    → (4 < length (old.held ++ bytes) → (is_block_due old.layout old.place.left ≡ false)
+    × (length (old.held ++ bytes) ≤ named_len (old.held ++ bytes)))
+    → (k : ℕ) → k < length bytes
+    → (front_from old.layout old.place (old.held ++ take k bytes)).records ≡ []
+tight_soonest old bytes tight k below =
+    let front : List ℕ = old.held ++ take k bytes in
+    let whole : front ++ drop k bytes ≡ old.held ++ bytes =
+    append_assoc old.held (take k bytes) (drop k bytes)
+    ∙ ap (λ b. old.held ++ b) (take-append-drop k bytes) in
+    stops_without old.layout old.place front
+    (before_stops old.layout (data_len old.place.begun) old.place.left front (drop k bytes)
+    (omega (arith, length-drop k bytes))
+    (subst (λ all. 4 < length all → (is_block_due old.layout old.place.left ≡ false)
+    × (length all ≤ named_len all)) (sym whole) tight))
+
+-- bytes that are held
+pub goes_less : (old : Joining) (bytes : List ℕ) → old.standing ≡ None
+    → HoldsLess (holding old bytes) → GoesOver old bytes (holding old bytes)
+goes_less old bytes none less = record {
+  layout_is = refl;
+  on = λ more. ap (front_from old.layout old.place) (sym (append_assoc old.held bytes more))
+      ∙ ap (λ s. behind (option_to_list s)
+      (front_from old.layout old.place ((old.held ++ bytes) ++ more))) (sym none);
+  soonest = tight_soonest old bytes
+      (λ long. let is = less.less (omega arith) in (is.0, omega (arith, is.1)));
+}
+
+-- a joiner that holds less than one of them waits
+pub less_waits : (joining : Joining) → HoldsLess joining → next_held joining ≡ Stops
+less_waits joining less =
+    elim (cases_lt (length joining.held) 4) [
+      | inl short ↦ short_stops joining.layout (data_len joining.place.begun) joining.place.left
+          joining.held short
+      | inr long ↦ let is = less.less long in
+          less_stops joining.layout (data_len joining.place.begun) joining.place.left joining.held
+          is.0 is.1
+    ]
+
+-- what is found where a block's descriptor is held
+block_is : (joining : Joining) → HoldsBlock joining
+    → next_held joining ≡ Block (named_len joining.held)
+block_is joining holds =
+    rw (holds.passes, le-ltb (length joining.held) 4 (omega (arith, holds.four)), holds.due) refl
+
+-- and where a segment is
+segment_is : (joining : Joining) → HoldsSegment joining
+    → next_held joining ≡ Segment (length joining.held)
+segment_is joining holds = rw (
+  holds.on.passes,
+  le-ltb (length joining.held) 4 holds.on.four,
+  holds.on.due,
+  le-ltb (length joining.held) (named_len joining.held) (omega (arith, holds.named)),
+) (ap Segment (sym holds.named))
+
+-- the record that a segment makes
+made_one : (begun : Option (List ℕ)) (segment : List ℕ)
+    → completed begun segment ≡ option_to_list (made begun segment)
+made_one begun segment = by (goes_on (kind_of segment)) (record_with (joined_with begun segment))
+  where
+    by : (goes : Bool) (one : List ℕ)
+        → cond goes [] (one ∷ []) ≡ option_to_list (cond goes None (Some one))
+    by true one = refl
+    by false one = refl
+
+-- past a block's descriptor
+goes_block : (old : Joining) (bytes : List ℕ) → HoldsBlock (holding old bytes)
+    → GoesOver old bytes (past_block (holding old bytes))
+goes_block old bytes holds =
+    let all : List ℕ = old.held ++ bytes in
+    let is = block_is (holding old bytes) holds in
+    record {
+      layout_is = refl;
+      on = λ more. ap (front_from old.layout old.place) (sym (append_assoc old.held bytes more))
+          ∙ front_block old.layout old.place (all ++ more) (named_len all)
+          (block_before old.layout (data_len old.place.begun) old.place.left all more
+          (named_len all) is)
+          ∙ ap (front_from old.layout (after_block old.place (named_len all)))
+          (drop_at all more 4 holds.four);
+      soonest = tight_soonest old bytes (λ long. absurd (omega (arith, holds.four)));
+    }
+
+-- past a segment
+goes_segment : (old : Joining) (bytes : List ℕ) → HoldsSegment (holding old bytes)
+    → GoesOver old bytes (past_segment (holding old bytes))
+goes_segment old bytes holds =
+    let all : List ℕ = old.held ++ bytes in
+    let is = segment_is (holding old bytes) holds in
+    record {
+      layout_is = refl;
+      on = λ more. ap (front_from old.layout old.place) (sym (append_assoc old.held bytes more))
+          ∙ front_segment old.layout old.place (all ++ more) (length all)
+          (segment_before old.layout (data_len old.place.begun) old.place.left all more
+          (length all) is)
+          ∙ (λ i. behind (completed old.place.begun (take_at all more (length all) refl i))
+          (front_from old.layout
+          (after_segment old.place (take_at all more (length all) refl i))
+          (drop_at all more (length all) refl i)))
+          ∙ ap (λ records. behind records
+          (front_from old.layout (after_segment old.place all) more))
+          (made_one old.place.begun all);
+      soonest = tight_soonest old bytes
+          (λ long. (holds.on.due, omega (arith, holds.named)));
+    }
+
+-- past either: nothing is held then
+pub record Stepped (old : Joining) (bytes : List ℕ) (new : Joining) : Type 0 where
+  pub goes : GoesOver old bytes new
+  pub empty : new.held ≡ []
+  pub moves : 4 ≤ length (old.held ++ bytes)
+
+pub stepped : (old : Joining) (bytes : List ℕ) (new : Joining) → Steps (holding old bytes) new
+    → Stepped old bytes new
+stepped old bytes new (over_block holds) =
+    record { goes = goes_block old bytes holds; empty = refl; moves = omega (arith, holds.four) }
+stepped old bytes new (over_segment holds) =
+    record { goes = goes_segment old bytes holds; empty = refl; moves = holds.on.four }
+
+-- over nothing
+pub goes_nowhere : (joining : Joining) → joining.standing ≡ None → GoesOver joining [] joining
+goes_nowhere joining none = record {
+  layout_is = refl;
+  on = λ more. ap (λ s. behind (option_to_list s)
+      (front_from joining.layout joining.place (joining.held ++ more))) (sym none);
+  soonest = λ k below. absurd (omega arith);
+}
+
+-- over some bytes, and then over more
+pub goes_then : (first middle last : Joining) (bytes more : List ℕ) → middle.standing ≡ None
+    → GoesOver first bytes middle → GoesOver middle more last
+    → GoesOver first (bytes ++ more) last
+goes_then first middle last bytes more none one two = record {
+  layout_is = two.layout_is ∙ one.layout_is;
+  on = λ rest. ap (λ b. front_from first.layout first.place (first.held ++ b))
+      (append_assoc bytes more rest)
+      ∙ from_middle (more ++ rest)
+      ∙ subst (λ l. front_from l middle.place (middle.held ++ (more ++ rest))
+      ≡ behind (option_to_list last.standing) (front_from l last.place (last.held ++ rest)))
+      one.layout_is (two.on rest);
+  soonest = soonest;
+}
+  where
+    from_middle : (rest : List ℕ)
+        → front_from first.layout first.place (first.held ++ (bytes ++ rest))
+        ≡ front_from first.layout middle.place (middle.held ++ rest)
+    from_middle rest = one.on rest ∙ ap (λ s. behind (option_to_list s)
+        (front_from first.layout middle.place (middle.held ++ rest))) none
+
+    later : (k : ℕ) → length bytes ≤ k → k < length (bytes ++ more)
+        → (front_from first.layout first.place (first.held ++ take k (bytes ++ more))).records
+        ≡ []
+    later k past below =
+        let m : ℕ = k - length bytes in
+        let k_is : length bytes + m ≡ k = omega arith in
+        let cut : take k (bytes ++ more) ≡ bytes ++ take m more =
+        ap (λ n. take n (bytes ++ more)) (sym k_is) ∙ take-append-add bytes more m in
+        ap (λ b. (front_from first.layout first.place (first.held ++ b)).records) cut
+        ∙ ap (λ (f : Front). f.records) (from_middle (take m more))
+        ∙ subst (λ l. (front_from l middle.place (middle.held ++ take m more)).records ≡ [])
+        one.layout_is (two.soonest m (omega (arith, length-append bytes more)))
+
+    soonest : (k : ℕ) → k < length (bytes ++ more)
+        → (front_from first.layout first.place (first.held ++ take k (bytes ++ more))).records
+        ≡ []
+    soonest k below =
+        elim (cases_lt k (length bytes)) [
+          | inl within ↦
+              let cut : take k (bytes ++ more) ≡ take k bytes =
+              take-append-le k bytes more (omega arith) in
+              ap (λ b. (front_from first.layout first.place (first.held ++ b)).records) cut
+              ∙ one.soonest k within
+          | inr past ↦ later k past below
+        ]
+
+-- a fault at a descriptor that is held breaks the front, whatever bytes follow
+pub fault_breaks : (layout : Layout) (place : Progress) (held more : List ℕ) (fault : FrameFault)
+    → descriptor_fault layout (data_len place.begun) place.left held ≡ Some fault
+    → front_from layout place (held ++ more) ≡ broken_by [] fault
+fault_breaks layout place held more fault fails =
+    let begun : Option ℕ = data_len place.begun in
+    let still : descriptor_fault layout begun place.left (held ++ more) ≡ Some fault =
+    descriptor_stays layout begun place.left held more (ap (λ f. is_some f) fails) ∙ fails in
+    let stops : next_at layout place (held ++ more) ≡ Stops = rw still refl in
+    front_stops layout place (held ++ more) stops ∙ rw still refl
+
+-- and a joiner that holds such a descriptor waits for good
+pub fault_waits : (joining : Joining) (fault : FrameFault) → fault_held joining ≡ Some fault
+    → next_held joining ≡ Stops
+fault_waits joining fault fails = rw fails refl

@@ -1,0 +1,208 @@
+-- The fields of a joiner behind a segment.
+use Rattle.std.proofs.Common.{◌≡◌, ℕ, ◌+◌, ◌≤◌, Bool, true, false, cond, List, [], ◌++◌}
+use Rattle.std.proofs.Common.{length, take, drop, refl, sym, ap, ◌∙◌, arith, length-drop, subst}
+use Rattle.std.proofs.Common.{Option, Some, None}
+use Rattle.std.specs.Prelude.{unwrap_or, not}
+use Rattle.std.proofs.lemmas.List.{take_all, length-take-le, take_at, drop_at, take-append-drop}
+use Rattle.std.proofs.lemmas.List.{drop-append-le}
+use Rattle.smf_frames.specs.Framed.{most_data, record_with}
+use Rattle.smf_frames.specs.Segment.{named_len, kind_of, goes_on}
+use Rattle.smf_frames.specs.Front.{data_len, joined_with, begun_after, left_after}
+use Rattle.smf_frames.specs.Joining.{Joining}
+use Rattle.smf_frames.specs.JoinerFields.{Fields, Keeps, begun_in, held_in, joining_in}
+use Rattle.smf_frames.specs.JoinerSteps.{OnSegment, HoldsSegment, past_segment, made}
+use Rattle.smf_frames.proofs.Numbers.{names_same}
+use Rattle.smf_frames.proofs.Waits.{passes_shows}
+use Rattle.smf_frames.proofs.HeldFields.{drop_end, held_len, four_held, not_standing}
+
+-- the data that is begun ends at the mark
+marked_len : (fields : Fields) → Keeps fields → fields.stands ≡ false
+    → unwrap_or (data_len (begun_in fields)) 0 + 4 ≡ fields.mark
+marked_len fields keeps none = by fields.is_begun refl
+  where
+    by : (begun : Bool) → fields.is_begun ≡ begun
+        → unwrap_or (data_len (cond begun (Some (drop 4 (take fields.mark fields.joined))) None)) 0
+        + 4 ≡ fields.mark
+    by true is = omega (
+      arith,
+      length-drop 4 (take fields.mark fields.joined),
+      length-take-le fields.mark fields.joined keeps.marked,
+      keeps.behind,
+    )
+    by false is = omega (arith, keeps.fresh is none)
+
+-- there is room for what a segment lacks
+pub room_left : {fields : Fields} → Keeps fields → (joining : Joining)
+    → joining_in fields ≡ joining → joining.standing ≡ None → OnSegment joining
+    → (n : ℕ) → length joining.held + n ≤ named_len joining.held
+    → length fields.joined + n ≤ most_data + 4
+room_left {fields} keeps joining is = subst HasRoom is here
+  where
+    HasRoom : Joining → Type 0
+    HasRoom j = j.standing ≡ None → OnSegment j
+        → (n : ℕ) → length j.held + n ≤ named_len j.held
+        → length fields.joined + n ≤ most_data + 4
+
+    here : HasRoom (joining_in fields)
+    here none on n fit =
+        let held : List ℕ = held_in fields in
+        let shows = passes_shows fields.layout (data_len (begun_in fields)) fields.left held
+        on.passes on.four on.due in
+        omega (
+          arith,
+          shows.0,
+          shows.1,
+          marked_len fields keeps (not_standing fields.stands fields.joined none),
+          held_len keeps,
+          four_held keeps on.four,
+          keeps.marked,
+        )
+
+-- so all that is joined with a whole segment finds room
+pub room_of_segment : {fields : Fields} → Keeps fields → (joining : Joining)
+    → joining_in fields ≡ joining → joining.standing ≡ None → HoldsSegment joining
+    → length fields.joined ≤ most_data + 4
+room_of_segment keeps joining is none holds =
+    let room = room_left keeps joining is none holds.on 0 (omega (arith, holds.named)) in
+    omega arith
+
+-- what is held where the descriptor is whole: it names the same, and all that is joined is the data
+record SegmentHeld (fields : Fields) : Type 0 where
+  kind : kind_of (held_in fields) ≡ kind_of fields.descriptor
+  named : named_len (held_in fields) ≡ named_len fields.descriptor
+  inside : joined_with (begun_in fields) (held_in fields) ≡ drop 4 fields.joined
+
+segment_held : (fields : Fields) → Keeps fields → fields.stands ≡ false
+    → 4 ≤ length (held_in fields) → SegmentHeld fields
+segment_held fields keeps none four =
+    let same = names_same fields.descriptor behind (omega (arith, keeps.four)) in
+    record {
+      kind = ap (λ front. kind_of (front ++ behind)) front_is ∙ same.kind;
+      named = ap (λ front. named_len (front ++ behind)) front_is ∙ same.len;
+      inside = ap (λ more. unwrap_or (begun_in fields) [] ++ more) behind_is
+          ∙ by fields.is_begun refl;
+    }
+  where
+    behind : List ℕ
+    behind = drop fields.mark fields.joined
+
+    front_is : take fields.got fields.descriptor ≡ fields.descriptor
+    front_is = take_all fields.got fields.descriptor
+        (omega (arith, four_held keeps four, keeps.four))
+
+    behind_is : drop 4 (held_in fields) ≡ drop fields.mark fields.joined
+    behind_is = drop_at (take fields.got fields.descriptor) (drop fields.mark fields.joined) 4
+        (ap length front_is ∙ keeps.four)
+
+    by : (begun : Bool) → fields.is_begun ≡ begun
+        → unwrap_or (cond begun (Some (drop 4 (take fields.mark fields.joined))) None) []
+        ++ drop fields.mark fields.joined ≡ drop 4 fields.joined
+    by true is =
+        sym (drop-append-le 4 (take fields.mark fields.joined) (drop fields.mark fields.joined)
+        (omega (arith, length-take-le fields.mark fields.joined keeps.marked, keeps.behind)))
+        ∙ ap (drop 4) (take-append-drop fields.mark fields.joined)
+    by false is = ap (λ n. drop n fields.joined) (keeps.fresh is none)
+
+-- the fields behind a segment: nothing of a descriptor is there
+abbrev pub passed : Fields → Option ℕ → Bool → List ℕ → ℕ → Bool → Fields
+passed fields left is_begun joined mark stands = record {
+  layout = fields.layout;
+  left = left;
+  is_begun = is_begun;
+  joined = joined;
+  mark = mark;
+  descriptor = fields.descriptor;
+  got = 0;
+  stands = stands;
+  room = fields.room;
+}
+
+-- what is true of all fields is true of these
+pub passed_keeps : {fields : Fields} → Keeps fields → length fields.joined ≤ most_data + 4
+    → (left : Option ℕ) (is_begun stands : Bool) (joined : List ℕ) (mark : ℕ)
+    → mark ≡ length fields.joined → length joined ≡ length fields.joined → is_begun ≡ not stands
+    → Keeps (passed fields left is_begun joined mark stands)
+passed_keeps keeps short left is_begun stands joined mark mark_is len_is begun_is = record {
+  room = keeps.room;
+  behind = omega (arith, keeps.behind, keeps.marked);
+  marked = omega arith;
+  short = omega arith;
+  fresh = λ none not_standing. absurd (neither stands is_begun begun_is none not_standing);
+  four = keeps.four;
+  got_four = omega arith;
+  whole = λ more. absurd (omega arith);
+  due = λ _. omega arith;
+  fits = omega arith;
+  alone = λ standing. (begun_is ∙ ap not standing, omega arith, refl);
+}
+  where
+    neither : (s b : Bool) → b ≡ not s → b ≡ false → s ≡ false → ⊥
+    neither true b is none standing = cc
+    neither false b is none standing = cc
+
+-- what is left of the block behind the segment that is held
+left_is : (fields : Fields) → SegmentHeld fields → HoldsSegment (joining_in fields)
+    → left_after fields.left (named_len fields.descriptor)
+    ≡ left_after fields.left (length (held_in fields))
+left_is fields held holds = ap (left_after fields.left) (sym held.named ∙ sym holds.named)
+
+-- where its record goes on, these are the fields of the joiner behind the segment
+pub passed_on : {fields : Fields} → Keeps fields → HoldsSegment (joining_in fields)
+    → fields.stands ≡ false → goes_on (kind_of fields.descriptor) ≡ true
+    → joining_in (passed fields (left_after fields.left (named_len fields.descriptor)) true
+    fields.joined (length fields.joined) false)
+    ≡ past_segment (joining_in fields)
+passed_on {fields} keeps holds none goes =
+    let held : List ℕ = held_in fields in
+    let begun : Option (List ℕ) = begun_in fields in
+    let joined : List ℕ = fields.joined in
+    let is = segment_held fields keeps none holds.on.four in
+    let on : goes_on (kind_of held) ≡ true = ap goes_on is.kind ∙ goes in
+    let begun_is : Some (drop 4 (take (length joined) joined)) ≡ begun_after begun held =
+    ap (λ all. Some (drop 4 all)) (take_all (length joined) joined (omega arith))
+    ∙ ap Some (sym is.inside)
+    ∙ ap (λ b. cond b (Some (joined_with begun held)) None) (sym on) in
+    let made_is : None ≡ made begun held =
+    ap (λ b. cond b None (Some (record_with (joined_with begun held)))) (sym on) in
+    λ i. record {
+      layout = fields.layout;
+      place = record { begun = begun_is i; left = left_is fields is holds i };
+      held = drop_end (length joined) joined refl i;
+      standing = made_is i;
+    }
+
+-- and where it is whole now, with its descriptor written in front of its data
+pub passed_whole : {fields : Fields} → Keeps fields → HoldsSegment (joining_in fields)
+    → fields.stands ≡ false → goes_on (kind_of fields.descriptor) ≡ false
+    → (whole : List ℕ) → whole ≡ record_with (drop 4 fields.joined)
+    → length whole ≡ length fields.joined
+    → joining_in (passed fields (left_after fields.left (named_len fields.descriptor)) false
+    whole (length fields.joined) true)
+    ≡ past_segment (joining_in fields)
+passed_whole {fields} keeps holds none goes whole whole_is same_len =
+    let held : List ℕ = held_in fields in
+    let begun : Option (List ℕ) = begun_in fields in
+    let is = segment_held fields keeps none holds.on.four in
+    let off : goes_on (kind_of held) ≡ false = ap goes_on is.kind ∙ goes in
+    let begun_is : None ≡ begun_after begun held =
+    ap (λ b. cond b (Some (joined_with begun held)) None) (sym off) in
+    let made_is : Some whole ≡ made begun held =
+    ap Some (whole_is ∙ ap record_with (sym is.inside))
+    ∙ ap (λ b. cond b None (Some (record_with (joined_with begun held)))) (sym off) in
+    λ i. record {
+      layout = fields.layout;
+      place = record { begun = begun_is i; left = left_is fields is holds i };
+      held = drop_end (length fields.joined) whole (sym same_len) i;
+      standing = made_is i;
+    }
+
+-- a record has as many bytes as its data behind a descriptor
+pub described_len : (joined : List ℕ) → 4 ≤ length joined
+    → length (record_with (drop 4 joined)) ≡ length joined
+described_len joined long = omega (arith, length-drop 4 joined)
+
+-- what is written over all of a list
+pub written_over : (whole joined : List ℕ) (len : ℕ) → length whole ≡ length joined
+    → len ≡ length joined → take len (whole ++ drop (length whole) joined) ≡ whole
+written_over whole joined len same len_is =
+    take_at whole (drop (length whole) joined) len (same ∙ sym len_is)

@@ -1,0 +1,166 @@
+-- After which bytes a joiner stands: at the start, behind what it takes, with the record let go,
+-- at a fault, and at the end.
+use Rattle.std.proofs.Common.{lit<, ◌≡◌, ℕ, ◌<◌, true, false, All, arith, length-append, List, []}
+use Rattle.std.proofs.Common.{◌∷◌, ◌++◌, length, take}
+use Rattle.std.proofs.Common.{sym, ap, ◌∙◌, append_assoc, append-nil, subst, Option, Some, None}
+use Rattle.std.specs.Prelude.{is_some, IfSome}
+use Rattle.std.specs.Option.{option_to_list}
+use Rattle.std.proofs.Math.Seq.{get_or-append_seam}
+use Rattle.smf_frames.specs.declared.dump.Layout.{Layout}
+use Rattle.smf_frames.specs.declared.fault.FrameFault.{FrameFault}
+use Rattle.smf_frames.specs.declared.next.Next.TheVariants.{Stops}
+use Rattle.smf_frames.specs.Framed.{IsFramed}
+use Rattle.smf_frames.specs.Faults.{descriptor_fault, fault_at}
+use Rattle.smf_frames.specs.Front.{Front, start, data_len, behind, stopped, front_from, front}
+use Rattle.smf_frames.specs.Joining.{Joining, StandsAfter, nothing_joined, nothing_found, next_held}
+use Rattle.smf_frames.specs.Joining.{fault_held, broken_by, let_go}
+use Rattle.smf_frames.proofs.Ways.{next_at, behind-append, front_stops}
+use Rattle.smf_frames.proofs.Fronts.{front_framed}
+use Rattle.smf_frames.proofs.Waits.{short_stops}
+use Rattle.smf_frames.proofs.Over.{GoesOver, stops_without, fault_breaks}
+
+-- the front at the start of a dump
+pub front_of_nothing : (layout : Layout) → front layout [] ≡ nothing_found
+front_of_nothing layout =
+    front_stops layout start [] (short_stops layout None None [] (lit< tt))
+
+-- at the start
+pub stands_start : (layout : Layout) → StandsAfter [] (nothing_joined layout)
+stands_start layout = record {
+  goes_on = λ more. ap (λ records. behind records (front layout more))
+      (sym (ap (λ (f : Front). f.records) (front_of_nothing layout)));
+  waits = short_stops layout None None [] (lit< tt);
+  stands = tt;
+}
+
+-- with the record let go
+pub stands_let_go : (text : List ℕ) (joining : Joining) → StandsAfter text joining
+    → StandsAfter text (let_go joining)
+stands_let_go text joining stands = record {
+  goes_on = stands.goes_on;
+  waits = stands.waits;
+  stands = tt;
+}
+
+-- a record that stands is framed, as the records of each front are
+pub standing_framed : (text : List ℕ) (joining : Joining) → StandsAfter text joining
+    → (one : List ℕ) → joining.standing ≡ Some one → IsFramed one
+standing_framed text joining stands one is =
+    let found = (front joining.layout text).records in
+    let last : (joining.held ≡ []) × (earlier : List (List ℕ)) × (found ≡ earlier ++ one ∷ []) =
+    subst (λ standing. IfSome standing (λ one. (joining.held ≡ []) × (earlier : List (List ℕ))
+    × (found ≡ earlier ++ one ∷ []))) is stands.stands in
+    let framed = subst (All IsFramed) last.2 (front_framed joining.layout text) in
+    subst IsFramed (get_or-append_seam last.1 one [] [])
+    (framed (length last.1) [] (omega (arith, length-append last.1 (one ∷ []))))
+
+-- the front of the text itself: its records are known, and why there are no more is what is held
+pub front_after : (text : List ℕ) (joining : Joining) → StandsAfter text joining
+    → front joining.layout text ≡ behind (front joining.layout text).records
+    (stopped joining.layout joining.place joining.held)
+front_after text joining stands =
+    let layout = joining.layout in
+    ap (front layout) (sym (append-nil text)) ∙ stands.goes_on []
+    ∙ ap (λ b. behind (front layout text).records (front_from layout joining.place b))
+    (append-nil joining.held)
+    ∙ ap (behind (front layout text).records)
+    (front_stops layout joining.place joining.held stands.waits)
+
+-- so its fault is that of the end, where the descriptor that is held has none
+pub fault_after : (text : List ℕ) (joining : Joining) → StandsAfter text joining
+    → (front joining.layout text).fault
+    ≡ fault_at joining.layout (data_len joining.place.begun) joining.place.left joining.held
+fault_after text joining stands = ap (λ (f : Front). f.fault) (front_after text joining stands)
+
+-- what is behind a text, where a joiner went on over some bytes
+over : (text bytes : List ℕ) (old new : Joining) → StandsAfter text old
+    → GoesOver old bytes new → (more : List ℕ)
+    → front old.layout ((text ++ bytes) ++ more)
+    ≡ behind ((front old.layout text).records ++ option_to_list new.standing)
+    (front_from old.layout new.place (new.held ++ more))
+over text bytes old new stands goes more =
+    let records = (front old.layout text).records in
+    ap (front old.layout) (append_assoc text bytes more) ∙ stands.goes_on (bytes ++ more)
+    ∙ ap (behind records) (goes.on more)
+    ∙ sym (behind-append records (option_to_list new.standing) _)
+
+-- the records of the text and the bytes
+pub records_over : (text bytes : List ℕ) (old new : Joining) → StandsAfter text old
+    → GoesOver old bytes new → next_held new ≡ Stops
+    → (front old.layout (text ++ bytes)).records
+    ≡ (front old.layout text).records ++ option_to_list new.standing
+records_over text bytes old new stands goes waits =
+    let records = (front old.layout text).records ++ option_to_list new.standing in
+    let here : next_at old.layout new.place (new.held ++ []) ≡ Stops =
+    ap (next_at old.layout new.place) (append-nil new.held)
+    ∙ subst (λ l. next_at l new.place new.held ≡ Stops) goes.layout_is waits in
+    ap (λ b. (front old.layout b).records) (sym (append-nil (text ++ bytes)))
+    ∙ ap (λ (f : Front). f.records) (over text bytes old new stands goes [])
+    ∙ ap (λ later. records ++ later)
+    (stops_without old.layout new.place (new.held ++ []) here)
+    ∙ append-nil records
+
+-- behind the bytes over which a joiner went on
+pub stands_over : (text bytes : List ℕ) (old new : Joining) → StandsAfter text old
+    → GoesOver old bytes new → next_held new ≡ Stops
+    → IfSome new.standing (λ _. new.held ≡ [])
+    → StandsAfter (text ++ bytes) new
+stands_over text bytes old new stands goes waits empty = record {
+  goes_on = λ more. subst (λ l. front l ((text ++ bytes) ++ more)
+      ≡ behind (front l (text ++ bytes)).records (front_from l new.place (new.held ++ more)))
+      (sym goes.layout_is)
+      (over text bytes old new stands goes more
+      ∙ ap (λ records. behind records (front_from old.layout new.place (new.held ++ more)))
+      (sym all));
+  waits = waits;
+  stands = last new.standing empty
+      (subst (λ l. (front l (text ++ bytes)).records
+      ≡ (front old.layout text).records ++ option_to_list new.standing)
+      (sym goes.layout_is) all);
+}
+  where
+    all : (front old.layout (text ++ bytes)).records
+        ≡ (front old.layout text).records ++ option_to_list new.standing
+    all = records_over text bytes old new stands goes waits
+
+    last : (standing : Option (List ℕ)) → IfSome standing (λ _. new.held ≡ [])
+        → (front new.layout (text ++ bytes)).records
+        ≡ (front old.layout text).records ++ option_to_list standing
+        → IfSome standing (λ one. (new.held ≡ []) × (earlier : List (List ℕ))
+        × ((front new.layout (text ++ bytes)).records ≡ earlier ++ one ∷ []))
+    last None empty is = tt
+    last (Some one) empty is = (empty, (front old.layout text).records, is)
+
+-- no record is whole sooner
+pub soonest_over : (text bytes : List ℕ) (old new : Joining) → StandsAfter text old
+    → GoesOver old bytes new → (k : ℕ) → k < length bytes
+    → (front old.layout (text ++ take k bytes)).records ≡ (front old.layout text).records
+soonest_over text bytes old new stands goes k below =
+    let records = (front old.layout text).records in
+    ap (λ (f : Front). f.records) (stands.goes_on (take k bytes))
+    ∙ ap (λ later. records ++ later) (goes.soonest k below)
+    ∙ append-nil records
+
+-- a fault at a descriptor breaks the front of the text, of the piece and of all that follows
+pub broken_over : (text bytes piece : List ℕ) (old : Joining) (fault : FrameFault)
+    → StandsAfter text old
+    → descriptor_fault old.layout (data_len old.place.begun) old.place.left (old.held ++ bytes)
+    ≡ Some fault
+    → (rest : List ℕ) → piece ≡ bytes ++ rest
+    → front old.layout (text ++ piece)
+    ≡ broken_by (front old.layout text).records fault
+broken_over text bytes piece old fault stands fails rest piece_is =
+    let records = (front old.layout text).records in
+    stands.goes_on piece
+    ∙ ap (λ b. behind records (front_from old.layout old.place b))
+    (ap (λ p. old.held ++ p) piece_is ∙ sym (append_assoc old.held bytes rest))
+    ∙ ap (behind records)
+    (fault_breaks old.layout old.place (old.held ++ bytes) rest fault fails)
+    ∙ (λ i. record { records = append-nil records i; fault = Some fault; is_broken = true })
+
+-- where the descriptor that is held has no fault, the front is not broken
+pub unbroken_after : (text : List ℕ) (joining : Joining) → StandsAfter text joining
+    → fault_held joining ≡ None → (front joining.layout text).is_broken ≡ false
+unbroken_after text joining stands passes =
+    ap (λ (f : Front). f.is_broken) (front_after text joining stands)
+    ∙ ap (λ f. is_some f) passes

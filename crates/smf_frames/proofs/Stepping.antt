@@ -1,0 +1,102 @@
+-- What one step of a joiner over the rest of a piece comes to.
+use Rattle.std.proofs.Common.{◌≡◌, ℕ, ◌+◌, ◌-◌, ◌≤◌, ◌<◌, List, ◌++◌, length, take, drop}
+use Rattle.std.proofs.Common.{sym, ap, ◌∙◌, arith, length-append, length-drop, append_assoc}
+use Rattle.std.proofs.Common.{take-add, subst, Some, None}
+use Rattle.std.proofs.lemmas.List.{take_all, take-append-drop}
+use Rattle.smf_frames.specs.Segment.{named_len}
+use Rattle.smf_frames.specs.Front.{data_len}
+use Rattle.smf_frames.specs.Joining.{Joining, fault_held}
+use Rattle.smf_frames.specs.JoinerSteps.{holding, past_block, past_segment, HoldsBlock, OnSegment}
+use Rattle.smf_frames.specs.JoinerSteps.{HoldsSegment, HoldsLess, Steps, over_block, over_segment}
+use Rattle.smf_frames.specs.JoinerSteps.{IsStep}
+use Rattle.smf_frames.proofs.Numbers.{names_same}
+use Rattle.smf_frames.proofs.Waits.{fault_same}
+
+-- bytes that are held one after another
+holding_twice : (joining : Joining) (bytes more : List ℕ)
+    → holding (holding joining bytes) more ≡ holding joining (bytes ++ more)
+holding_twice joining bytes more = λ i. record {
+  layout = joining.layout;
+  place = joining.place;
+  held = append_assoc joining.held bytes more i;
+  standing = joining.standing;
+}
+
+-- a front of the rest, and then what comes behind it
+holding_on : (old mid : Joining) (rest more : List ℕ) (n : ℕ) → mid ≡ holding old (take n rest)
+    → more ≡ drop n rest → holding mid more ≡ holding old rest
+holding_on old mid rest more n mid_is more_is =
+    (λ i. holding (mid_is i) (more_is i)) ∙ holding_twice old (take n rest) (drop n rest)
+    ∙ ap (holding old) (take-append-drop n rest)
+
+-- less than a descriptor
+pub step_short : (old mid : Joining) (rest : List ℕ) (n : ℕ) → mid ≡ holding old (take n rest)
+    → (length mid.held < 4 → n ≡ length rest) → length mid.held < 4 → fault_held mid ≡ None
+    → IsStep old rest None mid
+step_short old mid rest n mid_is all short passes =
+    let is : mid ≡ holding old rest =
+    mid_is ∙ ap (holding old) (take_all n rest (omega (arith, all short))) in
+    (is, subst HoldsLess is (record { passes = passes; less = λ four. absurd (omega arith) }))
+
+-- a descriptor that its block awaits
+pub step_block : (old mid new : Joining) (rest : List ℕ) (n : ℕ) → mid ≡ holding old (take n rest)
+    → n ≤ length rest → HoldsBlock mid → new ≡ past_block mid → IsStep old rest (Some n) new
+step_block old mid new rest n mid_is within holds new_is =
+    (within, subst (λ j. Steps j new) mid_is (subst (Steps mid) (sym new_is) (over_block holds)))
+
+-- with more bytes behind it the same descriptor is held
+on_more : (mid : Joining) (more : List ℕ) → OnSegment mid
+    → OnSegment (holding mid more) × (named_len (mid.held ++ more) ≡ named_len mid.held)
+on_more mid more on = (
+  record {
+    four = omega (arith, length-append mid.held more, on.four);
+    passes = fault_same mid.layout (data_len mid.place.begun) mid.place.left mid.held more on.four
+        ∙ on.passes;
+    due = on.due;
+  },
+  (names_same mid.held more on.four).len,
+)
+
+-- less than a segment
+pub step_less : (old mid new : Joining) (rest more : List ℕ) (n : ℕ)
+    → mid ≡ holding old (take n rest) → more ≡ drop n rest → OnSegment mid
+    → length more < named_len mid.held - length mid.held → new ≡ holding mid more
+    → IsStep old rest None new
+step_less old mid new rest more n mid_is more_is on less new_is =
+    let is = holding_on old mid rest more n mid_is more_is in
+    let later = on_more mid more on in (
+      new_is ∙ is,
+      subst HoldsLess is (record {
+        passes = later.0.passes;
+        less = λ four. (on.due, omega (arith, length-append mid.held more, later.1));
+      }),
+    )
+
+-- a whole segment
+pub holds_segment : (mid new : Joining) (more : List ℕ) → OnSegment mid
+    → length mid.held ≤ named_len mid.held
+    → length more ≡ named_len mid.held - length mid.held → new ≡ holding mid more
+    → HoldsSegment new
+holds_segment mid new more on enough len_is new_is =
+    let later = on_more mid more on in
+    subst HoldsSegment (sym new_is) (record {
+      on = later.0;
+      named = omega (arith, length-append mid.held more, later.1);
+    })
+
+-- and past it
+pub step_segment : (old mid whole new : Joining) (rest later more : List ℕ) (n m : ℕ)
+    → mid ≡ holding old (take n rest) → later ≡ drop n rest → more ≡ take m later
+    → n ≤ length rest → m ≤ length later
+    → whole ≡ holding mid more → HoldsSegment whole → new ≡ past_segment whole
+    → IsStep old rest (Some (n + m)) new
+step_segment old mid whole new rest later more n m mid_is later_is more_is within there whole_is
+    holds new_is =
+    let is : whole ≡ holding old (take (n + m) rest) =
+    whole_is ∙ (λ i. holding (mid_is i) (more_is i))
+    ∙ ap (λ b. holding (holding old (take n rest)) (take m b)) later_is
+    ∙ holding_twice old (take n rest) (take m (drop n rest))
+    ∙ ap (holding old) (sym (take-add n m rest)) in (
+      omega (arith, ap length later_is, length-drop n rest),
+      subst (λ j. Steps j new) is (subst (Steps whole) (sym new_is) (over_segment holds)),
+    )

@@ -1,0 +1,5 @@
+use Rattle.smf_frames.proofs.Determined.{determined}
+use Rattle.smf_frames.proofs.laws.feed_is_determined.Goals as goal
+
+pub returns : goal.returns
+returns c = determined
