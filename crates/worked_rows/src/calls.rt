@@ -1,8 +1,6 @@
 //! Every call that is made of any ledger, made of a plain one through its bound.
 
 use crate::receipts::kept;
-use crate::sample::{SAMPLE, joined, other_step, variant_1201};
-use crate::tariffs::{CPU_RATE, file_from};
 use book_core::{Accepted, Ledger, LedgerFault, PlainLedger, Ruled, ShaNames, Source};
 use book_import::{MAX_READS, Reply, Stop, import, import_bytes, read_dump, run};
 use smf_frames::Layout;
@@ -10,6 +8,8 @@ use smf_type30::{Class, class};
 use std::alloc::Global;
 use std::process::Abort;
 use std::test::Fail;
+use worked_samples::sample::{SAMPLE, joined, other_step, variant_1201};
+use worked_samples::tariffs::{CPU_RATE, file_from};
 
 /// What the books answer to each usage record of a dump.
 fn accept_each<L: Ledger>(

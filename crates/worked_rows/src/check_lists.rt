@@ -1,8 +1,5 @@
 //! Check lists, also over readers and writers that fail.
 
-use crate::readers::{Endless, InPieces};
-use crate::sample::{SAMPLE, joined, other_step, short_record};
-use crate::writers::Takes;
 use book_core::{Sink, Source};
 use book_import::{MAX_READS, Stop};
 use book_reports::{ReportFault, check_list_text};
@@ -11,6 +8,9 @@ use smf_frames::{FrameFault, Layout};
 use std::alloc::{AllocError, Global};
 use std::io::{Read, Write};
 use std::test::Fail;
+use worked_samples::readers::{Endless, InPieces};
+use worked_samples::sample::{SAMPLE, joined, other_step, short_record};
+use worked_samples::writers::Takes;
 
 /// The list of a header, a trailer and a step's end.
 const HEADER_TRAILER_STEP: &str = "\

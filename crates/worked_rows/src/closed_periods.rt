@@ -4,12 +4,12 @@
 use crate::adjustments::{MINUS_SAMPLE, PLUS_SAMPLE, adjustments};
 use crate::office::{dispute_list, import, new_books, statement};
 use crate::receipts::one_kept;
-use crate::sample::{SAMPLE, dated, joined, variant_1201, variant_1202};
 use book_core::{Ledger, LedgerFault, PlainLedger, Ruled, ShaNames};
 use book_import::{Receipt, Stop};
 use std::alloc::Global;
 use std::process::Abort;
 use std::test::Fail;
+use worked_samples::sample::{SAMPLE, dated, joined, variant_1201, variant_1202};
 
 /// 2024-01-31, in days since 1970-01-01.
 pub const JANUARY_31: i32 = 19_753;
@@ -63,7 +63,7 @@ SYSA PAYROLL1 READER 002BC320 0124031F SUBTYPE 4 STEP 1
 ";
 
 /// New books that were handed the sample, if any, and then closed through its day.
-fn closed_after(alloc: Global, dump: &[u8]) -> Result<PlainLedger<ShaNames>, Fail> {
+pub fn closed_after(alloc: Global, dump: &[u8]) -> Result<PlainLedger<ShaNames>, Fail> {
     let mut ledger = new_books(alloc)?;
     import(alloc, dump, &mut ledger);
     ledger.close(1, JANUARY_31)?;

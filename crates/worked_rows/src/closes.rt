@@ -2,9 +2,9 @@
 
 use crate::closed_periods::{FEBRUARY_29, JANUARY_31};
 use crate::office::books_under;
-use crate::tariffs::{CPU_RATE, file_from};
 use book_core::{Ledger, LedgerFault, PlainLedger, Ruled, ShaNames};
 use std::test::Fail;
+use worked_samples::tariffs::{CPU_RATE, file_from};
 
 #[test]
 fn every_list_of_books_that_hold_nothing_is_empty(rt: HostRuntime) -> Result<(), Fail> {

@@ -7,14 +7,14 @@ use crate::adjustments::{MINUS_SAMPLE, adjustments};
 use crate::closed_periods::{FEBRUARY_29, JANUARY, JANUARY_31};
 use crate::office::{new_books, statement};
 use crate::receipts::one_kept;
-use crate::sample::{SAMPLE, joined, variant_1201, variant_1202};
-use crate::tariffs::{CPU_RATE, file_from};
 use book_core::{Ledger, LedgerFault, PlainLedger, Ruled, ShaNames};
 use book_import::{Command, Receipt, Reply, Stop, run};
 use smf_frames::Layout;
 use std::alloc::{AllocError, Global};
 use std::test::Fail;
 use tariff_rules::{Key, TariffFault};
+use worked_samples::sample::{SAMPLE, joined, variant_1201, variant_1202};
+use worked_samples::tariffs::{CPU_RATE, file_from};
 
 /// The reply to an import that was read to its end.
 fn receipt(kept: u64, known: u64) -> Reply {

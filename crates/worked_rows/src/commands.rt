@@ -1,13 +1,13 @@
 //! What the program makes of its words, and what it leaves.
 
-use crate::readers::InPieces;
-use crate::sample::{SAMPLE, joined};
 use crate::statements::ONE_RECORD;
-use crate::writers::Takes;
 use chargectl::{Status, command};
 use std::alloc::{AllocError, Global};
 use std::io::Read;
 use std::test::Fail;
+use worked_samples::readers::InPieces;
+use worked_samples::sample::{SAMPLE, joined};
+use worked_samples::writers::Takes;
 
 /// What the program left.
 #[derive(Drop)]

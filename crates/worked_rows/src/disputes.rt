@@ -2,10 +2,7 @@
 
 ghost use Rattle.std.specs.Prelude.{replicate};
 
-use crate::office::{dispute_list, import, new_books, report, tariff};
-use crate::sample::{
-    Record, SAMPLE, Section, joined, other_job, other_step, other_subtype, variant_1201, without,
-};
+use crate::office::{dispute_list, import, new_books, report};
 use crate::statements::ONE_STEP;
 use crate::trials::trial_text;
 use book_core::{LedgerFault, Naming, PlainLedger};
@@ -13,6 +10,10 @@ use book_import::{Receipt, Stop};
 use smf_frames::Layout;
 use std::alloc::Global;
 use std::test::Fail;
+use worked_samples::sample::{
+    Record, SAMPLE, Section, joined, other_job, other_step, other_subtype, variant_1201, without,
+};
+use worked_samples::tariffs::tariff;
 
 /// All that is written of a dump of the sample and its variant.
 const TWO_VARIANTS: &str = "\

@@ -1,11 +1,8 @@
 //! What the books make of a dump, however it is cut.
 
 use crate::check_lists::check_of;
-use crate::frames::stop_of;
 use crate::office::{import, import_from, new_books, report};
-use crate::readers::{Endless, InPieces};
 use crate::receipts::one_kept;
-use crate::sample::{SAMPLE, joined, other_step};
 use crate::statements::{ONE_RECORD, ONE_STEP, TWO_STEPS};
 use crate::trials::trial_text;
 use book_core::Source;
@@ -13,21 +10,10 @@ use book_import::{Receipt, Stop, import as import_source};
 use smf_frames::{FrameFault, Layout, split};
 use std::alloc::{AllocError, Global};
 use std::test::Fail;
-
-/// The first of three segments of the sample, 60 bytes of data behind its descriptor.
-fn first_segment(alloc: Global) -> Result<Vec<u8>, AllocError> {
-    joined(alloc, &[&[0x00, 0x40, 0x01, 0x00], &SAMPLE[4..64]])
-}
-
-/// The one between, as long.
-fn segment_between(alloc: Global) -> Result<Vec<u8>, AllocError> {
-    joined(alloc, &[&[0x00, 0x40, 0x03, 0x00], &SAMPLE[64..124]])
-}
-
-/// The last one, with 44 bytes of data.
-fn last_segment(alloc: Global) -> Result<Vec<u8>, AllocError> {
-    joined(alloc, &[&[0x00, 0x30, 0x02, 0x00], &SAMPLE[124..]])
-}
+use worked_samples::readers::{Endless, InPieces};
+use worked_samples::readings::stop_of;
+use worked_samples::sample::{SAMPLE, joined, other_step};
+use worked_samples::segments::{first_segment, last_segment, segment_between};
 
 #[test]
 fn spanned_record(rt: HostRuntime) -> Result<(), Fail> {
@@ -120,6 +106,46 @@ fn records_before_garbage_are_kept(rt: HostRuntime) -> Result<(), Fail> {
         ..Receipt::stopped(Stop::Frame(FrameFault::SegmentLength))
     };
     assert_eq!(rt; receipt, want);
+    Ok(())
+}
+
+/// A block of so many bytes that has the sample and the bytes behind it.
+fn block_of(alloc: Global, len: u8, behind: &[u8]) -> Result<Vec<u8>, AllocError> {
+    joined(alloc, &[&[0x00, len, 0x00, 0x00], &SAMPLE, behind])
+}
+
+#[test]
+fn a_record_stands_before_what_its_block_has_no_room_for(rt: HostRuntime) -> Result<(), Fail> {
+    let alloc = rt.alloc();
+    let crosses = FrameFault::SegmentCrossesBlock;
+    let cases: [(&str, u8, &[u8], FrameFault, bool); 5] = [
+        ("1 byte more", 0xAD, &[0], crosses, true),
+        ("2 bytes more", 0xAE, &[0, 0], crosses, true),
+        ("3 bytes more", 0xAF, &[0, 0, 0], crosses, true),
+        ("3 bytes that are not there", 0xAF, &[], crosses, true),
+        (
+            "a descriptor that is not there",
+            0xB0,
+            &[],
+            FrameFault::Truncated,
+            false,
+        ),
+    ];
+    for (case, len, behind, fault, is_broken) in cases {
+        let dump = block_of(alloc, len, behind)?;
+        let parts = split(alloc, Layout::Bdw, &dump)?;
+        assert_eq!(rt;
+            (parts.fault, parts.is_broken),
+            (Some(fault), is_broken),
+            "{case}"
+        );
+        assert_eq!(rt; parts.records.len(), 1, "{case}");
+        assert_eq!(rt; parts.records[0].as_slice(), SAMPLE.as_slice(), "{case}");
+
+        let mut ledger = new_books(alloc)?;
+        let receipt = import_from(alloc, dump.as_slice(), Layout::Bdw, &mut ledger);
+        assert_eq!(rt; receipt, one_kept(Stop::Frame(fault)), "{case}");
+    }
     Ok(())
 }
 

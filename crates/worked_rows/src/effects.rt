@@ -3,14 +3,14 @@
 
 ghost use Rattle.book_core.specs.Effects.{HasOnly};
 
-use crate::office::tariff;
-use crate::prices::price_of;
-use crate::sample::{SAMPLE, variant_1201};
 use book_core::{DayChange, Effects, LineChange, Member, View, plan};
 use std::alloc::Global;
 use std::process::Abort;
 use std::test::Fail;
 use tariff_rules::Priced;
+use worked_samples::readings::price_of;
+use worked_samples::sample::{SAMPLE, variant_1201};
+use worked_samples::tariffs::tariff;
 
 /// The day of the last close.
 const CLOSE: i32 = 19_753;

@@ -1,12 +1,12 @@
 //! Files that the program checks.
 
 use crate::commands::{Left, run};
-use crate::sample::{SAMPLE, joined};
 use std::test::Fail;
 use std::{env, fs, process};
+use worked_samples::sample::{SAMPLE, joined};
 
 /// A path for a file of this test alone.
-fn fresh_path(rt: &HostRuntime, name: &str) -> Result<String, Fail> {
+pub fn fresh_path(rt: &HostRuntime, name: &str) -> Result<String, Fail> {
     let folder = env::temp_dir(rt)?;
     let folder = folder.as_path();
     let id = process::id(rt.process());

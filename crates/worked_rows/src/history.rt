@@ -4,14 +4,14 @@ ghost use Rattle.std.specs.Prelude.{◌<◌, IfOk};
 ghost use Rattle.smf_text.specs.Day.{IsDay};
 ghost use Rattle.book_import.specs.Commands.{IsAskable};
 
-use crate::sample::{
-    Record, SAMPLE, dated, measuring, other_job, other_step, other_subtype, timed,
-};
-use crate::tariffs::file_from;
 use book_import::Command;
 use smf_frames::Layout;
 use smf_text::day_text;
 use std::alloc::{AllocError, Global};
+use worked_samples::sample::{
+    Record, SAMPLE, dated, measuring, other_job, other_step, other_subtype, timed,
+};
+use worked_samples::tariffs::file_from;
 
 /// 2023-12-31, in days since 1970-01-01.
 const YEAR_BEFORE: i32 = 19_722;

@@ -3,12 +3,12 @@
 
 use crate::closed_periods::{FEBRUARY_29, JANUARY_31};
 use crate::plain_tables::{PlainTables, RecordRow};
-use crate::sample::{SAMPLE, dated, joined, variant_1201, variant_1202};
-use crate::tariffs::{CPU_RATE, file_from};
 use crate::twice_kept::TwiceKept;
 use std::alloc::{AllocError, Global};
 use std::process::Abort;
 use std::test::Fail;
+use worked_samples::sample::{SAMPLE, dated, joined, variant_1201, variant_1202};
+use worked_samples::tariffs::{CPU_RATE, file_from};
 
 /// 2024-02-01, as a record has it.
 const PACKED_FEBRUARY_1: [u8; 4] = [0x01, 0x24, 0x03, 0x2F];

@@ -1,13 +1,13 @@
 //! The largest amounts that records can have, and books that are full of them.
 
 use crate::office::{books_under, import, report};
-use crate::prices::price_of;
 use crate::receipts::one_kept;
-use crate::sample::{SAMPLE, measuring, other_step, with_blocks};
 use book_core::LedgerFault;
 use book_import::{Receipt, Stop};
 use std::test::Fail;
 use tariff_rules::Tariff;
+use worked_samples::readings::price_of;
+use worked_samples::sample::{SAMPLE, measuring, other_step, with_blocks};
 
 /// The highest rates for a step, at the highest percent. A record of 2 * 4294967295 hundredths of a
 /// second and 4294967295 blocks costs (10 * 8589934590 + 4294967295 + 1000) * 100000000 * 1000 /

@@ -21,11 +21,7 @@ mod command_lists;
 #[cfg(test)]
 mod commands;
 #[cfg(test)]
-mod days;
-#[cfg(test)]
 mod disputes;
-#[cfg(test)]
-mod dump_reader;
 #[cfg(test)]
 mod dumps;
 #[cfg(test)]
@@ -34,8 +30,6 @@ mod effects;
 mod faults;
 #[cfg(test)]
 mod files;
-#[cfg(test)]
-mod frames;
 #[cfg(test)]
 mod history;
 #[cfg(test)]
@@ -52,33 +46,22 @@ mod office;
 #[cfg(test)]
 mod plain_tables;
 #[cfg(test)]
-mod prices;
-#[cfg(test)]
-mod readers;
-#[cfg(test)]
-mod reading_and_writing;
-#[cfg(test)]
 mod receipts;
-mod sample;
+#[cfg(test)]
+mod reports;
 mod sample_tariff;
 #[cfg(test)]
 mod slow_ledger;
 #[cfg(test)]
 mod statements;
 #[cfg(test)]
-mod tariff_files;
-#[cfg(test)]
 mod tariffs;
-#[cfg(test)]
-mod texts;
 #[cfg(test)]
 mod trials;
 #[cfg(test)]
 mod twice_kept;
 #[cfg(test)]
-mod usage;
-#[cfg(test)]
-mod writers;
+mod writing;
 
 use std::fs;
 use std::test::Fail;

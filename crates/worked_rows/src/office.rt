@@ -2,28 +2,12 @@
 
 use book_core::{Ledger, PlainLedger, ShaNames, Sink, Source};
 use book_import::{MAX_READS, Receipt, import as import_source};
-use book_reports::{dispute_list_text, statement_text, write_text};
+use book_reports::{dispute_list_of, statement_of, write_text};
 use smf_frames::Layout;
 use std::alloc::Global;
 use std::io::Read;
 use std::test::Fail;
-use tariff_rules::Tariff;
-
-/// Two units of money for a second of CPU time.
-const CPU_RATE: u64 = 20_000;
-
-/// A twentieth of one for 1,000 blocks.
-const EXCP_RATE: u64 = 500;
-
-/// The office's tariff.
-pub fn tariff(alloc: Global) -> Result<Tariff, Fail> {
-    flat(alloc, CPU_RATE, EXCP_RATE)
-}
-
-/// A tariff with no fee for a record.
-pub fn flat(alloc: Global, cpu: u64, excp: u64) -> Result<Tariff, Fail> {
-    Ok(Tariff::flat(alloc, cpu, excp, 0).ok_or("rates above the highest")?)
-}
+use worked_samples::tariffs::tariff;
 
 /// New books under the office's tariff.
 pub fn new_books(alloc: Global) -> Result<PlainLedger<ShaNames>, Fail> {
@@ -55,19 +39,12 @@ pub fn import<L: Ledger>(alloc: Global, dump: &[u8], ledger: &mut L) -> Receipt 
 
 /// The list of disputes.
 pub fn dispute_list<L: Ledger>(alloc: Global, ledger: &mut L) -> Result<String, Fail> {
-    let disputes = ledger.disputes()?;
-    Ok(dispute_list_text(alloc, &disputes)?)
+    Ok(String::from_utf8(dispute_list_of(alloc, ledger)?)?)
 }
 
 /// The statement of a period of the books.
 pub fn statement<L: Ledger>(alloc: Global, ledger: &mut L, period: u16) -> Result<String, Fail> {
-    let rows = ledger.charges(period)?;
-    let days = ledger.periods()?;
-    let through = match period {
-        0 => None,
-        _ => days.get(period as usize - 1).copied(),
-    };
-    Ok(statement_text(alloc, period, through, &rows)?)
+    Ok(String::from_utf8(statement_of(alloc, ledger, period)?)?)
 }
 
 /// The statement of period 1 and behind it the list of disputes, as they are written.

@@ -6,13 +6,13 @@ pub mod lists;
 
 use self::changes::{Change, change_of};
 use crate::effects::view_of;
-use crate::usage::usage_of;
 use book_core::{ChargeRow, Member, Naming, RowKey, ShaNames, plan};
 use smf_type30::Type30;
 use std::alloc::{AllocError, Global};
 use std::collections::BTreeMap;
 use std::test::Fail;
 use tariff_rules::{Priced, Tariff, price};
+use worked_samples::readings::usage_of;
 
 /// A row of a record, beside its name.
 #[derive(Drop)]

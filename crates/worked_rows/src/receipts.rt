@@ -1,14 +1,14 @@
 //! Receipts, and the line that shows one.
 
 use crate::office::{books_under, import, new_books};
-use crate::sample::{SAMPLE, dated, joined, other_step, variant_1201};
-use crate::tariffs::{CPU_RATE, file_from};
 use book_core::LedgerFault;
 use book_import::{Receipt, Stop};
 use book_reports::receipt_line_text;
 use smf_frames::FrameFault;
 use std::alloc::Global;
 use std::test::Fail;
+use worked_samples::sample::{SAMPLE, dated, joined, other_step, variant_1201};
+use worked_samples::tariffs::{CPU_RATE, file_from};
 
 /// The receipt for so many records that were kept.
 pub fn kept(count: u64, stop: Stop) -> Receipt {

@@ -3,12 +3,12 @@
 ghost use Rattle.std.specs.Prelude.{◌<◌};
 
 use crate::office::{books_under, import, report};
-use crate::sample::{
-    Record, SAMPLE, dated, joined, other_job, other_step, other_subtype, timed, with_accounts,
-};
 use book_reports::receipt_line_text;
 use std::alloc::{AllocError, Global};
 use std::test::Fail;
+use worked_samples::sample::{
+    Record, SAMPLE, dated, joined, other_job, other_step, other_subtype, timed, with_accounts,
+};
 
 /// 2023-12-31, the day before the tariff's first.
 const BEFORE_ITS_TIME: [u8; 4] = [0x01, 0x23, 0x36, 0x5F];

@@ -6,11 +6,11 @@ pub mod lists;
 pub mod rules;
 
 use self::rules::{Fact, Rules};
-use crate::usage::usage_of;
 use book_core::{Accepted, LedgerFault, Naming, Ruled, ShaNames, Variant};
 use smf_type30::Type30;
 use std::alloc::{AllocError, Global};
 use tariff_rules::{Priced, Tariff, price};
+use worked_samples::readings::usage_of;
 
 /// A tariff that was accepted, with its text.
 #[derive(Drop)]

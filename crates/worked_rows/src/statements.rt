@@ -1,15 +1,17 @@
 //! What records cost: the texts that the office agreed on, written out.
 
-use crate::frames::stop_of;
-use crate::office::{flat, import, new_books, report};
-use crate::prices::price_of;
-use crate::sample::{SAMPLE, Section, joined, measuring, other_step, with_blocks, without};
+use crate::office::{import, new_books, report};
 use crate::trials::trial_text;
 use book_core::{Ledger, PlainLedger, ShaNames};
 use book_import::{Receipt, Stop};
 use book_reports::statement_text;
 use smf_frames::Layout;
 use std::test::Fail;
+use worked_samples::readings::{price_of, stop_of};
+use worked_samples::sample::{
+    SAMPLE, Section, joined, measuring, other_step, with_blocks, without,
+};
+use worked_samples::tariffs::flat;
 
 /// All that is written of a dump of the sample alone.
 pub const ONE_RECORD: &str = "\

@@ -1,27 +1,15 @@
 //! Tariff files that are handed to the books, and what records cost by them.
 
 use crate::office::{books_under, import, report};
-use crate::prices::price_of;
 use crate::receipts::{one_kept, one_unpriced};
-use crate::sample::{SAMPLE, dated, other_step, timed};
 use crate::statements::{NO_STEP, ONE_STEP};
 use book_core::{Ledger, LedgerFault, PlainLedger, Ruled, ShaNames};
 use book_import::Stop;
-use std::alloc::{AllocError, Global};
 use std::test::Fail;
 use tariff_rules::{Key, Tariff, TariffFault};
-
-/// The rates but that of a step's CPU time: 0.0500 for 1,000 blocks, and nothing for a job.
-const OTHER_RATES: &str = "\
-step_excp = 500
-step_record = 0
-job_cpu = 0
-job_excp = 0
-job_record = 0
-";
-
-/// 2.0000 for a second of CPU time.
-pub const CPU_RATE: u64 = 20_000;
+use worked_samples::readings::price_of;
+use worked_samples::sample::{SAMPLE, dated, other_step, timed};
+use worked_samples::tariffs::{CPU_RATE, file_from};
 
 /// A shift from 18:00 on, on working days, at half the prices.
 const NIGHT: &str = r#"
@@ -53,11 +41,6 @@ DAY        CENTRE           SHIFT               COUNT                 CPU       
 TOTAL                                               2               24.68              10000               37.3950
 DISPUTES 0
 ";
-
-/// A tariff file from a day on, with these rules behind the rates.
-pub fn file_from(alloc: Global, day: &str, cpu: u64, rules: &str) -> Result<String, AllocError> {
-    format!(in alloc; "effective = \"{day}\"\n[rates]\nstep_cpu = {cpu}\n{OTHER_RATES}{rules}")
-}
 
 #[test]
 fn tariffs_in_order(rt: HostRuntime) -> Result<(), Fail> {

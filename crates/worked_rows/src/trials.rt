@@ -1,11 +1,7 @@
 //! Trials, also over readers and writers that fail.
 
-use crate::office::tariff;
-use crate::readers::{Endless, InPieces};
 use crate::receipts::kept;
-use crate::sample::{SAMPLE, joined, other_step};
 use crate::statements::ONE_RECORD;
-use crate::writers::Takes;
 use book_core::{Sink, Source};
 use book_import::{MAX_READS, Receipt, Stop};
 use book_reports::ReportFault;
@@ -15,6 +11,10 @@ use std::alloc::Global;
 use std::io::{Read, Write};
 use std::process::Abort;
 use std::test::Fail;
+use worked_samples::readers::{Endless, InPieces};
+use worked_samples::sample::{SAMPLE, joined, other_step};
+use worked_samples::tariffs::tariff;
+use worked_samples::writers::Takes;
 
 /// A trial under the office's tariff: its answer, and the writer as it left it.
 fn trial_over<R: Read + Drop, W: Write + Drop>(

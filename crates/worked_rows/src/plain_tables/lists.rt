@@ -1,10 +1,10 @@
 //! Lists that are read of the tables.
 
 use super::{PlainTables, RecordRow};
-use crate::usage::usage_of;
 use book_core::{ChargeRow, Line, Variant};
 use std::collections::BTreeMap;
 use std::test::Fail;
+use worked_samples::readings::usage_of;
 
 /// The first eight bytes of a name.
 fn eight(name: &[u8]) -> [u8; 8] {

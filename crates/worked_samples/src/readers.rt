@@ -13,10 +13,12 @@ pub struct InPieces<'a> {
 }
 
 impl<'a> InPieces<'a> {
+    /// Gives the dump whole.
     pub fn of(dump: &'a [u8], size: usize) -> InPieces<'a> {
         InPieces::failing_behind(u32::MAX, dump, size)
     }
 
+    /// Fails at each read behind so many.
     pub fn failing_behind(reads: u32, dump: &'a [u8], size: usize) -> InPieces<'a> {
         InPieces {
             left: dump,
@@ -47,6 +49,7 @@ pub struct Endless {
 }
 
 impl Endless {
+    /// Begins with the sample's first byte.
     pub fn new() -> Endless {
         Endless { at: 0 }
     }

@@ -1,8 +1,8 @@
 //! The fields of a usage record.
 
-use crate::sample::{SAMPLE, Section, moved, other_step, other_subtype, without};
-use smf_type30::{Class, Type30, class};
 use std::test::Fail;
+use worked_samples::readings::usage_of;
+use worked_samples::sample::{SAMPLE, Section, moved, other_step, other_subtype, without};
 
 /// The name of the sample's job, in code page 037.
 const PAYROLL1: [u8; 8] = [0xD7, 0xC1, 0xE8, 0xD9, 0xD6, 0xD3, 0xD3, 0xF1];
@@ -12,14 +12,6 @@ const PAYCALC: [u8; 8] = [0xD7, 0xC1, 0xE8, 0xC3, 0xC1, 0xD3, 0xC3, 0x40];
 
 /// Its JES job identifier.
 const JOB00042: [u8; 8] = [0xD1, 0xD6, 0xC2, 0xF0, 0xF0, 0xF0, 0xF4, 0xF2];
-
-/// The record, if it is of class Usage.
-pub fn usage_of(bytes: &[u8]) -> Option<Type30<'_>> {
-    match class(bytes) {
-        Class::Usage => Type30::read(bytes).ok(),
-        _ => None,
-    }
-}
 
 #[test]
 fn fields_of_a_step(rt: HostRuntime) -> Result<(), Fail> {

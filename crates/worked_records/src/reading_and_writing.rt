@@ -1,12 +1,8 @@
-//! What a source and a sink mark, and how a text is written.
+//! What a source and a sink mark.
 
-use crate::writers::Takes;
-use book_core::{Sink, Source};
-use book_reports::{ReportFault, write_text};
 use std::test::Fail;
-
-/// A text that takes several writes where a writer has little room.
-const LINE: &str = "KEPT 1 KNOWN 0\n";
+use streams::{Sink, Source};
+use worked_samples::writers::Takes;
 
 #[test]
 fn a_source_counts_and_marks(rt: HostRuntime) -> Result<(), Fail> {
@@ -37,24 +33,5 @@ fn a_sink_marks_a_failed_write(rt: HostRuntime) -> Result<(), Fail> {
     let writer = sink.into_inner();
     assert_eq!(rt; writer.taken.as_slice(), [1].as_slice());
     assert_eq!(rt; writer.asked, 2);
-    Ok(())
-}
-
-#[test]
-fn a_text_is_written_up_to_the_first_write_that_fails(rt: HostRuntime) -> Result<(), Fail> {
-    let failed = Err(ReportFault::Write);
-    let cases = [
-        ("a byte at a time", 1, u32::MAX, Ok(()), LINE, 15),
-        ("7 bytes, and no more", 7, 1, failed, "KEPT 1 ", 2),
-        ("nothing at any write", 0, u32::MAX, failed, "", 1),
-    ];
-    for (case, size, writes, want, taken, asked) in cases {
-        let mut sink = Sink::new(Takes::up_to(rt.alloc(), size, writes));
-        assert_eq!(rt; write_text(&mut sink, LINE), want, "{case}");
-        assert_eq!(rt; sink.failed(), want.is_err(), "{case}");
-        let writer = sink.into_inner();
-        assert_eq!(rt; writer.taken.as_slice(), taken.as_bytes(), "{case}");
-        assert_eq!(rt; writer.asked, asked, "{case}");
-    }
     Ok(())
 }

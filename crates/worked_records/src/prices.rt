@@ -1,16 +1,10 @@
 //! What a record costs by a tariff.
 
-use crate::office::flat;
-use crate::sample::{SAMPLE, other_subtype};
-use crate::usage::usage_of;
 use std::test::Fail;
-use tariff_rules::{Priced, Tariff, price};
-
-/// The price of a usage record.
-pub fn price_of(tariff: &Tariff, bytes: &[u8]) -> Result<Priced, Fail> {
-    let usage = usage_of(bytes).ok_or("no usage record")?;
-    Ok(price(tariff, &usage))
-}
+use tariff_rules::Tariff;
+use worked_samples::readings::price_of;
+use worked_samples::sample::{SAMPLE, other_subtype};
+use worked_samples::tariffs::flat;
 
 #[test]
 fn a_flat_tariff_prices_what_a_record_measures(rt: HostRuntime) -> Result<(), Fail> {

@@ -1,12 +1,12 @@
 //! A reader of dumps without any books, as docs/READING_DUMPS.md shows it.
 
-use crate::sample::{SAMPLE, joined, short_record};
 use smf_frames::{Layout, split};
 use smf_text::{day_text, show};
 use smf_type30::{Class, Type30, class};
 use std::alloc::{AllocError, Global};
 use std::fmt::Write;
 use std::test::Fail;
+use worked_samples::sample::{SAMPLE, joined, short_record};
 
 /// A line for each step or job of a dump: its job, its day, and its CPU time in hundredths of a
 /// second.

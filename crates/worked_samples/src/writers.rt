@@ -16,6 +16,7 @@ pub struct Takes {
 }
 
 impl Takes {
+    /// Has taken nothing yet.
     pub fn up_to(alloc: Global, size: usize, writes: u32) -> Takes {
         Takes {
             size,
