@@ -1,12 +1,13 @@
--- Lines that are numbered, one record further.
+-- Lines that are numbered, one further.
 use Rattle.std.proofs.Common.{◌≡◌, ℕ, ◌+◌, ◌<◌, List, [], ◌∷◌, ◌++◌, length, take, get_or, arith}
-use Rattle.std.proofs.Common.{append_assoc}
+use Rattle.std.proofs.Common.{append_assoc, ℤ, Some}
 use Rattle.std.proofs.lemmas.Grind.{common_steps}
 use Rattle.std.proofs.lemmas.List.{take_more, map-append, length-map, length-take-le}
 use Rattle.std.specs.Prelude.{Vec}
 use Rattle.std.specs.Global.{Global}
 use Rattle.smf_frames.specs.Texts.{texts}
 use Rattle.book_reports.specs.CheckLists.{record_line, record_lines}
+use Rattle.book_reports.specs.PeriodLists.{closed_lines, period_line}
 
 -- the lines of one record more end with the line of that record
 lines-append : (number : ℕ) (records : List (List ℕ)) (bytes : List ℕ)
@@ -32,4 +33,26 @@ one_more_line records i next below is =
       length-map,
       lines-append 1 before next.items,
       is,
+    )
+
+-- the lines of one closed period more end with the line of that period
+closed-append : (period : ℕ) (closes : List ℤ) (through : ℤ)
+    → closed_lines period (closes ++ through ∷ [])
+    ≡ closed_lines period closes ++ period_line (period + length closes) (Some through)
+closed-append period [] through = grind (arith, common_steps)
+closed-append period (first ∷ rest) through =
+    grind (arith, common_steps, append_assoc, closed-append (period + 1) rest through)
+
+-- behind i periods the line of number i + 1 comes next
+pub one_more_period : (closes : List ℤ) (i : ℕ) (other : ℤ) → i < length closes
+    → closed_lines 1 (take (i + 1) closes)
+    ≡ closed_lines 1 (take i closes) ++ period_line (i + 1) (Some (get_or closes i other))
+one_more_period closes i other below =
+    let next = get_or closes i other in
+    grind (
+      arith,
+      common_steps,
+      take_more closes i other below,
+      length-take-le,
+      closed-append 1 (take i closes) next,
     )

@@ -1,20 +1,33 @@
-//! The texts of the office's reports, byte for byte, and what a writer gains of them.
+//! The texts of the office's reports, byte for byte, over any books, and what a writer gains of
+//! them.
 #![tactic(auto)]
 
-mod check_list;
+mod adjustment_lists;
+mod book_texts;
+mod check_lists;
 mod columns;
-mod dispute_list;
+mod dispute_lists;
 mod fault;
 mod output;
-mod period;
-mod receipt_line;
+mod period_lists;
+mod periods;
+mod receipt_lines;
 mod reports;
-mod statement;
+mod statement_tables;
+mod statements;
 
-pub use check_list::check_list_text;
-pub use dispute_list::dispute_list_text;
+pub use adjustment_lists::adjustment_list_text;
+pub use book_texts::{
+    adjustment_list_of, dispute_list_of, period_list_of, statement_csv_of, statement_of,
+};
+pub use check_lists::check_list_text;
+pub use dispute_lists::dispute_list_text;
 pub use fault::ReportFault;
-pub use output::write_text;
-pub use receipt_line::receipt_line_text;
-pub use reports::{write_disputes, write_receipt, write_statement};
-pub use statement::statement_text;
+pub use output::{write_bytes, write_text};
+pub use period_lists::period_list_text;
+pub use receipt_lines::receipt_line_text;
+pub use reports::{
+    adjustment_list, dispute_list, period_list, receipt_line, statement, statement_csv,
+};
+pub use statement_tables::statement_table;
+pub use statements::statement_text;

@@ -1,24 +1,26 @@
-//! Reports, written: where memory runs out before, nothing is.
+//! Reports, written to any writer. The text is made before its first byte is written: where the
+//! books refuse, or memory runs out, nothing is.
 
 ghost use Rattle.std.specs.Prelude.{◌≡◌, ◌∷◌, [], false, true, IfErr};
 ghost use Rattle.streams.specs.Sinks.{writer_of, has_failed};
-ghost use Rattle.book_core.specs.PlainBook.{book_in};
-ghost use Rattle.book_reports.specs.BookTexts.{dispute_text, open_statement};
+ghost use Rattle.book_reports.specs.BookTexts as spec;
 ghost use Rattle.book_reports.specs.ReceiptLines as lines;
+ghost use Rattle.book_reports.specs.Reports.{IsPassedOn, IsReport};
 ghost use Rattle.book_reports.specs.Writing.{Writes, is_write_fault, is_write_or_memory};
 
-use crate::dispute_list::dispute_list_text;
+use crate::book_texts::{
+    adjustment_list_of, dispute_list_of, period_list_of, statement_csv_of, statement_of,
+};
 use crate::fault::ReportFault;
-use crate::output::write_text;
-use crate::receipt_line::receipt_line_text;
-use crate::statement::statement_text;
-use book_core::{Ledger, PlainLedger, ShaNames, Sink};
+use crate::output::{write_bytes, write_text};
+use crate::receipt_lines::receipt_line_text;
+use book_core::{Ledger, LedgerFault, Sink};
 use book_import::Receipt;
 use std::alloc::Global;
 use std::io::Write;
 
 /// Writes the receipt line.
-pub fn write_receipt<W: Write + Drop>(
+pub fn receipt_line<W: Write + Drop>(
     alloc: Global,
     receipt: &Receipt,
     sink: &mut Sink<W>,
@@ -33,39 +35,95 @@ pub fn write_receipt<W: Write + Drop>(
     write_text(sink, line.as_str())
 }
 
-/// Writes the statement of the one period of books that were never closed.
-pub fn write_statement<W: Write + Drop>(
-    alloc: Global,
-    ledger: &mut PlainLedger<ShaNames>,
-    sink: &mut Sink<W>,
-) -> Result<(), ReportFault>
-    requires unclosed { (book_in ledger.old).rulings.closes ≡ [] }
-    requires unwritten { has_failed sink.old ≡ false }
-    ensures text { Writes (open_statement (book_in ledger.old) ∷ [])
-        (W.contents (writer_of sink.old)) (W.contents (writer_of sink.new)) result }
-    ensures book { book_in ledger.new ≡ book_in ledger.old }
-    ensures failed { has_failed sink.new ≡ is_write_fault result }
-    ensures fault { IfErr result (λ fault. is_write_or_memory fault ≡ true) }
-{
-    let rows = ledger.charges(1)?;
-    let statement = statement_text(alloc, 1, None, &rows)?;
-    write_text(sink, statement.as_str())
-}
-
-/// Writes the disputes.
-pub fn write_disputes<W: Write + Drop>(
-    alloc: Global,
-    ledger: &mut PlainLedger<ShaNames>,
+/// Writes what the books answered.
+fn pass_on<W: Write + Drop>(
+    answer: Result<Vec<u8>, LedgerFault>,
     sink: &mut Sink<W>,
 ) -> Result<(), ReportFault>
     requires { has_failed sink.old ≡ false }
-    ensures text { Writes (dispute_text (book_in ledger.old) ∷ [])
+    ensures passed_on { IsPassedOn (spec.shown_by (λ text. text.items) answer)
         (W.contents (writer_of sink.old)) (W.contents (writer_of sink.new)) result }
-    ensures book { book_in ledger.new ≡ book_in ledger.old }
     ensures failed { has_failed sink.new ≡ is_write_fault result }
-    ensures fault { IfErr result (λ fault. is_write_or_memory fault ≡ true) }
 {
-    let disputes = ledger.disputes()?;
-    let list = dispute_list_text(alloc, &disputes)?;
-    write_text(sink, list.as_str())
+    match answer {
+        Ok(text) => write_bytes(sink, &text),
+        Err(fault) => Err(ReportFault::from(fault)),
+    }
+}
+
+/// Writes the statement of a period.
+pub fn statement<L: Ledger, W: Write + Drop>(
+    alloc: Global,
+    ledger: &mut L,
+    period: u16,
+    sink: &mut Sink<W>,
+) -> Result<(), ReportFault>
+    requires { has_failed sink.old ≡ false }
+    ensures report { IsReport (L.seen ledger.old) (L.seen ledger.new)
+        (spec.statement_outcome period)
+        (W.contents (writer_of sink.old)) (W.contents (writer_of sink.new)) result }
+    ensures failed { has_failed sink.new ≡ is_write_fault result }
+{
+    pass_on(statement_of(alloc, ledger, period), sink)
+}
+
+/// Writes the statement of a period as a table of comma-separated values.
+pub fn statement_csv<L: Ledger, W: Write + Drop>(
+    alloc: Global,
+    ledger: &mut L,
+    period: u16,
+    sink: &mut Sink<W>,
+) -> Result<(), ReportFault>
+    requires { has_failed sink.old ≡ false }
+    ensures report { IsReport (L.seen ledger.old) (L.seen ledger.new)
+        (spec.statement_csv_outcome period)
+        (W.contents (writer_of sink.old)) (W.contents (writer_of sink.new)) result }
+    ensures failed { has_failed sink.new ≡ is_write_fault result }
+{
+    pass_on(statement_csv_of(alloc, ledger, period), sink)
+}
+
+/// Writes the adjustments of a period.
+pub fn adjustment_list<L: Ledger, W: Write + Drop>(
+    alloc: Global,
+    ledger: &mut L,
+    period: u16,
+    sink: &mut Sink<W>,
+) -> Result<(), ReportFault>
+    requires { has_failed sink.old ≡ false }
+    ensures report { IsReport (L.seen ledger.old) (L.seen ledger.new)
+        (spec.adjustment_list_outcome (L.seen ledger.old).naming period)
+        (W.contents (writer_of sink.old)) (W.contents (writer_of sink.new)) result }
+    ensures failed { has_failed sink.new ≡ is_write_fault result }
+{
+    pass_on(adjustment_list_of(alloc, ledger, period), sink)
+}
+
+/// Writes the disputes.
+pub fn dispute_list<L: Ledger, W: Write + Drop>(
+    alloc: Global,
+    ledger: &mut L,
+    sink: &mut Sink<W>,
+) -> Result<(), ReportFault>
+    requires { has_failed sink.old ≡ false }
+    ensures report { IsReport (L.seen ledger.old) (L.seen ledger.new)
+        (spec.dispute_list_outcome (L.seen ledger.old).naming)
+        (W.contents (writer_of sink.old)) (W.contents (writer_of sink.new)) result }
+    ensures failed { has_failed sink.new ≡ is_write_fault result }
+{
+    pass_on(dispute_list_of(alloc, ledger), sink)
+}
+
+/// Writes the list of periods.
+pub fn period_list<L: Ledger, W: Write + Drop>(
+    alloc: Global,
+    ledger: &mut L,
+    sink: &mut Sink<W>,
+) -> Result<(), ReportFault>
+    requires { has_failed sink.old ≡ false }
+    ensures report { IsReport (L.seen ledger.old) (L.seen ledger.new) spec.period_list_outcome
+        (W.contents (writer_of sink.old)) (W.contents (writer_of sink.new)) result }
+    ensures failed { has_failed sink.new ≡ is_write_fault result }
+{
+    pass_on(period_list_of(alloc, ledger), sink)
 }

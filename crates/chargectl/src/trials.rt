@@ -8,7 +8,7 @@ ghost use Rattle.chargectl.specs.Trials.{IsTrial};
 
 use book_core::{PlainLedger, ShaNames, Sink, Source};
 use book_import::{Receipt, import};
-use book_reports::{ReportFault, write_disputes, write_receipt, write_statement};
+use book_reports::{ReportFault, dispute_list, receipt_line, statement};
 use smf_frames::Layout;
 use std::alloc::Global;
 use std::io::{Read, Write};
@@ -50,8 +50,8 @@ pub fn trial<R: Read + Drop, W: Write + Drop>(
 {
     let mut ledger = PlainLedger::flat(alloc, ShaNames, tariff)?;
     let receipt = import(alloc, source, layout, reads, &mut ledger);
-    write_receipt(alloc, &receipt, sink)?;
-    write_statement(alloc, &mut ledger, sink)?;
-    write_disputes(alloc, &mut ledger, sink)?;
+    receipt_line(alloc, &receipt, sink)?;
+    statement(alloc, &mut ledger, 1, sink)?;
+    dispute_list(alloc, &mut ledger, sink)?;
     Ok(receipt)
 }

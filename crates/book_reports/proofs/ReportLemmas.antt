@@ -1,0 +1,111 @@
+-- Answers that are passed on to a writer; and reports of ledgers in memory.
+use Rattle.std.proofs.Common.{◌≡◌, ◌∙◌, ℕ, ◌<◌, true, List, [], ◌∷◌, length, take}
+use Rattle.std.proofs.Common.{Option, None, Result, Ok, Err, Vec, Global, refl, sym, subst}
+use Rattle.std.proofs.Common.{append-nil}
+use Rattle.std.specs.Prelude.{IfErr}
+use Rattle.std.specs.Io.KnownBytes.{Appends}
+use Rattle.book_model.specs.declared.fault.LedgerFault.{LedgerFault}
+use Rattle.book_model.specs.declared.fault.LedgerFault.TheVariants.{Memory}
+use Rattle.book_model.specs.Answers.{Answers}
+use Rattle.book_model.specs.Books.{Book}
+use Rattle.book_model.specs.Outcomes.{Outcome}
+use Rattle.book_model.specs.Records.{Naming}
+use Rattle.book_core.specs.Calls.{IsCall}
+use Rattle.book_core.specs.Ledgers.{Seen, in_memory}
+use Rattle.book_core.proofs.MemoryLemmas.{answers_in_memory, stays_in_memory}
+use Rattle.book_reports.specs.declared.fault.ReportFault.{ReportFault}
+use Rattle.book_reports.specs.declared.fault.ReportFault.TheVariants as report
+use Rattle.book_reports.specs.BookTexts.{shown_by}
+use Rattle.book_reports.specs.Reports.{IsPassedOn, IsReport}
+use Rattle.book_reports.specs.Writing.{Writes, is_write_or_memory}
+use Rattle.book_reports.proofs.ReadingLemmas.{IsAlike, IsReading, Tells, fault_alike, fault_tells}
+use Rattle.book_reports.proofs.ReadingLemmas.{read_as}
+use Rattle.book_reports.proofs.WritingLemmas.{nothing_written, same_value, memory_not_write}
+
+-- an answer that is shown tells what it told
+shown_alike : (answer : Result (Vec ℕ Global) LedgerFault)
+    → IsAlike answer (shown_by (λ (text : Vec ℕ Global). text.items) answer)
+shown_alike (Ok text) = record { reopen = refl; store = refl }
+shown_alike (Err fault) = fault_alike fault
+
+shown_tells : (answer : Result (Vec ℕ Global) LedgerFault) (said : Result (List ℕ) LedgerFault)
+    → Tells (λ (text : Vec ℕ Global). text.items) answer said
+    → Tells (λ text. text) (shown_by (λ (text : Vec ℕ Global). text.items) answer) said
+shown_tells (Ok text) said tells = tells
+shown_tells (Err fault) said tells =
+    fault_tells (λ (text : Vec ℕ Global). text.items) (λ (text : List ℕ). text) fault
+    (λ refused. refused) tells
+
+-- a call that answered a text, which was passed on, is a report
+pub report_made : {old new : Seen} {outcome : Book → Outcome (List ℕ)}
+    {held holds : Option (List ℕ)} {result : Result (Unit {0}) ReportFault} → IsReading outcome
+    → (answer : Result (Vec ℕ Global) LedgerFault)
+    → IsCall (λ (text : Vec ℕ Global). text.items) old new answer outcome
+    → IsPassedOn (shown_by (λ (text : Vec ℕ Global). text.items) answer) held holds result
+    → IsReport old new outcome held holds result
+report_made none answer call passed = record {
+  answer = shown_by (λ (text : Vec ℕ Global). text.items) answer;
+  call = read_as none none (shown_alike answer) (λ book tells. shown_tells answer _ tells) call;
+  passed_on = passed;
+}
+
+-- a text that was passed on is written
+passed_written : (answer : Result (List ℕ) LedgerFault) (result : Result (Unit {0}) ReportFault)
+    (held holds : Option (List ℕ)) (text : List ℕ)
+    → Answers (λ text. text) answer (Ok text) → IsPassedOn answer held holds result
+    → Writes (text ∷ []) held holds result
+passed_written (Ok found) (Ok done) held holds text answers passed =
+    subst (Appends held holds) (sym (same_value answers) ∙ sym (append-nil text)) passed
+passed_written (Ok found) (Err report.Write) held holds text answers passed =
+    let same : found ≡ text = sym (same_value answers) in
+    let front = subst
+    (λ text. (count : ℕ) × (count < length text) × Appends held holds (take count text))
+    same passed in
+    record {
+      whole = [];
+      next = text;
+      rest = [];
+      count = front.0;
+      parts = refl;
+      grown = front.2;
+      unless_write = λ other. absurd (other refl);
+      after_write = λ write. front.1;
+    }
+passed_written (Ok found) (Err fault) held holds text answers passed = absurd passed
+passed_written (Err Memory) result held holds text answers passed =
+    rw (passed.0, passed.1) (nothing_written report.Memory held text [] (memory_not_write refl))
+passed_written (Err fault) result held holds text answers passed = cc answers
+
+-- and a fault on the way is one of the writer, or want of memory
+passed_fault : (answer : Result (List ℕ) LedgerFault) (result : Result (Unit {0}) ReportFault)
+    (held holds : Option (List ℕ)) (text : List ℕ)
+    → Answers (λ text. text) answer (Ok text) → IsPassedOn answer held holds result
+    → IfErr result (λ fault. is_write_or_memory fault ≡ true)
+passed_fault (Ok found) (Ok done) held holds text answers passed = tt
+passed_fault (Ok found) (Err report.Write) held holds text answers passed = refl
+passed_fault (Ok found) (Err fault) held holds text answers passed = absurd passed
+passed_fault (Err Memory) result held holds text answers passed = rw passed.0 refl
+passed_fault (Err fault) result held holds text answers passed = cc answers
+
+-- A report of a ledger in memory, whose book answers a text.
+module _ {naming names : Naming} {book after : Book} {outcome : Book → Outcome (List ℕ)}
+    {held holds : Option (List ℕ)} {result : Result (Unit {0}) ReportFault}
+    (made : IsReport (in_memory naming book) (in_memory names after) outcome held holds result)
+  where
+    -- the book stays
+    pub report_stays : (outcome book).event ≡ None → after ≡ book
+    report_stays none = stays_in_memory made.call none
+
+    -- the text is written, up to a fault
+    pub report_writes : (text : List ℕ) → (outcome book).answer ≡ Ok text
+        → Writes (text ∷ []) held holds result
+    report_writes text is =
+        passed_written made.answer result held holds text
+        (subst (Answers (λ text. text) made.answer) is (answers_in_memory made.call)) made.passed_on
+
+    -- which is one of the writer, or want of memory
+    pub report_fault : (text : List ℕ) → (outcome book).answer ≡ Ok text
+        → IfErr result (λ fault. is_write_or_memory fault ≡ true)
+    report_fault text is =
+        passed_fault made.answer result held holds text
+        (subst (Answers (λ text. text) made.answer) is (answers_in_memory made.call)) made.passed_on

@@ -1,0 +1,85 @@
+//! The texts that a ledger answers of its books: each is one call of the ledger, which changes
+//! nothing.
+
+ghost use Rattle.std.specs.Prelude.{IfOk};
+ghost use Rattle.std.specs.Option.{ForSome};
+ghost use Rattle.smf_text.specs.Day.{IsDay};
+ghost use Rattle.book_core.specs.Calls.{IsCall};
+ghost use Rattle.book_reports.specs.BookTexts as spec;
+
+use crate::adjustment_lists::adjustment_list_text;
+use crate::dispute_lists::dispute_list_text;
+use crate::period_lists::period_list_text;
+use crate::statement_tables::statement_table;
+use crate::statements::statement_text;
+use book_core::{Ledger, LedgerFault};
+use std::alloc::Global;
+
+/// The day that a period was closed through, `None` where no such period is closed.
+fn through_of<L: Ledger>(ledger: &mut L, period: u16) -> Result<Option<i32>, LedgerFault>
+    ensures through { IsCall (λ through. through) (L.seen ledger.old) (L.seen ledger.new) result
+        (spec.through_outcome period) }
+    ensures shown { IfOk result (λ through. ForSome through IsDay) }
+{
+    let days = ledger.periods()?;
+    Ok(days.get(usize::from(period).saturating_sub(1)).copied())
+}
+
+/// The statement of a period.
+pub fn statement_of<L: Ledger>(
+    alloc: Global,
+    ledger: &mut L,
+    period: u16,
+) -> Result<Vec<u8>, LedgerFault>
+    ensures { IsCall (λ text. text.items) (L.seen ledger.old) (L.seen ledger.new) result
+        (spec.statement_outcome period) }
+{
+    let through = through_of(ledger, period)?;
+    let rows = ledger.charges(period)?;
+    Ok(statement_text(alloc, period, through, &rows)?.into_bytes())
+}
+
+/// The statement of a period as a table of comma-separated values.
+pub fn statement_csv_of<L: Ledger>(
+    alloc: Global,
+    ledger: &mut L,
+    period: u16,
+) -> Result<Vec<u8>, LedgerFault>
+    ensures { IsCall (λ text. text.items) (L.seen ledger.old) (L.seen ledger.new) result
+        (spec.statement_csv_outcome period) }
+{
+    let rows = ledger.charges(period)?;
+    Ok(statement_table(alloc, period, &rows)?)
+}
+
+/// The adjustments of a period.
+pub fn adjustment_list_of<L: Ledger>(
+    alloc: Global,
+    ledger: &mut L,
+    period: u16,
+) -> Result<Vec<u8>, LedgerFault>
+    ensures { IsCall (λ text. text.items) (L.seen ledger.old) (L.seen ledger.new) result
+        (spec.adjustment_list_outcome (L.seen ledger.old).naming period) }
+{
+    let through = through_of(ledger, period)?;
+    let lines = ledger.adjustments(period)?;
+    Ok(adjustment_list_text(alloc, period, through, &lines)?.into_bytes())
+}
+
+/// The disputes.
+pub fn dispute_list_of<L: Ledger>(alloc: Global, ledger: &mut L) -> Result<Vec<u8>, LedgerFault>
+    ensures { IsCall (λ text. text.items) (L.seen ledger.old) (L.seen ledger.new) result
+        (spec.dispute_list_outcome (L.seen ledger.old).naming) }
+{
+    let disputes = ledger.disputes()?;
+    Ok(dispute_list_text(alloc, &disputes)?.into_bytes())
+}
+
+/// The periods, the open one last.
+pub fn period_list_of<L: Ledger>(alloc: Global, ledger: &mut L) -> Result<Vec<u8>, LedgerFault>
+    ensures { IsCall (λ text. text.items) (L.seen ledger.old) (L.seen ledger.new) result
+        spec.period_list_outcome }
+{
+    let closes = ledger.periods()?;
+    Ok(period_list_text(alloc, &closes)?.into_bytes())
+}
