@@ -75,7 +75,7 @@ module _ (naming : Naming) (book : Book) (sound : IsSound naming book)
   records = record_table naming book.rulings book.posted book.held (charged_of book)
 
   -- the row of a record that is held stands under its name
-  found_row : (bytes : List ℕ) (cost : Priced) → has book.held bytes ≡ true
+  pub found_row : (bytes : List ℕ) (cost : Priced) → has book.held bytes ≡ true
       → price_in book.rulings bytes ≡ Some cost
       → get records (name_of naming bytes)
       ≡ Some (record_row book.rulings (charged_of book) book.posted bytes cost)

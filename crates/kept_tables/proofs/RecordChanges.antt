@@ -31,7 +31,7 @@ module _ (naming : Naming) (rulings : Rulings) (posted : Records) where
   record_table held charged = from_entries (record_entries naming rulings held charged posted)
 
   -- a name that no record of a set has finds no row
-  no_row : (bytes : List ℕ) (held charged : Records) → IsUnnamed naming bytes held
+  pub no_row : (bytes : List ℕ) (held charged : Records) → IsUnnamed naming bytes held
       → find by_bytes (name_of naming bytes) (record_entries naming rulings held charged posted)
       ≡ None
   no_row bytes held charged unnamed =

@@ -47,7 +47,7 @@ closes_above m n (day ∷ days) less =
     (closes_above m (suc n) days (omega arith))
 
 -- so the closes stand in the order of their periods
-closes_rise : (n : ℕ) (days : List ℤ) → T (is_sorted nat_cmp (close_entries n days))
+pub closes_rise : (n : ℕ) (days : List ℤ) → T (is_sorted nat_cmp (close_entries n days))
 closes_rise n [] = tt
 closes_rise n (day ∷ days) =
     both (below_all nat_cmp n (close_entries (suc n) days))
@@ -59,7 +59,7 @@ closes_rise n (day ∷ days) =
     both false b one other = one
 
 -- their days are those of the closes
-closes_days : (n : ℕ) (days : List ℤ) → map (λ (e : ℕ × ℤ). e.1) (close_entries n days) ≡ days
+pub closes_days : (n : ℕ) (days : List ℤ) → map (λ (e : ℕ × ℤ). e.1) (close_entries n days) ≡ days
 closes_days n [] = refl
 closes_days n (day ∷ days) = ap (λ ds. day ∷ ds) (closes_days (suc n) days)
 
@@ -93,7 +93,7 @@ module _ (naming : Naming) (book : Book) (sound : IsSound naming book) where
   )
 
   -- no two of them have one name
-  entries_apart : (ks : List (List ℕ)) → IsStrictlySortedBy by_bytes ks
+  pub entries_apart : (ks : List (List ℕ)) → IsStrictlySortedBy by_bytes ks
       → ((bytes : List ℕ) → list_any (is bytes) ks ≡ true → has book.held bytes ≡ true)
       → Apart by_bytes (filter_map entry ks)
   entries_apart [] rising held = tt

@@ -1,0 +1,285 @@
+-- 64 bits with a sign hold the numbers of the tables.
+use Rattle.std.proofs.Common.{◌≡◌, ℕ, suc, ◌+◌, List, [], ◌∷◌, map, length, refl, sym, ap}
+use Rattle.std.proofs.Common.{◌∙◌, subst, true, Bool, ◌||◌, Option, Some, None, arith}
+use Rattle.std.specs.Prelude.{◌<◌, ◌≤◌, ◌^◌, slice_get, sum_by, All, ℤ}
+use Rattle.std.specs.FinMap.{get, find, get-from_entries, int_cmp-IsAntisymmetric}
+use Rattle.std.specs.FinMap as fin
+use Rattle.std.specs.FinMap.{nat_cmp-IsAntisymmetric}
+use Rattle.std.specs.Cmp.{int_cmp_total, nat_cmp_total}
+use Rattle.std.specs.List.{AllByRecursion, filter_map, cons_option, list_any}
+use Rattle.std.specs.Option.{option_map}
+use Rattle.std.specs.Ordering.{int_cmp, nat_cmp}
+use Rattle.std.proofs.Math.Bool.{or-true}
+use Rattle.std.proofs.lemmas.Cmp.{nat_list_cmp_total}
+use Rattle.std.proofs.lemmas.List.{length-append}
+use Rattle.std.proofs.lemmas.List.Elements.{All-head, All-tail, All-filter}
+use Rattle.std.proofs.lemmas.List.Sums.{sum_by-le}
+use Rattle.std.proofs.lemmas.Map.Lookups.{exact_bytes}
+use Rattle.std.proofs.lemmas.Map.Views.{tells_apart}
+use Rattle.std.proofs.lemmas.Option.{slice_get_within}
+use Rattle.smf_text.specs.Day.{IsDay}
+use Rattle.smf_text.specs.Names.{IsName}
+use Rattle.tariff_rules.specs.Price.{IsPriced}
+use Rattle.tariff_rules.specs.declared.priced.Priced.{Priced}
+use Rattle.book_model.specs.declared.row.ChargeRow.{ChargeRow}
+use Rattle.book_model.specs.declared.row.RowKey.{RowKey}
+use Rattle.book_model.specs.Books.{Book, all_periods, open_period}
+use Rattle.book_model.specs.Limits.{last_period}
+use Rattle.book_model.specs.Periods.{Period}
+use Rattle.book_model.specs.Records.{Naming, by_bytes, IsUsageRecord}
+use Rattle.book_model.specs.Rows.{key_of, by_key, same_key, charged_at}
+use Rattle.book_model.specs.Rulings.{Tariffed, price_in}
+use Rattle.book_model.specs.Sets.{members, has}
+use Rattle.book_model.specs.Sound.{AreAmong, AreHeld}
+use Rattle.book_model.proofs.RecordSets.{is, is_itself}
+use Rattle.book_model.proofs.RowLemmas.{by_key_total, by_key_exact, same_key_ties}
+use Rattle.book_model.proofs.SumsAlike.{length-sum_by}
+use Rattle.kept_tables.specs.Numbered.{numbered}
+use Rattle.kept_tables.specs.Tables.{RecordRow}
+use Rattle.kept_tables.specs.TablesOf.{tariff_entries, close_entries, day_entries, line_entries}
+use Rattle.kept_tables.specs.TablesOf.{tables_of}
+use Rattle.kept_tables.proofs.DayChanges.{days-found, found_at}
+use Rattle.kept_tables.proofs.HeldPeriods.{one_of, all_held}
+use Rattle.kept_tables.proofs.NumberedLemmas.{by_period_total}
+use Rattle.table_readings.specs.AnswerLaws.{NumbersFit}
+use Rattle.table_readings.specs.BookIn.{record_of}
+use Rattle.table_readings.specs.Fits.{IsPeriod, RecordFits, DayFits, TablesFit, signed_end}
+use Rattle.table_readings.specs.Readable.{IsTexted, IsReadable}
+use Rattle.table_readings.proofs.Finding.{find_one, find_numbered, one_mapped, first_passes}
+use Rattle.table_readings.proofs.PriceSums.{part_within, costs, all_priced, few_prices, some_within}
+use Rattle.table_readings.proofs.RecordReading.{entry, entry_at, all_entries}
+
+-- tariffs have days
+tariff_days : (tariffs : List Tariffed) → All IsTexted tariffs
+    → AllByRecursion (λ (row : ℤ × Option (List ℕ)). IsDay row.0) (tariff_entries tariffs)
+tariff_days [] texted = tt
+tariff_days (tariff ∷ tariffs) texted = (
+  (All-head IsTexted tariff tariffs texted).day,
+  tariff_days tariffs (All-tail IsTexted tariff tariffs texted),
+)
+
+-- closes have days and periods
+close_days : (n : ℕ) (days : List ℤ) → 0 < n → n + length days ≤ last_period → All IsDay days
+    → AllByRecursion (λ (row : ℕ × ℤ). IsPeriod row.0 × IsDay row.1) (close_entries n days)
+close_days n [] some few dated = tt
+close_days n (day ∷ days) some few dated = (
+  (record { numbered = some; early = omega arith }, All-head IsDay day days dated),
+  close_days (suc n) days (omega arith) (omega arith) (All-tail IsDay day days dated),
+)
+
+-- a record's row
+record_fits : (row : RecordRow) → IsUsageRecord (record_of row) → IsPriced row.priced
+    → RecordFits row
+record_fits row usage priced =
+    let cpu = priced.cpu in
+    let excp = priced.excp in
+    let amount = priced.amount in
+    record {
+      usage = usage;
+      priced = priced;
+      cpu = omega arith;
+      excp = omega arith;
+      amount = omega arith;
+    }
+
+-- the sums of some prices fit
+record HereFits (here : List Priced) : Type 0 where
+  count : length here < signed_end
+  cpu : sum_by (λ one. one.cpu) here < signed_end
+  blocks : sum_by (λ one. one.excp) here < signed_end
+  amount : sum_by (λ one. one.amount) here < signed_end
+
+-- the row of a place with some prices
+abbrev sums_at : RowKey → List Priced → ChargeRow
+sums_at key here = record {
+  day = key.day;
+  centre = key.centre;
+  shift = key.shift;
+  count = length here;
+  cpu = sum_by (λ one. one.cpu) here;
+  blocks = sum_by (λ one. one.excp) here;
+  amount = sum_by (λ one. one.amount) here;
+}
+
+module _ (naming : Naming) (book : Book) (whole : IsReadable naming book) where
+  -- the rows of records
+  rows_fit : (name : List ℕ) (row : RecordRow) → get (tables_of naming book).records name ≡ Some row
+      → RecordFits row
+  rows_fit name row found =
+      find_one by_bytes exact_bytes (λ name row. RecordFits row) name row
+      (all_entries naming book whole.sound)
+      (each (members book.held)
+      (λ bytes there. fin.contains_key-keys book.held bytes ∙ there))
+      (sym (get-from_entries nat_list_cmp_total (all_entries naming book whole.sound) name)
+      ∙ found)
+    where
+      one : (bytes : List ℕ) → has book.held bytes ≡ true → (price : Option Priced)
+          → price_in book.rulings bytes ≡ price → (rest : List (List ℕ × RecordRow))
+          → AllByRecursion (λ (row : List ℕ × RecordRow). RecordFits row.1) rest
+          → AllByRecursion (λ (row : List ℕ × RecordRow). RecordFits row.1)
+          (cons_option (option_map {T = Priced} {U = List ℕ × RecordRow}
+          (entry_at naming book whole.sound bytes) price) rest)
+      one bytes there None none rest all = all
+      one bytes there (Some priced) price rest all = (
+        record_fits (entry_at naming book whole.sound bytes priced).1
+            (subst IsUsageRecord (whole.usage bytes there).framed.is (whole.usage bytes there))
+            (whole.priced bytes priced there price),
+        all,
+      )
+
+      each : (ks : List (List ℕ))
+          → ((bytes : List ℕ) → list_any (is bytes) ks ≡ true → has book.held bytes ≡ true)
+          → AllByRecursion (λ (row : List ℕ × RecordRow). RecordFits row.1)
+          (filter_map (entry naming book whole.sound) ks)
+      each [] held = tt
+      each (k ∷ ks) held =
+          one k (held k (ap (λ b. b || list_any (is k) ks) (is_itself k)))
+          (price_in book.rulings k) refl
+          (filter_map (entry naming book whole.sound) ks)
+          (each ks (λ other behind.
+          held other (ap (λ b. is other k || b) behind ∙ or-true (is other k))))
+
+  -- a period of the book has a number
+  its_number : (k number : ℕ) (period : Period) → slice_get (all_periods book) k ≡ Some period
+      → number ≡ 1 + k → IsPeriod number
+  its_number k number period there is =
+      let within = slice_get_within (all_periods book) k period there in
+      let all = length-append book.past (open_period book ∷ []) in
+      let closed = whole.sound.closed in
+      let few = whole.limits.closes in
+      record { numbered = omega arith; early = omega arith }
+
+  -- what is charged at a place is within what is held
+  here_within : (f : Priced → ℕ) (period : Period) (key : RowKey)
+      → AreAmong period.counted book.held
+      → sum_by f (charged_at (costs naming book whole period.counted) key)
+      ≤ sum_by f (costs naming book whole book.held)
+  here_within f period key held =
+      let part = part_within f (λ one. same_key (key_of one) key)
+      (costs naming book whole period.counted) in
+      let some = some_within naming book whole f period.counted held in
+      omega arith
+
+  -- so its sums fit
+  here_fits : (period : Period) (key : RowKey) → AreAmong period.counted book.held
+      → HereFits (charged_at (costs naming book whole period.counted) key)
+  here_fits period key held =
+      let here : List Priced = charged_at (costs naming book whole period.counted) key in
+      let all : List Priced = costs naming book whole book.held in
+      let each = all_priced naming book whole book.held (λ bytes there. there) in
+      let few = few_prices naming book whole in
+      let each_cpu : All (λ one. one.cpu ≤ 2 ^ 33) all = λ k d within. (each k d within).cpu in
+      let each_excp : All (λ one. one.excp ≤ 2 ^ 32) all =
+      λ k d within. let below = (each k d within).excp in omega arith in
+      let all_cpu = sum_by-le (λ one. one.cpu) (2 ^ 33) all each_cpu in
+      let all_blocks = sum_by-le (λ one. one.excp) (2 ^ 32) all each_excp in
+      let cost = whole.limits.cost in
+      let ones = length-sum_by here in
+      let all_ones = length-sum_by all in
+      let count = here_within (λ _. 1) period key held in
+      let cpu = here_within (λ one. one.cpu) period key held in
+      let blocks = here_within (λ one. one.excp) period key held in
+      let amount = here_within (λ one. one.amount) period key held in
+      record {
+        count = omega arith;
+        cpu = omega arith;
+        blocks = omega arith;
+        amount = omega arith;
+      }
+
+  -- and something that is charged at a place tells of the place what each price tells
+  here_priced : (period : Period) (key : RowKey) (one : Priced) (rest : List Priced)
+      → AreAmong period.counted book.held
+      → charged_at (costs naming book whole period.counted) key ≡ one ∷ rest
+      → IsPriced one × (key_of one ≡ key)
+  here_priced period key one rest held is =
+      let all : List Priced = costs naming book whole period.counted in
+      let here : Priced → Bool = λ one. same_key (key_of one) key in
+      let same = tells_apart by_key_exact (key_of one) key
+      (sym (same_key_ties (key_of one) key) ∙ first_passes here all one rest is) in
+      let priced = All-filter here IsPriced all
+      (all_priced naming book whole period.counted held) in
+      (All-head IsPriced one rest (subst (All IsPriced) is priced), same)
+
+  -- a charge row of a period
+  place_fits : (number : ℕ) (key : RowKey) (row : ChargeRow) (period : Period)
+      → AreAmong period.counted book.held → IsPeriod number
+      → find by_key key (day_entries book.rulings period) ≡ Some row
+      → DayFits (number, key) row
+  place_fits number key row period held named found =
+      let all : List Priced = costs naming book whole period.counted in
+      by_here (charged_at all key) refl (sym (days-found all key) ∙ found)
+    where
+      by_here : (here : List Priced)
+          → charged_at (costs naming book whole period.counted) key ≡ here
+          → found_at key here ≡ Some row
+          → DayFits (number, key) row
+      by_here [] none is = cc
+      by_here (one ∷ rest) some is =
+          let fits = subst HereFits some (here_fits period key held) in
+          let own : sums_at key (one ∷ rest) ≡ row = cc in
+          let priced = here_priced period key one rest held some in
+          subst (DayFits (number, key)) own (record {
+            period = named;
+            placed = refl;
+            day = subst (λ (key : RowKey). IsDay key.day) priced.1 priced.0.day;
+            centre = subst (λ (key : RowKey). IsName key.centre) priced.1 priced.0.centre;
+            shift = subst (λ (key : RowKey). IsName key.shift) priced.1 priced.0.shift;
+            count = fits.count;
+            cpu = fits.cpu;
+            blocks = fits.blocks;
+            amount = fits.amount;
+          })
+
+  -- all charge rows
+  days_fit : (place : ℕ × RowKey) (row : ChargeRow)
+      → get (tables_of naming book).days place ≡ Some row → DayFits place row
+  days_fit place row found =
+      let all : List Period = all_periods book in
+      let its : Period → List (RowKey × ChargeRow) = day_entries book.rulings in
+      find_numbered by_key (DayFits place row) place row 1 (map its all) (λ k rows there is own.
+      let one = one_mapped its all k rows there in
+      let held = one_of (AreHeld book.held) all k one.0 (all_held naming book whole.sound) one.1 in
+      place_fits place.0 place.1 row one.0 held.counted (its_number k place.0 one.0 one.1 is)
+      (ap (find by_key place.1) one.2 ∙ own))
+      (sym (get-from_entries (by_period_total by_key by_key_total) (numbered 1 (map its all)) place)
+      ∙ found)
+
+  -- all lines
+  lines_fit : (place : ℕ × List ℕ) (plus : Bool)
+      → get (tables_of naming book).lines place ≡ Some plus → IsPeriod place.0
+  lines_fit place plus found =
+      let all : List Period = all_periods book in
+      let its : Period → List (List ℕ × Bool) = line_entries naming in
+      find_numbered by_bytes (IsPeriod place.0) place plus 1 (map its all) (λ k rows there is own.
+      let one = one_mapped its all k rows there in its_number k place.0 one.0 one.1 is)
+      (sym (get-from_entries (by_period_total by_bytes nat_list_cmp_total)
+      (numbered 1 (map its all)) place)
+      ∙ found)
+
+  -- all tables
+  tables_fit : TablesFit (tables_of naming book)
+  tables_fit =
+      let tariffs : List Tariffed = book.rulings.tariffs in
+      let closes : List ℤ = book.rulings.closes in
+      let few = whole.limits.closes in
+      record {
+        held = whole.limits.held;
+        amount = whole.limits.cost;
+        tariffs = λ day text found.
+            find_one int_cmp int_cmp-IsAntisymmetric (λ day (text : Option (List ℕ)). IsDay day) day
+            text (tariff_entries tariffs) (tariff_days tariffs whole.texts)
+            (sym (get-from_entries int_cmp_total (tariff_entries tariffs) day) ∙ found);
+        closes = λ number day found.
+            find_one nat_cmp nat_cmp-IsAntisymmetric (λ number day. IsPeriod number × IsDay day)
+            number day (close_entries 1 closes)
+            (close_days 1 closes (omega arith) (omega arith) whole.days)
+            (sym (get-from_entries nat_cmp_total (close_entries 1 closes) number) ∙ found);
+        records = rows_fit;
+        days = days_fit;
+        lines = lines_fit;
+      }
+
+-- the law of it
+pub numbers_fit : NumbersFit
+numbers_fit naming book whole = tables_fit naming book whole

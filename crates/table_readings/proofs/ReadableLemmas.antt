@@ -1,0 +1,263 @@
+-- Books that calls made can be read back.
+use Rattle.std.proofs.Common.{◌≡◌, ℕ, ◌+◌, List, [], ◌∷◌, length, refl, sym, ap, ◌∙◌, subst}
+use Rattle.std.proofs.Common.{true, false, true≢false, Bool, ◌||◌, Some, None, Ok, Err, Result}
+use Rattle.std.proofs.Common.{arith}
+use Rattle.std.specs.Prelude.{◌≤◌, ◌==◌, nat_le, nat_lt, if◌then◌else◌, All, sum_by, ℤ}
+use Rattle.std.specs.List.{filter_map}
+use Rattle.std.specs.List.Sorted.{IsStrictlySortedBy}
+use Rattle.std.specs.Ordering.{int_cmp}
+use Rattle.std.proofs.lemmas.Bool.Decides.{nat_tests}
+use Rattle.std.proofs.lemmas.List.{length-append}
+use Rattle.std.proofs.lemmas.List.Elements.{All-nil, All-push}
+use Rattle.smf_text.specs.Day.{IsDay}
+use Rattle.tariff_rules.specs.Price.{IsPriced}
+use Rattle.tariff_rules.specs.Terms.{Terms}
+use Rattle.tariff_rules.specs.declared.priced.Priced.{Priced}
+use Rattle.book_model.specs.declared.answer.Accepted.{Accepted}
+use Rattle.book_model.specs.declared.answer.Accepted.TheVariants.{Kept, Known}
+use Rattle.book_model.specs.declared.answer.Ruled.TheVariants.{Done}
+use Rattle.book_model.specs.declared.fault.LedgerFault.{LedgerFault}
+use Rattle.book_model.specs.declared.fault.LedgerFault.TheVariants.{DigestClash, Full}
+use Rattle.book_model.specs.Accept.{accept_answer, accept_priced, clashes, is_full, total_of}
+use Rattle.book_model.specs.Answered.{IsAnswered}
+use Rattle.book_model.specs.Books.{Book, new_book, open_number}
+use Rattle.book_model.specs.Events.{Event, RecordKept, TariffAccepted, PeriodClosed}
+use Rattle.book_model.specs.Events.{keep, put_in_force, close}
+use Rattle.book_model.specs.History.{book_after}
+use Rattle.book_model.specs.Limits.{most_held, most_cost, last_period}
+use Rattle.book_model.specs.Records.{Naming, IsUsageRecord, by_bytes}
+use Rattle.book_model.specs.RulingAnswers.{terms_answer, close_answer, is_closed, is_early}
+use Rattle.book_model.specs.Rulings.{Rulings, price_in, are_rising}
+use Rattle.book_model.specs.Sets.{members, has, with}
+use Rattle.book_model.specs.Sound.{IsSound}
+use Rattle.book_model.proofs.AnsweredLemmas.{rulings_are, sound_after, latest_is_last}
+use Rattle.book_model.proofs.CallLemmas.{calls_go_forward, close_by}
+use Rattle.book_model.proofs.RecordSets.{one_or}
+use Rattle.book_model.proofs.SetLemmas.{members-empty}
+use Rattle.book_model.proofs.SoundLemmas.{none_in}
+use Rattle.book_model.proofs.StepLemmas.{books_follow_history}
+use Rattle.kept_tables.specs.Reading.{HasLines}
+use Rattle.kept_tables.specs.Tables.{BookRow}
+use Rattle.kept_tables.proofs.CloseDays.{closed_open}
+use Rattle.kept_tables.proofs.KeptPrice.{kept_cost}
+use Rattle.kept_tables.proofs.LinesStay.{lines_stay}
+use Rattle.kept_tables.proofs.RecordChanges.{book_row-with}
+use Rattle.kept_tables.proofs.TariffPrices.{costs_the_same, same_prices}
+use Rattle.table_readings.specs.FromCalls.{IsHandedIn, IsReadFrom, AreHandedIn}
+use Rattle.table_readings.specs.Laws.{CallsRead}
+use Rattle.table_readings.specs.Readable.{IsTexted, IsChain, IsWithinLimits, IsReadable}
+use Rattle.table_readings.proofs.ChainLemmas.{chain_of}
+use Rattle.table_readings.proofs.CloseOrder.{rise_behind}
+
+-- What each event keeps of a book that can be read back, beside its soundness.
+record IsGrown (book : Book) : Type 0 where
+  lines : HasLines book
+  usage : (bytes : List ℕ) → has book.held bytes ≡ true → IsUsageRecord bytes
+  priced : (bytes : List ℕ) (priced : Priced) → has book.held bytes ≡ true
+      → price_in book.rulings bytes ≡ Some priced → IsPriced priced
+  texts : All IsTexted book.rulings.tariffs
+  days : All IsDay book.rulings.closes
+  in_order : IsStrictlySortedBy int_cmp book.rulings.closes
+  limits : IsWithinLimits book
+
+-- new books hold no record
+no_records : length (members new_book.held) ≡ 0
+no_records = ap length (members-empty by_bytes)
+
+-- so they hold nothing that costs
+no_cost : total_of new_book.rulings new_book.held ≡ 0
+no_cost =
+    ap (λ ks. sum_by (λ (one : Priced). one.amount) (filter_map (price_in new_book.rulings) ks))
+    (members-empty by_bytes)
+
+-- new books
+start_grown : IsGrown new_book
+unfolding IsStrictlySortedBy
+start_grown = record {
+  lines = lines_stay.start;
+  usage = λ bytes there. absurd (true≢false (sym there ∙ none_in bytes));
+  priced = λ bytes priced there price. absurd (true≢false (sym there ∙ none_in bytes));
+  texts = All-nil IsTexted;
+  days = All-nil IsDay;
+  in_order = tt;
+  limits = record {
+    held = subst (λ n. n ≤ most_held) (sym no_records) (omega arith);
+    cost = subst (λ n. n ≤ most_cost) (sym no_cost) (omega arith);
+    closes = omega arith;
+  };
+}
+
+-- the answer by whether there is no room
+abbrev by_room : Bool → Result Accepted LedgerFault
+by_room full = if full then Err Full else Ok Kept
+
+-- the tests that a record passed which is kept: it is new, and there is room for it
+kept_tests : (known clash full : Bool)
+    → (if known then Ok Known else if clash then Err DigestClash else by_room full) ≡ Ok Kept
+    → (known ≡ false) × (full ≡ false)
+kept_tests true clash full kept = cc
+kept_tests false true full kept = cc
+kept_tests false false true kept = cc
+kept_tests false false false kept = (refl, refl)
+
+-- where there is room, one more is within the limits
+has_room : (held cost : ℕ) → (nat_le most_held held || nat_lt most_cost cost) ≡ false
+    → (held + 1 ≤ most_held) × (cost ≤ most_cost)
+has_room held cost room =
+    let full : Bool = nat_le most_held held in
+    let dear : Bool = nat_lt most_cost cost in
+    (few (first_fails full dear room), cheap (second_fails full dear room))
+  where
+    few : nat_le most_held held ≡ false → held + 1 ≤ most_held
+    few not_full = grind (arith, nat_tests)
+
+    cheap : nat_lt most_cost cost ≡ false → cost ≤ most_cost
+    cheap not_dear = grind (arith, nat_tests)
+
+    first_fails : (a b : Bool) → (a || b) ≡ false → a ≡ false
+    first_fails true b fails = absurd (true≢false fails)
+    first_fails false b fails = refl
+
+    second_fails : (a b : Bool) → (a || b) ≡ false → b ≡ false
+    second_fails true b fails = absurd (true≢false fails)
+    second_fails false b fails = fails
+
+module _ (naming : Naming) (book : Book) (sound : IsSound naming book) (grown : IsGrown book) where
+  -- a record that is kept
+  keep_grown : (bytes : List ℕ) → IsHandedIn book.rulings bytes
+      → accept_answer naming book bytes ≡ Ok Kept → IsGrown (keep bytes book)
+  keep_grown bytes handed kept =
+      let cost = kept_cost naming book bytes sound kept in
+      let tests =
+      kept_tests (has book.held bytes) (clashes naming book.held bytes)
+      (is_full book cost.0.amount)
+      (ap (λ price. if has book.held bytes then Ok Known
+      else if clashes naming book.held bytes then Err DigestClash
+      else accept_priced book price) (sym cost.1) ∙ kept) in
+      let room =
+      has_room (length (members book.held)) (total_of book.rulings book.held + cost.0.amount)
+      tests.1 in
+      let row = book_row-with book.rulings book.held bytes cost.0 tests.0 cost.1 in
+      let count : length (members (with book.held bytes)) ≡ length (members book.held) + 1 =
+      ap (λ (row : BookRow). row.held) row in
+      let amount : total_of book.rulings (with book.held bytes)
+      ≡ total_of book.rulings book.held + cost.0.amount = ap (λ (row : BookRow). row.amount) row in
+      record {
+        lines = lines_stay.keep book bytes grown.lines handed.usage.framed;
+        usage = λ other there.
+            one_or book.held bytes other there (λ same. subst IsUsageRecord (sym same) handed.usage)
+            (λ held. grown.usage other held);
+        priced = λ other priced there price.
+            one_or book.held bytes other there
+            (λ same. handed.priced priced (ap (price_in book.rulings) (sym same) ∙ price))
+            (λ held. grown.priced other priced held price);
+        texts = grown.texts;
+        days = grown.days;
+        in_order = grown.in_order;
+        limits = record {
+          held = subst (λ n. n ≤ most_held) (sym count) room.0;
+          cost = subst (λ n. n ≤ most_cost) (sym amount) room.1;
+          closes = grown.limits.closes;
+        };
+      }
+
+  -- a tariff that is put in force
+  tariff_grown : (text : List ℕ) (terms : Terms) → IsReadFrom text terms
+      → terms_answer book text terms ≡ Ok Done → IsGrown (put_in_force (Some text) terms book)
+  tariff_grown text terms said done =
+      let same = costs_the_same naming book sound text terms done in
+      let total = ap (sum_by (λ (one : Priced). one.amount))
+      (same_prices naming book sound text terms done book.held (λ bytes there. there)) in
+      record {
+        lines = lines_stay.tariff book text terms grown.lines;
+        usage = grown.usage;
+        priced = λ bytes priced there price.
+            grown.priced bytes priced there (sym (same bytes there) ∙ price);
+        texts =
+            All-push IsTexted book.rulings.tariffs (record { text = Some text; terms = terms })
+            grown.texts (record { text = text; is = refl; said = said.said; day = said.day });
+        days = grown.days;
+        in_order = grown.in_order;
+        limits = record {
+          held = grown.limits.held;
+          cost = subst (λ n. n ≤ most_cost) (sym total) grown.limits.cost;
+          closes = grown.limits.closes;
+        };
+      }
+
+  -- a period that is closed
+  close_grown : (number : ℕ) (day : ℤ) → IsDay day → close_answer book number day ≡ Ok Done
+      → IsGrown (close day book)
+  close_grown number day on done =
+      let own = closed_open book number day done in
+      let full = room_behind (open_number book) (is_closed number day book.rulings)
+      (number == open_number book) (is_early day book.rulings) (number == last_period) done in
+      let more = length-append book.rulings.closes (day ∷ []) in
+      let few = grown.limits.closes in
+      let is_open : number ≡ length book.rulings.closes + 1 = own in
+      record {
+        lines = lines_stay.close book day grown.lines;
+        usage = grown.usage;
+        priced = grown.priced;
+        texts = grown.texts;
+        days = All-push IsDay book.rulings.closes day grown.days on;
+        in_order = rise_behind book.rulings.closes day grown.in_order
+            (calls_go_forward.close book number day done);
+        limits = record {
+          held = grown.limits.held;
+          cost = grown.limits.cost;
+          closes = grind (arith, nat_tests);
+        };
+      }
+    where
+      room_behind : (number_open : ℕ) (closed is_open early full : Bool)
+          → close_by number_open closed is_open early full ≡ Ok Done → full ≡ false
+      room_behind number_open true is_open early full done = cc
+      room_behind number_open false false early full done = cc
+      room_behind number_open false true true full done = cc
+      room_behind number_open false true false true done = cc
+      room_behind number_open false true false false done = refl
+
+-- the book of a history
+grown_after : (naming : Naming) (history : List Event) → IsAnswered naming history
+    → AreHandedIn history → IsGrown (book_after history)
+grown_after naming [] answered handed = start_grown
+grown_after naming (RecordKept bytes ∷ older) answered handed =
+    keep_grown naming (book_after older) (sound_after naming older answered.1)
+    (grown_after naming older answered.1 handed.1) bytes
+    (subst (λ (ruled : Rulings). IsHandedIn ruled bytes) (sym (rulings_are older)) handed.0)
+    answered.0
+grown_after naming (TariffAccepted (Some text) terms ∷ older) answered handed =
+    tariff_grown naming (book_after older) (sound_after naming older answered.1)
+    (grown_after naming older answered.1 handed.1) text terms handed.0 answered.0
+grown_after naming (TariffAccepted None terms ∷ older) answered handed = absurd handed
+grown_after naming (PeriodClosed day ∷ older) answered handed =
+    close_grown naming (book_after older) (sound_after naming older answered.1)
+    (grown_after naming older answered.1 handed.1) (open_number (book_after older)) day handed.0
+    answered.0
+
+-- it can be read back
+readable_after : (naming : Naming) (history : List Event) → IsAnswered naming history
+    → AreHandedIn history → IsReadable naming (book_after history)
+readable_after naming history answered handed =
+    let grown = grown_after naming history answered handed in
+    record {
+      sound = sound_after naming history answered;
+      lines = grown.lines;
+      usage = grown.usage;
+      priced = grown.priced;
+      texts = grown.texts;
+      rising =
+          ap (λ (ruled : Rulings). are_rising ruled.tariffs) (rulings_are history)
+          ∙ latest_is_last.rising naming history answered;
+      days = grown.days;
+      in_order = grown.in_order;
+      past = subst IsChain (sym (books_follow_history history)) (chain_of history);
+      limits = grown.limits;
+    }
+
+-- the law of it
+pub calls_read : CallsRead
+calls_read naming book made =
+    subst (IsReadable naming) (sym made.left)
+    (readable_after naming made.history made.answered made.handed_in)

@@ -1,0 +1,97 @@
+-- Sets of records that are made of lists in any order.
+use Rattle.std.proofs.Common.{◌≡◌, ℕ, List, ◌++◌, refl, sym, ap, ◌∙◌, true, false, true≢false, Bool}
+use Rattle.std.proofs.Common.{not, ◌&&◌, ◌||◌, Option}
+use Rattle.std.specs.Prelude.{filter, Contains, ℤ}
+use Rattle.std.specs.FinMap as fin
+use Rattle.std.specs.List.{filter_map, list_any}
+use Rattle.std.specs.List.Sorted.{IsPermutation}
+use Rattle.std.proofs.lemmas.Cmp.{nat_list_cmp_total, eq_by_cmp_equiv}
+use Rattle.std.proofs.lemmas.List.Folds.{list_any-append, Any-from_list_any}
+use Rattle.std.proofs.lemmas.List.Sorted.{sum_by-IsPermutation}
+use Rattle.std.proofs.lemmas.Map.Lookups.{exact_bytes}
+use Rattle.std.proofs.lemmas.Map.Views.{list_any-from_Contains}
+use Rattle.book_model.specs.Charged.{is_dated_after}
+use Rattle.book_model.specs.Periods.{Period, period_by}
+use Rattle.book_model.specs.Records.{Records, by_bytes}
+use Rattle.book_model.specs.Sets.{set_of, members, has, those, without}
+use Rattle.book_model.specs.Sound.{AreDatedBy}
+use Rattle.book_model.proofs.RecordSets.{is, same_records, has_those}
+use Rattle.book_model.proofs.SetLemmas.{has-set_of, members-those, set_of-alike}
+use Rattle.book_model.proofs.SumsAlike.{SumsAlike, filter_map-alike}
+use Rattle.table_readings.specs.BookIn.{joined, charged_before}
+
+-- lists that are the same but for their order sum up alike
+pub permuted-alike : {X : Type 0} (xs ys : List X) → IsPermutation xs ys → SumsAlike xs ys
+permuted-alike xs ys same = record { sums = λ f. sym (sum_by-IsPermutation f xs ys same) }
+
+-- what is given for them makes one set
+pub set-permuted : {X : Type 0} (give : X → Option (List ℕ)) (xs ys : List X)
+    → IsPermutation xs ys
+    → set_of by_bytes (filter_map give xs) ≡ set_of by_bytes (filter_map give ys)
+set-permuted give xs ys same =
+    set_of-alike nat_list_cmp_total exact_bytes
+    (filter_map-alike give (permuted-alike xs ys same))
+
+-- a set is that of its members
+pub set_of-members : (s : Records) → set_of by_bytes (members s) ≡ s
+set_of-members s = same_records (set_of by_bytes (members s)) s (λ q.
+    has-set_of nat_list_cmp_total (members s) q ∙ sym (fin.contains_key-keys s q))
+
+-- so is the set of those that pass a test
+pub set_of-filter : (p : List ℕ → Bool) (s : Records)
+    → set_of by_bytes (filter p (members s)) ≡ those p s
+set_of-filter p s =
+    ap (set_of by_bytes) (sym (members-those nat_list_cmp_total exact_bytes p s))
+    ∙ set_of-members (those p s)
+
+-- a record of a set that passes a test, where one does
+pub one_passes : (p : List ℕ → Bool) (s : Records) → list_any p (members s) ≡ true
+    → (bytes : List ℕ) × (has s bytes ≡ true) × (p bytes ≡ true)
+one_passes p s some =
+    let passing = Any-from_list_any p (members s) some in
+    let one : List ℕ = passing.1 in
+    let place : Contains (members s) one = (passing.0, passing.2, passing.3) in
+    let there =
+    fin.contains_key-keys s one
+    ∙ list_any-from_Contains (eq_by_cmp_equiv nat_list_cmp_total) one (members s) place in
+    (one, there, passing.4)
+
+-- who is in one of two sets
+has_joined : (one other : Records) (q : List ℕ)
+    → has (joined one other) q ≡ (has one q || has other q)
+has_joined one other q =
+    has-set_of nat_list_cmp_total (members one ++ members other) q
+    ∙ list_any-append (is q) (members one) (members other)
+    ∙ (λ i. sym (fin.contains_key-keys one q) i || sym (fin.contains_key-keys other q) i)
+
+-- what was charged before a period is read back of what it was made of
+pub before_back : (last : Option ℤ) (before now : Records) → AreDatedBy last before
+    → charged_before (period_by last before now) now ≡ before
+before_back last before now dated =
+    let period : Period = period_by last before now in
+    let uncounted : Records = without now period.counted in
+    let fresh : Records = without now before in
+    let late : List ℕ → Bool = is_dated_after last in
+    same_records (charged_before period now) before (λ q.
+    has_joined (without uncounted period.added) period.taken q
+    ∙ ap (λ b. b || has period.taken q)
+    (has_those (λ k. not (has period.added k)) uncounted q
+    ∙ (λ i. not (has_those (λ k. not (late k)) fresh q i)
+    && has_those (λ k. not (has period.counted k)) now q i)
+    ∙ (λ i. not (not (late q) && has_those (λ k. not (has before k)) now q i)
+    && (not (has_those late now q i) && has now q)))
+    ∙ ap (λ b. (not (not (late q) && (not (has before q) && has now q))
+    && (not (late q && has now q) && has now q)) || b)
+    (has_those (λ k. not (has now k)) before q)
+    ∙ turn (has before q) (has now q) (late q) (dated q))
+  where
+    turn : (was is_now is_late : Bool) → (was ≡ true → is_late ≡ false)
+        → ((not (not is_late && (not was && is_now)) && (not (is_late && is_now) && is_now))
+        || (not is_now && was)) ≡ was
+    turn true is_now true old = absurd (true≢false (old refl))
+    turn true true false old = refl
+    turn true false false old = refl
+    turn false true true old = refl
+    turn false true false old = refl
+    turn false false true old = refl
+    turn false false false old = refl

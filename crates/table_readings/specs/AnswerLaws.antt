@@ -1,0 +1,74 @@
+-- The laws of answers: of a book that can be read back, each is what its tables say.
+use Rattle.std.specs.Prelude.{◌≡◌, ℕ, List, Some, Ok, ℤ, take, Option}
+use Rattle.tariff_rules.specs.Terms.{Terms}
+use Rattle.tariff_rules.specs.declared.priced.Priced.{Priced}
+use Rattle.book_model.specs.declared.answer.Accepted.TheVariants.{Kept}
+use Rattle.book_model.specs.declared.answer.Ruled.TheVariants.{Done}
+use Rattle.book_model.specs.Accept.{accept_answer}
+use Rattle.book_model.specs.Books.{Book}
+use Rattle.book_model.specs.Events.{keep, put_in_force, close}
+use Rattle.book_model.specs.Records.{Naming, IsUsageRecord}
+use Rattle.book_model.specs.RulingAnswers.{terms_answer, close_answer}
+use Rattle.book_model.specs.Rulings.{price_in}
+use Rattle.book_core.specs.Effects.{effects_of}
+use Rattle.kept_tables.specs.MapChanges.{updated}
+use Rattle.kept_tables.specs.TableChanges.{close_tables, put_tariff, post}
+use Rattle.kept_tables.specs.Tables.{RecordRow}
+use Rattle.kept_tables.specs.TablesOf.{tables_of}
+use Rattle.table_readings.specs.AcceptRead.{accept_read, keep_read, view_with}
+use Rattle.table_readings.specs.Fits.{TablesFit}
+use Rattle.table_readings.specs.Readable.{IsReadable}
+use Rattle.table_readings.specs.RulingsRead.{terms_read, post_changed}
+
+-- A record that is handed in is answered by the rows of its name and of the book; and where it is
+-- kept, the tables after it are made of those before it.
+pub record AcceptFollows : Type 0 where
+  pub answer :
+      (naming : Naming) (book : Book) (bytes : List ℕ) → IsReadable naming book
+      → IsUsageRecord bytes
+      → accept_answer naming book bytes
+      ≡ accept_read naming book.rulings (tables_of naming book) bytes
+  pub kept :
+      (naming : Naming) (book : Book) (bytes : List ℕ) (priced : Priced)
+      → IsReadable naming book
+      → accept_answer naming book bytes ≡ Ok Kept
+      → price_in book.rulings bytes ≡ Some priced
+      → tables_of naming (keep bytes book)
+      ≡ keep_read naming book.rulings bytes priced (tables_of naming book)
+
+-- the effects of a record hang on no more than two rows of its identity
+abbrev pub TwoAreEnough : Type 0
+TwoAreEnough =
+    (through : Option ℤ) (rows : List (List ℕ × RecordRow)) (name : List ℕ) (priced : Priced)
+    → effects_of (view_with through (take 2 rows)) name priced
+    ≡ effects_of (view_with through rows) name priced
+
+-- a tariff is answered by the rulings and the days of the records' rows
+pub record TermsFollow : Type 0 where
+  pub answer :
+      (naming : Naming) (book : Book) (text : List ℕ) (terms : Terms) → IsReadable naming book
+      → terms_answer book text terms
+      ≡ terms_read book.rulings (tables_of naming book).records text terms
+  pub done :
+      (naming : Naming) (book : Book) (text : List ℕ) (terms : Terms) → IsReadable naming book
+      → terms_answer book text terms ≡ Ok Done
+      → tables_of naming (put_in_force (Some text) terms book)
+      ≡ put_tariff (Some text) terms (tables_of naming book)
+
+-- The tables after a close are made of those before it; and to post records is to update the rows
+-- that are dated by its day and whose marks differ.
+pub record ClosingFollows : Type 0 where
+  pub done :
+      (naming : Naming) (book : Book) (number : ℕ) (day : ℤ) → IsReadable naming book
+      → close_answer book number day ≡ Ok Done
+      → tables_of naming (close day book) ≡ close_tables number day (tables_of naming book)
+  pub posted :
+      (naming : Naming) (book : Book) (number : ℕ) (day : ℤ) → IsReadable naming book
+      → close_answer book number day ≡ Ok Done
+      → updated (post_changed day) (tables_of naming book).records
+      ≡ updated (post day) (tables_of naming book).records
+
+-- 64 bits with a sign hold the numbers of the tables
+abbrev pub NumbersFit : Type 0
+NumbersFit =
+    (naming : Naming) (book : Book) → IsReadable naming book → TablesFit (tables_of naming book)

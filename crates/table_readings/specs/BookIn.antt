@@ -1,0 +1,97 @@
+-- The book that tables tell, without the naming of its records.
+use Rattle.std.specs.Prelude.{ℕ, zero, suc, Bool, true, not, List, [], ◌∷◌, ◌++◌, map, filter}
+use Rattle.std.specs.Prelude.{length}
+use Rattle.std.specs.Prelude.{Option, Some, None, Result, Ok, Err, ℤ, slice_get}
+use Rattle.std.specs.FinMap.{get, entries, values}
+use Rattle.std.specs.List.{filter_map}
+use Rattle.std.specs.Option.{option_map, option_and_then}
+use Rattle.smf_frames.specs.Framed.{record_with}
+use Rattle.tariff_rules.specs.TariffFile.{terms_in}
+use Rattle.tariff_rules.specs.Terms.{Terms}
+use Rattle.tariff_rules.specs.declared.fault.TariffFault.{TariffFault}
+use Rattle.book_model.specs.Books.{Book}
+use Rattle.book_model.specs.Charged.{is_dated_after}
+use Rattle.book_model.specs.Periods.{Period}
+use Rattle.book_model.specs.Records.{Records, by_bytes}
+use Rattle.book_model.specs.Rulings.{Rulings, Tariffed}
+use Rattle.book_model.specs.Sets.{set_of, members, those, without}
+use Rattle.kept_tables.specs.Numbered.{rows_under}
+use Rattle.kept_tables.specs.Tables.{RecordRow, RecordTable, Tables}
+
+-- a tariff of this text, where it says terms
+abbrev pub tariff_saying : List ℕ → Result Terms TariffFault → Option Tariffed
+tariff_saying text (Ok terms) = Some (record { text = Some text; terms = terms })
+tariff_saying text (Err fault) = None
+
+-- a row of the tariffs, where it has a text that says terms
+abbrev pub tariff_read : ℤ × Option (List ℕ) → Option Tariffed
+tariff_read row = option_and_then (λ text. tariff_saying text (terms_in text)) row.1
+
+-- the rulings: the tariffs in order of their first days, the closes in order of their periods
+abbrev pub rulings_in : Tables → Rulings
+rulings_in tables = record {
+  tariffs = filter_map tariff_read (entries tables.tariffs);
+  closes = values tables.closes;
+}
+
+-- the record of a row: its data behind their descriptor
+abbrev pub record_of : RecordRow → List ℕ
+record_of row = record_with row.data_bytes
+
+-- the records of the rows that pass a test
+abbrev pub records_where : (RecordRow → Bool) → RecordTable → Records
+records_where test records = set_of by_bytes (map record_of (filter test (values records)))
+
+-- the records that some lines name
+abbrev pub named_by : RecordTable → List ((ℕ × List ℕ) × Bool) → Records
+named_by records lines =
+    set_of by_bytes (filter_map (λ line. option_map record_of (get records line.0.1)) lines)
+
+-- the records that a period adds, by its plus lines, and those that it takes back, by the others
+abbrev pub added_in : ℕ → Tables → Records
+added_in number tables =
+    named_by tables.records (filter (λ line. line.1) (rows_under number tables.lines))
+
+abbrev pub taken_in : ℕ → Tables → Records
+taken_in number tables =
+    named_by tables.records (filter (λ line. not line.1) (rows_under number tables.lines))
+
+-- the day of the close after so many periods, if there was one
+abbrev pub close_after : ℕ → List ℤ → Option ℤ
+close_after zero closes = None
+close_after (suc k) closes = slice_get closes k
+
+-- the records of both sets
+abbrev pub joined : Records → Records → Records
+joined one other = set_of by_bytes (members one ++ members other)
+
+-- what was charged before a period that ended with these records charged
+abbrev pub charged_before : Period → Records → Records
+charged_before period charged =
+    joined (without (without charged period.counted) period.added) period.taken
+
+-- a period by its number: it ended with these records charged
+abbrev pub period_in : ℕ → Option ℤ → Records → Tables → Period
+period_in number last charged tables = record {
+  counted = those (is_dated_after last) charged;
+  added = added_in number tables;
+  taken = taken_in number tables;
+}
+
+-- so many periods, of which the last ended with these records charged
+abbrev pub past_in : ℕ → Records → Tables → List Period
+past_in zero charged tables = []
+past_in (suc k) charged tables =
+    let period : Period = period_in (suc k) (close_after k (values tables.closes)) charged tables in
+    past_in k (charged_before period charged) tables ++ period ∷ []
+
+-- the book
+abbrev pub book_in : Tables → Book
+book_in tables =
+    let posted : Records = records_where (λ row. row.posted) tables.records in
+    record {
+      rulings = rulings_in tables;
+      held = records_where (λ row. true) tables.records;
+      posted = posted;
+      past = past_in (length (values tables.closes)) posted tables;
+    }

@@ -1,0 +1,69 @@
+-- The disputes, as they are answered from the tables.
+use Rattle.std.specs.Prelude.{ℕ, not, if◌then◌else◌, List, [], ◌∷◌, ◌++◌, filter}
+use Rattle.std.specs.FinMap.{entries}
+use Rattle.std.specs.Ordering.{ordering_then}
+use Rattle.std.specs.declared.cmp.Ordering.{Ordering}
+use Rattle.smf_frames.specs.Framed.{record_with}
+use Rattle.smf_type30.specs.Usage.{job_id_of, program_of, completion_of}
+use Rattle.book_model.specs.declared.dispute.Variant.{Variant}
+use Rattle.book_model.specs.Disputes.{Disputed}
+use Rattle.book_model.specs.Records.{by_bytes, same_bytes}
+use Rattle.book_model.specs.Sets.{set_of, members}
+use Rattle.kept_tables.specs.Tables.{RecordRow, RecordTable, Tables}
+
+-- a row with its name
+abbrev pub NamedRow : Type 0
+NamedRow = List ℕ × RecordRow
+
+-- by identity, then name
+abbrev pub by_identity : NamedRow → NamedRow → Ordering
+by_identity one other =
+    ordering_then (by_bytes one.1.identity other.1.identity) (by_bytes one.0 other.0)
+
+-- a row as the list of disputes shows it
+abbrev pub variant_read : NamedRow → Variant
+variant_read row = record {
+  name = row.0;
+  priced = row.1.priced;
+  job_id = job_id_of (record_with row.1.data_bytes);
+  program = program_of (record_with row.1.data_bytes);
+  completion = completion_of (record_with row.1.data_bytes);
+}
+
+-- a dispute of one row
+abbrev pub of_one : NamedRow → Disputed
+of_one row = record { identity = row.1.identity; members = variant_read row ∷ [] }
+
+-- a row in front of disputes: it joins the first where that has its identity
+abbrev pub join_first : NamedRow → List Disputed → List Disputed
+join_first row [] = of_one row ∷ []
+join_first row (first ∷ others) =
+    if same_bytes row.1.identity first.identity
+    then record first { members = variant_read row ∷ first.members } ∷ others
+    else of_one row ∷ first ∷ others
+
+-- rows in groups: neighbours of one identity are one dispute
+abbrev pub grouped : List NamedRow → List Disputed
+grouped [] = []
+grouped (row ∷ rows) = join_first row (grouped rows)
+
+-- a row behind disputes: it joins the last where that has its identity
+abbrev pub join_last : List Disputed → NamedRow → List Disputed
+join_last [] row = of_one row ∷ []
+join_last (last ∷ []) row =
+    if same_bytes last.identity row.1.identity
+    then record last { members = last.members ++ variant_read row ∷ [] } ∷ []
+    else last ∷ of_one row ∷ []
+join_last (first ∷ next ∷ others) row = first ∷ join_last (next ∷ others) row
+
+-- the rows that are not charged
+abbrev pub disputed_among : RecordTable → List NamedRow
+disputed_among records = filter (λ row. not row.1.charged) (entries records)
+
+-- the same by identity, then name
+abbrev pub disputed_rows : Tables → List NamedRow
+disputed_rows tables = members (set_of by_identity (disputed_among tables.records))
+
+-- the disputes
+abbrev pub disputes_read : Tables → List Disputed
+disputes_read tables = grouped (disputed_rows tables)

@@ -1,0 +1,56 @@
+-- Tables whose numbers 64 bits with a sign hold, and whose days and periods are such.
+use Rattle.std.specs.Prelude.{◌≡◌, ℕ, ◌≤◌, ◌<◌, ◌^◌, Bool, List, Option, Some, ℤ}
+use Rattle.std.specs.FinMap.{get}
+use Rattle.smf_text.specs.Day.{IsDay}
+use Rattle.smf_text.specs.Names.{IsName}
+use Rattle.tariff_rules.specs.Price.{IsPriced}
+use Rattle.book_model.specs.declared.row.ChargeRow.{ChargeRow}
+use Rattle.book_model.specs.declared.row.RowKey.{RowKey}
+use Rattle.book_model.specs.Limits.{most_held, most_cost, last_period}
+use Rattle.book_model.specs.Records.{IsUsageRecord}
+use Rattle.kept_tables.specs.Tables.{RecordRow, Tables}
+use Rattle.kept_tables.specs.TablesOf.{place_of}
+use Rattle.table_readings.specs.BookIn.{record_of}
+
+-- numbers that are smaller than this fit in 64 bits with a sign
+abbrev pub signed_end : ℕ
+signed_end = 2 ^ 63
+
+-- a period that there may be
+pub record IsPeriod (number : ℕ) : Type 0 where
+  pub numbered : 0 < number
+  pub early : number ≤ last_period
+
+-- a record's row: its data are those of a record that the books can keep
+pub record RecordFits (row : RecordRow) : Type 0 where
+  pub usage : IsUsageRecord (record_of row)
+  pub priced : IsPriced row.priced
+  pub cpu : row.priced.cpu < signed_end
+  pub excp : row.priced.excp < signed_end
+  pub amount : row.priced.amount < signed_end
+
+-- a charge row under its period and place
+pub record DayFits (place : ℕ × RowKey) (row : ChargeRow) : Type 0 where
+  pub period : IsPeriod place.0
+  pub placed : place_of row ≡ place.1
+  pub day : IsDay place.1.day
+  pub centre : IsName place.1.centre
+  pub shift : IsName place.1.shift
+  pub count : row.count < signed_end
+  pub cpu : row.cpu < signed_end
+  pub blocks : row.blocks < signed_end
+  pub amount : row.amount < signed_end
+
+-- all rows
+pub record TablesFit (tables : Tables) : Type 0 where
+  pub held : tables.book.held ≤ most_held
+  pub amount : tables.book.amount ≤ most_cost
+  pub tariffs : (day : ℤ) (text : Option (List ℕ)) → get tables.tariffs day ≡ Some text → IsDay day
+  pub closes : (number : ℕ) (day : ℤ) → get tables.closes number ≡ Some day
+      → IsPeriod number × IsDay day
+  pub records : (name : List ℕ) (row : RecordRow) → get tables.records name ≡ Some row
+      → RecordFits row
+  pub days : (place : ℕ × RowKey) (row : ChargeRow) → get tables.days place ≡ Some row
+      → DayFits place row
+  pub lines : (place : ℕ × List ℕ) (plus : Bool) → get tables.lines place ≡ Some plus
+      → IsPeriod place.0

@@ -1,0 +1,39 @@
+-- Books that calls made.
+use Rattle.std.specs.Prelude.{◌≡◌, ℕ, List, [], ◌∷◌, Some, None, Ok}
+use Rattle.smf_text.specs.Day.{IsDay}
+use Rattle.tariff_rules.specs.Price.{IsPriced}
+use Rattle.tariff_rules.specs.TariffFile.{terms_in}
+use Rattle.tariff_rules.specs.Terms.{Terms}
+use Rattle.tariff_rules.specs.declared.priced.Priced.{Priced}
+use Rattle.book_model.specs.Answered.{IsAnswered}
+use Rattle.book_model.specs.Books.{Book}
+use Rattle.book_model.specs.Events.{Event, RecordKept, TariffAccepted, PeriodClosed}
+use Rattle.book_model.specs.History.{book_after, rulings}
+use Rattle.book_model.specs.Records.{Naming, IsUsageRecord}
+use Rattle.book_model.specs.Rulings.{Rulings, price_in}
+
+-- A record that a call hands in: it measures work, and its price is one that can be.
+pub record IsHandedIn (rulings : Rulings) (bytes : List ℕ) : Type 0 where
+  pub usage : IsUsageRecord bytes
+  pub priced : (priced : Priced) → price_in rulings bytes ≡ Some priced → IsPriced priced
+
+-- A tariff that a call hands in: its text says its terms, from a day on.
+pub record IsReadFrom (text : List ℕ) (terms : Terms) : Type 0 where
+  pub said : terms_in text ≡ Ok terms
+  pub day : IsDay terms.effective
+
+-- Each event is one of what calls hand in: no tariff comes without its text, and periods are closed
+-- through days.
+abbrev pub AreHandedIn : List Event → Type 0
+AreHandedIn [] = Unit {0}
+AreHandedIn (RecordKept bytes ∷ older) = IsHandedIn (rulings older) bytes × AreHandedIn older
+AreHandedIn (TariffAccepted (Some text) terms ∷ older) = IsReadFrom text terms × AreHandedIn older
+AreHandedIn (TariffAccepted None terms ∷ older) = ⊥
+AreHandedIn (PeriodClosed day ∷ older) = IsDay day × AreHandedIn older
+
+-- The book is the one that a history of calls leaves, from new books on.
+pub record IsFromCalls (naming : Naming) (book : Book) : Type 0 where
+  pub history : List Event
+  pub answered : IsAnswered naming history
+  pub handed_in : AreHandedIn history
+  pub left : book ≡ book_after history

@@ -1,0 +1,49 @@
+-- The laws of books that calls made: each call keeps them so, and they are read back from their
+-- tables.
+use Rattle.std.specs.Prelude.{◌≡◌, ℕ, List, Some, Ok, ℤ}
+use Rattle.smf_text.specs.Day.{IsDay}
+use Rattle.tariff_rules.specs.Terms.{Terms}
+use Rattle.book_model.specs.declared.answer.Accepted.TheVariants.{Kept}
+use Rattle.book_model.specs.declared.answer.Ruled.TheVariants.{Done}
+use Rattle.book_model.specs.Accept.{accept_answer}
+use Rattle.book_model.specs.Books.{Book, new_book}
+use Rattle.book_model.specs.Events.{keep, put_in_force, close}
+use Rattle.book_model.specs.Records.{Naming}
+use Rattle.book_model.specs.RulingAnswers.{terms_answer, close_answer}
+use Rattle.kept_tables.specs.TablesOf.{tables_of}
+use Rattle.table_readings.specs.BookIn.{book_in}
+use Rattle.table_readings.specs.FromCalls.{IsFromCalls, IsHandedIn, IsReadFrom}
+use Rattle.table_readings.specs.Readable.{IsReadable}
+
+-- New books are made by calls, by none; and each call that is an event leaves such books.
+pub record CallsStay : Type 0 where
+  pub start : (naming : Naming) → IsFromCalls naming new_book
+  pub keep :
+      (naming : Naming) (book : Book) (bytes : List ℕ) → IsFromCalls naming book
+      → IsHandedIn book.rulings bytes
+      → accept_answer naming book bytes ≡ Ok Kept → IsFromCalls naming (keep bytes book)
+  pub tariff :
+      (naming : Naming) (book : Book) (text : List ℕ) (terms : Terms) → IsFromCalls naming book
+      → IsReadFrom text terms
+      → terms_answer book text terms ≡ Ok Done
+      → IsFromCalls naming (put_in_force (Some text) terms book)
+  pub close :
+      (naming : Naming) (book : Book) (number : ℕ) (day : ℤ) → IsFromCalls naming book
+      → IsDay day
+      → close_answer book number day ≡ Ok Done → IsFromCalls naming (close day book)
+
+-- books that calls made can be read back
+abbrev pub CallsRead : Type 0
+CallsRead = (naming : Naming) (book : Book) → IsFromCalls naming book → IsReadable naming book
+
+-- the book is read back from its tables
+abbrev pub BookFollows : Type 0
+BookFollows =
+    (naming : Naming) (book : Book) → IsReadable naming book
+    → book_in (tables_of naming book) ≡ book
+
+-- so books that calls made and that have the same tables are one
+abbrev pub TablesTell : Type 0
+TablesTell =
+    (naming : Naming) (one other : Book) → IsReadable naming one → IsReadable naming other
+    → tables_of naming one ≡ tables_of naming other → one ≡ other

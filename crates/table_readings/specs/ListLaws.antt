@@ -1,0 +1,61 @@
+-- The laws of lists: what is answered of a period and of disputes is what the tables say, and can
+-- be shown.
+use Rattle.std.specs.Prelude.{◌≡◌, ℕ, List, [], ◌∷◌, ◌++◌, Ok, true}
+use Rattle.std.specs.FinMap.{values}
+use Rattle.std.specs.List.Sorted.{IsPermutation, IsStrictlySortedBy}
+use Rattle.book_model.specs.Books.{Book}
+use Rattle.book_model.specs.Outcomes.{charges_outcome, adjustments_outcome, disputes_outcome}
+use Rattle.book_model.specs.Outcomes.{periods_outcome, reading}
+use Rattle.book_model.specs.Records.{Naming}
+use Rattle.kept_tables.specs.TablesOf.{tables_of}
+use Rattle.table_readings.specs.DisputesRead.{NamedRow, by_identity, disputed_among, disputed_rows}
+use Rattle.table_readings.specs.DisputesRead.{disputes_read, grouped, join_last}
+use Rattle.table_readings.specs.ListsRead.{charges_read, adjustments_read, is_period}
+use Rattle.table_readings.specs.Readable.{IsReadable}
+use Rattle.book_model.specs.Disputes.{AreDisputes}
+use Rattle.book_model.specs.Lines.{AreLines}
+use Rattle.book_model.specs.Rows.{AreRows}
+use Rattle.kept_tables.specs.Reading.{rows_read, lines_read}
+
+-- the lists of a period, and the days of the closes
+pub record ListsFollow : Type 0 where
+  pub charges :
+      (naming : Naming) (book : Book) (number : ℕ) → IsReadable naming book
+      → charges_outcome number book
+      ≡ reading (charges_read number book.rulings (tables_of naming book))
+  pub adjustments :
+      (naming : Naming) (book : Book) (number : ℕ) → IsReadable naming book
+      → adjustments_outcome naming number book
+      ≡ reading (adjustments_read number book.rulings (tables_of naming book))
+  pub periods :
+      (naming : Naming) (book : Book) → IsReadable naming book
+      → periods_outcome book ≡ reading (Ok (values (tables_of naming book).closes))
+
+-- The disputes are the rows that are not charged, in groups; rows that are in order are these where
+-- they are the same ones; and a row behind others joins the last group or makes one.
+pub record DisputesFollow : Type 0 where
+  pub disputes :
+      (naming : Naming) (book : Book) → IsReadable naming book
+      → disputes_outcome naming book ≡ reading (Ok (disputes_read (tables_of naming book)))
+  pub in_order :
+      (naming : Naming) (book : Book) (rows : List NamedRow) → IsReadable naming book
+      → IsPermutation rows (disputed_among (tables_of naming book).records)
+      → IsStrictlySortedBy by_identity rows
+      → rows ≡ disputed_rows (tables_of naming book)
+  pub push : (rows : List NamedRow) (row : NamedRow)
+      → grouped (rows ++ row ∷ []) ≡ join_last (grouped rows) row
+
+-- The charge rows and the adjustment lines of a period that there is, and the disputes, are lists
+-- that reports can print.
+pub record ListsShow : Type 0 where
+  pub rows :
+      (naming : Naming) (book : Book) (number : ℕ) → IsReadable naming book
+      → is_period number book.rulings ≡ true
+      → AreRows (rows_read number (tables_of naming book).days)
+  pub lines :
+      (naming : Naming) (book : Book) (number : ℕ) → IsReadable naming book
+      → is_period number book.rulings ≡ true
+      → AreLines (lines_read number (tables_of naming book))
+  pub disputes :
+      (naming : Naming) (book : Book) → IsReadable naming book
+      → AreDisputes (disputes_read (tables_of naming book))

@@ -1,0 +1,10 @@
+//! Readings of kept tables: the book and each answer of a ledger are read back from them, by laws
+//! that follow from the definitions alone.
+#![tactic(auto)]
+
+mod laws;
+
+pub use laws::{
+    accept_follows, book_follows, calls_read, calls_stay, closing_follows, disputes_follow,
+    lists_follow, lists_show, numbers_fit, tables_tell, terms_follow, two_are_enough,
+};
