@@ -1,0 +1,21 @@
+use Rattle.book_statements.specs.Queries.{ShowsDays}
+use Rattle.kept_tables.specs.Reading.{rows_read}
+use Rattle.std.proofs.Common.{◌≡◌}
+use Rattle.sqlite.specs.Held.{state}
+use Rattle.sql_rows.proofs.Looking.{when_ok}
+use Rattle.book_statements.proofs.Doing.{reads_by}
+use Rattle.book_statements.proofs.DaysRead.{days_read}
+use Rattle.book_statements.proofs.day_rows.list_days.Goals as goal
+
+pub returns-clause-looks : goal.returns-clause-looks
+returns-clause-looks g c =
+    let old = state g.S.Store c.args.conn.now in
+    let new = state g.S.Store c.days_of.new.conn in
+    let period = c.args.period in
+    reads_by old new (λ tables rows. ShowsDays period tables rows.items)
+    (λ tables list. list.items ≡ rows_read period tables.days)
+    c.in_ok-rows.rows c.read_all.result c.in_ok-rows.ensures.looks
+    (when_ok c.read_all.result
+    (λ answer says tables shows. days_read period tables c.in_ok-rows.rows.items
+    answer.items says shows)
+    c.read_all.ensures.read)
