@@ -25,7 +25,7 @@ pub(crate) struct Ending {
 }
 
 /// A day is later than that of a close, if there was one.
-pub(crate) fn is_after(close: Option<i32>, day: i32) -> bool
+pub fn is_after(close: Option<i32>, day: i32) -> bool
     ensures { result ≡ option_map_or (λ close. int_lt close day) close true }
 {
     match close {

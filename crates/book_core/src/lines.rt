@@ -37,7 +37,7 @@ pub(crate) fn line(share: Option<Share>, name: &[u8; 32], held: &HeldRecord) -> 
 }
 
 /// Puts lines of different names in the order in which they are read: by day, then name.
-pub(crate) fn sort_lines(lines: &mut [Line])
+pub fn sort_lines(lines: &mut [Line])
     requires { IsDistinct same_bytes (map (λ line. line.name) lines.old) }
     ensures sorted { lines.new ≡ members (set_of by_line lines.old) }
     ensures len { length lines.new ≡ length lines.old }

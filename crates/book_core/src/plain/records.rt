@@ -1,27 +1,14 @@
 //! Records that a plain ledger is handed.
 
-ghost use Rattle.std.specs.Prelude.{◌≡◌, ◌≤◌, ◌+◌, ◌||◌, Ok, Err, length, nat_le, nat_lt};
-ghost use Rattle.std.specs.Prelude.{if◌then◌else◌};
-ghost use Rattle.tariff_rules.specs.Price.{most_amount};
-ghost use Rattle.book_model.specs.Limits.{most_cost, most_held};
-ghost use Rattle.book_model.specs.Records as spec;
-ghost use Rattle.book_model.specs.Records.{IsUsageRecord, same_bytes};
+ghost use Rattle.std.specs.Prelude.{◌≡◌, Ok, Err, if◌then◌else◌};
+ghost use Rattle.book_model.specs.Records.{same_bytes};
 
 use super::PlainLedger;
 use crate::held::HeldRecord;
-use crate::limits::{MAX_COST, MAX_HELD};
 use crate::pricing::price_in;
+use crate::room::{is_full, name_of};
 use book_model::{Accepted, LedgerFault, Naming};
 use smf_type30::Type30;
-
-/// The name of a record: that of its data.
-fn name_of<N: Naming>(naming: &N, bytes: &[u8]) -> [u8; 32]
-    requires { 4 ≤ length bytes.now }
-    ensures { result ≡ spec.name_of (N.name_of naming.now) bytes.now }
-{
-    let (_, data) = bytes.split_at(4);
-    naming.name(data)
-}
 
 /// What is answered to a record whose name one has that is held.
 fn known_or_clash(held: &HeldRecord, bytes: &[u8]) -> Result<Accepted, LedgerFault>
@@ -33,15 +20,6 @@ fn known_or_clash(held: &HeldRecord, bytes: &[u8]) -> Result<Accepted, LedgerFau
     } else {
         Err(LedgerFault::DigestClash)
     }
-}
-
-/// There is no room for a record that costs so much beside so many, which cost so much together.
-fn is_full(count: usize, total: u64, amount: u64) -> bool
-    requires total { total ≤ most_cost }
-    requires amount { amount ≤ most_amount }
-    ensures { result ≡ (nat_le most_held count || nat_lt most_cost (total + amount)) }
-{
-    count >= MAX_HELD || total + amount > MAX_COST
 }
 
 impl<N: Naming + Drop> PlainLedger<N> {

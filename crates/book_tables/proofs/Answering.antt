@@ -1,0 +1,25 @@
+-- Answers that are no event.
+use Rattle.std.proofs.Common.{◌≡◌, ◌∙◌, ◌⊎◌, inl, Bool, true, false, Result, Ok, Err, List, [], None, refl, sym}
+use Rattle.std.proofs.Common.{ap, ℕ, not}
+use Rattle.std.specs.Prelude.{ℤ, if◌then◌else◌}
+use Rattle.book_model.specs.declared.answer.Ruled.{Ruled}
+use Rattle.book_model.specs.declared.answer.Ruled.TheVariants.{Done, Already}
+use Rattle.book_model.specs.declared.fault.LedgerFault.{LedgerFault}
+use Rattle.book_model.specs.declared.fault.LedgerFault.TheVariants.{Memory, Store, Reopen}
+use Rattle.book_model.specs.Events.{Event}
+use Rattle.book_model.specs.Outcomes.{Outcome}
+use Rattle.book_core.specs.Calls.{Makes, listed}
+use Rattle.book_tables.specs.Tries.{IsPlain}
+
+-- a refusal is answered, and makes no event
+pub makes_refused : {V A : Type 0} (view : V → A) (outcome : Outcome A) (fault : LedgerFault)
+    → outcome.answer ≡ Err fault → Makes view outcome (Err fault) []
+makes_refused view outcome Memory is = refl
+makes_refused view outcome Store is = inl refl
+makes_refused view outcome Reopen is = refl
+makes_refused view outcome fault is = (is, refl)
+
+-- an answer is given, where the outcome has no event
+pub makes_answer : {V A : Type 0} (view : V → A) (outcome : Outcome A) (value : V)
+    → outcome.answer ≡ Ok (view value) → outcome.event ≡ None → Makes view outcome (Ok value) []
+makes_answer view outcome value is none = (is, sym (ap listed none))

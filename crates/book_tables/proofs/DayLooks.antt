@@ -1,0 +1,162 @@
+-- What a change of the charge rows writes, by the row that is at its place.
+use Rattle.std.proofs.Common.{◌≡◌, ◌∙◌, ℕ, Bool, true, false, Option, Some, None, refl, sym, ap, subst}
+use Rattle.std.proofs.Common.{Result, Ok}
+use Rattle.std.specs.Option.{ok_or}
+use Rattle.sqlite.specs.State.{State}
+use Rattle.sqlite.specs.declared.error.Error.{Error}
+use Rattle.std.specs.Prelude.{if◌then◌else◌, ◌==◌, IfSome, unwrap_or, [], is_some}
+use Rattle.std.specs.FinMap.{get, insert, remove}
+use Rattle.tariff_rules.specs.declared.priced.Priced.{Priced}
+use Rattle.book_model.specs.declared.row.ChargeRow.{ChargeRow}
+use Rattle.book_model.specs.declared.row.RowKey.{RowKey}
+use Rattle.book_model.specs.Rows.{key_of, row_at}
+use Rattle.book_core.specs.declared.effect_table.DayChange.{DayChange}
+use Rattle.book_core.specs.declared.effect_table.DayChange.TheVariants.{Add, Take}
+use Rattle.kept_tables.specs.RowChanges.{with_price, less_price, take_at}
+use Rattle.kept_tables.specs.Tables.{DayTable, Tables}
+use Rattle.kept_tables.specs.TablesOf.{place_of}
+use Rattle.book_tables.specs.Commits.{Looks, Sees}
+use Rattle.book_tables.specs.DayRows.{IsAdded, IsTaken, taken_from}
+use Rattle.book_tables.specs.DayWrites.{day_written, CanWrite, Writes}
+use Rattle.book_tables.specs.declared.day_write.DayWrite.{DayWrite}
+use Rattle.book_tables.specs.declared.day_write.DayWrite.TheVariants.{Leave, Insert, Set, Delete}
+use Rattle.book_tables.proofs.Refusals.{looks_told}
+use Rattle.book_tables.proofs.TryLemmas.{sees_found, sees_none, sees_so}
+
+-- no change writes nothing
+pub writes_none : (period : ℕ) (tables : Tables) → Writes period None tables Leave
+writes_none period tables = record { days = refl; can = tt }
+
+module _ (period : ℕ) (priced : Priced) (tables : Tables) where
+  -- the place where the price is charged
+  abbrev spot : RowKey
+  spot = key_of priced
+
+  -- a row stands at its place
+  there : (row other : ChargeRow) → Some row ≡ get tables.days (period, spot)
+      → place_of row ≡ spot → place_of other ≡ place_of row
+      → CanWrite period (Set other) tables
+  there row other is placed same =
+      ap (λ place. is_some (get tables.days (period, place))) (same ∙ placed)
+      ∙ ap (λ (found : Option ChargeRow). is_some found) (sym is)
+
+  -- a price joins the row that was found
+  pub writes_added : (found : Option ChargeRow) (write : DayWrite)
+      → found ≡ get tables.days (period, spot) → IfSome found (λ row. place_of row ≡ spot)
+      → IsAdded found priced write → Writes period (Some (Add priced)) tables write
+  writes_added None write is placed added = record {
+    days = ap (λ write. day_written period write tables.days) added
+        ∙ ap (λ (found : Option ChargeRow). insert tables.days (period, spot)
+        (with_price (unwrap_or found (row_at [] spot)) priced)) is;
+    can = subst (λ write. CanWrite period write tables) (sym added) tt;
+  }
+  writes_added (Some row) write is placed added = record {
+    days = ap (λ write. day_written period write tables.days) added
+        ∙ ap (λ place. insert tables.days (period, place) (with_price row priced)) placed
+        ∙ ap (λ (found : Option ChargeRow). insert tables.days (period, spot)
+        (with_price (unwrap_or found (row_at [] spot)) priced)) is;
+    can = subst (λ write. CanWrite period write tables) (sym added)
+        (there row (with_price row priced) is placed refl);
+  }
+
+  -- the row that a price leaves, by whether it was its last
+  days_taken : (row : ChargeRow) (last : Bool) → place_of row ≡ spot
+      → day_written period (if last then Delete spot else Set (less_price row priced)) tables.days
+      ≡ (if last then remove tables.days (period, spot)
+      else insert tables.days (period, spot) (less_price row priced))
+  days_taken row true placed = refl
+  days_taken row false placed =
+      ap (λ place. insert tables.days (period, place) (less_price row priced)) placed
+
+  -- and it stands at its place
+  can_take : (row : ChargeRow) (last : Bool) → Some row ≡ get tables.days (period, spot)
+      → place_of row ≡ spot
+      → CanWrite period (if last then Delete spot else Set (less_price row priced)) tables
+  can_take row true is placed = tt
+  can_take row false is placed = there row (less_price row priced) is placed refl
+
+  -- a price leaves the row that was found
+  pub writes_taken : (found : Option ChargeRow) (write : DayWrite)
+      → found ≡ get tables.days (period, spot) → IfSome found (λ row. place_of row ≡ spot)
+      → IsTaken found priced write → Writes period (Some (Take priced)) tables write
+  writes_taken None write is placed taken = record {
+    days = ap (λ write. day_written period write tables.days) taken
+        ∙ ap (λ found. take_at (period, spot) found priced tables.days) is;
+    can = subst (λ write. CanWrite period write tables) (sym taken) tt;
+  }
+  writes_taken (Some row) write is placed taken = record {
+    days = ap (λ write. day_written period write tables.days) taken
+        ∙ days_taken row (row.count == 1) placed
+        ∙ ap (λ found. take_at (period, spot) found priced tables.days) is;
+    can = subst (λ write. CanWrite period write tables) (sym taken)
+        (can_take row (row.count == 1) is placed);
+  }
+
+-- ---- the looks
+
+module _ (period : ℕ) (change : Option DayChange) (write : Option DayWrite) (error : Error)
+    (result : Result DayWrite Error) (told : result ≡ ok_or write error) where
+  -- there is no change
+  pub look_none : {old new : State} → change ≡ None → write ≡ Some Leave → new ≡ old
+      → Looks result old new (Writes period change)
+  look_none {old} none leave stays =
+      looks_told write error result told
+      (subst (λ new. Sees old new (λ tables. IfSome write (Writes period change tables))) (sym stays)
+      (sees_so (sees_none {state = old}) (λ tables known.
+      subst (λ write. IfSome write (Writes period change tables)) (sym leave)
+      (subst (λ change. Writes period change tables Leave) (sym none)
+      (writes_none period tables)))))
+
+  -- the write that was made of the row
+  one_made : {old middle new : State} (place : RowKey) (found : Option ChargeRow)
+      (made : Option DayWrite)
+      → write ≡ made → new ≡ middle
+      → Looks (Ok found) old middle (λ tables found. found ≡ get tables.days (period, place))
+      → ((tables : Tables) → found ≡ get tables.days (period, place)
+      → IfSome made (Writes period change tables))
+      → Looks result old new (Writes period change)
+  one_made {old} {middle} {new} place found made is stays looks writes =
+      looks_told write error result told
+      (subst (λ new. Sees old new (λ tables. IfSome write (Writes period change tables))) (sym stays)
+      (sees_so (sees_found looks) (λ tables known.
+      subst (λ write. IfSome write (Writes period change tables)) (sym is) (writes tables known))))
+
+  -- a price joins its row
+  pub look_added : {old middle new : State} (place : RowKey) (priced : Priced)
+      (found : Option ChargeRow) (made : Option DayWrite)
+      → change ≡ Some (Add priced) → place ≡ key_of priced → write ≡ made → new ≡ middle
+      → Looks (Ok found) old middle (λ tables found. found ≡ get tables.days (period, place))
+      → IfSome found (λ row. place_of row ≡ place) → IfSome made (IsAdded found priced)
+      → Looks result old new (Writes period change)
+  look_added place priced found made adds at is stays looks placed added =
+      one_made place found made is stays looks (λ tables known. by_made made tables known added)
+    where
+      by_made : (made : Option DayWrite) (tables : Tables)
+          → found ≡ get tables.days (period, place) → IfSome made (IsAdded found priced)
+          → IfSome made (Writes period change tables)
+      by_made None tables known added = tt
+      by_made (Some made) tables known added =
+          subst (λ change. Writes period change tables made) (sym adds)
+          (writes_added period priced tables found made
+          (known ∙ ap (λ place. get tables.days (period, place)) at)
+          (subst (λ place. IfSome found (λ row. place_of row ≡ place)) at placed) added)
+
+  -- a price leaves its row
+  pub look_taken : {old middle new : State} (place : RowKey) (priced : Priced)
+      (found : Option ChargeRow) (made : Option DayWrite)
+      → change ≡ Some (Take priced) → place ≡ key_of priced → write ≡ made → new ≡ middle
+      → Looks (Ok found) old middle (λ tables found. found ≡ get tables.days (period, place))
+      → IfSome found (λ row. place_of row ≡ place) → IfSome made (IsTaken found priced)
+      → Looks result old new (Writes period change)
+  look_taken place priced found made takes at is stays looks placed taken =
+      one_made place found made is stays looks (λ tables known. by_made made tables known taken)
+    where
+      by_made : (made : Option DayWrite) (tables : Tables)
+          → found ≡ get tables.days (period, place) → IfSome made (IsTaken found priced)
+          → IfSome made (Writes period change tables)
+      by_made None tables known taken = tt
+      by_made (Some made) tables known taken =
+          subst (λ change. Writes period change tables made) (sym takes)
+          (writes_taken period priced tables found made
+          (known ∙ ap (λ place. get tables.days (period, place)) at)
+          (subst (λ place. IfSome found (λ row. place_of row ≡ place)) at placed) taken)

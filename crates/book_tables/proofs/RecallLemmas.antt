@@ -1,0 +1,205 @@
+-- The summary that is read is that of the tables, and so of their book.
+use Rattle.std.proofs.Common.{◌≡◌, ◌∙◌, ℕ, ℤ, zero, suc, List, [], ◌∷◌, ◌++◌, ap, arith, map, refl, subst, sym}
+use Rattle.std.proofs.Common.{None, Option, Some, slice_index_or, take, ◌<◌, ◌⊎◌, inl, inr}
+use Rattle.std.proofs.Common.{Bool, Err, IsTrue, Ok, Result, false, length, true, true≢false}
+use Rattle.std.specs.Prelude.{All, IfErr, IfOk, IsErrAnd}
+use Rattle.std.specs.FinMap.{entries}
+use Rattle.std.specs.List.{AllZip, cons_option, filter_map}
+use Rattle.std.specs.Option.{option_map}
+use Rattle.std.proofs.lemmas.List.Elements.{All-cons}
+use Rattle.std.proofs.lemmas.Result.{err_from_is_err_and}
+use Rattle.sqlite.specs.State.{State, HasCleanDisk, Survives}
+use Rattle.sqlite.specs.declared.error.Error.{Error}
+use Rattle.smf_text.specs.Day.{IsDay}
+use Rattle.book_model.specs.Books.{Book}
+use Rattle.book_model.specs.Records.{Naming}
+use Rattle.book_model.specs.Rulings.{Rulings, Tariffed}
+use Rattle.book_model.specs.declared.fault.LedgerFault.{LedgerFault}
+use Rattle.book_model.specs.declared.fault.LedgerFault.TheVariants.{NotBooks}
+use Rattle.book_core.specs.Ledgers.{IsOpenAt}
+use Rattle.kept_tables.specs.Tables.{BookRow, Tables}
+use Rattle.kept_tables.specs.TablesOf.{tables_of}
+use Rattle.table_readings.specs.BookIn.{rulings_in, tariff_read}
+use Rattle.table_readings.specs.FromCalls.{IsFromCalls}
+use Rattle.table_readings.proofs.BookLemmas.{book_follows}
+use Rattle.table_readings.proofs.ReadableLemmas.{calls_read}
+use Rattle.book_statements.specs.BookAnswers.{book_of}
+use Rattle.book_statements.proofs.ReadRows.{zip_next}
+use Rattle.book_statements.specs.Keeps.{Keeps}
+use Rattle.book_statements.specs.Steps.{LooksUp}
+use Rattle.book_statements.specs.RulingAnswers.{close_of, tariff_of}
+use Rattle.book_statements.specs.declared.book_row.BookRow.{BookRow as Stored}
+use Rattle.book_statements.specs.declared.closed_rows.Close.{Close}
+use Rattle.book_statements.specs.declared.tariff_rows.StoredTariff.{StoredTariff}
+use Rattle.book_tables.specs.Commits.{IsSame, Keeping, Looked, Looks, Sees}
+use Rattle.book_tables.specs.Ready.{Remembers}
+use Rattle.book_tables.specs.Recalled.{HasDay, IsRead, IsRecalled, IsStoreFault, Reads, Recalls}
+use Rattle.book_tables.specs.Recalled.{SaysTariff, Shows, has_book_table}
+use Rattle.book_tables.specs.Shelf.{seen_on}
+use Rattle.book_tables.specs.declared.summary.Summary.{Summary}
+use Rattle.book_tables.proofs.OpenLemmas.{opened}
+use Rattle.book_tables.proofs.SurvivalLemmas.{survives_none, survives_then}
+use Rattle.book_tables.proofs.TryLemmas.{keeps_on, looks_refused, looks_up}
+
+-- a place within a list has its element, whatever stands for none
+index_again : {A : Type 0} (rows : List A) (at : ℕ) (row other : A) → at < length rows
+    → slice_index_or rows at row ≡ slice_index_or rows at other
+index_again [] at row other below = absurd (omega (arith, below))
+index_again (first ∷ rows) zero row other below = refl
+index_again (first ∷ rows) (suc at) row other below =
+    let rest : at < length rows = omega (arith, below) in
+    index_again rows at row other rest
+
+-- one row more says a value
+pub zip_at : {A B : Type 0} (Says : A → B → Type 0) (rows : List A) (at : ℕ) (values : List B)
+    (row : A) (value : B) → AllZip Says (take at rows) values → at < length rows
+    → Says (slice_index_or rows at row) value
+    → AllZip Says (take (suc at) rows) (values ++ value ∷ [])
+zip_at Says rows at values row value so_far below says =
+    zip_next Says rows at values (slice_index_or rows at row) value so_far below
+    (index_again rows at row (slice_index_or rows at row) below) says
+
+-- tariffs that rows say are those that are read of them
+pub tariffs_said : (rows : List StoredTariff) (tariffs : List Tariffed)
+    → AllZip SaysTariff rows tariffs → filter_map tariff_read (map tariff_of rows) ≡ tariffs
+tariffs_said [] [] said = refl
+tariffs_said [] (tariff ∷ tariffs) said = absurd said
+tariffs_said (row ∷ rows) [] said = absurd said
+tariffs_said (row ∷ rows) (tariff ∷ tariffs) said =
+    let rest = tariffs_said rows tariffs said.1 in
+    λ i. cons_option (said.0 i) (rest i)
+
+-- the days that rows have are those of their closes
+pub days_had : (rows : List Close) (days : List ℤ) → AllZip HasDay rows days
+    → map (λ (close : ℕ × ℤ). close.1) (map close_of rows) ≡ days
+days_had [] [] had = refl
+days_had [] (day ∷ days) had = absurd had
+days_had (row ∷ rows) [] had = absurd had
+days_had (row ∷ rows) (day ∷ days) had =
+    let rest = days_had rows days had.1 in
+    λ i. sym had.0.0 i ∷ rest i
+
+-- each is a day
+pub all_days : (rows : List Close) (days : List ℤ) → AllZip HasDay rows days → All IsDay days
+all_days [] [] had = λ k d within. absurd (omega (arith, within))
+all_days [] (day ∷ days) had = absurd had
+all_days (row ∷ rows) [] had = absurd had
+all_days (row ∷ rows) (day ∷ days) had =
+    All-cons IsDay day days had.0.1 (all_days rows days had.1)
+
+-- a summary that rows show is that of the tables that they are the rows of
+pub recalled : (summary : Summary) (tables : Tables) (row : Stored) (tariffs : List StoredTariff)
+    (closes : List Close) → Shows row tariffs closes summary → book_of row ≡ tables.book
+    → map tariff_of tariffs ≡ entries tables.tariffs → map close_of closes ≡ entries tables.closes
+    → Recalls summary tables
+recalled summary tables row tariffs closes shows book texts days =
+    let ruled = sym (tariffs_said tariffs summary.tariffs.items shows.tariffs)
+    ∙ ap (filter_map tariff_read) texts in
+    let closed = sym (days_had closes summary.closes.items shows.closes)
+    ∙ ap (map (λ (close : ℕ × ℤ). close.1)) days in
+    record {
+      rulings = λ i. record { tariffs = ruled i; closes = closed i };
+      held = shows.held ∙ ap (λ (kept : BookRow). kept.held) book;
+      total = shows.total ∙ ap (λ (kept : BookRow). kept.amount) book;
+    }
+
+-- so is what is answered of the rows
+pub recalled_by : (answer : Result Summary LedgerFault) (tables : Tables) (row : Stored)
+    (texts : List StoredTariff) (days : List Close) → IfOk answer (Shows row texts days)
+    → IfErr answer IsStoreFault → book_of row ≡ tables.book
+    → map tariff_of texts ≡ entries tables.tariffs → map close_of days ≡ entries tables.closes
+    → IsRecalled tables answer
+recalled_by (Ok summary) tables row texts days shows kinds book said had =
+    recalled summary tables row texts days shows book said had
+recalled_by (Err fault) tables row texts days shows kinds book said had = kinds
+
+-- a summary of the tables of a book is one of the book
+pub remembered : (naming : Naming) (book : Book) (summary : Summary) → IsFromCalls naming book
+    → Recalls summary (tables_of naming book) → Remembers summary book
+remembered naming book summary calls recalls =
+    let back = recalls.rulings
+    ∙ ap (λ (book : Book). book.rulings) (book_follows naming book (calls_read naming book calls)) in
+    record {
+      tariffs = ap (λ (rulings : Rulings). rulings.tariffs) back;
+      closes = ap (λ (rulings : Rulings). rulings.closes) back;
+      held = recalls.held;
+      total = recalls.total;
+    }
+
+-- a database of books has a table of the book
+pub never_none : (state : State) → has_book_table state.now.schema ≡ false
+    → (tables : Tables) → Keeps state.now tables → ⊥
+never_none state none tables keeps =
+    true≢false (sym (ap has_book_table keeps.schema) ∙ none)
+
+-- no such table: there are no books
+pub reads_none : (state : State) → has_book_table state.now.schema ≡ false
+    → Reads (Err NotBooks) state state
+reads_none state none = record {
+  survives = survives_none;
+  read = λ clean tables keeps. absurd (never_none state none tables keeps);
+}
+
+-- an answer of looks
+pub reads_answer : (old new : State) (answer : Result Summary LedgerFault)
+    → Looks (Ok answer) old new IsRecalled → Reads answer old new
+reads_answer old new answer looks = record {
+  survives = looks.survives;
+  read = λ clean tables keeps. by_answer answer tables (looks.looked clean tables keeps);
+}
+  where
+    by_answer : (answer : Result Summary LedgerFault) (tables : Tables)
+        → Looked old new IsRecalled tables (Ok answer) → IsRead old new tables answer
+    by_answer (Ok summary) tables looked = looked
+    by_answer (Err fault) tables looked = looked.0
+
+-- looks that were refused
+pub reads_refused : (old middle new : State) (error : Error) (fault : LedgerFault)
+    → Looks (Err error) old middle IsRecalled → Survives middle new (λ trees. ⊥)
+    → IsStoreFault fault → Reads (Err fault) old new
+reads_refused old middle new error fault looks survives is = record {
+  survives = survives_then looks.survives survives;
+  read = λ clean tables keeps. is;
+}
+
+-- a query behind looks is refused, and its error handed on
+pub refused_at : {A B : Type 0} {old middle new : State} {Known : Tables → Type 0}
+    {Answers : Tables → A → Type 0} {Others : Tables → B → Type 0} {error : Error}
+    (Q : Error → Type 0) (result : Result A Error) → IsErrAnd result Q → Sees old middle Known
+    → LooksUp {A = B} (Err error) middle new Others → Looks result old new Answers
+refused_at {A} {B} {old} {middle} {new} {Known} {Answers} {Others} {error} Q result is sees looks =
+    let refused = err_from_is_err_and result is in
+    let looked : Looks {A = A} (Err error) old new Answers = looks_refused sees (looks_up looks) in
+    subst (λ (said : Result A Error). Looks said old new Answers) (sym refused.1)
+    (record { survives = looked.survives; looked = looked.looked })
+
+-- the row of the book is never missed
+pub never_missed : (found : Option Stored) (book : BookRow) → option_map book_of found ≡ Some book
+    → found ≡ None → ⊥
+never_missed None book same none = absurd (let e = same in cc)
+never_missed (Some row) book same none = absurd (let e = none in cc)
+
+-- a fault of the store is not that there are no books
+pub never_both : (fault : LedgerFault) → fault ≡ NotBooks → IsStoreFault fault → ⊥
+never_both fault none (inl memory) = absurd (let e = sym none ∙ memory in cc)
+never_both fault none (inr store) = absurd (let e = sym none ∙ store in cc)
+
+-- books that were read are open
+pub read_open : (naming : Naming) (old new : State) (summary : Summary) (book : Book)
+    → Reads (Ok summary) old new → HasCleanDisk new → IsFromCalls naming book
+    → Keeping old (tables_of naming book)
+    → IsOpenAt naming book (seen_on (record {
+      naming = naming;
+      state = new;
+      must_reopen = false;
+      summary = summary;
+    }))
+read_open naming old new summary book reads clean calls keeping =
+    let read = reads.read clean (tables_of naming book) keeping.keeps in
+    opened naming new summary book clean calls
+    (record {
+      keeps = keeps_on read.2 keeping.keeps;
+      committed = read.2.committed ∙ keeping.committed ∙ sym read.2.now;
+      is_open = read.1 keeping.is_open;
+    })
+    (remembered naming book summary calls read.0)

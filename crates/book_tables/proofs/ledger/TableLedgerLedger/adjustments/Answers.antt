@@ -1,0 +1,25 @@
+use Rattle.sqlite.specs.Tree.{Trees}
+use Rattle.sqlite.specs.Held.{state}
+use Rattle.std.specs.Prelude.{IsTrue}
+use Rattle.std.proofs.Common.{Vec}
+use Rattle.std.specs.Global.{Global}
+use Rattle.book_model.specs.declared.line.Line.{Line}
+use Rattle.book_model.specs.Outcomes.{adjustments_outcome}
+use Rattle.book_tables.proofs.OneCall.{call_reopen}
+use Rattle.book_tables.proofs.SettleLemmas.{call_settled}
+use Rattle.book_tables.proofs.ledger.TableLedgerLedger.adjustments.Goals as goal
+
+pub returns-then-self-clause-lines : goal.returns-then-self-clause-lines
+returns-then-self-clause-lines g c =
+    let names = g.N.Naming.name_of c.args.self.now.naming in
+    call_reopen (λ (lines : Vec Line Global). lines.items) _ (adjustments_outcome names c.args.period) c.if-self.true
+
+pub returns-clause-lines : goal.returns-clause-lines
+returns-clause-lines g c =
+    let old = c.args.self.now in
+    let names = g.N.Naming.name_of old.naming in
+    call_settled g.S.Store (λ (lines : Vec Line Global). lines.items) names old.summary old.summary
+    old.conn c.try_adjustments-tried.new.conn c.settle.new.conn (adjustments_outcome names c.args.period)
+    old.must_reopen c.settle.new.must_reopen c.try_adjustments-tried.result c.settle.result c.if-self.false
+    (λ (trees : Trees). g.met.S.Store.settled old.conn.store trees)
+    (c.try_adjustments-tried.ensures.tries names) c.settle.ensures.settles

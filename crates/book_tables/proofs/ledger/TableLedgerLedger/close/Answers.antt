@@ -1,0 +1,31 @@
+use Rattle.sqlite.specs.Tree.{Trees}
+use Rattle.sqlite.specs.Held.{state}
+use Rattle.std.proofs.Common.{subst, w32}
+use Rattle.std.proofs.lemmas.Int.{to_z-of_z}
+use Rattle.book_core.proofs.DayLemmas.{day_fits}
+use Rattle.book_tables.specs.Tries.{Tries}
+use Rattle.book_model.specs.declared.answer.Ruled.{Ruled}
+use Rattle.book_model.specs.Outcomes.{close_outcome}
+use Rattle.book_tables.proofs.OneCall.{call_reopen}
+use Rattle.book_tables.proofs.SettleLemmas.{call_settled}
+use Rattle.book_tables.proofs.ledger.TableLedgerLedger.close.Goals as goal
+
+pub returns-then-self : goal.returns-then-self
+returns-then-self g c =
+    call_reopen (λ (ruled : Ruled). ruled) _ (close_outcome c.args.period c.args.through) c.if-self.true
+
+pub returns : goal.returns
+returns g c =
+    let old = c.args.self.now in
+    let names = g.N.Naming.name_of old.naming in
+    let tries = subst (λ day. Tries (λ (ruled : Ruled). ruled) names old.summary
+    c.try_close-tried.new.summary (state g.S.Store old.conn)
+    (state g.S.Store c.try_close-tried.new.conn) (close_outcome c.args.period day)
+    c.try_close-tried.result)
+    (to_z-of_z w32 c.args.through (day_fits c.args.through c.requires))
+    (c.try_close-tried.ensures.tries names) in
+    call_settled g.S.Store (λ (ruled : Ruled). ruled) names old.summary c.try_close-tried.new.summary
+    old.conn c.try_close-tried.new.conn c.settle.new.conn (close_outcome c.args.period c.args.through)
+    old.must_reopen c.settle.new.must_reopen c.try_close-tried.result c.settle.result c.if-self.false
+    (λ (trees : Trees). g.met.S.Store.settled old.conn.store trees)
+    tries c.settle.ensures.settles

@@ -1,0 +1,23 @@
+use Rattle.sqlite.specs.Tree.{Trees}
+use Rattle.sqlite.specs.Held.{state}
+use Rattle.std.specs.Prelude.{IsTrue}
+use Rattle.std.proofs.Common.{Vec, ℤ}
+use Rattle.std.specs.Global.{Global}
+use Rattle.book_model.specs.Outcomes.{periods_outcome}
+use Rattle.book_tables.proofs.OneCall.{call_reopen}
+use Rattle.book_tables.proofs.SettleLemmas.{call_settled}
+use Rattle.book_tables.proofs.ledger.TableLedgerLedger.periods.Goals as goal
+
+pub returns-then-self-clause-days : goal.returns-then-self-clause-days
+returns-then-self-clause-days g c =
+    call_reopen (λ (days : Vec ℤ Global). days.items) _ periods_outcome c.if-self.true
+
+pub returns-clause-days : goal.returns-clause-days
+returns-clause-days g c =
+    let old = c.args.self.now in
+    let names = g.N.Naming.name_of old.naming in
+    call_settled g.S.Store (λ (days : Vec ℤ Global). days.items) names old.summary old.summary
+    old.conn c.try_periods-tried.new.conn c.settle.new.conn periods_outcome
+    old.must_reopen c.settle.new.must_reopen c.try_periods-tried.result c.settle.result c.if-self.false
+    (λ (trees : Trees). g.met.S.Store.settled old.conn.store trees)
+    (c.try_periods-tried.ensures.tries names) c.settle.ensures.settles

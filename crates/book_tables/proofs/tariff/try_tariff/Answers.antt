@@ -1,0 +1,210 @@
+use Rattle.std.proofs.Common.{◌≡◌, ◌≢◌, ◌∙◌, ℕ, ℤ, List, [], ◌∷◌, ◌++◌, ◌-◌, length, take, sym, ap, subst, arith}
+use Rattle.std.proofs.Common.{Bool, true, false, Ok, Err, Result, Some, refl, w32, to_z, of_z}
+use Rattle.std.specs.Prelude.{if◌then◌else◌}
+use Rattle.std.specs.FinMap.{values}
+use Rattle.std.specs.List.{list_any}
+use Rattle.sqlite.specs.Held.{state}
+use Rattle.sqlite.specs.State.{State}
+use Rattle.sqlite.specs.declared.error.Error.{Error}
+use Rattle.smf_text.specs.Day.{IsDay}
+use Rattle.tariff_rules.specs.Terms.{Terms}
+use Rattle.book_model.specs.declared.answer.Ruled.{Ruled}
+use Rattle.book_model.specs.declared.answer.Ruled.TheVariants.{Done}
+use Rattle.book_model.specs.declared.fault.LedgerFault.{LedgerFault}
+use Rattle.book_model.specs.declared.fault.LedgerFault.TheVariants.{RecordsDated}
+use Rattle.book_model.specs.Outcomes.{tariff_outcome}
+use Rattle.book_model.specs.Rulings.{Tariffed, are_rising}
+use Rattle.kept_tables.specs.Tables.{Tables}
+use Rattle.kept_tables.specs.TablesOf.{tables_of}
+use Rattle.book_statements.specs.Changes.{put_tariff_row}
+use Rattle.book_statements.specs.Queries.{is_from}
+use Rattle.book_tables.specs.Commits.{CommitsOne}
+use Rattle.book_tables.specs.Tries.{IsPlain}
+use Rattle.book_tables.proofs.Answering.{makes_refused}
+use Rattle.book_tables.proofs.CodeDays.{kept_day}
+use Rattle.book_tables.proofs.LastClose.{popped}
+use Rattle.book_tables.proofs.TariffTries.{unread_plain, unread_makes, tariff_plain, tariff_rising}
+use Rattle.book_tables.proofs.TariffTries.{tariff_other, tariff_decided, tariff_is_event}
+use Rattle.book_tables.proofs.TariffTries.{tariff_remembered, tariff_makes}
+use Rattle.book_tables.proofs.TryLemmas.{looks_up, sees_none, sees_found, try_answered, try_stopped}
+use Rattle.book_tables.proofs.TryLemmas.{try_refused, try_done, try_undone, tries_so, tries_err}
+use Rattle.book_tables.proofs.TryLemmas.{tries_told}
+use Rattle.book_tables.proofs.tariff.try_tariff.Goals as goal
+
+-- a call answers with what was ruled
+abbrev view : Ruled → Ruled
+view = λ ruled. ruled
+
+-- one more tariff, as its text and its terms
+more : (tariffs : List Tariffed) (terms : Terms) {own text : List ℕ} {items : List Tariffed}
+    → items ≡ tariffs ++ record { text = Some own; terms = terms } ∷ [] → own ≡ text
+    → items ≡ tariffs ++ record { text = Some text; terms = terms } ∷ []
+more tariffs terms is same =
+    is ∙ ap (λ own. tariffs ++ record { text = Some own; terms = terms } ∷ []) same
+
+-- the day that the code hands over is the tariff's first
+first_day : {day effective : ℤ} → IsDay day → day ≡ effective → to_z w32 (of_z w32 day) ≡ effective
+first_day {day} is same = kept_day day is ∙ same
+
+-- the commit of the text under that day
+committed_by : {T : Type 0} {result : Result T Error} {old new : State} {day effective : ℤ}
+    (text : List ℕ) → day ≡ effective
+    → CommitsOne result old new (λ tables. Unit {0}) (put_tariff_row day text)
+    → CommitsOne result old new (λ tables. Unit {0}) (put_tariff_row effective text)
+committed_by {result = result} {old = old} {new = new} text same commits =
+    subst (λ day. CommitsOne result old new (λ (tables : Tables). Unit {0}) (put_tariff_row day text))
+    same commits
+
+-- whether records are dated from that day on
+dated_by : {found : Bool} {day effective : ℤ} (tables : Tables) → day ≡ effective
+    → found ≡ list_any (is_from day) (values tables.records)
+    → found ≡ list_any (is_from effective) (values tables.records)
+dated_by tables same is = is ∙ ap (λ day. list_any (is_from day) (values tables.records)) same
+
+pub returns-in-Err-clause-tries : goal.returns-in-Err-clause-tries
+returns-in-Err-clause-tries g c = λ naming.
+    let text = c.args.text.now in
+    let refused = c.in-Err.ensures.refused in
+    try_answered view naming c.args.summary.now (tariff_outcome text)
+    (sees_none {state = state g.S.Store c.args.conn.now})
+    (unread_plain text c.in-Err.fault refused)
+    (λ book ready known. unread_makes text c.in-Err.fault refused book)
+
+pub returns-then-not-is_done-clause-tries : goal.returns-then-not-is_done-clause-tries
+returns-then-not-is_done-clause-tries g c = λ naming.
+    let summary = c.args.summary.now in
+    let text = c.args.text.now in
+    let terms = c.in-Ok.tariff in
+    let answer = c.tariff_answer-answer.result in
+    let is = c.tariff_answer-answer.ensures in
+    let other : answer ≢ Ok Done = c.is_done.ensures.other c.if-not-is_done.true in
+    try_answered view naming summary (tariff_outcome text)
+    (sees_none {state = state g.S.Store c.args.conn.now})
+    (subst IsPlain (sym is) (tariff_plain summary text terms))
+    (λ book ready known. tariff_makes answer text terms book c.in-Ok.ensures.said
+    (tariff_other summary text terms c.in-Ok.ensures.said naming _ book ready answer (sym is) other)
+    other)
+
+pub returns-in_err-is_dated-clause-tries : goal.returns-in_err-is_dated-clause-tries
+returns-in_err-is_dated-clause-tries g c = λ naming.
+    let outcome = tariff_outcome c.args.text.now in
+    tries_err view naming c.args.summary.now outcome c.from_residual.result
+    c.from_residual.ensures.0
+    (λ error. tries_told view naming c.args.summary.now outcome
+    (try_refused view naming c.args.summary.now outcome
+    (sees_none {state = state g.S.Store c.args.conn.now})
+    (looks_up c.in_err-is_dated.ensures.looks)))
+
+pub returns-then-is_dated-clause-tries : goal.returns-then-is_dated-clause-tries
+returns-then-is_dated-clause-tries g c = λ naming.
+    let summary = c.args.summary.now in
+    let text = c.args.text.now in
+    let terms = c.in-Ok.tariff in
+    let done = sym c.tariff_answer-answer.ensures ∙ c.is_done.ensures.done c.if-not-is_done.false in
+    try_answered view naming summary (tariff_outcome text)
+    (sees_found (looks_up c.in_ok-is_dated.ensures.looks))
+    (record { stored = refl; served = refl })
+    (λ book ready known. makes_refused view (tariff_outcome text book) RecordsDated
+    (tariff_decided summary text terms c.in-Ok.ensures.said naming _ book ready done
+    c.in_ok-is_dated.is_dated
+    (dated_by (tables_of naming book)
+    (first_day c.effective-day.ensures.day c.effective-day.ensures.value) known)
+    ∙ ap (λ (found : Bool). if found then Err RecordsDated else Ok Done) c.if-is_dated.true))
+
+pub returns-in_err-from_str-clause-tries : goal.returns-in_err-from_str-clause-tries
+returns-in_err-from_str-clause-tries g c = λ naming.
+    let outcome = tariff_outcome c.args.text.now in
+    tries_err view naming c.args.summary.now outcome c.from_residual-in_err-from_str.result
+    c.from_residual-in_err-from_str.ensures.0
+    (λ error. try_stopped view naming c.args.summary.now outcome
+    (sees_found (looks_up c.in_ok-is_dated.ensures.looks)))
+
+pub returns-in_err-push-clause-tries : goal.returns-in_err-push-clause-tries
+returns-in_err-push-clause-tries g c = λ naming.
+    let summary = c.args.summary.now in
+    let outcome = tariff_outcome c.args.text.now in
+    tries_err view naming summary outcome c.from_residual-in_err-push.result
+    c.from_residual-in_err-push.ensures.0
+    (λ error. tries_so view naming summary outcome
+    (try_stopped view naming summary outcome
+    (sees_found (looks_up c.in_ok-is_dated.ensures.looks)))
+    (λ book remembers. record {
+      tariffs = c.in_err-push.ensures.items ∙ remembers.tariffs;
+      closes = remembers.closes;
+      held = remembers.held;
+      total = remembers.total;
+    }))
+
+pub returns-in-Err-keep_tariff-clause-tries : goal.returns-in-Err-keep_tariff-clause-tries
+returns-in-Err-keep_tariff-clause-tries g c = λ naming.
+    let summary = c.args.summary.now in
+    let text = c.args.text.now in
+    let terms = c.in-Ok.tariff in
+    let said = c.in-Ok.ensures.said in
+    let outcome = tariff_outcome text in
+    let same = first_day c.effective-day.ensures.day c.effective-day.ensures.value in
+    let day = subst IsDay c.effective-day.ensures.value c.effective-day.ensures.day in
+    let done = sym c.tariff_answer-answer.ensures ∙ c.is_done.ensures.done c.if-not-is_done.false in
+    let counted : c.push.new.self.len ≡ length c.push.new.self.items =
+    (let is = c.push.new.self.ok.0 in omega (arith, is)) in
+    tries_so view naming summary outcome
+    (try_undone view naming summary outcome
+    (state g.S.Store c.keep_tariff.new.conn) (λ (tables : Tables). Unit {0})
+    (put_tariff_row terms.effective text)
+    (sees_found (looks_up c.in_ok-is_dated.ensures.looks))
+    (λ book ready known. tariff_is_event summary text terms said naming _ book ready day
+    (tariff_decided summary text terms said naming _ book ready done c.in_ok-is_dated.is_dated
+    (dated_by (tables_of naming book) same known)
+    ∙ ap (λ (found : Bool). if found then Err RecordsDated else Ok Done) c.if-is_dated.false))
+    (committed_by text same c.in-Err-keep_tariff.ensures.commits))
+    (λ book remembers. record {
+      tariffs = c.pop.ensures.rest
+          ∙ ap (λ n. take (n - 1) c.push.new.self.items) counted
+          ∙ ap (λ items. take (length items - 1) items) c.in_ok-push.ensures.items
+          ∙ popped summary.tariffs.items _ ∙ remembers.tariffs;
+      closes = remembers.closes;
+      held = remembers.held;
+      total = remembers.total;
+    })
+
+pub returns-clause-tries : goal.returns-clause-tries
+returns-clause-tries g c = λ naming.
+    let summary = c.args.summary.now in
+    let text = c.args.text.now in
+    let terms = c.in-Ok.tariff in
+    let said = c.in-Ok.ensures.said in
+    let outcome = tariff_outcome text in
+    let same = first_day c.effective-day.ensures.day c.effective-day.ensures.value in
+    let day = subst IsDay c.effective-day.ensures.value c.effective-day.ensures.day in
+    let done = sym c.tariff_answer-answer.ensures ∙ c.is_done.ensures.done c.if-not-is_done.false in
+    try_done view naming summary outcome
+    (state g.S.Store c.keep_tariff.new.conn) (λ (tables : Tables). Unit {0})
+    (put_tariff_row terms.effective text)
+    (sees_found (looks_up c.in_ok-is_dated.ensures.looks))
+    (λ book ready known. tariff_is_event summary text terms said naming _ book ready day
+    (tariff_decided summary text terms said naming _ book ready done c.in_ok-is_dated.is_dated
+    (dated_by (tables_of naming book) same known)
+    ∙ ap (λ (found : Bool). if found then Err RecordsDated else Ok Done) c.if-is_dated.false))
+    (committed_by text same c.in_default.ensures.commits)
+    (λ book ready known.
+    tariff_decided summary text terms said naming _ book ready done c.in_ok-is_dated.is_dated
+    (dated_by (tables_of naming book) same known)
+    ∙ ap (λ (found : Bool). if found then Err RecordsDated else Ok Done) c.if-is_dated.false)
+    (λ book ready known.
+    tariff_remembered summary text terms said naming _ book ready _
+    (tariff_decided summary text terms said naming _ book ready done c.in_ok-is_dated.is_dated
+    (dated_by (tables_of naming book) same known)
+    ∙ ap (λ (found : Bool). if found then Err RecordsDated else Ok Done) c.if-is_dated.false)
+    (more summary.tariffs.items terms c.in_ok-push.ensures.items c.in_ok-from_str.ensures.ok)
+    refl refl refl)
+
+pub invariant_of-summary-in_default-clause-rising :
+    goal.invariant_of-summary-in_default-clause-rising
+invariant_of-summary-in_default-clause-rising g c =
+    let summary = c.args.summary.now in
+    let text = c.args.text.now in
+    let terms = c.in-Ok.tariff in
+    let done = sym c.tariff_answer-answer.ensures ∙ c.is_done.ensures.done c.if-not-is_done.false in
+    ap are_rising
+    (more summary.tariffs.items terms c.in_ok-push.ensures.items c.in_ok-from_str.ensures.ok)
+    ∙ tariff_rising summary text terms done

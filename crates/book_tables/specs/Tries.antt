@@ -1,0 +1,82 @@
+-- How a call is tried on the connection, and how it is answered.
+use Rattle.std.specs.Prelude.{◌≡◌, ◌⊎◌, Bool, true, false, IsTrue, List, Result, Ok, Err, IfOk}
+use Rattle.sqlite.specs.Held.{Held, state}
+use Rattle.sqlite.specs.Store.{Ghosts}
+use Rattle.sqlite.specs.Tree.{Trees}
+use Rattle.sqlite.specs.State.{State, HasCleanDisk, IsUnchanged, Survives}
+use Rattle.sqlite.specs.declared.error.Error.{Error}
+use Rattle.book_model.specs.declared.fault.LedgerFault.{LedgerFault}
+use Rattle.book_model.specs.declared.fault.LedgerFault.TheVariants.{Memory, Store}
+use Rattle.book_model.specs.Books.{Book}
+use Rattle.book_model.specs.Events.{Event, after_any, after_all}
+use Rattle.book_model.specs.Outcomes.{Outcome}
+use Rattle.book_model.specs.Records.{Naming}
+use Rattle.book_core.specs.Calls.{Makes, is_store, is_reopen}
+use Rattle.book_tables.specs.Ready.{IsReadyAt, IsKeptIn}
+use Rattle.book_tables.specs.Shelf.{Shelf}
+use Rattle.book_tables.specs.declared.summary.Summary.{Summary}
+
+-- what the commit of a call may leave on the disk: the book with the outcome's event
+abbrev pub MayKeep : {A : Type 0} → Naming → Summary → State → (Book → Outcome A) → Trees → Type 0
+MayKeep naming summary old outcome trees =
+    (book : Book) → IsReadyAt naming summary old book
+    → IsKeptIn naming (after_any (outcome book).event book) trees
+
+-- an answer that leaves the books open
+pub record IsPlain {V : Type 0} (answer : Result V LedgerFault) : Type 0 where
+  pub stored : is_store answer ≡ false
+  pub served : is_reopen answer ≡ false
+
+-- the call answered what the outcome says, and the ledger is ready with the book that it made
+pub record Answered {V A : Type 0} (view : V → A) (naming : Naming) (summary : Summary)
+    (new : State) (outcome : Outcome A) (book : Book) (answer : Result V LedgerFault) : Type 0
+  where
+    pub events : List Event
+    pub makes : Makes view outcome answer events
+    pub ready : IsReadyAt naming summary new (after_all events book)
+
+-- a call that was tried is answered; or the port refused it, and where the connection is still
+-- open nothing has changed
+abbrev pub Found : {V A : Type 0} → (V → A) → Naming → Summary → State → Outcome A → Book
+    → Result (Result V LedgerFault) Error → Type 0
+Found view naming summary new outcome book (Ok answer) =
+    Answered view naming summary new outcome book answer
+Found view naming summary new outcome book (Err error) =
+    IsTrue new.is_open → IsReadyAt naming summary new book
+
+-- A call is tried on the connection of a ledger that is ready.
+pub record Tries {V A : Type 0} (view : V → A) (naming : Naming) (was is : Summary)
+    (old new : State) (outcome : Book → Outcome A) (tried : Result (Result V LedgerFault) Error)
+    : Type 0 where
+  pub plain : IfOk tried IsPlain
+  pub survives : Survives old new (MayKeep naming was old outcome)
+  pub found : HasCleanDisk new → (book : Book) → IsReadyAt naming was old book
+      → Found view naming is new (outcome book) book tried
+
+-- what becomes of a call that was tried: its answer; or want of memory, where the connection still
+-- serves; or a fault of the store
+abbrev pub Ends : {V : Type 0} → Result V LedgerFault → Bool → Bool → Type 0 → Type 0 → Type 0
+    → Result (Result V LedgerFault) Error → Type 0
+Ends result was is Same Unchanged IsClean (Ok answer) =
+    (result ≡ answer) × (is ≡ was) × Same
+Ends result was is Same Unchanged IsClean (Err error) =
+    ((result ≡ Err Memory) × (is ≡ was) × (IsClean → Unchanged))
+    ⊎ ((result ≡ Err Store) × (is ≡ true))
+
+-- A call that was tried is settled.
+pub record Settles {S V : Type 0} (ghosts : Ghosts S) (old new : Held S) (was is : Bool)
+    (tried : Result (Result V LedgerFault) Error) (result : Result V LedgerFault) : Type 0 where
+  pub survives : Survives (state ghosts old) (state ghosts new) (λ trees. ⊥)
+  pub ends : Ends result was is (new ≡ old) (IsUnchanged (state ghosts old) (state ghosts new))
+      (HasCleanDisk (state ghosts new)) tried
+
+-- A call of an open ledger is served.
+pub record Serves {V A : Type 0} (view : V → A) (old new : Shelf) (outcome : Book → Outcome A)
+    (result : Result V LedgerFault) : Type 0 where
+  pub naming : new.naming ≡ old.naming
+  pub served : is_reopen result ≡ false
+  pub reopen : new.must_reopen ≡ is_store result
+  pub survives : Survives old.state new.state (MayKeep old.naming old.summary old.state outcome)
+  pub answered : is_store result ≡ false → HasCleanDisk new.state → (book : Book)
+      → IsReadyAt old.naming old.summary old.state book
+      → Answered view old.naming new.summary new.state (outcome book) book result

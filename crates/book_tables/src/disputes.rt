@@ -1,0 +1,117 @@
+//! Identities that two or more records have.
+
+ghost use Rattle.std.specs.Prelude.{◌≡◌, All, IfOk, IsTrue, false, map};
+ghost use Rattle.sqlite.specs.Held.{state};
+ghost use Rattle.book_model.specs.Disputes.{AreDisputes, dispute_shown};
+ghost use Rattle.book_model.specs.Outcomes.{disputes_outcome};
+ghost use Rattle.book_model.specs.Records.{Naming};
+ghost use Rattle.book_statements.specs.Stored.{stored_entry};
+ghost use Rattle.table_readings.specs.DisputesRead as reading;
+ghost use Rattle.table_readings.specs.DisputesRead.{join_last, of_one, variant_read};
+ghost use Rattle.book_tables.specs.DisputeReads.{IsShownRow};
+ghost use Rattle.book_tables.specs.Tries.{Tries};
+
+use crate::days::is_day;
+use crate::stored_usage::usage_bytes;
+use crate::summary::Summary;
+use book_core::{Dispute, LedgerFault, Variant, copied};
+use book_statements::{StoredRecord, list_uncharged};
+use smf_type30::Type30;
+use sqlite::{Alter, Connection, Error, ErrorCode};
+use std::alloc::Global;
+
+/// The bytes of an identity.
+const IDENTITY_LENGTH: usize = 24;
+
+/// The record can be shown: its identity has the length that its parts need, and it is dated on a
+/// day.
+fn is_shown(row: &StoredRecord) -> bool
+    ensures { IsTrue result → IsShownRow (stored_entry row.now) }
+{
+    row.identity.len() == IDENTITY_LENGTH && is_day(row.priced.day)
+}
+
+/// All of the records can be shown.
+fn can_show(rows: &[StoredRecord]) -> bool
+    ensures { IsTrue result → All (λ row. IsShownRow (stored_entry row)) rows.now }
+{
+    rows.iter().all(|row| is_shown(row))
+}
+
+/// A record as the list of disputes shows it.
+fn variant(alloc: Global, stored: &StoredRecord) -> Result<Variant, Error>
+    ensures { IfOk result (λ variant. variant ≡ variant_read (stored_entry stored.now)) }
+{
+    let bytes = usage_bytes(alloc, &stored.data_bytes)?;
+    let usage = Type30::of_usage(&bytes);
+    Ok(Variant {
+        name: stored.name,
+        priced: stored.priced,
+        job_id: copied(usage.job_id()),
+        program: copied(usage.program()),
+        completion: usage.completion(),
+    })
+}
+
+/// A dispute of one record.
+fn alone(alloc: Global, stored: &StoredRecord) -> Result<Dispute, Error>
+    ensures { IfOk result (λ made. dispute_shown made ≡ of_one (stored_entry stored.now)) }
+{
+    let member = variant(alloc, stored)?;
+    let identity = Vec::from_slice(alloc, &stored.identity)?;
+    let mut members = Vec::new(alloc);
+    members.push(member)?;
+    Ok(Dispute { identity, members })
+}
+
+/// A record joins the last dispute where that has its identity; else it begins one.
+fn join(alloc: Global, found: &mut Vec<Dispute>, stored: &StoredRecord) -> Result<(), Error>
+    ensures { IfOk result (λ joined. map dispute_shown found.new.items
+        ≡ join_last (map dispute_shown found.old.items) (stored_entry stored.now)) }
+{
+    let Some(mut last) = found.pop() else {
+        found.push(alone(alloc, stored)?)?;
+        return Ok(());
+    };
+    if last.identity.as_slice() == stored.identity.as_slice() {
+        last.members.push(variant(alloc, stored)?)?;
+        found.push(last)?;
+    } else {
+        found.push(last)?;
+        found.push(alone(alloc, stored)?)?;
+    }
+    Ok(())
+}
+
+/// Records that are in order, in groups: neighbours of one identity are one dispute.
+fn grouped(alloc: Global, rows: &[StoredRecord]) -> Result<Vec<Dispute>, Error>
+    ensures { IfOk result (λ found. map dispute_shown found.items
+        ≡ reading.grouped (map stored_entry rows.now)) }
+{
+    let mut found = Vec::new(alloc);
+    for stored in rows {
+        join(alloc, &mut found, stored)?;
+    }
+    Ok(found)
+}
+
+/// The identities of two or more records, by their bytes, each with its records by name.
+pub(crate) fn try_disputes<S: Alter>(
+    conn: &mut Connection<S>,
+    summary: &Summary,
+    alloc: Global,
+) -> Result<Result<Vec<Dispute>, LedgerFault>, Error>
+    requires idle { conn.old.in_transaction ≡ false }
+    ensures ended { conn.new.in_transaction ≡ false }
+    ensures tries { (naming : Naming) → Tries (λ found. map dispute_shown found.items) naming
+        summary.now summary.now (state S.Store conn.old) (state S.Store conn.new)
+        (disputes_outcome naming) result }
+    ensures shown { IfOk result (λ answer.
+        IfOk answer (λ found. AreDisputes (map dispute_shown found.items))) }
+{
+    let rows = list_uncharged(conn)?;
+    if !can_show(&rows) {
+        return Err(Error::SqliteFailure(ErrorCode::NotADatabase));
+    }
+    Ok(Ok(grouped(alloc, &rows)?))
+}
