@@ -1,43 +1,14 @@
 -- Commands that are run one after another.
-use Rattle.std.proofs.Common.{◌≡◌, ◌∙◌, ℕ, Bool, true, false, List, [], ◌∷◌, ◌++◌, refl, sym, ap}
-use Rattle.std.proofs.Common.{subst, Option, None, append_assoc, append-nil}
-use Rattle.std.specs.Prelude.{if◌then◌else◌}
-use Rattle.smf_frames.specs.declared.dump.Layout.{Layout}
-use Rattle.smf_frames.specs.declared.fault.FrameFault.{FrameFault}
-use Rattle.smf_frames.specs.Front.{Front, front}
+use Rattle.std.proofs.Common.{◌≡◌, ◌∙◌, Bool, List, [], ◌∷◌, ◌++◌, refl, sym, ap}
+use Rattle.std.proofs.Common.{subst, append_assoc, append-nil}
 use Rattle.book_model.specs.Records.{Naming}
 use Rattle.book_model.specs.Books.{Book}
 use Rattle.book_model.specs.Events.{Event, after_all}
 use Rattle.book_core.specs.Work.{Work, NoEvent, Then}
 use Rattle.book_core.proofs.WorkLemmas.{after_all-append}
-use Rattle.book_import.specs.declared.receipt.Receipt as receipt
-use Rattle.book_import.specs.declared.receipt.Stop.{Stop}
 use Rattle.book_import.specs.declared.command.Command.{Command}
 use Rattle.book_import.specs.declared.command.Reply.{Reply}
-use Rattle.book_import.specs.Dumps.{frame_stop, stop_behind}
-use Rattle.book_import.specs.Imports.{Handles, Imports}
 use Rattle.book_import.specs.Commands.{Replies, Runs}
-
--- the stop behind bytes whose reading nothing cut short
-stop_by : (broken : Bool) (stop : Stop) → (if broken then stop else stop) ≡ stop
-stop_by true stop = refl
-stop_by false stop = refl
-
-stop_is : (front : Front) → stop_behind None front ≡ frame_stop front.fault
-stop_is front = stop_by front.is_broken (frame_stop front.fault)
-
--- the front of the bytes of an import
-pub bytes_handled : (naming : Naming) (layout : Layout) (bytes : List ℕ)
-    (records : List (List ℕ)) (fault : Option FrameFault) (told : receipt.Receipt)
-    → records ≡ (front layout bytes).records → fault ≡ (front layout bytes).fault
-    → (was : Bool) (before : Book) (events : List Event) (is : Bool)
-    → Handles naming (frame_stop fault) records told was before events is
-    → Imports naming layout None bytes told was before events is
-bytes_handled naming layout bytes records fault told found same was before events is handled =
-    subst (λ records. Handles naming (stop_behind None (front layout bytes)) records told was before
-    events is) found
-    (subst (λ stop. Handles naming stop records told was before events is)
-    (ap frame_stop same ∙ sym (stop_is (front layout bytes))) handled)
 
 -- what was done to books that stayed as they were, and then other work
 none_then : (Next : Work) (was between : Bool) (before : Book) (early late : List Event) (is : Bool)

@@ -1,11 +1,8 @@
 -- Records that are handed to the books one after another.
 use Rattle.std.proofs.Common.{◌≡◌, ◌∙◌, ℕ, ◌+◌, ◌<◌, ◌≤◌, Bool, false, ◌||◌, List, [], ◌∷◌, ◌++◌}
 use Rattle.std.proofs.Common.{length, take, get_or, take_all, refl, sym, ap, subst, Result, Ok, Err}
-use Rattle.std.proofs.Common.{Option, None, Some, append_assoc, append-nil, Vec, Global}
-use Rattle.std.proofs.lemmas.List.{take_more, get_or-map}
-use Rattle.smf_frames.specs.declared.dump.Layout.{Layout}
-use Rattle.smf_frames.specs.Front.{front}
-use Rattle.smf_frames.specs.Texts.{texts}
+use Rattle.std.proofs.Common.{Option, None, Some, append_assoc, append-nil}
+use Rattle.std.proofs.lemmas.List.{take_more}
 use Rattle.smf_type30.specs.declared.classes.Class.{Class}
 use Rattle.smf_type30.specs.declared.classes.Class.TheVariants.{Usage}
 use Rattle.smf_type30.specs.Class.{class_of}
@@ -21,20 +18,12 @@ use Rattle.book_core.specs.Calls.{Calls, listed}
 use Rattle.book_import.specs.declared.receipt.Receipt.{Receipt}
 use Rattle.book_import.specs.declared.receipt.Stop.{Stop}
 use Rattle.book_import.specs.declared.receipt.Stop.TheVariants.{End, Ledger}
-use Rattle.book_import.specs.declared.dump.ReadDump.{ReadDump}
-use Rattle.book_import.specs.Dumps.{IsReadDump, stop_behind}
 use Rattle.book_import.specs.Receipts.{receipt_stopped, count_accepted, count_class}
 use Rattle.book_import.specs.Handled.{Imported, Answering, answers_of, after_answer, handle_by}
 use Rattle.book_import.specs.Handled.{handle, go_on, handle_all, start_of, stop_with}
 use Rattle.book_import.specs.Imports.{IsCounted, HandsIn, counts_by, Counts, Handles, whole}
-use Rattle.book_import.specs.Imports.{out_of_memory, Imports}
-
--- the text of the vector at an index
-pub text_at : (vectors : List (Vec ℕ Global)) (i : ℕ) (vector : Vec ℕ Global) → i < length vectors
-    → vector ≡ get_or vectors i vector
-    → get_or (texts vectors) i [] ≡ vector.items
-text_at vectors i vector within is = get_or-map (λ v. v.items) vectors i vector [] within
-    ∙ ap (λ v. v.items) (sym is)
+use Rattle.book_import.specs.Imports.{out_of_memory}
+use Rattle.book_import.specs.Pieces.{so_far_at, LeadsTo}
 
 -- a usage record that was handed in is counted by the answer
 pub usage_counts : (naming : Naming) (bytes : List ℕ) (old new : Receipt)
@@ -59,20 +48,6 @@ other_counts naming bytes old new Usage was before events is of other counted no
 other_counts naming bytes old new class was before events is of other counted none =
     subst (λ class. counts_by class naming bytes old new (Ok tt) was before events is) (sym of)
     (record { none = none; counted = counted; done = refl })
-
--- this receipt, with these events on the book before them
-abbrev pub so_far_at : Receipt → Book → List Event → Imported
-so_far_at receipt before events =
-    record { receipt = receipt; book = after_all events before; events = events }
-
--- Whatever comes behind the first records, handling them leads to this receipt and these events.
--- The books are open or not as they were.
-pub record LeadsTo (naming : Naming) (first : List (List ℕ)) (receipt : Receipt) (was : Bool)
-    (before : Book) (events : List Event) (is : Bool) : Type 0 where
-  pub same : is ≡ was
-  pub leads : (stop : Stop) (rest : List (List ℕ))
-      → handle_all (answers_of was naming) stop (first ++ rest) (start_of before)
-      ≡ handle_all (answers_of was naming) stop rest (so_far_at receipt before events)
 
 -- no record was handled yet
 pub none_yet : (naming : Naming) (told : Receipt) → told ≡ receipt_stopped End
@@ -220,15 +195,3 @@ pub none_handled : (naming : Naming) (stop : Stop) (records : List (List ℕ)) (
     → Handles naming stop records told was before events is
 none_handled naming stop records told so was before events is none =
     out_of_memory 0 none.same (record { receipt = sym so; events = sym none.none })
-
--- the records of a dump that was read, with the stop behind them
-pub dump_handled : (naming : Naming) (layout : Layout) (cut : Option Stop) (bytes : List ℕ)
-    (dump : ReadDump) (told : Receipt) → IsReadDump layout cut bytes dump
-    → (was : Bool) (before : Book) (events : List Event) (is : Bool)
-    → Handles naming dump.stop (texts dump.records.items) told was before events is
-    → Imports naming layout cut bytes told was before events is
-dump_handled naming layout cut bytes dump told read was before events is handled =
-    subst (λ records. Handles naming (stop_behind cut (front layout bytes)) records told was before
-    events is) read.records
-    (subst (λ stop. Handles naming stop (texts dump.records.items) told was before events is)
-    read.stop handled)

@@ -1,6 +1,6 @@
 -- An import gives no ruling: its events are records that were kept.
 use Rattle.std.proofs.Common.{◌≡◌, ℕ, Bool, true, false, List, [], ◌∷◌, ◌++◌, refl, subst, take}
-use Rattle.std.proofs.Common.{Option, None, Some, Result, Ok, Err}
+use Rattle.std.proofs.Common.{Result, Ok, Err}
 use Rattle.smf_type30.specs.declared.classes.Class.{Class}
 use Rattle.smf_type30.specs.declared.classes.Class.TheVariants.{Usage}
 use Rattle.smf_type30.specs.Class.{class_of}

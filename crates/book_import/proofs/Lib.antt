@@ -2,6 +2,9 @@
 -- make; the book that those leave, what it holds, and the same import again; what a stop tells.
 pub mod ImportLemmas
 pub mod StopLemmas
+pub mod PieceLemmas
+pub mod ComeLemmas
+pub mod JoinLemmas
 pub mod CommandLemmas
 pub mod ReplyLemmas
 pub mod BookLemmas

@@ -24,7 +24,8 @@ use Rattle.book_import.specs.Handled.{Imported, Answering, answers_of, after_ans
 use Rattle.book_import.specs.Handled.{go_on, handle_all, handle_first, start_of, stop_with}
 use Rattle.book_import.specs.Imports.{IsCounted, counts_by, Counts, IsTold, Handles, whole}
 use Rattle.book_import.specs.Imports.{out_of_memory, store_failed}
-use Rattle.book_import.proofs.ImportLemmas.{LeadsTo, so_far_at, one_more_handled}
+use Rattle.book_import.specs.Pieces.{LeadsTo, so_far_at}
+use Rattle.book_import.proofs.ImportLemmas.{one_more_handled}
 
 -- what a call returned is an error
 abbrev IsError : Result (Unit {0}) LedgerFault → Type 0

@@ -6,11 +6,11 @@ ghost use Rattle.book_import.specs.Commands as spec;
 ghost use Rattle.book_import.specs.Commands.{IsAskable, Replies, Runs};
 
 use crate::command::{Command, Reply};
-use crate::dump::frame_stop;
+use crate::ending::dump_end;
+use crate::pieces::import_piece;
 use crate::receipt::{Receipt, Stop};
-use crate::records::import_records;
 use book_core::{Ledger, LedgerFault, Ruled};
-use smf_frames::{Layout, split};
+use smf_frames::{Joiner, Layout};
 use std::alloc::{AllocError, Global};
 
 /// Hands the records of a dump to the books, in order. These bytes are the whole dump.
@@ -23,10 +23,14 @@ pub fn import_bytes<L: Ledger>(
     ensures { IsWork (L.seen ledger.old) (L.seen ledger.new)
         (Imports (L.seen ledger.old).naming layout None bytes.now result) }
 {
-    let Ok(front) = split(alloc, layout, bytes) else {
+    let Ok(mut joiner) = Joiner::new(alloc, layout) else {
         return Receipt::stopped(Stop::Ledger(LedgerFault::Memory));
     };
-    import_records(ledger, &front.records, frame_stop(front.fault))
+    let mut receipt = Receipt::stopped(Stop::End);
+    match import_piece(ledger, &mut joiner, &mut receipt, bytes) {
+        Some(stop) => receipt.stopped_by(stop),
+        None => receipt.stopped_by(dump_end(&joiner)),
+    }
 }
 
 /// The reply to a ruling.

@@ -3,8 +3,9 @@
 
 mod command;
 mod command_list;
-mod dump;
+mod ending;
 mod laws;
+mod pieces;
 mod reading;
 mod receipt;
 mod records;
@@ -12,11 +13,11 @@ mod whole;
 
 pub use command::{Command, Reply};
 pub use command_list::{import_bytes, run};
-pub use dump::{ReadDump, read_dump};
+pub use ending::reading_end;
 pub use laws::{
     books_hold_what_came, cuts_make_no_difference, reading_is_limited, run_twice_is_once,
     stops_tell, twice_is_once,
 };
-pub use reading::MAX_READS;
+pub use reading::{MAX_READS, PIECE, read_out, read_piece};
 pub use receipt::{Receipt, Stop};
 pub use whole::import;

@@ -1,12 +1,11 @@
-ghost use Rattle.std.specs.Prelude.{◌≡◌, ◌+◌, ◌≤◌, ◌<◌, ◌^◌, OnErr, All};
+ghost use Rattle.std.specs.Prelude.{◌≡◌, ◌+◌, ◌≤◌, ◌<◌, ◌^◌, OnErr};
 ghost use Rattle.smf_frames.specs.Framed.{IsFramed};
-ghost use Rattle.smf_frames.specs.Texts.{texts};
 ghost use Rattle.book_core.specs.Work.{IsWork};
-ghost use Rattle.book_import.specs.Imports.{Counts, Handles};
+ghost use Rattle.book_import.specs.Imports.{Counts};
 ghost use Rattle.book_import.specs.Receipts as spec;
 ghost use Rattle.book_import.specs.Receipts.{counted};
 
-use crate::receipt::{Receipt, Stop};
+use crate::receipt::Receipt;
 use book_core::{Accepted, Ledger, LedgerFault};
 use smf_type30::{Class, class};
 
@@ -39,7 +38,11 @@ fn count_class(receipt: &mut Receipt, class: Class)
 }
 
 /// Hands one record to the books where it is usage, and counts it.
-fn handle<L: Ledger>(ledger: &mut L, receipt: &mut Receipt, bytes: &[u8]) -> Result<(), LedgerFault>
+pub(crate) fn handle<L: Ledger>(
+    ledger: &mut L,
+    receipt: &mut Receipt,
+    bytes: &[u8],
+) -> Result<(), LedgerFault>
     requires framed { IsFramed bytes.now }
     requires few { counted receipt.old < 2 ^ 63 }
     ensures handled { IsWork (L.seen ledger.old) (L.seen ledger.new)
@@ -55,20 +58,4 @@ fn handle<L: Ledger>(ledger: &mut L, receipt: &mut Receipt, bytes: &[u8]) -> Res
         other => count_class(receipt, other),
     }
     Ok(())
-}
-
-/// Hands the records of a dump to the books, in order, up to the first that they refuse; where they
-/// refuse none, the receipt has this stop.
-pub fn import_records<L: Ledger>(ledger: &mut L, records: &[Vec<u8>], stop: Stop) -> Receipt
-    requires { All IsFramed (texts records.now) }
-    ensures { IsWork (L.seen ledger.old) (L.seen ledger.new)
-        (Handles (L.seen ledger.old).naming stop (texts records.now) result) }
-{
-    let mut receipt = Receipt::stopped(Stop::End);
-    for bytes in records {
-        if let Err(fault) = handle(ledger, &mut receipt, bytes) {
-            return receipt.stopped_by(Stop::Ledger(fault));
-        }
-    }
-    receipt.stopped_by(stop)
 }

@@ -6,16 +6,17 @@ ghost use Rattle.book_core.specs.Work.{IsWork};
 ghost use Rattle.book_import.specs.Imports.{Imports};
 ghost use Rattle.book_import.specs.Reading.{ReadsOutFor, cut_of, most_reads};
 
-use crate::dump::read_dump;
+use crate::ending::reading_end;
+use crate::pieces::import_piece;
+use crate::reading::{PIECE, read_out, read_piece};
 use crate::receipt::{Receipt, Stop};
-use crate::records::import_records;
 use book_core::{Ledger, LedgerFault, Source};
-use smf_frames::Layout;
+use smf_frames::{Joiner, Layout};
 use std::alloc::Global;
 use std::io::Read;
 
 /// Reads a dump to its end, in at most so many reads, and hands its records to the books in order.
-/// The dump is held whole meanwhile.
+/// No more than a piece and a record of it is held at a time.
 pub fn import<R: Read + Drop, L: Ledger>(
     alloc: Global,
     source: &mut Source<R>,
@@ -39,8 +40,20 @@ pub fn import<R: Read + Drop, L: Ledger>(
     ensures asked { reads_of source.new ≤ reads_of source.old + reads }
     ensures read_out { ReadsOutFor reads source.old source.new result.stop }
 {
-    let Ok(dump) = read_dump(alloc, source, layout, reads) else {
+    let Ok(mut joiner) = Joiner::new(alloc, layout) else {
         return Receipt::stopped(Stop::Ledger(LedgerFault::Memory));
     };
-    import_records(ledger, &dump.records, dump.stop)
+    let mut receipt = Receipt::stopped(Stop::End);
+    let mut piece = [0u8; PIECE];
+    for turn in 0..reads {
+        let Some(count) = read_piece(source, &mut piece) else {
+            return receipt.stopped_by(reading_end(source, &joiner));
+        };
+        if let Some(stop) = import_piece(ledger, &mut joiner, &mut receipt, &piece[..count]) {
+            // The rest is read all the same, so that the source shows how the input ended.
+            read_out(source, reads - 1 - turn);
+            return receipt.stopped_by(stop);
+        }
+    }
+    receipt.stopped_by(reading_end(source, &joiner))
 }

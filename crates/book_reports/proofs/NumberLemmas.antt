@@ -1,39 +1,25 @@
 -- Lines that are numbered, one further.
 use Rattle.std.proofs.Common.{◌≡◌, ℕ, ◌+◌, ◌<◌, List, [], ◌∷◌, ◌++◌, length, take, get_or, arith}
-use Rattle.std.proofs.Common.{append_assoc, ℤ, Some}
+use Rattle.std.proofs.Common.{append_assoc, append-nil, ℤ, Some}
 use Rattle.std.proofs.lemmas.Grind.{common_steps}
-use Rattle.std.proofs.lemmas.List.{take_more, map-append, length-map, length-take-le}
-use Rattle.std.specs.Prelude.{Vec}
-use Rattle.std.specs.Global.{Global}
-use Rattle.smf_frames.specs.Texts.{texts}
+use Rattle.std.proofs.lemmas.List.{take_more, length-take-le}
 use Rattle.book_reports.specs.CheckLists.{record_line, record_lines}
 use Rattle.book_reports.specs.PeriodLists.{closed_lines, period_line}
 
--- the lines of one record more end with the line of that record
-lines-append : (number : ℕ) (records : List (List ℕ)) (bytes : List ℕ)
-    → record_lines number (records ++ bytes ∷ [])
-    ≡ record_lines number records ++ record_line (number + length records) bytes
-lines-append number [] bytes = grind (arith, common_steps)
-lines-append number (first ∷ rest) bytes =
-    grind (arith, common_steps, append_assoc, lines-append (number + 1) rest bytes)
+-- the lines of records, and then those of others
+pub lines-append : (number : ℕ) (records later : List (List ℕ))
+    → record_lines number (records ++ later)
+    ≡ record_lines number records ++ record_lines (number + length records) later
+lines-append number [] later = grind (arith, common_steps)
+lines-append number (first ∷ rest) later =
+    grind (arith, common_steps, append_assoc, lines-append (number + 1) rest later)
 
--- behind i records the line of number i + 1 comes next
-pub one_more_line : (records : List (Vec ℕ Global)) (i : ℕ) (next : Vec ℕ Global)
-    → i < length records → next ≡ get_or records i next
-    → record_lines 1 (texts (take (i + 1) records))
-    ≡ record_lines 1 (texts (take i records)) ++ record_line (i + 1) next.items
-one_more_line records i next below is =
-    let before = texts (take i records) in
-    grind (
-      arith,
-      common_steps,
-      take_more records i next below,
-      map-append,
-      length-take-le,
-      length-map,
-      lines-append 1 before next.items,
-      is,
-    )
+-- the lines of one record more end with the line of that record
+pub one_more_line : (records : List (List ℕ)) (bytes : List ℕ)
+    → record_lines 1 (records ++ bytes ∷ [])
+    ≡ record_lines 1 records ++ record_line (length records + 1) bytes
+one_more_line records bytes =
+    grind (arith, append-nil, lines-append 1 records (bytes ∷ []))
 
 -- the lines of one closed period more end with the line of that period
 closed-append : (period : ℕ) (closes : List ℤ) (through : ℤ)

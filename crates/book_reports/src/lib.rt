@@ -20,7 +20,7 @@ pub use adjustment_lists::adjustment_list_text;
 pub use book_texts::{
     adjustment_list_of, dispute_list_of, period_list_of, statement_csv_of, statement_of,
 };
-pub use check_lists::check_list_text;
+pub use check_lists::{push_last_line, push_record_line};
 pub use dispute_lists::dispute_list_text;
 pub use fault::ReportFault;
 pub use output::{write_bytes, write_text};

@@ -1,12 +1,11 @@
-use Rattle.std.proofs.Common.{subst, List, ℕ, Vec, Global, None}
+use Rattle.std.proofs.Common.{subst, List, ℕ, None, [], refl, append-nil}
 use Rattle.smf_frames.specs.Front.{front}
-use Rattle.smf_frames.specs.Texts.{texts}
 use Rattle.book_core.specs.Work.{IsWork}
 use Rattle.book_core.proofs.WorkLemmas.{no_work, work_as}
-use Rattle.book_import.specs.Dumps.{frame_stop, stop_behind}
-use Rattle.book_import.specs.Imports.{Handles, Imports}
+use Rattle.book_import.specs.Dumps.{stop_behind}
+use Rattle.book_import.specs.Imports.{Imports}
 use Rattle.book_import.proofs.ImportLemmas.{none_handled}
-use Rattle.book_import.proofs.CommandLemmas.{bytes_handled}
+use Rattle.book_import.proofs.JoinLemmas.{joins_nothing, joins_more, joins_stopped, joins_ended}
 use Rattle.book_import.proofs.command_list.import_bytes.Goals as goal
 
 pub returns-in_default : goal.returns-in_default
@@ -19,18 +18,30 @@ returns-in_default g c =
     c.stopped.ensures)
     (no_work seen)
 
+pub returns-in-Some : goal.returns-in-Some
+returns-in-Some g c =
+    let seen = g.L.Ledger.seen c.args.ledger.now in
+    let bytes = c.args.bytes.now in
+    let told = c.stopped_by.result in
+    let joins = joins_nothing seen c.args.layout c.in-Ok.joiner c.stopped-receipt.result
+    c.in-Ok.ensures.value c.in-Ok.ensures.stands c.in-Ok.ensures.found c.stopped-receipt.ensures in
+    subst (λ (text : List ℕ).
+    IsWork seen (g.L.Ledger.seen c.import_piece.new.ledger)
+    (Imports seen.naming c.args.layout None text told)) (append-nil bytes)
+    (joins_stopped seen seen (g.L.Ledger.seen c.import_piece.new.ledger) c.args.layout [] bytes
+    c.in-Ok.joiner c.stopped-receipt.result c.import_piece.new.receipt told c.in-Some.stop joins
+    c.in-Some.ensures.handled c.stopped_by.ensures [] None)
+
 pub returns : goal.returns
 returns g c =
-    let old = g.L.Ledger.seen c.args.ledger.now in
-    let new = g.L.Ledger.seen c.import_records.new.ledger in
-    let told = c.import_records.result in
+    let seen = g.L.Ledger.seen c.args.ledger.now in
+    let new = g.L.Ledger.seen c.import_piece.new.ledger in
     let bytes = c.args.bytes.now in
-    let found = c.in-Ok.front in
-    work_as old new _ (Imports old.naming c.args.layout None bytes told)
-    (bytes_handled old.naming c.args.layout bytes (texts found.records.items) found.fault told
-    c.in-Ok.ensures.records c.in-Ok.ensures.fault)
-    (subst (λ (records : List (Vec ℕ Global)).
-    IsWork old new (Handles old.naming (frame_stop found.fault) (texts records) told))
-    c.deref.ensures.value
-    (subst (λ stop. IsWork old new (Handles old.naming stop (texts c.deref.result.now) told))
-    c.frame_stop.ensures c.import_records.ensures))
+    let told = c.stopped_by-in-None.result in
+    let none = joins_nothing seen c.args.layout c.in-Ok.joiner c.stopped-receipt.result
+    c.in-Ok.ensures.value c.in-Ok.ensures.stands c.in-Ok.ensures.found c.stopped-receipt.ensures in
+    let joins = joins_more seen seen new c.args.layout [] bytes c.in-Ok.joiner
+    c.import_piece.new.joiner c.stopped-receipt.result c.import_piece.new.receipt none
+    (c.in-None.ensures.taken refl) c.in-None.ensures.handled in
+    joins_ended seen new c.args.layout bytes c.import_piece.new.joiner c.import_piece.new.receipt
+    told c.dump_end.result None joins c.dump_end.ensures c.stopped_by-in-None.ensures

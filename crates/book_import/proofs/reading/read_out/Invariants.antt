@@ -1,0 +1,15 @@
+use Rattle.std.proofs.Common.{◌≡◌, ◌+◌, List, ℕ, false}
+use Rattle.std.specs.Io.KnownBytes.{Consumes}
+use Rattle.streams.specs.Sources.{reader_of, reads_of, has_failed, has_ended}
+use Rattle.book_import.proofs.reading.read_out.Given as goal
+
+-- as many reads as turns, none of which failed or was the end
+abbrev pub invariant-loop : goal.invariant-loop
+invariant-loop g l = record {
+  asked : reads_of l.source ≡ reads_of l.initial.source + l.counter;
+  failed : has_failed l.source ≡ false;
+  ended : has_ended l.source ≡ false;
+  bytes : (bytes : List ℕ)
+      × Consumes (g.R.Read.remaining (reader_of l.initial.source))
+      (g.R.Read.remaining (reader_of l.source)) bytes;
+}

@@ -1,0 +1,56 @@
+-- What becomes of the records of a dump that is handed to the books piece by piece. Words of the
+-- code alone.
+use Rattle.std.specs.Prelude.{◌≡◌, ℕ, Bool, false, List, ◌++◌, Option, Some, None}
+use Rattle.smf_frames.specs.declared.dump.Layout.{Layout}
+use Rattle.smf_frames.specs.Front.{front}
+use Rattle.smf_frames.specs.Joining.{Joining, StandsAfter}
+use Rattle.book_model.specs.Records.{Naming}
+use Rattle.book_model.specs.Books.{Book}
+use Rattle.book_model.specs.Events.{Event, after_all}
+use Rattle.book_core.specs.Work.{Work}
+use Rattle.book_import.specs.declared.receipt.Receipt.{Receipt}
+use Rattle.book_import.specs.declared.receipt.Stop.{Stop}
+use Rattle.book_import.specs.Handled.{Imported, answers_of, handle_all, start_of}
+use Rattle.book_import.specs.Imports.{Imports}
+
+-- this receipt, with these events on the book before them
+abbrev pub so_far_at : Receipt → Book → List Event → Imported
+so_far_at receipt before events =
+    record { receipt = receipt; book = after_all events before; events = events }
+
+-- Whatever comes behind the first records, handling them leads to this receipt and these events.
+-- The books are open or not as they were.
+pub record LeadsTo (naming : Naming) (first : List (List ℕ)) (receipt : Receipt) (was : Bool)
+    (before : Book) (events : List Event) (is : Bool) : Type 0 where
+  pub same : is ≡ was
+  pub leads : (stop : Stop) (rest : List (List ℕ))
+      → handle_all (answers_of was naming) stop (first ++ rest) (start_of before)
+      ≡ handle_all (answers_of was naming) stop rest (so_far_at receipt before events)
+
+-- Behind work that led to this receipt over the first records: with it, the work is such.
+abbrev pub Behind : Naming → List (List ℕ) → Receipt → Work → Work
+Behind naming first receipt Made was before events is =
+    (begun : Book) (early : List Event) → before ≡ after_all early begun
+    → LeadsTo naming first receipt was begun early was → Made was begun (events ++ early) is
+
+-- the import of a text was stopped, whatever bytes follow and whatever cuts their reading short
+abbrev pub StopsAt : Naming → Layout → List ℕ → Receipt → Work
+StopsAt naming layout text told was before events is = (more : List ℕ) (cut : Option Stop)
+    → Imports naming layout cut (text ++ more) told was before events is
+
+-- a piece behind a text was handled: all of it, or up to a stop
+abbrev pub HandlesPiece : Naming → Layout → List ℕ → List ℕ → Receipt → Receipt → Option Stop
+    → Work
+HandlesPiece naming layout text piece old new None = Behind naming (front layout text).records old
+    (LeadsTo naming (front layout (text ++ piece)).records new)
+HandlesPiece naming layout text piece old new (Some stop) =
+    Behind naming (front layout text).records old
+    (StopsAt naming layout (text ++ piece) (record new { stop = stop }))
+
+-- a joiner took all of a piece that breaks no front, and no record stands
+pub record TakesAll (old : Joining) (piece : List ℕ) (new : Joining) : Type 0 where
+  pub layout_is : new.layout ≡ old.layout
+  pub none : new.standing ≡ None
+  pub stands : (text : List ℕ) → StandsAfter text old → StandsAfter (text ++ piece) new
+  pub whole : (text : List ℕ) → StandsAfter text old
+      → (front old.layout (text ++ piece)).is_broken ≡ false

@@ -1,0 +1,43 @@
+ghost use Rattle.std.specs.Prelude.{◌≡◌, ℕ, List, unwrap_or};
+ghost use Rattle.smf_frames.specs.Front.{front};
+ghost use Rattle.smf_frames.specs.Joining.{StandsAfter};
+ghost use Rattle.book_import.specs.Dumps.{frame_stop};
+ghost use Rattle.book_import.specs.Reading.{cut_of};
+
+use crate::receipt::Stop;
+use book_core::Source;
+use smf_frames::Joiner;
+use std::io::Read;
+
+/// What cut the reading of a source short, if anything did.
+pub(crate) fn cut<R: Read + Drop>(source: &Source<R>) -> Option<Stop>
+    ensures { result ≡ cut_of source.now }
+{
+    if source.failed() {
+        Some(Stop::Read)
+    } else if source.ended() {
+        None
+    } else {
+        Some(Stop::ReadLimit)
+    }
+}
+
+/// The stop behind the last record, where what a joiner took is the whole dump.
+pub(crate) fn dump_end(joiner: &Joiner) -> Stop
+    ensures { (text : List ℕ) → StandsAfter text joiner.now
+        → result ≡ frame_stop (front joiner.now.layout text).fault }
+{
+    match joiner.finish() {
+        Ok(()) => Stop::End,
+        Err(fault) => Stop::Frame(fault),
+    }
+}
+
+/// The stop behind the last record of what a joiner took of a source that is read no further. Where
+/// something cut the reading short, that is the stop, and not what is undone for want of more.
+pub fn reading_end<R: Read + Drop>(source: &Source<R>, joiner: &Joiner) -> Stop
+    ensures { (text : List ℕ) → StandsAfter text joiner.now → result
+        ≡ unwrap_or (cut_of source.now) (frame_stop (front joiner.now.layout text).fault) }
+{
+    cut(source).unwrap_or(dump_end(joiner))
+}

@@ -1,0 +1,46 @@
+ghost use Rattle.std.specs.Prelude.{◌≡◌, ◌+◌, ◌<◌, ◌≤◌, ◌^◌, ℕ, List, None, length};
+ghost use Rattle.smf_frames.specs.Joining.{StandsAfter};
+ghost use Rattle.book_core.specs.Work.{IsWork};
+ghost use Rattle.book_import.specs.Receipts.{counted};
+ghost use Rattle.book_import.specs.Pieces.{HandlesPiece, TakesAll};
+
+use crate::receipt::{Receipt, Stop};
+use crate::records::handle;
+use book_core::Ledger;
+use smf_frames::Joiner;
+
+/// Hands the records that a piece completes to the books, in order. Gives the stop, where a
+/// descriptor has a fault or the books refuse a record.
+pub(crate) fn import_piece<L: Ledger>(
+    ledger: &mut L,
+    joiner: &mut Joiner,
+    receipt: &mut Receipt,
+    piece: &[u8],
+) -> Option<Stop>
+    requires stands { (text : List ℕ) × StandsAfter text joiner.old }
+    requires none { joiner.old.standing ≡ None }
+    requires few { counted receipt.old + length piece.now < 2 ^ 63 }
+    ensures handled { (text : List ℕ) → StandsAfter text joiner.old
+        → IsWork (L.seen ledger.old) (L.seen ledger.new)
+        (HandlesPiece (L.seen ledger.old).naming joiner.old.layout text piece.now receipt.old
+        receipt.new result) }
+    ensures taken { result ≡ None → TakesAll joiner.old piece.now joiner.new }
+    ensures counted { counted receipt.new ≤ counted receipt.old + length piece.now }
+{
+    let mut rest = piece;
+    loop {
+        let taken = match joiner.feed(rest) {
+            Err(fault) => return Some(Stop::Frame(fault)),
+            Ok(taken) => taken,
+        };
+        let (_, later) = rest.split_at(taken);
+        rest = later;
+        let Some(bytes) = joiner.record() else {
+            return None;
+        };
+        if let Err(fault) = handle(ledger, receipt, bytes) {
+            return Some(Stop::Ledger(fault));
+        }
+        joiner.next();
+    }
+}

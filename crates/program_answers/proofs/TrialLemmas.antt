@@ -1,0 +1,104 @@
+-- What makes a trial: new books, the import, and what was written.
+use Rattle.std.proofs.Common.{◌≡◌, ◌≢◌, ◌∙◌, ℕ, false, List, [], ◌∷◌, Option, Result, Err, refl}
+use Rattle.std.proofs.Common.{ap, subst}
+use Rattle.std.specs.Prelude.{IfOk}
+use Rattle.std.specs.Io.KnownBytes.{Consumes}
+use Rattle.std.proofs.KnownBytes.{Consumes-nil}
+use Rattle.sha2.specs.Sha256.{sha256}
+use Rattle.smf_frames.specs.declared.dump.Layout.{Layout}
+use Rattle.tariff_rules.specs.Terms.{Terms}
+use Rattle.smf_frames.specs.Front.{front}
+use Rattle.book_model.specs.Books.{Book, flat_book}
+use Rattle.book_model.specs.Events.{Event, after_all}
+use Rattle.book_model.specs.Records.{Naming}
+use Rattle.book_model.specs.Rulings.{Rulings}
+use Rattle.book_core.specs.Ledgers.{in_memory}
+use Rattle.book_core.specs.Work.{IsWork}
+use Rattle.book_model.specs.declared.fault.LedgerFault.TheVariants.{Memory}
+use Rattle.book_import.specs.declared.receipt.Receipt.{Receipt}
+use Rattle.book_import.specs.declared.receipt.Stop.{Stop}
+use Rattle.book_import.specs.declared.receipt.Stop.TheVariants.{Ledger}
+use Rattle.book_import.specs.Dumps.{stop_behind}
+use Rattle.book_import.specs.Imports.{Imports}
+use Rattle.book_import.specs.Imports.Handles.{out_of_memory}
+use Rattle.book_import.proofs.KeepingLemmas.{handles_kept, rulings_stay}
+use Rattle.book_import.specs.Receipts.{receipt_stopped}
+use Rattle.book_reports.specs.declared.fault.ReportFault.{ReportFault}
+use Rattle.book_reports.specs.declared.fault.ReportFault.TheVariants.{Write}
+use Rattle.book_reports.specs.ReceiptLines.{receipt_line_text}
+use Rattle.book_reports.specs.BookTexts.{dispute_text, open_statement}
+use Rattle.book_reports.specs.Writing.{Writes}
+use Rattle.book_reports.proofs.WritingLemmas.{nothing_written}
+use Rattle.program_answers.specs.Trials.{IsTrial, trial_texts}
+
+-- what the import made of new books under a tariff
+pub record IsBooked (terms : Terms) (layout : Layout) (cut : Option Stop) (bytes : List ℕ)
+    (told : Receipt) (left : Book) : Type 0 where
+  pub events : List Event
+  pub booked : Imports sha256 layout cut bytes told false (flat_book terms) events false
+  pub leads : left ≡ after_all events (flat_book terms)
+
+-- it is what the work of the import on a ledger in memory made
+pub is_booked : (terms : Terms) (layout : Layout) (cut : Option Stop) (bytes : List ℕ)
+    (told : Receipt) (naming : Naming) (old new : Book) → old ≡ flat_book terms
+    → IsWork (in_memory sha256 old) (in_memory naming new) (Imports sha256 layout cut bytes told)
+    → IsBooked terms layout cut bytes told new
+is_booked terms layout cut bytes told naming old new start work =
+    let came = work.moves tt tt new refl in
+    let stood = came.stood ∙ start in
+    record {
+      events = came.events;
+      booked = subst (λ before. Imports sha256 layout cut bytes told false before came.events false)
+          stood came.made;
+      leads = came.leads ∙ ap (after_all came.events) stood;
+    }
+
+-- no period was closed of such books
+pub never_closed : (terms : Terms) (layout : Layout) (cut : Option Stop) (bytes : List ℕ)
+    (told : Receipt) (left : Book) → IsBooked terms layout cut bytes told left
+    → left.rulings.closes ≡ []
+never_closed terms layout cut bytes told left is =
+    let dump = front layout bytes in
+    let kept = handles_kept sha256 (stop_behind cut dump) dump.records told false (flat_book terms)
+    is.events false is.booked in
+    ap (λ (book : Book). book.rulings.closes) is.leads
+    ∙ ap (λ (rulings : Rulings). rulings.closes) (rulings_stay is.events kept (flat_book terms))
+
+module _ {terms : Terms} {layout : Layout} {cut : Option Stop} {MayStop : Stop → Type 0} where
+  -- new books, the import, and what was written
+  pub is_trial : {had left held holds : Option (List ℕ)} {answer : Result Receipt ReportFault}
+      {book : Book} (told : Receipt) (bytes : List ℕ) → Consumes had left bytes
+      → IsBooked terms layout cut bytes told book
+      → MayStop told.stop → Writes (trial_texts told book) held holds answer
+      → IfOk answer (λ receipt. receipt ≡ told)
+      → IsTrial terms layout cut MayStop had left held holds answer
+  is_trial {held = held} {holds = holds} {answer = answer} told bytes taken is stopped written
+      receipt =
+      record {
+        bytes = bytes;
+        told = told;
+        events = is.events;
+        taken = taken;
+        booked = is.booked;
+        stopped = stopped;
+        written = subst (λ book. Writes (trial_texts told book) held holds answer) is.leads written;
+        receipt = receipt;
+      }
+
+  -- without memory for new books nothing is read or written
+  pub no_trial : (had held : Option (List ℕ)) (fault : ReportFault) → fault ≢ Write
+      → MayStop (Ledger Memory)
+      → IsTrial terms layout cut MayStop had had held held (Err fault)
+  no_trial had held fault other stopped =
+      let told : Receipt = receipt_stopped (Ledger Memory) in
+      let others = open_statement (flat_book terms) ∷ dispute_text (flat_book terms) ∷ [] in
+      record {
+        bytes = [];
+        told = told;
+        events = [];
+        taken = Consumes-nil had;
+        booked = out_of_memory 0 refl (record { receipt = refl; events = refl });
+        stopped = stopped;
+        written = nothing_written fault held (receipt_line_text told) others other;
+        receipt = tt;
+      }

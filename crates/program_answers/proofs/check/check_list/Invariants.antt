@@ -1,0 +1,26 @@
+use Rattle.std.proofs.Common.{◌≡◌, ◌+◌, ◌*◌, ◌≤◌, List, ℕ, [], false}
+use Rattle.std.specs.Io.KnownBytes.{Consumes}
+use Rattle.streams.specs.Sinks as sinks
+use Rattle.streams.specs.Sources.{reader_of, reads_of, has_failed, has_ended}
+use Rattle.book_import.specs.Reading.{piece_length}
+use Rattle.program_answers.specs.Listings.{count_of, waiting}
+use Rattle.program_answers.proofs.CheckLemmas.{Lists}
+use Rattle.program_answers.proofs.check.check_list.Given as goal
+
+-- as many reads as turns, none of which failed or was the end; their bytes, and that all lines of
+-- them were written
+abbrev pub invariant-loop-turn : goal.invariant-loop-turn
+invariant-loop-turn g l = record {
+  asked : reads_of l.source ≡ reads_of l.initial.source + l.turn;
+  failed : has_failed l.source ≡ false;
+  ended : has_ended l.source ≡ false;
+  unwritten : sinks.has_failed l.sink ≡ false;
+  few : count_of l.listing ≤ l.turn * piece_length;
+  waits : waiting l.listing ≡ [];
+  lists : (bytes : List ℕ)
+      × Consumes (g.R.Read.remaining (reader_of l.initial.source))
+      (g.R.Read.remaining (reader_of l.source)) bytes
+      × Lists l.fn.layout bytes l.joiner l.listing
+      (g.W.Write.contents (sinks.writer_of l.initial.sink))
+      (g.W.Write.contents (sinks.writer_of l.sink));
+}

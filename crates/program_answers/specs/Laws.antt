@@ -1,0 +1,43 @@
+-- Laws of trials, which follow from the definitions alone.
+use Rattle.std.specs.Prelude.{◌≡◌, ℕ, false, List, Option}
+use Rattle.sha2.specs.Sha256.{sha256}
+use Rattle.smf_frames.specs.declared.dump.Layout.{Layout}
+use Rattle.smf_frames.specs.Front.{front}
+use Rattle.tariff_rules.specs.Terms.{Terms}
+use Rattle.book_model.specs.Books.{Book, flat_book}
+use Rattle.book_model.specs.Events.{Event, after_all}
+use Rattle.book_model.specs.Records.{Records, by_bytes}
+use Rattle.book_model.specs.Sets.{set_of}
+use Rattle.book_import.specs.declared.receipt.Stop.{Stop}
+use Rattle.book_import.specs.declared.receipt.Receipt.{Receipt}
+use Rattle.book_import.specs.Imports.{Imports}
+use Rattle.book_import.specs.Receipts.{is_stop_of_books}
+use Rattle.book_reports.specs.BookTexts.{dispute_text, open_statement}
+
+-- the records of a dump, each once
+abbrev pub distinct_records : Layout → List ℕ → Records
+distinct_records layout bytes = set_of by_bytes (front layout bytes).records
+
+-- A trial's import of these bytes, whose reading something may have cut short, answered this
+-- receipt and made these events, and no record was refused.
+pub record IsWholeImport (terms : Terms) (layout : Layout) (cut : Option Stop) (bytes : List ℕ)
+    (told : Receipt) (events : List Event) : Type 0 where
+  pub booked : Imports sha256 layout cut bytes told false (flat_book terms) events false
+  pub unrefused : is_stop_of_books told.stop ≡ false
+
+-- the book that a trial's import leaves
+abbrev pub trial_book : Terms → List Event → Book
+trial_book terms events = after_all events (flat_book terms)
+
+-- Dumps with the same records, each counted once, have the same statement and the same disputes,
+-- where the books refuse none: it makes no difference in which layout, segments and order the
+-- records lie, nor how often.
+abbrev pub SameRecordsSameTexts : Type 0
+SameRecordsSameTexts =
+    (terms : Terms) (layout other_layout : Layout) (cut other_cut : Option Stop)
+    (bytes others : List ℕ) (told other_told : Receipt) (events other_events : List Event)
+    → IsWholeImport terms layout cut bytes told events
+    → IsWholeImport terms other_layout other_cut others other_told other_events
+    → distinct_records layout bytes ≡ distinct_records other_layout others
+    → (open_statement (trial_book terms events) ≡ open_statement (trial_book terms other_events))
+    × (dispute_text (trial_book terms events) ≡ dispute_text (trial_book terms other_events))

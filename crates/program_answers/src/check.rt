@@ -1,0 +1,144 @@
+//! Checks: what every record of a dump is, and why there are no more.
+
+ghost use Rattle.std.specs.Prelude.{◌≡◌, ℕ, ◌+◌, ◌<◌, ◌≤◌, ◌^◌, false, true, List, None, length};
+ghost use Rattle.std.specs.Prelude.{IfErr, IfOk, OnOk, []};
+ghost use Rattle.smf_frames.specs.Joining.{StandsAfter};
+ghost use Rattle.streams.specs.Sinks.{writer_of, has_failed};
+ghost use Rattle.streams.specs.Marks.{NothingIsLeft};
+ghost use Rattle.streams.specs.Sources as sources;
+ghost use Rattle.book_import.specs.Reading.{cut_of, most_reads};
+ghost use Rattle.book_import.specs.Receipts.{is_stop_of_books};
+ghost use Rattle.program_answers.specs.Checks.{IsCheck, ReadsOutUnless};
+ghost use Rattle.program_answers.specs.Listings.{waiting, count_of, HasRoom, ListsOn};
+ghost use Rattle.program_answers.specs.Listings.{TakesOrBreaks};
+ghost use Rattle.book_reports.specs.Writing.{is_write_fault, is_write_or_memory};
+
+use crate::listing::Listing;
+use book_core::{Sink, Source};
+use book_import::{PIECE, Stop, read_out, read_piece, reading_end};
+use book_reports::ReportFault;
+use smf_frames::{FrameFault, Joiner, Layout};
+use std::alloc::Global;
+use std::io::{Read, Write};
+
+/// Adds the lines of the records that a piece completes. Gives the fault of a descriptor, where one
+/// comes.
+fn list_records<W: Write + Drop>(
+    joiner: &mut Joiner,
+    piece: &[u8],
+    listing: &mut Listing,
+    sink: &mut Sink<W>,
+) -> Result<Option<FrameFault>, ReportFault>
+    requires stands { (text : List ℕ) × StandsAfter text joiner.old }
+    requires none { joiner.old.standing ≡ None }
+    requires few { count_of listing.old + length piece.now < 2 ^ 63 }
+    requires room { HasRoom listing.old }
+    requires unwritten { has_failed sink.old ≡ false }
+    ensures listed { ListsOn joiner.old piece.now listing.old listing.new
+        (W.contents (writer_of sink.old)) (W.contents (writer_of sink.new)) result }
+    ensures taken { IfOk result (λ found. TakesOrBreaks joiner.old piece.now found joiner.new) }
+    ensures count { OnOk result (count_of listing.new ≤ count_of listing.old + length piece.now) }
+    ensures room { OnOk result (HasRoom listing.new) }
+    ensures failed { has_failed sink.new ≡ is_write_fault result }
+    ensures fault { IfErr result (λ fault. is_write_or_memory fault ≡ true) }
+{
+    let mut rest = piece;
+    loop {
+        let taken = match joiner.feed(rest) {
+            Err(fault) => return Ok(Some(fault)),
+            Ok(taken) => taken,
+        };
+        let (_, later) = rest.split_at(taken);
+        rest = later;
+        let Some(bytes) = joiner.record() else {
+            return Ok(None);
+        };
+        listing.push_line(bytes, sink)?;
+        joiner.next();
+    }
+}
+
+/// Writes the lines of the records that a piece completes. Gives the fault of a descriptor, where
+/// one comes.
+fn list_piece<W: Write + Drop>(
+    joiner: &mut Joiner,
+    piece: &[u8],
+    listing: &mut Listing,
+    sink: &mut Sink<W>,
+) -> Result<Option<FrameFault>, ReportFault>
+    requires stands { (text : List ℕ) × StandsAfter text joiner.old }
+    requires none { joiner.old.standing ≡ None }
+    requires few { count_of listing.old + length piece.now < 2 ^ 63 }
+    requires room { HasRoom listing.old }
+    requires unwritten { has_failed sink.old ≡ false }
+    ensures listed { ListsOn joiner.old piece.now listing.old listing.new
+        (W.contents (writer_of sink.old)) (W.contents (writer_of sink.new)) result }
+    ensures waits { OnOk result (waiting listing.new ≡ []) }
+    ensures taken { IfOk result (λ found. TakesOrBreaks joiner.old piece.now found joiner.new) }
+    ensures count { OnOk result (count_of listing.new ≤ count_of listing.old + length piece.now) }
+    ensures failed { has_failed sink.new ≡ is_write_fault result }
+    ensures fault { IfErr result (λ fault. is_write_or_memory fault ≡ true) }
+{
+    let found = list_records(joiner, piece, listing, sink)?;
+    listing.flush(sink)?;
+    Ok(found)
+}
+
+/// Writes what every record of a dump is, and why there are no more. The lines of a piece are
+/// written before the next one is read; held are a piece, a record, and lines that are written at
+/// once. After a fault the writer has a prefix of the list.
+pub fn check_list<R: Read + Drop, W: Write + Drop>(
+    alloc: Global,
+    source: &mut Source<R>,
+    layout: Layout,
+    reads: u64,
+    sink: &mut Sink<W>,
+) -> Result<Stop, ReportFault>
+    requires asked { sources.reads_of source.old ≤ 2 ^ 62 }
+    requires unread { sources.has_failed source.old ≡ false }
+    requires unended { sources.has_ended source.old ≡ false }
+    requires reads { reads ≤ most_reads }
+    requires unwritten { has_failed sink.old ≡ false }
+
+    // What was read and written.
+    ensures check { IsCheck layout (cut_of source.new)
+        (R.remaining (sources.reader_of source.old)) (R.remaining (sources.reader_of source.new))
+        (W.contents (writer_of sink.old)) (W.contents (writer_of sink.new)) result }
+
+    // Where the source has ended, nothing is left of a reader that tells its bytes.
+    ensures left { NothingIsLeft (sources.has_ended source.new)
+        (R.remaining (sources.reader_of source.new)) }
+
+    // How far the reading went.
+    ensures asked { sources.reads_of source.new ≤ sources.reads_of source.old + reads }
+    ensures read_out { ReadsOutUnless reads source.old source.new result }
+
+    // A fault is a failed write, or want of memory; Write comes where a write failed, and nowhere
+    // else. No books are asked, so none stop the list or refuse it.
+    ensures failed { has_failed sink.new ≡ is_write_fault result }
+    ensures fault { IfErr result (λ fault. is_write_or_memory fault ≡ true) }
+    ensures stop { IfOk result (λ stop. is_stop_of_books stop ≡ false) }
+{
+    let mut joiner = Joiner::new(alloc, layout)?;
+    let mut listing = Listing::new(alloc)?;
+    let mut piece = [0u8; PIECE];
+    for turn in 0..reads {
+        let Some(count) = read_piece(source, &mut piece) else {
+            return listing.end(reading_end(source, &joiner), sink);
+        };
+        match list_piece(&mut joiner, &piece[..count], &mut listing, sink) {
+            Ok(None) => {}
+            Ok(Some(fault)) => {
+                // The rest is read too, as of a dump with no fault: its reader may wait for that.
+                read_out(source, reads - 1 - turn);
+                return listing.end(Stop::Frame(fault), sink);
+            }
+            Err(fault) => {
+                // So is it behind a write that failed.
+                read_out(source, reads - 1 - turn);
+                return Err(fault);
+            }
+        }
+    }
+    listing.end(reading_end(source, &joiner), sink)
+}
