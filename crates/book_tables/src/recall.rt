@@ -5,7 +5,6 @@ ghost use Rattle.std.specs.List.{AllZip};
 ghost use Rattle.sqlite.specs.Held.{state};
 ghost use Rattle.book_model.specs.Limits.{most_cost, most_held};
 ghost use Rattle.book_model.specs.Rulings.{are_rising};
-ghost use Rattle.sql_rows.specs.Schemas.{no_schema};
 ghost use Rattle.book_tables.specs.Commits.{Looks};
 ghost use Rattle.book_tables.specs.Recalled.{HasDay, IsOpenFault, IsRecalled, IsStoreFault};
 ghost use Rattle.book_tables.specs.Recalled.{Reads, SaysTariff, Shows};
@@ -163,7 +162,7 @@ pub(crate) fn read_summary<S: Alter>(
 ) -> Result<Summary, LedgerFault>
     ensures mode { conn.old.in_transaction ≡ false → conn.new.in_transaction ≡ false }
     ensures reads { Reads result (state S.Store conn.old) (state S.Store conn.new) }
-    ensures none { (state S.Store conn.old).now.schema ≡ no_schema
+    ensures none { spec.has_book_table (state S.Store conn.old).now.schema ≡ false
         → (result ≡ Err LedgerFault.NotBooks) × (conn.new ≡ conn.old) }
     ensures kinds { IfErr result IsOpenFault }
 {

@@ -10,7 +10,6 @@ impl<S: Alter, N: Naming + Drop> TableLedger<S, N> {
     ghost use Rattle.std.specs.Prelude.{◌≡◌, IfErr, IfOk, IsErrAnd, false};
     ghost use Rattle.sqlite.specs.Held.{state};
     ghost use Rattle.sqlite.specs.State.{HasCleanDisk, Survives};
-    ghost use Rattle.sql_rows.specs.Schemas.{no_schema};
     ghost use Rattle.book_model.specs.Books.{Book};
     ghost use Rattle.book_core.specs.Ledgers.{IsOpenAt};
     ghost use Rattle.kept_tables.specs.Tables.{Tables};
@@ -19,7 +18,7 @@ impl<S: Alter, N: Naming + Drop> TableLedger<S, N> {
     ghost use Rattle.book_statements.specs.Keeps.{Keeps};
     ghost use Rattle.book_statements.specs.Steps.{CommitsNothing};
     ghost use Rattle.book_tables.specs.Commits.{IsSame, Keeping};
-    ghost use Rattle.book_tables.specs.Recalled.{IsOpenFault};
+    ghost use Rattle.book_tables.specs.Recalled.{IsOpenFault, has_book_table};
 
     /// The books that a database keeps.
     pub fn open(
@@ -42,7 +41,8 @@ impl<S: Alter, N: Naming + Drop> TableLedger<S, N> {
         ensures crash_refused { IfErr result (λ refused. Survives (state S.Store conn)
             (state S.Store refused.1) (CommitsNothing (state S.Store conn))) }
 
-        ensures none { (state S.Store conn).now.schema ≡ no_schema
+        // Where no table is named as the one of the book, the connection comes back as it was.
+        ensures none { has_book_table (state S.Store conn).now.schema ≡ false
             → IsErrAnd result (λ refused. refused ≡ (LedgerFault.NotBooks, conn)) }
         ensures found { IfErr result (λ refused. refused.0 ≡ LedgerFault.NotBooks
             → HasCleanDisk (state S.Store refused.1) → (tables : Tables)
