@@ -1,9 +1,14 @@
 //! Laws of runs, which hold over the definitions alone. Each stands on a function that does
 //! nothing.
 
+ghost use Rattle.run_laws.specs.AllRead.{ListsConserve};
+ghost use Rattle.run_laws.specs.CallLaws.{CallsFollowHistory};
+ghost use Rattle.run_laws.specs.Headline.{ReportsFollowHistory};
 ghost use Rattle.run_laws.specs.Laws.{ClosedStatementsStay, OpenStatementIsFirst, RunOrderIsFree};
 ghost use Rattle.run_laws.specs.Laws.{RunsMakeHistory, RunsChargeOnce, RunsConserve};
 ghost use Rattle.run_laws.specs.Laws.{RunsFollowHistory};
+
+use book_core::Ledger;
 
 /// A run on new books, also under one tariff, comes after a history that calls made; and with the
 /// run it is such a history again.
@@ -43,4 +48,25 @@ pub fn closed_statements_stay()
 /// closed.
 pub fn open_statement_is_first()
     ensures { OpenStatementIsFirst }
+{}
+
+/// Whatever calls are made on the books of a history, one after another: where the ledger is still
+/// open, it is at the books of the history that goes on with what they made.
+pub fn calls_follow_history<L: Ledger>()
+    ensures { CallsFollowHistory L.seen }
+{}
+
+/// The headline: whatever calls were made on new books, every report that is read of them is the
+/// text that the definitions give for the office's rulings and the records that were accepted
+/// between them. Two ledgers of any kinds give the same text, byte for byte, where their histories
+/// have the same rulings in the same order, and the same sets of accepted records between
+/// neighbouring rulings.
+pub fn reports_follow_history<L: Ledger, M: Ledger>()
+    ensures { ReportsFollowHistory L.seen M.seen }
+{}
+
+/// The charge rows and plus lines that a ledger answers for all its periods, less the minus lines,
+/// amount to what the records cost that are charged by the history.
+pub fn lists_conserve<L: Ledger>()
+    ensures { ListsConserve L.seen }
 {}

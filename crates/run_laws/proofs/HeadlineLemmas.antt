@@ -1,0 +1,122 @@
+-- What a report tells: from the contracts of the calls before it, and its own.
+use Rattle.std.proofs.Common.{◌≡◌, ◌∙◌, List, [], ◌++◌, Option, Result, Ok, Err}
+use Rattle.std.proofs.Common.{refl, sym, ap, subst}
+use Rattle.std.specs.Prelude.{ℕ, OnOk}
+use Rattle.std.specs.Io.KnownBytes.{Appends}
+use Rattle.book_model.specs.declared.fault.LedgerFault.{LedgerFault}
+use Rattle.book_model.specs.Books.{Book, new_book}
+use Rattle.book_model.specs.Events.{Event}
+use Rattle.book_model.specs.History.{book_of}
+use Rattle.book_model.specs.Outcomes.{Outcome}
+use Rattle.book_model.specs.Records.{Naming}
+use Rattle.book_model.proofs.OrderLemmas.{order_is_free}
+use Rattle.book_model.proofs.StepLemmas.{books_follow_history}
+use Rattle.book_core.specs.Calls.{IsCall}
+use Rattle.book_core.specs.Ledgers.{Seen}
+use Rattle.book_core.specs.Work.{IsWork}
+use Rattle.book_reports.specs.declared.fault.ReportFault.{ReportFault}
+use Rattle.book_import.specs.declared.command.Command.{Command}
+use Rattle.book_import.specs.declared.command.Reply.{Reply}
+use Rattle.book_import.specs.Commands.{Runs}
+use Rattle.book_reports.specs.Reports.{IsPassedOn, IsReport}
+use Rattle.run_laws.specs.Calls.{ledger_after}
+use Rattle.run_laws.specs.Headline.{Reading, IsRead, Tells, ReportsFollowHistory}
+use Rattle.run_laws.specs.Headline.{TellsAfterRun}
+use Rattle.run_laws.specs.declared.report.Report.{Report}
+use Rattle.run_laws.specs.Reports.{report_outcome, IsTextOf, DiffersAsAllowed}
+use Rattle.run_laws.proofs.CallLemmas.{report_reads}
+use Rattle.run_laws.proofs.LeavingLemmas.{calls_follow_history, open_before, read_at}
+
+-- an answer that was passed on whole is a text, which the writer has more
+passed_text : (answer : Result (List ℕ) LedgerFault) (held holds : Option (List ℕ))
+    → IsPassedOn answer held holds (Ok tt)
+    → (text : List ℕ) × (answer ≡ Ok text) × Appends held holds text
+passed_text (Ok text) held holds passed = (text, refl, passed)
+passed_text (Err fault) held holds passed = absurd (ok_not_err passed.0)
+  where
+    ok_not_err : {told : ReportFault} → ◌≡◌ {A = Result (Unit {0}) ReportFault} (Ok tt) (Err told)
+        → ⊥
+    ok_not_err same = cc
+
+-- a report tells of the whole history
+pub read_tells : {L : Type 0} (seen : L → Seen) (naming : Naming) (start : List Event)
+    (report : Report) (reading : Reading L) → IsRead seen naming start report reading
+    → Tells seen naming start report reading
+read_tells seen naming start report reading read =
+    let between : Seen = seen (ledger_after reading.before reading.steps) in
+    let passed = passed_text read.read.answer reading.held reading.holds read.read.passed_on in
+    let outcome : Book → Outcome (List ℕ) = report_outcome between.naming report in
+    let call : IsCall (λ text. text) between (seen reading.after) (Ok passed.0) outcome =
+    subst (λ answer. IsCall (λ text. text) between (seen reading.after) answer outcome) passed.1
+    read.read.call in
+    let left = calls_follow_history seen naming start reading.before reading.steps read.answered
+    read.opened read.done (open_before call read.honest) in
+    let history : List Event = left.events ++ start in
+    let told = read_at left.left call (report_reads between.naming report) read.honest in
+    record {
+      events = left.events;
+      made = left.made;
+      answered = left.answered;
+      text = passed.0;
+      written = passed.2;
+      is = (λ i.
+          (report_outcome (sym left.left.naming i) report
+          (sym (books_follow_history history) i)).answer)
+          ∙ told.0;
+      left = told.1;
+    }
+
+-- histories that differ as allowed have one text
+same_text : (naming : Naming) (one other : List Event) (report : Report) (text text_other : List ℕ)
+    → DiffersAsAllowed one other → IsTextOf naming one report text
+    → IsTextOf naming other report text_other → text ≡ text_other
+same_text naming one other report text text_other differs is is_other =
+    let same : book_of one ≡ book_of other =
+    sym (books_follow_history one)
+    ∙ order_is_free new_book one other differs.rulings differs.between
+    ∙ books_follow_history other in
+    ok_injective
+    (sym is ∙ ap (λ book. (report_outcome naming report book).answer) same ∙ is_other)
+  where
+    value_or : List ℕ → Result (List ℕ) LedgerFault → List ℕ
+    value_or other (Ok value) = value
+    value_or other (Err fault) = other
+
+    ok_injective : {a b : List ℕ} → ◌≡◌ {A = Result (List ℕ) LedgerFault} (Ok a) (Ok b) → a ≡ b
+    ok_injective same = ap (value_or []) same
+
+-- the headline
+pub reports_follow_history : {L M : Type 0} (seen : L → Seen) (seen_other : M → Seen)
+    → ReportsFollowHistory seen seen_other
+reports_follow_history seen seen_other naming start start_other report one other read read_other =
+    let told = read_tells seen naming start report one read in
+    let other_told = read_tells seen_other naming start_other report other read_other in
+    record {
+      told = told;
+      other_told = other_told;
+      same = λ differs. same_text naming (told.events ++ start) (other_told.events ++ start_other)
+          report told.text other_told.text differs told.is other_told.is;
+    }
+
+-- a run, and then a report
+pub tells_after_run : {L : Type 0} (seen : L → Seen) (commands : List Command)
+    (replies : List Reply) (report : Report) (before between after : L)
+    (held holds : Option (List ℕ)) (result : Result (Unit {0}) ReportFault)
+    → IsWork (seen before) (seen between) (Runs (seen before).naming commands replies)
+    → IsReport (seen between) (seen after) (report_outcome (seen between).naming report) held holds
+    result
+    → OnOk result (TellsAfterRun seen commands report before after held holds)
+tells_after_run seen commands replies report before between after held holds (Ok done) ran read =
+    λ naming start answered opened honest. (
+      replies,
+      between,
+      read_tells seen naming start report _ (record {
+        answered = answered;
+        opened = opened;
+        done = (ran, tt);
+        read = read;
+        honest = honest;
+      }),
+    )
+tells_after_run seen commands replies report before between after held holds (Err fault) ran read =
+    tt

@@ -1,0 +1,85 @@
+-- Calls on one ledger, one after another.
+use Rattle.std.specs.Prelude.{ℕ, ℤ, List, [], ◌∷◌, Option, Result, Vec, map}
+use Rattle.std.specs.Global.{Global}
+use Rattle.smf_frames.specs.declared.dump.Layout.{Layout}
+use Rattle.book_model.specs.declared.answer.Accepted.{Accepted}
+use Rattle.book_model.specs.declared.answer.Ruled.{Ruled}
+use Rattle.book_model.specs.declared.dispute.Dispute.{Dispute}
+use Rattle.book_model.specs.declared.fault.LedgerFault.{LedgerFault}
+use Rattle.book_model.specs.declared.line.Line.{Line}
+use Rattle.book_model.specs.declared.row.ChargeRow.{ChargeRow}
+use Rattle.book_model.specs.Disputes.{dispute_shown}
+use Rattle.book_model.specs.Outcomes.{accept_outcome, tariff_outcome, close_outcome}
+use Rattle.book_model.specs.Outcomes.{charges_outcome, adjustments_outcome, disputes_outcome}
+use Rattle.book_model.specs.Outcomes.{periods_outcome}
+use Rattle.book_model.specs.Records.{Naming}
+use Rattle.book_core.specs.Calls.{Calls}
+use Rattle.book_core.specs.Ledgers.{Seen}
+use Rattle.book_core.specs.Work.{Work, NoEvent, Then, IsWork}
+use Rattle.book_import.specs.declared.command.Command.{Command}
+use Rattle.book_import.specs.declared.command.Reply.{Reply}
+use Rattle.book_import.specs.declared.receipt.Receipt.{Receipt}
+use Rattle.book_import.specs.declared.receipt.Stop.{Stop}
+use Rattle.book_import.specs.Commands.{Runs}
+use Rattle.book_import.specs.Imports.{Imports}
+use Rattle.run_laws.specs.declared.report.Report.{Report}
+use Rattle.run_laws.specs.Reports.{report_outcome}
+
+-- What was asked of a ledger, and what it answered: commands by `run`; the import of a dump, whose
+-- reading something may have cut short; a record; a tariff; a close; a list of a period, of the
+-- disputes or of the closes; or a report.
+pub data Call : Type 0 where
+  RunCommands : List Command → List Reply → Call
+  ImportDump : Layout → Option Stop → List ℕ → Receipt → Call
+  AcceptRecord : List ℕ → Result Accepted LedgerFault → Call
+  PutInForce : List ℕ → Result Ruled LedgerFault → Call
+  ClosePeriod : ℕ → ℤ → Result Ruled LedgerFault → Call
+  ReadCharges : ℕ → Result (Vec ChargeRow Global) LedgerFault → Call
+  ReadAdjustments : ℕ → Result (Vec Line Global) LedgerFault → Call
+  ReadDisputes : Result (Vec Dispute Global) LedgerFault → Call
+  ReadPeriods : Result (Vec ℤ Global) LedgerFault → Call
+  ReadReport : Report → Result (List ℕ) LedgerFault → Call
+
+-- the work that the contract of the call says
+abbrev pub work_of : Naming → Call → Work
+work_of naming (RunCommands commands replies) = Runs naming commands replies
+work_of naming (ImportDump layout cut bytes receipt) = Imports naming layout cut bytes receipt
+work_of naming (AcceptRecord bytes answer) =
+    Calls (λ answer. answer) (accept_outcome naming bytes) answer
+work_of naming (PutInForce text answer) = Calls (λ answer. answer) (tariff_outcome text) answer
+work_of naming (ClosePeriod period through answer) =
+    Calls (λ answer. answer) (close_outcome period through) answer
+work_of naming (ReadCharges period answer) =
+    Calls (λ rows. rows.items) (charges_outcome period) answer
+work_of naming (ReadAdjustments period answer) =
+    Calls (λ lines. lines.items) (adjustments_outcome naming period) answer
+work_of naming (ReadDisputes answer) =
+    Calls (λ found. map dispute_shown found.items) (disputes_outcome naming) answer
+work_of naming (ReadPeriods answer) = Calls (λ days. days.items) periods_outcome answer
+work_of naming (ReadReport report answer) =
+    Calls (λ answer. answer) (report_outcome naming report) answer
+
+-- the work of all calls, one after the other
+abbrev pub works_of : Naming → List Call → Work
+works_of naming [] = NoEvent
+works_of naming (call ∷ later) = Then (work_of naming call) (works_of naming later)
+
+-- a call, and the ledger after it
+pub record Step (L : Type 0) : Type 0 where
+  pub call : Call
+  pub after : L
+
+abbrev pub calls_of : {L : Type 0} → List (Step L) → List Call
+calls_of steps = map (λ step. step.call) steps
+
+-- the ledger after all of them
+abbrev pub ledger_after : {L : Type 0} → L → List (Step L) → L
+ledger_after before [] = before
+ledger_after before (step ∷ later) = ledger_after step.after later
+
+-- Each call kept its contract on the ledger that the one before it left, by what is seen of it.
+abbrev pub AreDone : {L : Type 0} → (L → Seen) → L → List (Step L) → Type 0
+AreDone seen before [] = Unit {0}
+AreDone seen before (step ∷ later) =
+    IsWork (seen before) (seen step.after) (work_of (seen before).naming step.call)
+    × AreDone seen step.after later
