@@ -1,0 +1,85 @@
+-- What one more field makes of what the fields before it say.
+use Rattle.std.proofs.Common.{◌≡◌, ℕ, ◌+◌, ◌<◌, Bool, true, false, ◌||◌, Option, Some, None}
+use Rattle.std.proofs.Common.{List, [], ◌∷◌, ◌++◌, length, map, take, get_or, codes}
+use Rattle.std.proofs.Common.{refl, ap, ◌∙◌, append-nil}
+use Rattle.std.specs.Prelude.{if◌then◌else◌}
+use Rattle.std.proofs.lemmas.List.{map-append, take_more}
+use Rattle.std.proofs.lemmas.List.Elements.{filter-append}
+use Rattle.std.proofs.lemmas.List.Folds.{list_any-append, list_any_at}
+use Rattle.httparse.specs.Spans.{header_bytes}
+use Rattle.httparse.specs.declared.spans.HeaderSpan.{HeaderSpan}
+use Rattle.book_http.specs.declared.framing.Framing.TheVariants.{Faulty}
+use Rattle.book_http.specs.Framing.{is_called, values_called, framing_if, framing_by_all}
+use Rattle.book_http.specs.Framing.{with_length, with_field, declared, is_encoded}
+use Rattle.book_http.specs.Numbers.{number}
+use Rattle.std.specs.List.{list_any}
+
+-- what stands where a list of fields has none
+abbrev pub no_field : HeaderSpan
+no_field = record { name = record { start = 0; end = 0 }; value = record { start = 0; end = 0 } }
+
+-- the values among one more field
+values_more : (wanted : List ℕ) (fields : List (List ℕ × List ℕ)) (field : List ℕ × List ℕ)
+    → values_called wanted (fields ++ field ∷ [])
+    ≡ values_called wanted fields ++ values_called wanted (field ∷ [])
+values_more wanted fields field = rw (filter-append, map-append) refl
+
+-- one length read makes two, whatever it says
+two_lengths : (said : Option ℕ) (length : List ℕ) → Faulty ≡ with_length (framing_if said) length
+two_lengths None length = refl
+two_lengths (Some number) length = refl
+
+-- a further length
+framing_more : (lengths : List (List ℕ)) (length : List ℕ)
+    → framing_by_all (lengths ++ length ∷ []) ≡ with_length (framing_by_all lengths) length
+framing_more [] length = refl
+framing_more (first ∷ []) length = two_lengths (number 19 first) length
+framing_more (first ∷ other ∷ rest) length = refl
+
+-- a further field, which is called so or not
+framing_with : (called : Bool) (lengths : List (List ℕ)) (field : List ℕ × List ℕ)
+    → framing_by_all (lengths ++ map (λ field. field.1) (if called then field ∷ [] else []))
+    ≡ (if called then with_length (framing_by_all lengths) field.1 else framing_by_all lengths)
+framing_with true lengths field = framing_more lengths field.1
+framing_with false lengths field = ap framing_by_all (append-nil lengths)
+
+-- what one more field makes of what is said of the length
+pub declared_more : (bytes : List ℕ) (fields : List HeaderSpan) (at : ℕ) → at < length fields
+    → declared (map (header_bytes bytes) (take (at + 1) fields))
+    ≡ with_field (declared (map (header_bytes bytes) (take at fields)))
+    (header_bytes bytes (get_or fields at no_field))
+unfolding declared
+declared_more bytes fields at within =
+    let before = map (header_bytes bytes) (take at fields) in
+    let field = header_bytes bytes (get_or fields at no_field) in
+    let wanted = codes "content-length" in
+    rw (take_more fields at no_field within, map-append)
+    (ap framing_by_all (values_more wanted before field)
+    ∙ framing_with (is_called wanted field.0) (values_called wanted before) field)
+
+-- no field is called so where the first of them are not, nor the next one
+pub still_plain : (bytes : List ℕ) (fields : List HeaderSpan) (at : ℕ) → at < length fields
+    → is_encoded (map (header_bytes bytes) (take at fields)) ≡ false
+    → is_called (codes "transfer-encoding") (header_bytes bytes (get_or fields at no_field)).0
+    ≡ false
+    → is_encoded (map (header_bytes bytes) (take (at + 1) fields)) ≡ false
+unfolding is_encoded
+still_plain bytes fields at within before other =
+    rw (take_more fields at no_field within, map-append, list_any-append, before, other) refl
+
+-- a test of the images is one of the elements
+list_any-map : {X Y : Type 0} (test : Y → Bool) (f : X → Y) (xs : List X)
+    → list_any test (map f xs) ≡ list_any (λ x. test (f x)) xs
+list_any-map test f [] = refl
+list_any-map test f (x ∷ xs) = ap (λ rest. test (f x) || rest) (list_any-map test f xs)
+
+-- one field that is called so is enough
+pub is_encoded_at : (bytes : List ℕ) (fields : List HeaderSpan) (at : ℕ) → at < length fields
+    → is_called (codes "transfer-encoding") (header_bytes bytes (get_or fields at no_field)).0
+    ≡ true
+    → is_encoded (map (header_bytes bytes) fields) ≡ true
+unfolding is_encoded
+is_encoded_at bytes fields at within same =
+    let test = λ (field : List ℕ × List ℕ). is_called (codes "transfer-encoding") field.0 in
+    rw (list_any-map test (header_bytes bytes) fields)
+    (list_any_at (λ field. test (header_bytes bytes field)) fields at no_field within same)

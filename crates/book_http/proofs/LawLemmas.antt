@@ -1,0 +1,188 @@
+-- What requests do to the books, one after another.
+use Rattle.std.proofs.Common.{◌≡◌, ◌∙◌, ℕ, Bool, true, false, List, [], ◌++◌, length, take}
+use Rattle.std.proofs.Common.{None, ltb, refl, sym, ap, subst, inl, inr}
+use Rattle.httparse.specs.Grammar.{RequestHead}
+use Rattle.smf_frames.specs.declared.dump.Layout.{Layout}
+use Rattle.smf_frames.specs.Front.{front}
+use Rattle.book_model.specs.Answered as history
+use Rattle.book_model.specs.Books.{Book}
+use Rattle.book_model.specs.Events.{Event, after_all}
+use Rattle.book_model.specs.History.{book_after}
+use Rattle.book_model.proofs.StepLemmas.{books_follow_history}
+use Rattle.book_model.specs.Records.{Naming}
+use Rattle.book_core.specs.Calls.{listed}
+use Rattle.book_core.specs.Ledgers.{Seen}
+use Rattle.book_core.specs.Work.{IsWork}
+use Rattle.book_core.proofs.FollowLemmas.{MakesAnswered, called_events, follows}
+use Rattle.book_core.proofs.FollowLemmas.{after_all-book_of}
+use Rattle.book_import.specs.Dumps.{stop_behind}
+use Rattle.book_import.proofs.ReplyLemmas.{import_answered}
+use Rattle.book_import.proofs.RepeatLemmas.{twice_is_once}
+use Rattle.book_http.specs.declared.asked.Asked.{Asked}
+use Rattle.book_http.specs.declared.asked.Asked.TheVariants as asks
+use Rattle.book_http.specs.declared.route.Report.{Report}
+use Rattle.book_http.specs.declared.route.Report.TheVariants as report
+use Rattle.book_http.specs.Asked.{asked}
+use Rattle.book_http.specs.Answer.{report_outcome, AnswersReport, AnswersBody}
+use Rattle.book_http.specs.Answer.{AnswersAsked, Answers}
+use Rattle.book_http.specs.Answer.{done, no_memory, no_head, a_head}
+use Rattle.book_http.specs.Head.{HasHead}
+use Rattle.book_http.specs.Laws.{IsUnhindered, RequestTwiceIsOnce, RequestsMakeHistory}
+use Rattle.book_http.specs.Replies.{Reply}
+use Rattle.book_http.specs.Served.{IsDone}
+use Rattle.book_http.proofs.HeadLemmas.{head_unique}
+
+-- a report is no event
+report_event : (naming : Naming) (asked : Report) (book : Book)
+    → (report_outcome naming asked book).event ≡ None
+report_event naming report.Periods book = refl
+report_event naming (report.Statement period) book = refl
+report_event naming (report.StatementCsv period) book = refl
+report_event naming (report.Adjustments period) book = refl
+report_event naming report.Disputes book = refl
+
+pub report_none : (naming : Naming) (asked : Report) (reply : Reply) (was : Bool) (before : Book)
+    (events : List Event) (is : Bool) → AnswersReport naming asked reply was before events is
+    → events ≡ []
+report_none naming asked reply was before events is answers =
+    elim (called_events (λ (text : List ℕ). text) (report_outcome naming asked before)
+    answers.answer events answers.called.makes) [
+      | inl none ↦ none
+      | inr all ↦ all ∙ ap listed (report_event naming asked before)
+    ]
+
+-- where the second did nothing, the first alone did
+nothing_more : (before : Book) (first second : List Event) → second ≡ []
+    → after_all (second ++ first) before ≡ after_all first before
+nothing_more before first second none =
+    ap (λ (events : List Event). after_all (events ++ first) before) none
+
+-- the same import twice
+import_twice : (short : Bool) (naming : Naming) (layout : Layout) (body : List ℕ)
+    (once twice : Reply) (before : Book) (first second : List Event) (between is : Bool)
+    → AnswersBody short naming layout body once false before first between → IsUnhindered once
+    → AnswersBody short naming layout body twice between (after_all first before) second is
+    → after_all (second ++ first) before ≡ after_all first before
+import_twice true naming layout body once twice before first second between is one unhindered two =
+    nothing_more before first second two.none.none
+import_twice false naming layout body once twice before first second between is one unhindered two =
+    let dump = front layout body in
+    let stop = stop_behind None dump in
+    twice_is_once naming before stop stop dump.records one.receipt two.receipt first second between
+    is one.imported (unhindered.whole one.receipt one.replied) two.imported
+
+-- what a head asks, twice
+asked_twice : (wanted : Asked) (naming : Naming) (behind : List ℕ) (once twice : Reply)
+    (before : Book) (first second : List Event) (between is : Bool)
+    → AnswersAsked naming wanted behind once false before first between → IsUnhindered once
+    → AnswersAsked naming wanted behind twice between (after_all first before) second is
+    → after_all (second ++ first) before ≡ after_all first before
+asked_twice (asks.Refusal status) naming behind once twice before first second between is one
+    unhindered two =
+    nothing_more before first second two.none.none
+asked_twice (asks.OtherMethod method) naming behind once twice before first second between is one
+    unhindered two =
+    nothing_more before first second two.none.none
+asked_twice (asks.Report report) naming behind once twice before first second between is one
+    unhindered two =
+    nothing_more before first second
+    (report_none naming report twice between (after_all first before) second is two)
+asked_twice (asks.Import layout size) naming behind once twice before first second between is one
+    unhindered two =
+    import_twice (ltb (length behind) size) naming layout (take size behind) once twice before
+    first second between is one unhindered two
+
+-- a head's request, after another request of the same bytes
+head_twice : (naming : Naming) (bytes : List ℕ) (once twice : Reply) (before : Book)
+    (first second : List Event) (between is : Bool) (head : RequestHead) (behind : List ℕ)
+    → HasHead bytes head behind
+    → Answers naming bytes once false before first between → IsUnhindered once
+    → AnswersAsked naming (asked head) behind twice between (after_all first before) second is
+    → after_all (second ++ first) before ≡ after_all first before
+head_twice naming bytes once twice before first second between is head behind stands
+    (no_head some never refused) unhindered two =
+    absurd (never head behind stands)
+head_twice naming bytes once twice before first second between is head behind stands
+    (a_head other rest there (no_memory refused)) unhindered two =
+    absurd (unhindered.done refused.replied)
+head_twice naming bytes once twice before first second between is head behind stands
+    (a_head other rest there (done made)) unhindered two =
+    let same = head_unique bytes other head rest behind there stands in
+    let one = subst
+    (λ (h : RequestHead). AnswersAsked naming (asked h) behind once false before first between)
+    same.0
+    (subst (λ (b : List ℕ). AnswersAsked naming (asked other) b once false before first between)
+    same.1 made) in
+    asked_twice (asked head) naming behind once twice before first second between is one unhindered
+    two
+
+-- the law of it
+pub request_twice_is_once : RequestTwiceIsOnce
+request_twice_is_once naming before bytes once twice first second between is one unhindered
+    (no_head some never refused) =
+    nothing_more before first second refused.none.none
+request_twice_is_once naming before bytes once twice first second between is one unhindered
+    (a_head head behind stands (no_memory refused)) =
+    nothing_more before first second refused.none.none
+request_twice_is_once naming before bytes once twice first second between is one unhindered
+    (a_head head behind stands (done two)) =
+    head_twice naming bytes once twice before first second between is head behind stands one
+    unhindered two
+
+-- events that are none are answered
+none_answered : (naming : Naming) (past events : List Event) → events ≡ []
+    → history.IsAnswered naming past → history.IsAnswered naming (events ++ past)
+none_answered naming past events none answered =
+    subst (λ (events : List Event). history.IsAnswered naming (events ++ past)) (sym none) answered
+
+body_answered : (short : Bool) (naming : Naming) (layout : Layout) (body : List ℕ) (reply : Reply)
+    → MakesAnswered naming (AnswersBody short naming layout body reply)
+body_answered true naming layout body reply past was events is made =
+    none_answered naming past events made.none.none
+body_answered false naming layout body reply past was events is made =
+    let dump = front layout body in
+    import_answered naming (stop_behind None dump) dump.records made.receipt past was events is
+    made.imported
+
+asked_answered : (wanted : Asked) (naming : Naming) (behind : List ℕ) (reply : Reply)
+    → MakesAnswered naming (AnswersAsked naming wanted behind reply)
+asked_answered (asks.Refusal status) naming behind reply past was events is made =
+    none_answered naming past events made.none.none
+asked_answered (asks.OtherMethod method) naming behind reply past was events is made =
+    none_answered naming past events made.none.none
+asked_answered (asks.Report report) naming behind reply past was events is made =
+    none_answered naming past events
+    (report_none naming report reply was (book_after past) events is made)
+asked_answered (asks.Import layout size) naming behind reply past was events is made =
+    body_answered (ltb (length behind) size) naming layout (take size behind) reply past was events
+    is made
+
+request_answered : (naming : Naming) (bytes : List ℕ) (reply : Reply)
+    → MakesAnswered naming (Answers naming bytes reply)
+request_answered naming bytes reply past was events is (no_head some never refused) =
+    none_answered naming past events refused.none.none
+request_answered naming bytes reply past was events is
+    (a_head head behind stands (no_memory refused)) =
+    none_answered naming past events refused.none.none
+request_answered naming bytes reply past was events is (a_head head behind stands (done made)) =
+    asked_answered (asked head) naming behind reply past was events is made
+
+-- the law of it
+pub requests_make_history : RequestsMakeHistory
+requests_make_history naming past bytes reply was events is answered made =
+    let goes_on = request_answered naming bytes reply past was events is made answered in
+    record {
+      answered = goes_on;
+      is = ap (after_all events) (books_follow_history past) ∙ after_all-book_of events past;
+    }
+
+-- so work that answers a request follows the history
+pub request_done : (old new : Seen) (bytes : List ℕ) (reply : Reply)
+    → IsWork old new (Answers old.naming bytes reply)
+    → IsDone old new (Answers old.naming bytes reply)
+request_done old new bytes reply work = record {
+  work = work;
+  history =
+      follows old new (Answers old.naming bytes reply) (request_answered old.naming bytes reply)
+      work;
+}

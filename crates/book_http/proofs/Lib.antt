@@ -1,0 +1,13 @@
+pub mod AnswerLemmas
+pub mod AskedLemmas
+pub mod FindLemmas
+pub mod FramingLemmas
+pub mod HeadLemmas
+pub mod LawLemmas
+pub mod NumberLemmas
+pub mod OneLemmas
+pub mod PeriodLemmas
+pub mod PieceLemmas
+pub mod RouteLemmas
+pub mod SeekLemmas
+pub mod ServeLemmas

@@ -1,0 +1,40 @@
+-- One request, from the bytes that were taken to what was sent.
+use Rattle.std.proofs.Common.{ℕ, ◌<◌, Bool, List, ◌++◌, length, arith, length-append}
+use Rattle.httparse.specs.Grammar.{RequestHead}
+use Rattle.book_core.specs.Ledgers.{Seen}
+use Rattle.book_core.proofs.WorkLemmas.{work_as}
+use Rattle.book_http.specs.declared.status.Status.TheVariants.{BadRequest}
+use Rattle.book_http.specs.Asked.{asked}
+use Rattle.book_http.specs.Answer.{Answers, AnswersAsked, Refuses, UnlessMemory, no_head, a_head}
+use Rattle.book_http.specs.Head.{HasHead, NoHeadComes}
+use Rattle.book_http.specs.Replies.{Reply, refusal}
+use Rattle.book_http.specs.Served.{IsAnswer, IsAnswerTo}
+use Rattle.book_http.proofs.AskedLemmas.{refuses}
+use Rattle.book_http.proofs.HeadLemmas.{head_before}
+use Rattle.book_http.proofs.LawLemmas.{request_done}
+
+-- bytes behind which no head comes are refused
+pub refused_answer : (seen : Seen) (ended : Bool) (taken : List ℕ) → 0 < length taken
+    → NoHeadComes ended taken → IsAnswer seen seen ended taken (refusal BadRequest)
+refused_answer seen ended taken some never more none =
+    let long : 0 < length (taken ++ more) = rw length-append (omega arith) in
+    request_done seen seen (taken ++ more) (refusal BadRequest)
+    (work_as seen seen (Refuses (refusal BadRequest) (refusal BadRequest))
+    (Answers seen.naming (taken ++ more) (refusal BadRequest))
+    (λ was before events is refused. no_head long (never more none) refused)
+    (refuses seen (refusal BadRequest)))
+
+-- the answer to what a head asks is the answer to the bytes that it stands at the front of
+pub head_answer : (old new : Seen) (ended : Bool) (front behind bytes : List ℕ) (head : RequestHead)
+    (reply : Reply) → HasHead front head behind
+    → IsAnswerTo old new ended (asked head) (behind ++ bytes) reply
+    → IsAnswer old new ended (front ++ bytes) reply
+head_answer old new ended front behind bytes head reply stands answer more none =
+    let further = head_before (front ++ bytes) head (behind ++ bytes) more
+    (head_before front head behind bytes stands) in
+    request_done old new ((front ++ bytes) ++ more) reply
+    (work_as old new
+    (UnlessMemory (AnswersAsked old.naming (asked head) ((behind ++ bytes) ++ more) reply) reply)
+    (Answers old.naming ((front ++ bytes) ++ more) reply)
+    (λ was before events is made. a_head head ((behind ++ bytes) ++ more) further made)
+    (answer more none))

@@ -1,0 +1,21 @@
+use Rattle.std.proofs.Common.{◌≡◌, ◌+◌, ◌-◌, ◌≤◌, length, take, drop, false}
+use Rattle.std.specs.Io.KnownBytes.{Consumes}
+use Rattle.streams.specs.Sources.{reader_of, reads_of, has_failed, has_ended}
+use Rattle.book_http.proofs.body.fill.Given as goal
+
+-- what was read stands behind what was there, and each read gave a byte at least
+abbrev pub invariant-pieces : goal.invariant-pieces
+invariant-pieces g l = record {
+  low : l.had ≤ l.filled;
+  within : l.filled ≤ length l.body;
+  size : length l.body ≡ length l.initial.body;
+  failed : has_failed l.source ≡ false;
+  ended : has_ended l.source ≡ false;
+  asked : reads_of l.source ≤ reads_of l.initial.source + l.filled;
+  kept : take l.had l.body ≡ take l.had l.initial.body;
+  taken : Consumes (g.R.Read.remaining (reader_of l.initial.source))
+      (g.R.Read.remaining (reader_of l.source)) (drop l.had (take l.filled l.body));
+}
+
+abbrev pub decreases-pieces : goal.decreases-pieces
+decreases-pieces g l = length l.initial.body - l.filled

@@ -1,0 +1,8 @@
+use Rattle.std.proofs.Common.{◌≡◌, map, take}
+use Rattle.httparse.specs.Spans.{header_bytes}
+use Rattle.book_http.specs.Framing as spec
+use Rattle.book_http.proofs.framing.declared.Given as goal
+
+abbrev pub invariant-loop-field : goal.invariant-loop-field
+invariant-loop-field l =
+    l.said ≡ spec.declared (map (header_bytes l.bytes) (take l.field-index l.fields))

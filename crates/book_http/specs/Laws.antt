@@ -1,0 +1,58 @@
+-- Laws of requests, over the definition of their answers alone.
+use Rattle.std.specs.Prelude.{◌≡◌, ◌≢◌, ℕ, Bool, false, List, ◌++◌}
+use Rattle.book_model.specs.Records.{Naming}
+use Rattle.book_model.specs.Books.{Book}
+use Rattle.book_model.specs.Events.{Event, after_all}
+use Rattle.book_model.specs.History.{book_after, book_of}
+use Rattle.book_model.specs.Answered.{IsAnswered}
+use Rattle.book_import.specs.declared.receipt.Receipt.{Receipt}
+use Rattle.book_import.specs.Repeats as imports
+use Rattle.book_http.specs.declared.status.Status.TheVariants.{Unavailable}
+use Rattle.book_http.specs.Answer.{Answers}
+use Rattle.book_http.specs.Replies.{Reply, refusal, receipt_reply}
+
+-- one reply, and one change of the books
+pub record IsSame (one other : Reply) (first second : List Event) : Type 0 where
+  pub reply : one ≡ other
+  pub events : first ≡ second
+
+-- A request has one answer, by its bytes and the book before it, and so it does one thing to the
+-- books: where two answers to it differ, one of them is Unavailable.
+abbrev pub AnswersAreOne : Type 0
+AnswersAreOne =
+    (naming : Naming) (before : Book) (bytes : List ℕ) (one other : Reply) (was : Bool)
+    (first second : List Event) (is_one is_other : Bool)
+    → Answers naming bytes one was before first is_one → one.status ≢ Unavailable
+    → Answers naming bytes other was before second is_other → other.status ≢ Unavailable
+    → IsSame one other first second
+
+-- The reply tells neither want of memory nor a store that failed: it is not the bare refusal, and
+-- not the receipt line of an import that one of them stopped.
+pub record IsUnhindered (reply : Reply) : Type 0 where
+  pub done : reply ≢ refusal Unavailable
+  pub whole : (told : Receipt) → reply ≡ receipt_reply told → imports.IsUnhindered told
+
+-- Twice is once: where neither want of memory nor the store hindered the first, the same request
+-- to open books twice in a row leaves the book that one leaves, whatever hinders the second. So it
+-- is safe to repeat a request whose answer was lost.
+abbrev pub RequestTwiceIsOnce : Type 0
+RequestTwiceIsOnce =
+    (naming : Naming) (before : Book) (bytes : List ℕ) (once twice : Reply)
+    (first second : List Event) (between is : Bool)
+    → Answers naming bytes once false before first between → IsUnhindered once
+    → Answers naming bytes twice between (after_all first before) second is
+    → after_all (second ++ first) before ≡ after_all first before
+
+-- a history that goes on with events, and defines the book that they leave
+pub record GoesOn (naming : Naming) (history events : List Event) : Type 0 where
+  pub answered : IsAnswered naming (events ++ history)
+  pub is : after_all events (book_after history) ≡ book_of (events ++ history)
+
+-- What a request does to the books of a history that calls made is such a history again. So the
+-- laws of all histories hold of them, as that nothing is lost or made.
+abbrev pub RequestsMakeHistory : Type 0
+RequestsMakeHistory =
+    (naming : Naming) (history : List Event) (bytes : List ℕ) (reply : Reply) (was : Bool)
+    (events : List Event) (is : Bool) → IsAnswered naming history
+    → Answers naming bytes reply was (book_after history) events is
+    → GoesOn naming history events

@@ -1,0 +1,83 @@
+-- What became of one request, however its bytes came.
+use Rattle.std.specs.Prelude.{◌≡◌, ◌<◌, ℕ, Bool, true, false, List, [], ◌++◌, length, take, Option}
+use Rattle.std.specs.Prelude.{Result, Err}
+use Rattle.std.specs.Io.KnownBytes.{Appends, Consumes}
+use Rattle.book_core.specs.Ledgers.{Seen}
+use Rattle.book_core.specs.Work.{Work, IsWork}
+use Rattle.book_core.specs.Follow.{FollowsHistory}
+use Rattle.book_http.specs.declared.asked.Asked.{Asked}
+use Rattle.book_http.specs.declared.served.Served.{Served}
+use Rattle.book_http.specs.declared.served.Served.TheVariants.{Closed, ReadFault, WriteFault}
+use Rattle.book_http.specs.declared.served.Served.TheVariants.{Answered}
+use Rattle.book_http.specs.declared.served.Unanswered.{Unanswered}
+use Rattle.book_http.specs.declared.served.Unanswered.TheVariants.{Failed}
+use Rattle.book_http.specs.Answer.{Answers, AnswersAsked, UnlessMemory}
+use Rattle.book_http.specs.Replies.{Reply, reply_bytes}
+use Rattle.book_http.specs.Statuses.{code_of}
+
+-- Such work was done, and where the books were those of a history, they are those of it with the
+-- events of the work more.
+pub record IsDone (old new : Seen) (Made : Work) : Type 0 where
+  pub work : IsWork old new Made
+  pub history : FollowsHistory old new Made
+
+-- This is the answer to the bytes that were taken, whatever comes behind them; where the input
+-- ended, nothing does.
+abbrev pub IsAnswer : Seen → Seen → Bool → List ℕ → Reply → Type 0
+IsAnswer old new ended taken reply =
+    (more : List ℕ) → (ended ≡ true → more ≡ [])
+    → IsDone old new (Answers old.naming (taken ++ more) reply)
+
+-- so is the answer to what a head asks, by the bytes behind it
+abbrev pub IsAnswerTo : Seen → Seen → Bool → Asked → List ℕ → Reply → Type 0
+IsAnswerTo old new ended asked behind reply =
+    (more : List ℕ) → (ended ≡ true → more ≡ [])
+    → IsWork old new (UnlessMemory (AnswersAsked old.naming asked (behind ++ more) reply) reply)
+
+-- A reply was written to a writer, where it tells: the whole; or, where a write failed, a front of
+-- it that is not the whole.
+abbrev pub IsSent : Reply → Option (List ℕ) → Option (List ℕ) → Served → Type 0
+IsSent reply held holds (Answered status) =
+    (status ≡ code_of reply.status) × Appends held holds (reply_bytes reply)
+IsSent reply held holds WriteFault =
+    (count : ℕ) × (count < length (reply_bytes reply))
+    × Appends held holds (take count (reply_bytes reply))
+IsSent reply held holds served = ⊥
+
+-- a request was answered, by the bytes that were taken from the reader, and the answer was sent
+pub record IsReplied (old new : Seen) (ended : Bool) (left rest held holds : Option (List ℕ))
+    (served : Served) : Type 0 where
+  pub taken : List ℕ
+  pub consumed : Consumes left rest taken
+  pub reply : Reply
+  pub answer : IsAnswer old new ended taken reply
+  pub sent : IsSent reply held holds served
+
+-- What was served: of a reader that had these bytes left and has the rest now, and of a writer that
+-- held some and holds others now. Where the input ended before its first byte, or a read failed,
+-- nothing is answered.
+abbrev pub IsServed : Seen → Seen → Bool → Option (List ℕ) → Option (List ℕ) → Option (List ℕ)
+    → Option (List ℕ) → Served → Type 0
+IsServed old new ended left rest held holds Closed = Consumes left rest [] × (ended ≡ true)
+IsServed old new ended left rest held holds ReadFault = Unit {0}
+IsServed old new ended left rest held holds served =
+    IsReplied old new ended left rest held holds served
+
+-- nothing was answered
+abbrev pub is_unanswered : Served → Bool
+is_unanswered Closed = true
+is_unanswered ReadFault = true
+is_unanswered served = false
+
+abbrev pub is_read_fault : Served → Bool
+is_read_fault ReadFault = true
+is_read_fault served = false
+
+abbrev pub is_write_fault : Served → Bool
+is_write_fault WriteFault = true
+is_write_fault served = false
+
+-- a read failed before the request was whole
+abbrev pub is_failed : {V : Type 0} → Result V Unanswered → Bool
+is_failed (Err Failed) = true
+is_failed answer = false

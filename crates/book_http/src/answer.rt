@@ -1,0 +1,17 @@
+use crate::answer_head::Kind;
+use crate::method::Method;
+use crate::status::Status;
+use book_import::Receipt;
+
+/// What a request is answered.
+#[derive(Drop)]
+pub enum Answer {
+    /// A text that the books answered.
+    Report(Kind, Vec<u8>),
+    /// What became of an import.
+    Receipt(Receipt),
+    /// A refusal.
+    Refusal(Status),
+    /// A refusal, since the path has another method, which is this one.
+    OtherMethod(Method),
+}

@@ -1,0 +1,127 @@
+//! The answer to a request whose head stands.
+
+ghost use Rattle.std.specs.Prelude.{◌≡◌, ◌+◌, ◌≤◌, ◌^◌, ◌++◌, ℕ, List, IfOk, OnErr, IsUtf8};
+ghost use Rattle.std.specs.Prelude.{false, is_err};
+ghost use Rattle.std.specs.Io.KnownBytes.{Consumes};
+ghost use Rattle.httparse.specs.Grammar.{RequestHead};
+ghost use Rattle.streams.specs.Marks.{NothingIsLeft};
+ghost use Rattle.streams.specs.Sources.{reader_of, reads_of, has_failed, has_ended};
+ghost use Rattle.book_http.specs.declared.asked.Asked.TheVariants as asks;
+ghost use Rattle.book_http.specs.Asked as spec;
+ghost use Rattle.book_http.specs.Asked.{IsServable};
+ghost use Rattle.book_http.specs.Bodies.{most_body_bytes};
+ghost use Rattle.book_http.specs.Head.{most_head_bytes};
+ghost use Rattle.book_http.specs.Replies.{reply_of};
+ghost use Rattle.book_http.specs.Requests.{Says};
+ghost use Rattle.book_http.specs.Served.{IsAnswerTo};
+
+use crate::answer::Answer;
+use crate::asked::{Asked, asked_framed};
+use crate::body::{BodyFault, read_body};
+use crate::import_answer::answer_import;
+use crate::report_answers::answer_report;
+use crate::request::Request;
+use crate::route::find_route;
+use crate::status::Status;
+use book_core::{Ledger, Source};
+use smf_frames::Layout;
+use std::alloc::Global;
+use std::io::Read;
+
+/// A read failed before the request was whole: nothing was done.
+#[derive(Clone, Copy, Debug, PartialEq, Eq)]
+pub struct ReadFailed;
+
+/// Reads a body, of which the front was read before, and imports it. Of a body that ends early
+/// nothing is imported.
+fn answer_body<R: Read + Drop, L: Ledger>(
+    alloc: Global,
+    source: &mut Source<R>,
+    front: &[u8],
+    layout: Layout,
+    size: usize,
+    ledger: &mut L,
+) -> Result<Answer, ReadFailed>
+    requires limit { size ≤ most_body_bytes }
+    requires asked { reads_of source.old ≤ 2 ^ 62 + most_head_bytes }
+    requires failed { has_failed source.old ≡ false }
+    requires ended { has_ended source.old ≡ false }
+    ensures answer { IfOk result (λ answer. (bytes : List ℕ)
+        × Consumes (R.remaining (reader_of source.old)) (R.remaining (reader_of source.new)) bytes
+        × IsAnswerTo (L.seen ledger.old) (L.seen ledger.new) (has_ended source.new)
+        (asks.Import layout size) (front.now ++ bytes) (reply_of answer)) }
+    ensures none { OnErr result (ledger.new ≡ ledger.old) }
+    ensures failed { has_failed source.new ≡ is_err result }
+    ensures asked { reads_of source.new ≤ reads_of source.old + most_body_bytes }
+    ensures left { NothingIsLeft
+        (has_ended source.new) (R.remaining (reader_of source.new)) }
+{
+    match read_body(alloc, source, front, size) {
+        Ok(body) => Ok(answer_import(alloc, ledger, layout, &body)),
+        Err(BodyFault::Short) => Ok(Answer::Refusal(Status::BadRequest)),
+        Err(BodyFault::Memory) => Ok(Answer::Refusal(Status::Unavailable)),
+        Err(BodyFault::Read) => Err(ReadFailed),
+    }
+}
+
+/// Does what a head asks, behind which these bytes were read already.
+fn answer_asked<R: Read + Drop, L: Ledger>(
+    alloc: Global,
+    source: &mut Source<R>,
+    front: &[u8],
+    asked: Asked,
+    ledger: &mut L,
+) -> Result<Answer, ReadFailed>
+    requires limit { IsServable asked }
+    requires asked { reads_of source.old ≤ 2 ^ 62 + most_head_bytes }
+    requires failed { has_failed source.old ≡ false }
+    requires ended { has_ended source.old ≡ false }
+    ensures answer { IfOk result (λ answer. (bytes : List ℕ)
+        × Consumes (R.remaining (reader_of source.old)) (R.remaining (reader_of source.new)) bytes
+        × IsAnswerTo (L.seen ledger.old) (L.seen ledger.new) (has_ended source.new)
+        asked (front.now ++ bytes) (reply_of answer)) }
+    ensures none { OnErr result (ledger.new ≡ ledger.old) }
+    ensures failed { has_failed source.new ≡ is_err result }
+    ensures asked { reads_of source.new ≤ reads_of source.old + most_body_bytes }
+    ensures left { NothingIsLeft
+        (has_ended source.new) (R.remaining (reader_of source.new)) }
+{
+    match asked {
+        Asked::Report(report) => Ok(answer_report(alloc, ledger, report)),
+        Asked::Import(layout, size) => {
+            answer_body(alloc, source, front, layout, size as usize, ledger)
+        }
+        Asked::Refusal(status) => Ok(Answer::Refusal(status)),
+        Asked::OtherMethod(method) => Ok(Answer::OtherMethod(method)),
+    }
+}
+
+/// Answers a request.
+pub fn answer_request<R: Read + Drop, L: Ledger>(
+    alloc: Global,
+    source: &mut Source<R>,
+    request: &Request<'_>,
+    ledger: &mut L,
+) -> Result<Answer, ReadFailed>
+    requires text { IsUtf8 request.now.target.now }
+    requires asked { reads_of source.old ≤ 2 ^ 62 + most_head_bytes }
+    requires failed { has_failed source.old ≡ false }
+    requires ended { has_ended source.old ≡ false }
+    ensures answer { IfOk result (λ answer. (bytes : List ℕ)
+        × Consumes (R.remaining (reader_of source.old)) (R.remaining (reader_of source.new)) bytes
+        × ((head : RequestHead) → Says head request.now.method.now request.now.target.now
+        request.now.framing
+        → IsAnswerTo (L.seen ledger.old) (L.seen ledger.new) (has_ended source.new)
+        (spec.asked head) (request.now.behind.now ++ bytes) (reply_of answer))) }
+    ensures none { OnErr result (ledger.new ≡ ledger.old) }
+    ensures failed { has_failed source.new ≡ is_err result }
+    ensures asked { reads_of source.new ≤ reads_of source.old + most_body_bytes }
+    ensures left { NothingIsLeft
+        (has_ended source.new) (R.remaining (reader_of source.new)) }
+{
+    let Ok(found) = find_route(alloc, request.target) else {
+        return Ok(Answer::Refusal(Status::Unavailable));
+    };
+    let asked = asked_framed(request.framing, found, request.method);
+    answer_asked(alloc, source, request.behind, asked, ledger)
+}

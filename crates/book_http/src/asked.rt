@@ -1,0 +1,73 @@
+//! What a request asks, by its route, its method and the length of its body.
+
+ghost use Rattle.std.specs.Prelude.{◌≡◌};
+ghost use Rattle.book_http.specs.Asked as spec;
+ghost use Rattle.book_http.specs.Asked.{IsServable};
+
+use crate::body::MAX_BODY;
+use crate::framing::Framing;
+use crate::method::{Method, is_method};
+use crate::route::{Report, Route};
+use crate::status::Status;
+use smf_frames::Layout;
+
+/// What the head of a request asks.
+#[derive(Clone, Copy, Debug, PartialEq, Eq)]
+pub enum Asked {
+    /// A report.
+    Report(Report),
+    /// The import of a body with so many bytes.
+    Import(Layout, u64),
+    /// Nothing that is served.
+    Refusal(Status),
+    /// A path that has another method, which is this one.
+    OtherMethod(Method),
+}
+
+/// What the head of an import asks.
+fn asked_import(layout: Layout, framing: Framing) -> Asked
+    ensures asked { result ≡ spec.asked_import layout framing }
+    ensures limit { IsServable result }
+{
+    match framing {
+        Framing::Faulty => Asked::Refusal(Status::BadRequest),
+        Framing::Unframed => Asked::Refusal(Status::LengthRequired),
+        Framing::Framed(size) if size > MAX_BODY => Asked::Refusal(Status::TooLarge),
+        Framing::Framed(size) => Asked::Import(layout, size),
+    }
+}
+
+/// What is asked at a route.
+fn asked_at(found: Option<Route>, method: &[u8], framing: Framing) -> Asked
+    ensures asked { result ≡ spec.asked_at found method.now framing }
+    ensures limit { IsServable result }
+{
+    match found {
+        None => Asked::Refusal(Status::NotFound),
+        Some(Route::Report(report)) => {
+            if is_method(method, Method::Get) {
+                Asked::Report(report)
+            } else {
+                Asked::OtherMethod(Method::Get)
+            }
+        }
+        Some(Route::Import(layout)) => {
+            if is_method(method, Method::Post) {
+                asked_import(layout, framing)
+            } else {
+                Asked::OtherMethod(Method::Post)
+            }
+        }
+    }
+}
+
+/// What is asked: a faulty length is refused before anything else is looked at.
+pub fn asked_framed(framing: Framing, found: Option<Route>, method: &[u8]) -> Asked
+    ensures asked { result ≡ spec.asked_framed framing found method.now }
+    ensures limit { IsServable result }
+{
+    match framing {
+        Framing::Faulty => Asked::Refusal(Status::BadRequest),
+        _ => asked_at(found, method, framing),
+    }
+}

@@ -1,0 +1,128 @@
+//! The body of a request, read in any pieces.
+
+ghost use Rattle.std.specs.Prelude.{◌≡◌, ◌+◌, ◌<◌, ◌≤◌, ◌^◌, ◌++◌, ℕ, List, false, true};
+ghost use Rattle.std.specs.Prelude.{length, take, drop, IfOk, OnOk, IsErrOf};
+ghost use Rattle.std.specs.Io.KnownBytes.{Consumes};
+ghost use Rattle.streams.specs.Marks.{NothingIsLeft};
+ghost use Rattle.streams.specs.Sources.{reader_of, reads_of, has_failed, has_ended};
+ghost use Rattle.book_http.specs.Bodies.{IsWholeBody, is_failed_body, most_body_bytes};
+ghost use Rattle.book_http.specs.Head.{most_head_bytes};
+
+use std::alloc::Global;
+use std::io::Read;
+use streams::Source;
+
+/// The most bytes that a body may have.
+pub const MAX_BODY: u64 = 16_777_216;
+
+/// Why there is no body.
+#[derive(Clone, Copy, Debug, PartialEq, Eq)]
+pub enum BodyFault {
+    /// The input ended before it.
+    Short,
+    /// A read failed.
+    Read,
+    /// There was no memory for it. Nothing was read.
+    Memory,
+}
+
+/// Reads the rest of a body, of which so many bytes are there.
+fn fill<R: Read + Drop>(
+    source: &mut Source<R>,
+    body: &mut [u8],
+    had: usize,
+) -> Result<(), BodyFault>
+    requires within { had ≤ length body.old }
+    requires size { length body.old ≤ most_body_bytes }
+    requires asked { reads_of source.old ≤ 2 ^ 62 + most_head_bytes }
+    requires failed { has_failed source.old ≡ false }
+    requires ended { has_ended source.old ≡ false }
+    ensures kept { take had body.new ≡ take had body.old }
+    ensures whole { OnOk result (Consumes (R.remaining (reader_of source.old))
+        (R.remaining (reader_of source.new)) (drop had body.new)) }
+    ensures short { IsErrOf result BodyFault.Short → (bytes : List ℕ) × Consumes
+        (R.remaining (reader_of source.old)) (R.remaining (reader_of source.new)) bytes
+        × (had + length bytes < length body.new) }
+    ensures ended { IsErrOf result BodyFault.Short → has_ended source.new ≡ true }
+    ensures failed { has_failed source.new ≡ is_failed_body result }
+    ensures memory { IsErrOf result BodyFault.Memory → ⊥ }
+    ensures asked { reads_of source.new ≤ reads_of source.old + length body.old }
+    ensures left { NothingIsLeft
+        (has_ended source.new) (R.remaining (reader_of source.new)) }
+{
+    let mut filled = had;
+    'pieces: while filled < body.len() {
+        let Ok(count) = source.read(&mut body[filled..]) else {
+            return Err(BodyFault::Read);
+        };
+        if count == 0 {
+            return Err(BodyFault::Short);
+        }
+        filled += count;
+    }
+    Ok(())
+}
+
+/// Fills a body, of which the front was read behind the head.
+fn fill_behind<R: Read + Drop>(
+    source: &mut Source<R>,
+    body: &mut [u8],
+    front: &[u8],
+) -> Result<(), BodyFault>
+    requires size { length body.old ≤ most_body_bytes }
+    requires asked { reads_of source.old ≤ 2 ^ 62 + most_head_bytes }
+    requires failed { has_failed source.old ≡ false }
+    requires ended { has_ended source.old ≡ false }
+    ensures whole { OnOk result ((bytes : List ℕ) × Consumes
+        (R.remaining (reader_of source.old)) (R.remaining (reader_of source.new)) bytes
+        × IsWholeBody (length body.old) (front.now ++ bytes) body.new) }
+    ensures short { IsErrOf result BodyFault.Short → (bytes : List ℕ) × Consumes
+        (R.remaining (reader_of source.old)) (R.remaining (reader_of source.new)) bytes
+        × (length (front.now ++ bytes) < length body.old) }
+    ensures ended { IsErrOf result BodyFault.Short → has_ended source.new ≡ true }
+    ensures failed { has_failed source.new ≡ is_failed_body result }
+    ensures memory { IsErrOf result BodyFault.Memory → ⊥ }
+    ensures asked { reads_of source.new ≤ reads_of source.old + length body.old }
+    ensures left { NothingIsLeft
+        (has_ended source.new) (R.remaining (reader_of source.new)) }
+{
+    let had = front.len().min(body.len());
+    body[..had].copy_from_slice(&front[..had]);
+    fill(source, body, had)
+}
+
+/// The body of so many bytes, of which the front was read behind the head. Where more than the body
+/// was read there, nothing is read here.
+pub fn read_body<R: Read + Drop>(
+    alloc: Global,
+    source: &mut Source<R>,
+    front: &[u8],
+    size: usize,
+) -> Result<Vec<u8>, BodyFault>
+    requires size { size ≤ most_body_bytes }
+    requires asked { reads_of source.old ≤ 2 ^ 62 + most_head_bytes }
+    requires failed { has_failed source.old ≡ false }
+    requires ended { has_ended source.old ≡ false }
+
+    // These bytes were taken from the reader: with them the body is whole, or too short.
+    ensures whole { IfOk result (λ body. (bytes : List ℕ) × Consumes
+        (R.remaining (reader_of source.old)) (R.remaining (reader_of source.new)) bytes
+        × IsWholeBody size (front.now ++ bytes) body.items) }
+    ensures short { IsErrOf result BodyFault.Short → (bytes : List ℕ) × Consumes
+        (R.remaining (reader_of source.old)) (R.remaining (reader_of source.new)) bytes
+        × (length (front.now ++ bytes) < size) }
+
+    // It is called too short at the input's end alone, and a read failed at no other fault.
+    ensures ended { IsErrOf result BodyFault.Short → has_ended source.new ≡ true }
+    ensures failed { has_failed source.new ≡ is_failed_body result }
+    ensures memory { IsErrOf result BodyFault.Memory → source.new ≡ source.old }
+    ensures asked { reads_of source.new ≤ reads_of source.old + size }
+    ensures left { NothingIsLeft
+        (has_ended source.new) (R.remaining (reader_of source.new)) }
+{
+    let Ok(mut body) = vec![in alloc; 0u8; size] else {
+        return Err(BodyFault::Memory);
+    };
+    fill_behind(source, &mut body, front)?;
+    Ok(body)
+}

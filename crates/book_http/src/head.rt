@@ -1,0 +1,103 @@
+//! The head of a request, read in any pieces.
+
+ghost use Rattle.std.specs.Prelude.{◌≡◌, ◌+◌, ◌<◌, ◌≤◌, ◌^◌, ℕ, false, true};
+ghost use Rattle.std.specs.Prelude.{List, [], length, take};
+ghost use Rattle.std.specs.Io.KnownBytes.{Consumes};
+ghost use Rattle.httparse.specs.Grammar.{RequestHead};
+ghost use Rattle.httparse.specs.Spans.{IsRequestWithin};
+ghost use Rattle.streams.specs.Marks.{NothingIsLeft};
+ghost use Rattle.streams.specs.Sources.{reader_of, reads_of, has_failed, has_ended};
+ghost use Rattle.book_http.specs.Head.{HoldsHead, IfWhole, NoHeadComes};
+ghost use Rattle.book_http.specs.Head.{is_failed_head, most_fields, most_head_bytes};
+
+use httparse::Status;
+use httparse::spans::{HeaderSpan, RequestSpans, parse_request};
+use std::io::Read;
+use streams::Source;
+
+/// The most bytes that a head may have.
+pub const MAX_HEAD: usize = 16_384;
+
+/// The most fields that a head may have.
+pub const MAX_FIELDS: usize = 64;
+
+/// A head that stands at the front of a buffer.
+#[derive(Clone, Copy, Debug)]
+pub struct WholeHead {
+    /// How many bytes of the buffer were read: the head, and what came behind it.
+    pub filled: usize,
+    /// Where the parts of the head are.
+    pub spans: RequestSpans,
+}
+
+/// What reading a head came to.
+#[derive(Clone, Copy, Debug)]
+pub enum HeadRead {
+    /// The input ended before its first byte.
+    Closed,
+    /// A read failed.
+    Failed,
+    /// Whatever follows, no head stands at the front of the input.
+    Refused,
+    /// A head came.
+    Whole(WholeHead),
+}
+
+/// Reads until a head is whole, or can't become one any more. The fields are those of the head that
+/// came.
+pub fn read_head<R: Read + Drop>(
+    source: &mut Source<R>,
+    buffer: &mut [u8],
+    fields: &mut [HeaderSpan],
+) -> HeadRead
+    requires room { length buffer.old ≡ most_head_bytes }
+    requires field_room { length fields.old ≡ most_fields }
+    requires asked { reads_of source.old ≤ 2 ^ 62 }
+    requires failed { has_failed source.old ≡ false }
+    requires ended { has_ended source.old ≡ false }
+
+    // Why no head came: the input's end before its first byte, a read that failed, or bytes behind
+    // which no head can come.
+    ensures closed { result ≡ HeadRead.Closed → (has_ended source.new ≡ true)
+        × Consumes (R.remaining (reader_of source.old)) (R.remaining (reader_of source.new)) [] }
+    ensures failed { has_failed source.new ≡ is_failed_head result }
+    ensures refused { result ≡ HeadRead.Refused → (bytes : List ℕ) × (0 < length bytes)
+        × Consumes (R.remaining (reader_of source.old)) (R.remaining (reader_of source.new)) bytes
+        × NoHeadComes (has_ended source.new) bytes }
+
+    // The head that came, and how much of the buffer was read for it.
+    ensures filled { IfWhole result (λ whole. whole.filled ≤ length buffer.new) }
+    ensures taken { IfWhole result (λ whole. Consumes (R.remaining (reader_of source.old))
+        (R.remaining (reader_of source.new)) (take whole.filled buffer.new)) }
+    ensures within { IfWhole result (λ whole.
+        IsRequestWithin (take whole.filled buffer.new) fields.new whole.spans) }
+    ensures head { IfWhole result (λ whole. (h : RequestHead)
+        × HoldsHead (take whole.filled buffer.new) fields.new whole.spans h) }
+
+    // What may be read behind it.
+    ensures goes_on { IfWhole result (λ whole. has_ended source.new ≡ false) }
+    ensures asked { reads_of source.new ≤ reads_of source.old + most_head_bytes }
+    ensures left { NothingIsLeft
+        (has_ended source.new) (R.remaining (reader_of source.new)) }
+{
+    let mut filled = 0;
+    'pieces: while filled < MAX_HEAD {
+        let Ok(count) = source.read(&mut buffer[filled..]) else {
+            return HeadRead::Failed;
+        };
+        if count == 0 {
+            return if filled == 0 {
+                HeadRead::Closed
+            } else {
+                HeadRead::Refused
+            };
+        }
+        filled += count;
+        match parse_request(&buffer[..filled], fields) {
+            Ok(Status::Complete(spans)) => return HeadRead::Whole(WholeHead { filled, spans }),
+            Ok(Status::Partial) => {}
+            Err(_) => return HeadRead::Refused,
+        }
+    }
+    HeadRead::Refused
+}

@@ -1,0 +1,20 @@
+//! Laws of requests, which hold over the definition of their answers alone. Each stands on a
+//! function that does nothing.
+
+ghost use Rattle.book_http.specs.Laws.{AnswersAreOne, RequestTwiceIsOnce, RequestsMakeHistory};
+
+/// A request has one answer, and does one thing to the books, unless memory or the books fail.
+pub fn answers_are_one()
+    ensures { AnswersAreOne }
+{}
+
+/// The same request twice in a row leaves the books that one leaves, where neither want of memory
+/// nor the store hindered the first; also where its answer was lost.
+pub fn request_twice_is_once()
+    ensures { RequestTwiceIsOnce }
+{}
+
+/// What a request does to the books of a history that calls made is such a history again.
+pub fn requests_make_history()
+    ensures { RequestsMakeHistory }
+{}

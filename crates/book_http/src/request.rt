@@ -1,0 +1,37 @@
+//! What the head of a request says.
+
+ghost use Rattle.std.specs.Prelude.{◌≡◌, drop};
+ghost use Rattle.httparse.specs.Grammar.{RequestHead};
+ghost use Rattle.httparse.specs.Spans.{IsRequestAt, IsRequestWithin};
+ghost use Rattle.book_http.specs.Requests.{Says};
+
+use crate::framing::{Framing, framing_in};
+use httparse::spans::{HeaderSpan, RequestSpans};
+
+/// What a head says, lent from the buffer that it was read into.
+#[derive(Clone, Copy)]
+pub struct Request<'a> {
+    /// The name of the method.
+    pub method: &'a [u8],
+    /// What is asked for: a path, and what stands behind a question mark.
+    pub target: &'a [u8],
+    /// What is said of the length of the body.
+    pub framing: Framing,
+    /// The bytes that were read behind the head.
+    pub behind: &'a [u8],
+}
+
+/// What the head at the front of these bytes says, whose parts are where the spans say.
+pub fn request_in<'a>(bytes: &'a [u8], fields: &[HeaderSpan], spans: RequestSpans) -> Request<'a>
+    requires { IsRequestWithin bytes.now fields.now spans }
+    ensures behind { result.behind.now ≡ drop spans.len bytes.now }
+    ensures says { (h : RequestHead) → IsRequestAt bytes.now fields.now spans h
+        → Says h result.method.now result.target.now result.framing }
+{
+    Request {
+        method: spans.method.of(bytes),
+        target: spans.path.of(bytes),
+        framing: framing_in(bytes, &fields[..spans.headers]),
+        behind: &bytes[spans.len..],
+    }
+}

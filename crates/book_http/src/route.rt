@@ -1,0 +1,168 @@
+//! The paths that are served.
+
+ghost use Rattle.std.specs.Prelude.{◌≡◌, IfOk, IfSome, IsUtf8, Some};
+ghost use Rattle.book_http.specs.Paths.{IsPathOf};
+ghost use Rattle.book_http.specs.declared.route.Route.{Route};
+ghost use Rattle.book_http.specs.Routes as spec;
+ghost use Rattle.book_http.specs.Routes.{route_rows};
+
+use crate::number::number;
+use matchit::{InsertError, Router};
+use smf_frames::Layout;
+use std::alloc::{AllocError, Global};
+use std::str;
+
+/// A report that a path names.
+#[derive(Clone, Copy, Debug, PartialEq, Eq)]
+pub enum Report {
+    /// The list of the periods.
+    Periods,
+    /// The statement of a period.
+    Statement(u16),
+    /// The same as rows with commas.
+    StatementCsv(u16),
+    /// The adjustments of a period.
+    Adjustments(u16),
+    /// The list of the disputes.
+    Disputes,
+}
+
+/// What a path is for.
+#[derive(Clone, Copy, Debug, PartialEq, Eq)]
+pub enum Route {
+    /// A report is read there.
+    Report(Report),
+    /// A dump in this layout is handed in there.
+    Import(Layout),
+}
+
+/// A path of the server, whatever period it names.
+#[derive(Clone, Copy, Debug, PartialEq, Eq)]
+pub enum Page {
+    /// The list of the periods.
+    Periods,
+    /// A statement.
+    Statement,
+    /// A statement as rows with commas.
+    StatementCsv,
+    /// The adjustments of a period.
+    Adjustments,
+    /// The list of the disputes.
+    Disputes,
+    /// Dumps of segments are handed in.
+    Import,
+    /// Dumps of blocks are handed in.
+    ImportBdw,
+}
+
+/// The most digits of a period.
+const PERIOD_DIGITS: usize = 4;
+
+/// The pages by their paths. An error is want of memory.
+fn pages(alloc: Global) -> Result<Router<Page>, InsertError>
+    ensures { IfOk result (λ router. router ≡ route_rows) }
+{
+    let mut router = Router::new(alloc);
+    router.insert("/periods", Page::Periods)?;
+    router.insert("/statement/{n}", Page::Statement)?;
+    router.insert("/statement-csv/{n}", Page::StatementCsv)?;
+    router.insert("/adjustments/{n}", Page::Adjustments)?;
+    router.insert("/disputes", Page::Disputes)?;
+    router.insert("/import", Page::Import)?;
+    router.insert("/import-bdw", Page::ImportBdw)?;
+    Ok(router)
+}
+
+/// The page of a path, if it has one.
+#[tactic(auto, unfolding(crate::specs::Routes::page_of))]
+fn page_at(router: &Router<Page>, path: &str) -> Option<Page>
+    requires { router.now ≡ route_rows }
+    ensures { result ≡ spec.page_of path.now }
+{
+    match router.at(path) {
+        Ok(found) => Some(*found.value),
+        Err(_) => None,
+    }
+}
+
+/// The period that a text names: 1 to 4 digits, the first of them no 0.
+#[tactic(auto, unfolding(crate::specs::Routes::period))]
+fn period(text: &[u8]) -> Option<u16>
+    ensures { result ≡ spec.period text.now }
+{
+    if text.starts_with(b"0") {
+        return None;
+    }
+    match number(PERIOD_DIGITS, text) {
+        Some(period) => Some(period as u16),
+        None => None,
+    }
+}
+
+/// The period that a path names behind its front.
+#[tactic(auto, unfolding(crate::specs::Routes::period_behind))]
+fn period_behind(front: &[u8], path: &[u8]) -> Option<u16>
+    ensures { result ≡ spec.period_behind front.now path.now }
+{
+    if !path.starts_with(front) {
+        return None;
+    }
+    period(&path[front.len()..])
+}
+
+/// What a page is for at a path.
+#[tactic(auto, unfolding(crate::specs::Routes::route_at))]
+fn route_at(page: Page, path: &[u8]) -> Option<Route>
+    ensures { result ≡ spec.route_at page path.now }
+{
+    match page {
+        Page::Periods => Some(Route::Report(Report::Periods)),
+        Page::Statement => {
+            let period = period_behind(b"/statement/", path)?;
+            Some(Route::Report(Report::Statement(period)))
+        }
+        Page::StatementCsv => {
+            let period = period_behind(b"/statement-csv/", path)?;
+            Some(Route::Report(Report::StatementCsv(period)))
+        }
+        Page::Adjustments => {
+            let period = period_behind(b"/adjustments/", path)?;
+            Some(Route::Report(Report::Adjustments(period)))
+        }
+        Page::Disputes => Some(Route::Report(Report::Disputes)),
+        Page::Import => Some(Route::Import(Layout::Rdw)),
+        Page::ImportBdw => Some(Route::Import(Layout::Bdw)),
+    }
+}
+
+/// What a target asks for up to a question mark.
+fn path_of(target: &str) -> &str
+    ensures { result.now ≡ spec.path_of target.now }
+{
+    match target.split_once('?') {
+        Some((path, _)) => path,
+        None => target,
+    }
+}
+
+/// What the path of a target is for, if anything. An error is want of memory.
+pub fn find_route(alloc: Global, target: &[u8]) -> Result<Option<Route>, AllocError>
+    requires { IsUtf8 target.now }
+    ensures value { IfOk result (λ found. found ≡ spec.route (spec.path_of target.now)) }
+    // What is found is served at that path, and what is served there is found.
+    ensures served { IfOk result (λ found. IfSome found (IsPathOf (spec.path_of target.now))) }
+    ensures finds { IfOk result (λ found. (asked : Route)
+        → IsPathOf (spec.path_of target.now) asked → found ≡ Some asked) }
+{
+    let Ok(router) = pages(alloc) else {
+        return Err(AllocError);
+    };
+    let Ok(target) = str::from_utf8(target) else {
+        return Ok(None);
+    };
+    let path = path_of(target);
+    match page_at(&router, path) {
+        Some(page) => Ok(route_at(page, path.as_bytes())),
+        None => Ok(None),
+    }
+}

@@ -1,0 +1,102 @@
+//! One request, from the bytes of a reader to the bytes of a writer.
+
+ghost use Rattle.std.specs.Prelude.{◌≡◌, ◌+◌, ◌≤◌, ◌^◌, ℕ, List, [], false, true, IfOk, IsErrOf, OnErr};
+ghost use Rattle.std.specs.Io.KnownBytes.{Consumes};
+ghost use Rattle.streams.specs.Marks.{NothingIsLeft};
+ghost use Rattle.streams.specs.Sinks as sinks;
+ghost use Rattle.streams.specs.Sinks.{writer_of};
+ghost use Rattle.streams.specs.Sources.{reader_of, reads_of, has_failed, has_ended};
+ghost use Rattle.book_http.specs.Bodies.{most_body_bytes};
+ghost use Rattle.book_http.specs.Head.{most_head_bytes};
+ghost use Rattle.book_http.specs.Replies.{reply_of};
+ghost use Rattle.book_http.specs.Served.{IsAnswer, IsServed};
+ghost use Rattle.book_http.specs.Served.{is_failed, is_read_fault, is_unanswered, is_write_fault};
+
+use crate::answer::Answer;
+use crate::answering::answer_request;
+use crate::head::{HeadRead, MAX_FIELDS, MAX_HEAD, read_head};
+use crate::request::request_in;
+use crate::sending::send;
+use crate::served::{Served, Unanswered};
+use crate::status::Status;
+use book_core::{Ledger, Sink, Source};
+use httparse::spans::EMPTY_HEADER_SPAN;
+use std::alloc::Global;
+use std::io::{Read, Write};
+
+/// Reads one request, and does what it asks of the books.
+fn answer_one<R: Read + Drop, L: Ledger>(
+    alloc: Global,
+    source: &mut Source<R>,
+    ledger: &mut L,
+) -> Result<Answer, Unanswered>
+    requires asked { reads_of source.old ≤ 2 ^ 62 }
+    requires failed { has_failed source.old ≡ false }
+    requires ended { has_ended source.old ≡ false }
+    ensures answer { IfOk result (λ answer. (taken : List ℕ) × Consumes
+        (R.remaining (reader_of source.old)) (R.remaining (reader_of source.new)) taken
+        × IsAnswer (L.seen ledger.old) (L.seen ledger.new) (has_ended source.new) taken
+        (reply_of answer)) }
+    ensures closed { IsErrOf result Unanswered.Closed → Consumes
+        (R.remaining (reader_of source.old)) (R.remaining (reader_of source.new)) []
+        × has_ended source.new ≡ true }
+    ensures none { OnErr result (ledger.new ≡ ledger.old) }
+    ensures failed { has_failed source.new ≡ is_failed result }
+    ensures asked { reads_of source.new
+        ≤ reads_of source.old + most_head_bytes + most_body_bytes }
+    ensures left { NothingIsLeft
+        (has_ended source.new) (R.remaining (reader_of source.new)) }
+{
+    let mut buffer = [0u8; MAX_HEAD];
+    let mut fields = [EMPTY_HEADER_SPAN; MAX_FIELDS];
+    match read_head(source, &mut buffer, &mut fields) {
+        HeadRead::Closed => Err(Unanswered::Closed),
+        HeadRead::Failed => Err(Unanswered::Failed),
+        HeadRead::Refused => Ok(Answer::Refusal(Status::BadRequest)),
+        HeadRead::Whole(whole) => {
+            let request = request_in(&buffer[..whole.filled], &fields, whole.spans);
+            let Ok(answer) = answer_request(alloc, source, &request, ledger) else {
+                return Err(Unanswered::Failed);
+            };
+            Ok(answer)
+        }
+    }
+}
+
+/// Serves one request: reads it, does what it asks of the books, and writes the answer. Bytes
+/// behind the request are not looked at. What a request did stays done where its answer can't be
+/// written.
+pub fn serve_one<R: Read + Drop, W: Write + Drop, L: Ledger>(
+    alloc: Global,
+    source: &mut Source<R>,
+    sink: &mut Sink<W>,
+    ledger: &mut L,
+) -> Served
+    requires asked { reads_of source.old ≤ 2 ^ 62 }
+    requires failed { has_failed source.old ≡ false }
+    requires ended { has_ended source.old ≡ false }
+    requires open { sinks.has_failed sink.old ≡ false }
+
+    // The books did what the request asks, and the writer has the answer, or a front of it: by the
+    // bytes that were taken from the reader, whatever may come behind them. Where the source has
+    // ended, they are all that a reader had which tells its bytes.
+    ensures served { IsServed (L.seen ledger.old) (L.seen ledger.new) (has_ended source.new)
+        (R.remaining (reader_of source.old)) (R.remaining (reader_of source.new))
+        (W.contents (writer_of sink.old)) (W.contents (writer_of sink.new)) result }
+    ensures asked { reads_of source.new
+        ≤ reads_of source.old + most_head_bytes + most_body_bytes }
+    ensures left { NothingIsLeft
+        (has_ended source.new) (R.remaining (reader_of source.new)) }
+
+    // Where nothing is answered, nothing is done.
+    ensures books { is_unanswered result ≡ true → ledger.new ≡ ledger.old }
+    ensures unwritten { is_unanswered result ≡ true → sink.new ≡ sink.old }
+    ensures read { has_failed source.new ≡ is_read_fault result }
+    ensures written { sinks.has_failed sink.new ≡ is_write_fault result }
+{
+    match answer_one(alloc, source, ledger) {
+        Ok(answer) => send(sink, &answer),
+        Err(Unanswered::Closed) => Served::Closed,
+        Err(Unanswered::Failed) => Served::ReadFault,
+    }
+}
