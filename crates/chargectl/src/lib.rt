@@ -1,16 +1,16 @@
 //! What the program of the chargeback office does with its words and streams.
 #![tactic(auto)]
 
-mod check;
-mod laws;
-mod message;
+mod book_commands;
+mod connection;
+mod explained;
+mod file_books;
 mod program;
-mod status;
-mod trials;
+mod progress;
+mod serve;
+mod trouble;
 
-pub use check::check_list;
-pub use laws::same_records_same_texts;
-pub use message::{report_failed, stopped, words_failed};
 pub use program::command;
-pub use status::Status;
-pub use trials::trial;
+pub use program_answers::{
+    Status, check_list, report_failed, same_records_same_texts, stopped, trial, words_failed,
+};

@@ -1,42 +1,79 @@
 //! What the program does with its words and streams.
 
-use crate::check::check_list;
-use crate::message::{file_failed, io_failed, out_of_memory, report_failed, stopped};
-use crate::status::Status;
-use crate::trials::trial;
+use crate::book_commands::{adjustments, close, disputes, import_dump, init, statement, tariff};
+use crate::explained::explained;
+use crate::progress::Watched;
+use crate::serve::serve;
+use crate::trouble::{Trouble, ended};
 use book_core::{Sink, Source};
 use book_import::MAX_READS;
-use command_words::{Request, WordFault, requested_by};
+use command_words::{NumberKind, Request, WordFault, requested_by};
+use program_answers::{PROGRAM, Status, check_list, io_failed, out_of_memory, trial};
 use smf_frames::Layout;
 use std::alloc::Global;
 use std::fs;
-use std::io::{Read, Write};
-use std::rt::Files;
+use std::io::{IsTerminal, Read, Write};
 use tariff_rules::{MAX_RATE, Tariff};
 
 /// Does what the words ask for, of which the first is the program's name.
-pub fn command<R: Files + AllocGlobal, I: Read + Drop, O: Write + Drop, E: Write>(
-    rt: &R,
+pub fn command<I: Read + Drop, O: Write + Drop, E: Write>(
+    rt: &HostRuntime,
     words: &[String],
     input: I,
     output: O,
     errors: &mut E,
 ) -> Status {
-    let alloc = rt.alloc();
-    match requested_by(alloc, words, MAX_RATE as u32) {
-        Ok(
-            Request::Trial {
-                layout,
-                cpu,
-                excp,
-                record,
-            },
-        ) => match Tariff::flat(alloc, cpu, excp, record) {
-            Some(tariff) => run_trial(alloc, layout, tariff, input, output, errors),
-            None => Status::Usage,
+    match requested_by(rt.alloc(), PROGRAM, words, MAX_RATE as u32) {
+        Ok(request) => match run(rt, request, input, output) {
+            Ok(()) => Status::Done,
+            Err(trouble) => trouble.tell(errors),
         },
-        Ok(Request::Check { file, layout }) => run_check(rt, file, layout, output, errors),
         Err(fault) => refuse(&fault, output, errors),
+    }
+}
+
+/// Does what is asked.
+fn run<I: Read + Drop, O: Write + Drop>(
+    rt: &HostRuntime,
+    request: Request<'_>,
+    input: I,
+    output: O,
+) -> Result<(), Trouble> {
+    match request {
+        Request::Trial {
+            layout,
+            cpu,
+            excp,
+            record,
+        } => {
+            match Tariff::flat(rt.alloc(), cpu, excp, record) {
+                Some(tariff) => run_trial(rt.alloc(), layout, tariff, input, output),
+                None => Err(Trouble::Usage),
+            }
+        }
+        Request::Check {
+            file,
+            layout,
+            quiet,
+        } => check(rt, file, layout, quiet, output),
+        Request::Init { book } => init(rt, book),
+        Request::Tariff { book, file } => tariff(rt, book, file, output),
+        Request::Import {
+            book,
+            file,
+            layout,
+            quiet,
+        } => { import_dump(rt, book, file, layout, quiet, output) }
+        Request::Close { book, period, date } => close(rt, book, period, date, output),
+        Request::Statement { book, period, csv } => statement(rt, book, period, csv, output),
+        Request::Adjustments { book, period } => adjustments(rt, book, period, output),
+        Request::Disputes { book } => disputes(rt, book, output),
+        Request::Explain { kind, number } => explain(kind, number, output),
+        Request::Serve {
+            book,
+            port,
+            requests,
+        } => serve(rt, book, port, requests, output),
     }
 }
 
@@ -55,37 +92,40 @@ fn refuse<O: Write + Drop, E: Write>(fault: &WordFault, mut output: O, errors: &
     }
 }
 
-fn run_trial<I: Read + Drop, O: Write + Drop, E: Write>(
+/// Says what a number means.
+fn explain<O: Write + Drop>(kind: NumberKind, number: u16, mut output: O) -> Result<(), Trouble> {
+    let text = explained(kind, number).ok_or(Trouble::Number)?;
+    writeln!(output, "{text}")?;
+    Ok(output.flush()?)
+}
+
+/// Prices the records of the input under one tariff.
+fn run_trial<I: Read + Drop, O: Write + Drop>(
     alloc: Global,
     layout: Layout,
     tariff: Tariff,
     input: I,
     output: O,
-    errors: &mut E,
-) -> Status {
+) -> Result<(), Trouble> {
     let mut source = Source::new(input);
     let mut sink = Sink::new(output);
-    match trial(alloc, &mut source, layout, MAX_READS, tariff, &mut sink) {
-        Ok(receipt) => stopped(errors, receipt.stop),
-        Err(fault) => report_failed(errors, fault),
-    }
+    let receipt = trial(alloc, &mut source, layout, MAX_READS, tariff, &mut sink)?;
+    ended(receipt.stop)
 }
 
-fn run_check<R: Files + AllocGlobal, O: Write + Drop, E: Write>(
-    rt: &R,
+/// Says what each record of a file is. Where the list goes to a terminal, it shows itself how far it
+/// is.
+fn check<O: Write + Drop>(
+    rt: &HostRuntime,
     file: &str,
     layout: Layout,
+    quiet: bool,
     output: O,
-    errors: &mut E,
-) -> Status {
-    let input = match fs::open(rt, file) {
-        Ok(input) => input,
-        Err(error) => return file_failed(errors, &error),
-    };
-    let mut source = Source::new(input);
+) -> Result<(), Trouble> {
+    let is_shown = !quiet && rt.stderr().is_terminal() && !rt.stdout().is_terminal();
+    let mut source = Source::new(Watched::new(rt, fs::open(rt, file)?, layout, is_shown));
     let mut sink = Sink::new(output);
-    match check_list(rt.alloc(), &mut source, layout, MAX_READS, &mut sink) {
-        Ok(stop) => stopped(errors, stop),
-        Err(fault) => report_failed(errors, fault),
-    }
+    let listed = check_list(rt.alloc(), &mut source, layout, MAX_READS, &mut sink);
+    source.into_inner().end();
+    ended(listed?)
 }

@@ -1,16 +1,21 @@
 //! The words of the command line, as `clap` reads them.
 
+use crate::chosen::chosen;
 use crate::fault::WordFault;
 use crate::request::Request;
 use clap::error::ErrorKind;
 use clap::{Arg, ArgAction, ArgMatches, Command, Error};
-use smf_frames::Layout;
 use std::alloc::Global;
 
-/// The name by which the program speaks of itself.
-pub const PROGRAM: &str = "chargectl";
+/// The program's version.
+const VERSION: &str = "0.1.0";
 
 static LAYOUTS: [&str; 2] = ["rdw", "bdw"];
+
+static NUMBER_KINDS: [&str; 4] = ["frame", "ledger", "tariff", "damaged"];
+
+/// How many connections one `serve` may be asked to answer.
+const MOST_REQUESTS: i64 = 1_000_000;
 
 fn layout_option<'a>(alloc: Global) -> Result<Arg<'a>, Error> {
     Ok(
@@ -21,6 +26,45 @@ fn layout_option<'a>(alloc: Global) -> Result<Arg<'a>, Error> {
             .action(ArgAction::Set)
             .default_value("rdw")
             .value_parser(LAYOUTS.as_slice()),
+    )
+}
+
+fn flag<'a>(alloc: Global, name: &'a str, help: &'a str) -> Arg<'a> {
+    Arg::new(alloc, name)
+        .long(name)
+        .help(help)
+        .action(ArgAction::SetTrue)
+}
+
+fn quiet_flag<'a>(alloc: Global) -> Arg<'a> {
+    flag(alloc, "quiet", "Shows no progress on a terminal")
+}
+
+fn word<'a>(alloc: Global, name: &'a str, help: &'a str) -> Arg<'a> {
+    Arg::new(alloc, name)
+        .help(help)
+        .action(ArgAction::Set)
+        .required(true)
+}
+
+fn file_word<'a>(alloc: Global, help: &'a str) -> Arg<'a> {
+    word(alloc, "file", help).value_name("FILE")
+}
+
+fn period_word<'a>(alloc: Global) -> Arg<'a> {
+    word(alloc, "period", "The number of the period, from 1")
+        .value_name("PERIOD")
+        .value_parser(clap::value_parser!(u16))
+}
+
+/// A command on books in a file.
+fn book_command<'a>(alloc: Global, name: &'a str, about: &'a str) -> Result<Command<'a>, Error> {
+    Ok(
+        Command::new(alloc, name).about(about).arg(word(
+            alloc,
+            "book",
+            "The file of the books",
+        ).value_name("BOOK"))?,
     )
 }
 
@@ -67,51 +111,111 @@ fn check_command<'a>(alloc: Global) -> Result<Command<'a>, Error> {
         Command::new(alloc, "check")
             .about("Says what each record of a dump is, and why there are no more")
             .arg(layout_option(alloc)?)?
-            .arg(
-                Arg::new(alloc, "file")
-                    .value_name("FILE")
-                    .help("The dump")
-                    .action(ArgAction::Set)
-                    .required(true),
-            )?,
+            .arg(quiet_flag(alloc))?
+            .arg(file_word(alloc, "The dump"))?,
     )
 }
 
-fn command_line<'a>(alloc: Global, highest: u32) -> Result<Command<'a>, Error> {
+fn tariff_command<'a>(alloc: Global) -> Result<Command<'a>, Error> {
+    let about = "Puts a tariff in force from its first day on";
+    Ok(book_command(alloc, "tariff", about)?.arg(file_word(alloc, "The tariff"))?)
+}
+
+fn import_command<'a>(alloc: Global) -> Result<Command<'a>, Error> {
+    let about = "Reads a dump into the books, each record once";
     Ok(
-        Command::new(alloc, PROGRAM)
+        book_command(alloc, "import", about)?
+            .arg(file_word(alloc, "The dump"))?
+            .arg(layout_option(alloc)?)?
+            .arg(quiet_flag(alloc))?,
+    )
+}
+
+fn close_command<'a>(alloc: Global) -> Result<Command<'a>, Error> {
+    Ok(
+        book_command(alloc, "close", "Closes the open period through a day")?
+            .arg(period_word(alloc))?
+            .arg(word(alloc, "date", "Its last day, as 2024-01-31").value_name("DATE"))?,
+    )
+}
+
+fn statement_command<'a>(alloc: Global) -> Result<Command<'a>, Error> {
+    Ok(
+        book_command(alloc, "statement", "Prints what a period charges")?
+            .arg(period_word(alloc))?
+            .arg(flag(alloc, "csv", "As comma-separated values, without the total"))?,
+    )
+}
+
+fn adjustments_command<'a>(alloc: Global) -> Result<Command<'a>, Error> {
+    let about = "Prints what a period adds to closed periods, and takes back";
+    Ok(book_command(alloc, "adjustments", about)?.arg(period_word(alloc))?)
+}
+
+fn serve_option<'a>(
+    alloc: Global,
+    name: &'a str,
+    shown: &'a str,
+    help: &'a str,
+    most: i64,
+) -> Arg<'a> {
+    Arg::new(alloc, name)
+        .long(name)
+        .value_name(shown)
+        .help(help)
+        .action(ArgAction::Set)
+        .required(true)
+        .value_parser(clap::value_parser!(u32).range(1..=most))
+}
+
+fn serve_command<'a>(alloc: Global) -> Result<Command<'a>, Error> {
+    let port = serve_option(alloc, "port", "PORT", "The port on 127.0.0.1", 65_535);
+    let help = "How many connections to answer, one after the other";
+    let requests = serve_option(alloc, "requests", "NUMBER", help, MOST_REQUESTS);
+    Ok(
+        book_command(
+            alloc,
+            "serve",
+            "Answers for the books over HTTP, on this machine",
+        )?
+        .arg(port)?
+        .arg(requests)?,
+    )
+}
+
+fn explain_command<'a>(alloc: Global) -> Result<Command<'a>, Error> {
+    let kind = word(alloc, "kind", "What the number is the number of")
+        .value_name("KIND")
+        .value_parser(NUMBER_KINDS.as_slice());
+    let number = word(alloc, "number", "The number on standard error or in a list")
+        .value_name("NUMBER")
+        .value_parser(clap::value_parser!(u16));
+    Ok(
+        Command::new(alloc, "explain")
+            .about("Says what a number means, and what to do")
+            .arg(kind)?
+            .arg(number)?,
+    )
+}
+
+fn command_line<'a>(alloc: Global, program: &'a str, highest: u32) -> Result<Command<'a>, Error> {
+    Ok(
+        Command::new(alloc, program)
             .about("The books of a chargeback office, read from SMF type 30 records")
+            .version(VERSION)
             .subcommand_required(true)
             .subcommand(trial_command(alloc, highest)?)?
-            .subcommand(check_command(alloc)?)?,
+            .subcommand(check_command(alloc)?)?
+            .subcommand(book_command(alloc, "init", "Makes new books in a file")?)?
+            .subcommand(tariff_command(alloc)?)?
+            .subcommand(import_command(alloc)?)?
+            .subcommand(close_command(alloc)?)?
+            .subcommand(statement_command(alloc)?)?
+            .subcommand(adjustments_command(alloc)?)?
+            .subcommand(book_command(alloc, "disputes", "Prints the records in dispute")?)?
+            .subcommand(serve_command(alloc)?)?
+            .subcommand(explain_command(alloc)?)?,
     )
-}
-
-fn layout_in(found: &ArgMatches<'_>) -> Layout {
-    match found.get_str("layout") {
-        Some("bdw") => Layout::Bdw,
-        _ => Layout::Rdw,
-    }
-}
-
-fn rate_in(found: &ArgMatches<'_>, name: &str) -> u64 {
-    found.get_one::<u64>(name).unwrap_or(0)
-}
-
-fn trial_in<'a>(found: &ArgMatches<'_>) -> Request<'a> {
-    Request::Trial {
-        layout: layout_in(found),
-        cpu: rate_in(found, "cpu"),
-        excp: rate_in(found, "excp"),
-        record: rate_in(found, "record"),
-    }
-}
-
-fn check_in<'a>(found: &ArgMatches<'a>) -> Option<Request<'a>> {
-    let layout = layout_in(found);
-    found
-        .get_str("file")
-        .map(|file| Request::Check { file, layout })
 }
 
 /// What `clap` says of words that it does not take.
@@ -128,28 +232,25 @@ fn fault_in(alloc: Global, error: &Error) -> WordFault {
 
 fn matches_in<'a>(
     alloc: Global,
+    program: &'a str,
     words: &'a [String],
     highest: u32,
 ) -> Result<ArgMatches<'a>, Error> {
-    command_line(alloc, highest)?.try_get_matches_from(words)
+    command_line(alloc, program, highest)?.try_get_matches_from(words)
 }
 
 /// The command that the words ask for, of which the first is the program's name, where no rate is
-/// higher than that. Wrong without a text would be a subcommand or a missing file that
+/// higher than that; help and faults speak of the program by the name that is given. Wrong without a text would be a subcommand or a missing file that
 /// `command_line` does not let pass.
 pub fn requested_by<'a>(
     alloc: Global,
+    program: &'a str,
     words: &'a [String],
     highest: u32,
 ) -> Result<Request<'a>, WordFault> {
-    let matches = match matches_in(alloc, words, highest) {
+    let matches = match matches_in(alloc, program, words, highest) {
         Ok(matches) => matches,
         Err(error) => return Err(fault_in(alloc, &error)),
     };
-    let request = match matches.subcommand() {
-        Some(("trial", found)) => Some(trial_in(found)),
-        Some(("check", found)) => check_in(found),
-        _ => None,
-    };
-    request.ok_or(WordFault::Wrong(String::new(alloc)))
+    chosen(&matches).ok_or(WordFault::Wrong(String::new(alloc)))
 }

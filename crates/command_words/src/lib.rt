@@ -2,10 +2,11 @@
 //! depends on this crate does not depend on that one.
 #![tactic(auto)]
 
+mod chosen;
 mod command_line;
 mod fault;
 mod request;
 
-pub use command_line::{PROGRAM, requested_by};
+pub use command_line::requested_by;
 pub use fault::WordFault;
-pub use request::Request;
+pub use request::{NumberKind, Request};

@@ -2,8 +2,8 @@
 
 use crate::receipts::kept;
 use book_core::{Accepted, Ledger, LedgerFault, PlainLedger, Ruled, ShaNames, Source};
-use book_import::{MAX_READS, Reply, Stop, import, import_bytes, read_dump, run};
-use smf_frames::Layout;
+use book_import::{MAX_READS, Reply, Stop, import, import_bytes, run};
+use smf_frames::{Layout, split};
 use smf_type30::{Class, class};
 use std::alloc::Global;
 use std::process::Abort;
@@ -17,8 +17,7 @@ fn accept_each<L: Ledger>(
     ledger: &mut L,
     dump: &[u8],
 ) -> Result<Vec<Accepted>, Fail> {
-    let mut source = Source::new(dump);
-    let dump = read_dump(alloc, &mut source, Layout::Rdw, MAX_READS)?;
+    let dump = split(alloc, Layout::Rdw, dump)?;
     let mut answers = Vec::new(alloc);
     for bytes in &dump.records {
         if let Class::Usage = class(bytes) {

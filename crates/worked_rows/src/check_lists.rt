@@ -2,14 +2,14 @@
 
 use book_core::{Sink, Source};
 use book_import::{MAX_READS, Stop};
-use book_reports::{ReportFault, check_list_text};
-use chargectl::check_list;
+use book_reports::ReportFault;
+use program_answers::check_list;
 use smf_frames::{FrameFault, Layout};
 use std::alloc::{AllocError, Global};
 use std::io::{Read, Write};
 use std::test::Fail;
 use worked_samples::readers::{Endless, InPieces};
-use worked_samples::sample::{SAMPLE, joined, other_step, short_record};
+use worked_samples::sample::{LEN, SAMPLE, joined, other_step, short_record};
 use worked_samples::writers::Takes;
 
 /// The list of a header, a trailer and a step's end.
@@ -71,18 +71,24 @@ fn each_record_has_its_line(rt: HostRuntime) -> Result<(), Fail> {
 
 #[test]
 fn a_list_of_no_records_says_why_there_are_none(rt: HostRuntime) -> Result<(), Fail> {
-    let cases = [
-        (Stop::End, "RECORDS 0 STOP END\n"),
+    let alloc = rt.alloc();
+    let cases: [(&[u8], Stop, &str); 3] = [
+        (&[], Stop::End, "RECORDS 0 STOP END\n"),
         (
+            &SAMPLE[..100],
             Stop::Frame(FrameFault::Truncated),
             "RECORDS 0 STOP FRAME 8\n",
         ),
-        (Stop::Read, "RECORDS 0 STOP READ\n"),
-        (Stop::ReadLimit, "RECORDS 0 STOP READLIMIT\n"),
+        (
+            &[0, 3, 0, 0],
+            Stop::Frame(FrameFault::SegmentLength),
+            "RECORDS 0 STOP FRAME 1\n",
+        ),
     ];
-    for (stop, want) in cases {
-        let text = check_list_text(rt.alloc(), &[], stop)?;
+    for (dump, stop, want) in cases {
+        let (text, told) = check_of(alloc, dump)?;
         assert_eq!(rt; text.as_str(), want);
+        assert_eq!(rt; told, stop, "{want}");
     }
     Ok(())
 }
@@ -133,10 +139,20 @@ fn a_check_stops_where_no_more_reads_are_allowed(rt: HostRuntime) -> Result<(), 
 fn a_writer_that_fails_has_a_front_of_the_list(rt: HostRuntime) -> Result<(), Fail> {
     let alloc = rt.alloc();
     let dump = two_steps(alloc)?;
-    for writes in 0..20 {
+    // The lines of the two records, 32 bytes, are written before the last line.
+    let cases = [
+        (0, 0),
+        (1, 7),
+        (4, 28),
+        (5, 32),
+        (6, 39),
+        (7, 46),
+        (8, 51),
+        (9, 51),
+    ];
+    for (writes, count) in cases {
         let writer = Takes::up_to(alloc, 7, writes);
         let (answer, writer) = check_over(alloc, dump.as_slice(), u32::MAX, writer);
-        let count = TWO_STEPS.len().min(7 * writes as usize);
         assert!(rt;
             writer.taken.as_slice() == &TWO_STEPS.as_bytes()[..count],
             "{writes} writes"
@@ -147,6 +163,26 @@ fn a_writer_that_fails_has_a_front_of_the_list(rt: HostRuntime) -> Result<(), Fa
             Err(ReportFault::Write)
         };
         assert_eq!(rt; answer, want, "{writes} writes");
+    }
+    Ok(())
+}
+
+#[test]
+fn each_piece_is_listed_before_the_next_is_read(rt: HostRuntime) -> Result<(), Fail> {
+    let alloc = rt.alloc();
+    let dump = two_steps(alloc)?;
+    let cases = [
+        ("one piece", 2 * LEN, 2),
+        ("a piece for each record", LEN, 3),
+        ("the second record begun in the first piece", LEN + 100, 3),
+    ];
+    for (case, size, writes) in cases {
+        let writer = Takes::up_to(alloc, usize::MAX, u32::MAX);
+        let reader = InPieces::of(&dump, size);
+        let (answer, writer) = check_over(alloc, reader, u32::MAX, writer);
+        assert_eq!(rt; answer, Ok(Stop::End), "{case}");
+        assert_eq!(rt; writer.taken.as_slice(), TWO_STEPS.as_bytes(), "{case}");
+        assert_eq!(rt; writer.asked, writes, "{case}");
     }
     Ok(())
 }

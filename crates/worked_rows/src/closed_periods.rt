@@ -10,6 +10,7 @@ use std::alloc::Global;
 use std::process::Abort;
 use std::test::Fail;
 use worked_samples::sample::{SAMPLE, dated, joined, variant_1201, variant_1202};
+use worked_samples::texts::JANUARY;
 
 /// 2024-01-31, in days since 1970-01-01.
 pub const JANUARY_31: i32 = 19_753;
@@ -22,14 +23,6 @@ const PACKED_FEBRUARY_1: [u8; 4] = [0x01, 0x24, 0x03, 0x2F];
 
 /// 2024-02-02.
 const PACKED_FEBRUARY_2: [u8; 4] = [0x01, 0x24, 0x03, 0x3F];
-
-/// The statement of period 1 with the sample, from its close on.
-pub const JANUARY: &str = "\
-STATEMENT PERIOD 1 CLOSED THROUGH 2024-01-31
-DAY        CENTRE           SHIFT               COUNT                 CPU             BLOCKS                AMOUNT
-2024-01-31 UNASSIGNED       BASE                    1               12.34               5000               24.9300
-TOTAL                                               1               12.34               5000               24.9300
-";
 
 /// The statement of period 1 where nothing is charged in it.
 const EMPTY_JANUARY: &str = "\

@@ -4,7 +4,7 @@ ghost use Rattle.std.specs.Prelude.{IfOk};
 ghost use Rattle.book_import.specs.Commands.{IsAskable};
 
 use crate::adjustments::{MINUS_SAMPLE, adjustments};
-use crate::closed_periods::{FEBRUARY_29, JANUARY, JANUARY_31};
+use crate::closed_periods::{FEBRUARY_29, JANUARY_31};
 use crate::office::{new_books, statement};
 use crate::receipts::one_kept;
 use book_core::{Ledger, LedgerFault, PlainLedger, Ruled, ShaNames};
@@ -15,6 +15,7 @@ use std::test::Fail;
 use tariff_rules::{Key, TariffFault};
 use worked_samples::sample::{SAMPLE, joined, variant_1201, variant_1202};
 use worked_samples::tariffs::{CPU_RATE, file_from};
+use worked_samples::texts::JANUARY;
 
 /// The reply to an import that was read to its end.
 fn receipt(kept: u64, known: u64) -> Reply {

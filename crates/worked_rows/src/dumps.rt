@@ -3,7 +3,7 @@
 use crate::check_lists::check_of;
 use crate::office::{import, import_from, new_books, report};
 use crate::receipts::one_kept;
-use crate::statements::{ONE_RECORD, ONE_STEP, TWO_STEPS};
+use crate::statements::{ONE_STEP, TWO_STEPS};
 use crate::trials::trial_text;
 use book_core::Source;
 use book_import::{Receipt, Stop, import as import_source};
@@ -14,6 +14,7 @@ use worked_samples::readers::{Endless, InPieces};
 use worked_samples::readings::stop_of;
 use worked_samples::sample::{SAMPLE, joined, other_step};
 use worked_samples::segments::{first_segment, last_segment, segment_between};
+use worked_samples::texts::ONE_RECORD;
 
 #[test]
 fn spanned_record(rt: HostRuntime) -> Result<(), Fail> {

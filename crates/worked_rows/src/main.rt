@@ -19,8 +19,6 @@ mod closes;
 #[cfg(test)]
 mod command_lists;
 #[cfg(test)]
-mod commands;
-#[cfg(test)]
 mod disputes;
 #[cfg(test)]
 mod dumps;
@@ -28,8 +26,6 @@ mod dumps;
 mod effects;
 #[cfg(test)]
 mod faults;
-#[cfg(test)]
-mod files;
 #[cfg(test)]
 mod history;
 #[cfg(test)]

@@ -3,7 +3,7 @@
 use book_core::LedgerFault;
 use book_import::Stop;
 use book_reports::ReportFault;
-use chargectl::{report_failed, stopped, words_failed};
+use program_answers::{report_failed, stopped, words_failed};
 use smf_frames::FrameFault;
 use std::io;
 use std::io::ErrorKind;

@@ -1,7 +1,7 @@
 //! Reports of books, as they are written to a writer: the texts that the office agreed on, written
 //! out. The name of the sample was computed by `sha256sum`.
 
-use crate::closed_periods::{FEBRUARY_29, JANUARY, JANUARY_31, closed_after};
+use crate::closed_periods::{FEBRUARY_29, JANUARY_31, closed_after};
 use crate::office::{import, new_books};
 use crate::statements::{NO_STEP, ONE_STEP};
 use book_core::{Ledger, LedgerFault, PlainLedger, ShaNames, Sink};
@@ -12,6 +12,7 @@ use book_reports::{
 use std::alloc::Global;
 use std::test::Fail;
 use worked_samples::sample::{SAMPLE, variant_1201};
+use worked_samples::texts::JANUARY;
 use worked_samples::writers::Takes;
 
 /// The names of a table's columns.

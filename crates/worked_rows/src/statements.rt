@@ -12,16 +12,7 @@ use worked_samples::sample::{
     SAMPLE, Section, joined, measuring, other_step, with_blocks, without,
 };
 use worked_samples::tariffs::flat;
-
-/// All that is written of a dump of the sample alone.
-pub const ONE_RECORD: &str = "\
-KEPT 1 KNOWN 0 UNPRICED 0 OTHER 0 HEADERS 0 TRAILERS 0 LOST 0 CONTINUED 0 DAMAGED 0 STOP END
-STATEMENT PERIOD 1 OPEN
-DAY        CENTRE           SHIFT               COUNT                 CPU             BLOCKS                AMOUNT
-2024-01-31 UNASSIGNED       BASE                    1               12.34               5000               24.9300
-TOTAL                                               1               12.34               5000               24.9300
-DISPUTES 0
-";
+use worked_samples::texts::ONE_RECORD;
 
 /// All that is written of a dump of nothing.
 const NO_RECORD: &str = "\

@@ -1,11 +1,10 @@
 //! Trials, also over readers and writers that fail.
 
 use crate::receipts::kept;
-use crate::statements::ONE_RECORD;
 use book_core::{Sink, Source};
 use book_import::{MAX_READS, Receipt, Stop};
 use book_reports::ReportFault;
-use chargectl::trial;
+use program_answers::trial;
 use smf_frames::Layout;
 use std::alloc::Global;
 use std::io::{Read, Write};
@@ -14,6 +13,7 @@ use std::test::Fail;
 use worked_samples::readers::{Endless, InPieces};
 use worked_samples::sample::{SAMPLE, joined, other_step};
 use worked_samples::tariffs::tariff;
+use worked_samples::texts::ONE_RECORD;
 use worked_samples::writers::Takes;
 
 /// A trial under the office's tariff: its answer, and the writer as it left it.

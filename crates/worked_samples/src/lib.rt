@@ -9,4 +9,5 @@ pub mod readings;
 pub mod sample;
 pub mod segments;
 pub mod tariffs;
+pub mod texts;
 pub mod writers;

@@ -1,10 +1,17 @@
 use Rattle.std.proofs.Common.{◌<◌, length, [], All, sym, ◌∙◌, subst}
-use Rattle.std.proofs.lemmas.List.{length-map}
+use Rattle.std.proofs.lemmas.List.{length-map, get_or-map}
 use Rattle.smf_frames.specs.Framed.{IsFramed}
 use Rattle.smf_frames.specs.Texts.{texts}
 use Rattle.smf_type30.specs.Class.{IsUsage}
-use Rattle.book_import.proofs.ImportLemmas.{text_at}
+use Rattle.std.proofs.Common.{◌≡◌, ℕ, List, ap, get_or, Vec, Global}
 use Rattle.worked_rows.proofs.calls.accept_each.Goals as goal
+
+-- the text of the vector at an index
+text_at : (vectors : List (Vec ℕ Global)) (i : ℕ) (vector : Vec ℕ Global) → i < length vectors
+    → vector ≡ get_or vectors i vector
+    → get_or (texts vectors) i [] ≡ vector.items
+text_at vectors i vector within is = get_or-map (λ v. v.items) vectors i vector [] within
+    ∙ ap (λ v. v.items) (sym is)
 
 pub accept-requires : goal.accept-requires
 accept-requires g c =

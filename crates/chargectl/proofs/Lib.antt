@@ -1,4 +1,0 @@
--- What makes a trial and a check, and laws of trials.
-pub mod TrialLemmas
-pub mod CheckLemmas
-pub mod LawLemmas

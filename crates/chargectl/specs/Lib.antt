@@ -1,5 +1,0 @@
--- Read in this order: what a trial and a check are, the exit statuses, and laws that follow.
-pub mod Trials
-pub mod Checks
-pub mod Statuses
-pub mod Laws

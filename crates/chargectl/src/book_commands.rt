@@ -1,0 +1,151 @@
+//! The commands on books in a file. Faults are found in the order of the words: a date, the books,
+//! the file, and then what the books say.
+
+use crate::file_books::{ask_books, close_books, expect_books, make_books};
+use crate::progress::Watched;
+use crate::trouble::{Trouble, ended};
+use book_core::{Ledger, LedgerFault, Ruled, Sink, Source};
+use book_import::{MAX_READS, Receipt, import};
+use book_reports::{adjustment_list, dispute_list, receipt_line, statement_csv};
+use smf_frames::Layout;
+use smf_text::day_of_text;
+use std::alloc::Global;
+use std::fs;
+use std::io::{IsTerminal, Read, Write};
+use tariff_rules::{MAX_TEXT, TariffFault};
+
+/// Makes new books in a file.
+pub(crate) fn init(rt: &HostRuntime, book: &str) -> Result<(), Trouble> {
+    close_books(make_books(rt, book)?);
+    Ok(())
+}
+
+/// Hands in a tariff.
+pub(crate) fn tariff<O: Write + Drop>(
+    rt: &HostRuntime,
+    book: &str,
+    file: &str,
+    output: O,
+) -> Result<(), Trouble> {
+    expect_books(rt, book)?;
+    let text = tariff_text(rt, file)?;
+    let ruled = ask_books(rt, book, |books| books.tariff(&text))?;
+    say_ruled(ruled?, output)
+}
+
+/// The text of a tariff file.
+fn tariff_text(rt: &HostRuntime, file: &str) -> Result<String, Trouble> {
+    let mut bytes = Vec::new(rt.alloc());
+    fs::open(rt, file)?
+        .take(MAX_TEXT as u64 + 1)
+        .read_to_end(&mut bytes)?;
+    if bytes.len() > MAX_TEXT {
+        return Err(refused(TariffFault::TooMany));
+    }
+    String::from_utf8(bytes).map_err(|_| refused(TariffFault::Syntax))
+}
+
+fn refused(fault: TariffFault) -> Trouble {
+    Trouble::Ledger(LedgerFault::TariffRefused(fault))
+}
+
+/// Closes a period through a day.
+pub(crate) fn close<O: Write + Drop>(
+    rt: &HostRuntime,
+    book: &str,
+    period: u16,
+    date: &str,
+    output: O,
+) -> Result<(), Trouble> {
+    let Some(through) = day_of_text(date) else {
+        return Err(Trouble::Word);
+    };
+    expect_books(rt, book)?;
+    let ruled = ask_books(rt, book, |books| books.close(period, through))?;
+    say_ruled(ruled?, output)
+}
+
+fn say_ruled<O: Write + Drop>(ruled: Ruled, mut output: O) -> Result<(), Trouble> {
+    let answer = match ruled {
+        Ruled::Done => "DONE",
+        Ruled::Already => "ALREADY",
+    };
+    writeln!(output, "{answer}")?;
+    Ok(output.flush()?)
+}
+
+/// Reads a dump into the books, and prints the receipt line, whatever stopped the import.
+pub(crate) fn import_dump<O: Write + Drop>(
+    rt: &HostRuntime,
+    book: &str,
+    file: &str,
+    layout: Layout,
+    quiet: bool,
+    output: O,
+) -> Result<(), Trouble> {
+    expect_books(rt, book)?;
+    let input = fs::open(rt, file)?;
+    let is_shown = !quiet && rt.stderr().is_terminal();
+    let input = Watched::new(rt, input, layout, is_shown);
+    let receipt = ask_books(rt, book, |books| import_watched(rt, input, layout, books))?;
+    let mut sink = Sink::new(output);
+    receipt_line(rt.alloc(), &receipt, &mut sink)?;
+    ended(receipt.stop)
+}
+
+/// Reads a dump into a ledger, and takes away the line that shows how far it is.
+fn import_watched<R: Read + Drop, L: Ledger>(
+    rt: &HostRuntime,
+    input: Watched<'_, R>,
+    layout: Layout,
+    books: &mut L,
+) -> Receipt {
+    let mut source = Source::new(input);
+    let receipt = import(rt.alloc(), &mut source, layout, MAX_READS, books);
+    source.into_inner().end();
+    receipt
+}
+
+/// Prints the statement of a period.
+pub(crate) fn statement<O: Write + Drop>(
+    rt: &HostRuntime,
+    book: &str,
+    period: u16,
+    csv: bool,
+    output: O,
+) -> Result<(), Trouble> {
+    expect_books(rt, book)?;
+    Ok(ask_books(rt, book, |books| {
+        let mut sink = Sink::new(output);
+        if csv {
+            statement_csv(rt.alloc(), books, period, &mut sink)
+        } else {
+            book_reports::statement(rt.alloc(), books, period, &mut sink)
+        }
+    })??)
+}
+
+/// Prints the adjustment lines of a period.
+pub(crate) fn adjustments<O: Write + Drop>(
+    rt: &HostRuntime,
+    book: &str,
+    period: u16,
+    output: O,
+) -> Result<(), Trouble> {
+    expect_books(rt, book)?;
+    Ok(ask_books(rt, book, |books| {
+        adjustment_list(rt.alloc(), books, period, &mut Sink::new(output))
+    })??)
+}
+
+/// Prints the records in dispute.
+pub(crate) fn disputes<O: Write + Drop>(
+    rt: &HostRuntime,
+    book: &str,
+    output: O,
+) -> Result<(), Trouble> {
+    expect_books(rt, book)?;
+    Ok(ask_books(rt, book, |books| {
+        dispute_list(rt.alloc(), books, &mut Sink::new(output))
+    })??)
+}
