@@ -1,10 +1,12 @@
 //! Books under one price for all records.
 
-use crate::dumps::{DESCRIPTOR_LEN, Stop};
+use crate::dumps::{DESCRIPTOR_LEN, Dump, Stop};
 use crate::numbers::{number2, number4};
 use crate::records::{Class, Day, IDENTIFICATION, IO_ACTIVITY, PROCESSOR, STEP_END, class, count, offset};
-use std::borrow::Cow;
 use std::collections::{HashMap, HashSet};
+use std::io;
+use std::io::Read;
+use std::rc::Rc;
 
 pub const MAX_HELD: usize = 50_000_000;
 pub const MAX_TOTAL: u64 = 4_000_000_000_000_000_000;
@@ -34,15 +36,15 @@ impl Sums {
 }
 
 /// A usage record with its price.
-pub struct Usage<'a> {
-    pub record: &'a [u8],
+pub struct Usage {
+    pub record: Rc<[u8]>,
     pub identity: [u8; 24],
     pub day: Day,
     pub sums: Sums,
 }
 
-impl<'a> Usage<'a> {
-    pub fn read(record: &'a [u8], rates: &Rates) -> Usage<'a> {
+impl Usage {
+    pub fn read(record: &[u8], rates: &Rates) -> Usage {
         let processor = offset(record, PROCESSOR);
         let cpu = u64::from(number4(record, processor + 4)) + u64::from(number4(record, processor + 8));
         let blocks = match count(record, IO_ACTIVITY) {
@@ -54,10 +56,10 @@ impl<'a> Usage<'a> {
             + 1000 * u128::from(rates.record);
         let amount = ((price * 100 + 50_000) / 100_000) as u64;
         let day = Day::of(record).expect("a usage record has a day");
-        Usage { record, identity: identity(record), day, sums: Sums { count: 1, cpu, blocks, amount } }
+        Usage { record: record.into(), identity: identity(record), day, sums: Sums { count: 1, cpu, blocks, amount } }
     }
 
-    pub fn data(&self) -> &'a [u8] {
+    pub fn data(&self) -> &[u8] {
         &self.record[DESCRIPTOR_LEN..]
     }
 }
@@ -80,22 +82,22 @@ pub fn identity(record: &[u8]) -> [u8; 24] {
 }
 
 #[derive(Default)]
-pub struct Books<'a> {
-    pub known: HashSet<&'a [u8]>,
-    pub held: Vec<Usage<'a>>,
+pub struct Books {
+    pub known: HashSet<Rc<[u8]>>,
+    pub held: Vec<Usage>,
     pub total: u64,
     /// How many records that are held have each identity.
     pub members: HashMap<[u8; 24], usize>,
 }
 
-impl<'a> Books<'a> {
+impl Books {
     /// Holds a record that is new; false where there is no room for it.
-    pub fn hold(&mut self, usage: Usage<'a>) -> bool {
+    pub fn hold(&mut self, usage: Usage) -> bool {
         if self.held.len() >= MAX_HELD || self.total + usage.sums.amount > MAX_TOTAL {
             return false;
         }
         self.total += usage.sums.amount;
-        self.known.insert(usage.data());
+        self.known.insert(usage.record.clone());
         *self.members.entry(usage.identity).or_default() += 1;
         self.held.push(usage);
         true
@@ -118,10 +120,15 @@ pub struct Receipt {
     pub damaged: u64,
 }
 
-/// Books records in order, up to the first for which there is no room.
-pub fn import<'a>(books: &mut Books<'a>, records: &'a [Cow<[u8]>], rates: &Rates, stop: Stop) -> (Receipt, Stop) {
+/// Books the records of a dump in order, up to the first for which there is no room.
+pub fn import<R: Read>(books: &mut Books, dump: &mut Dump<R>, rates: &Rates) -> io::Result<(Receipt, Stop)> {
     let mut receipt = Receipt::default();
-    for record in records {
+    loop {
+        let record = match dump.next()? {
+            Ok(Some(record)) => record,
+            Ok(None) => return Ok((receipt, Stop::End)),
+            Err(fault) => return Ok((receipt, Stop::Frame(fault))),
+        };
         match class(record) {
             Class::DumpHeader => receipt.headers += 1,
             Class::DumpTrailer => receipt.trailers += 1,
@@ -129,10 +136,9 @@ pub fn import<'a>(books: &mut Books<'a>, records: &'a [Cow<[u8]>], rates: &Rates
             Class::Other => receipt.other += 1,
             Class::Continuation => receipt.continued += 1,
             Class::Damaged(_) => receipt.damaged += 1,
-            Class::Usage if books.known.contains(&record[DESCRIPTOR_LEN..]) => receipt.known += 1,
+            Class::Usage if books.known.contains(record) => receipt.known += 1,
             Class::Usage if books.hold(Usage::read(record, rates)) => receipt.kept += 1,
-            Class::Usage => return (receipt, Stop::Full),
+            Class::Usage => return Ok((receipt, Stop::Full)),
         }
     }
-    (receipt, stop)
 }

@@ -1,7 +1,8 @@
 //! Dumps, cut into records.
 
 use crate::numbers::number2;
-use std::borrow::Cow;
+use std::io;
+use std::io::{BufReader, Read};
 
 pub const DESCRIPTOR_LEN: usize = 4;
 pub const LONGEST_RECORD: usize = 65_535;
@@ -28,97 +29,140 @@ pub enum FrameFault {
     Truncated,
 }
 
-/// A record with the descriptor of its own, in place of that of its first segment.
-pub fn with_descriptor<'a>(mut record: Vec<u8>) -> Cow<'a, [u8]> {
-    let len = record.len() as u16;
-    record[..2].copy_from_slice(&len.to_be_bytes());
-    record[2..4].fill(0);
-    Cow::Owned(record)
-}
+/// How many bytes a read asks for.
+const PIECE: usize = 65_536;
 
-/// Reads a dump record by record.
-pub struct Dump<'a> {
-    pub layout: Layout,
-    pub rest: &'a [u8],
+/// Reads a dump record by record, and holds one at a time.
+pub struct Dump<R> {
+    layout: Layout,
+    input: BufReader<R>,
     /// What is left of the block: None where a block's descriptor is due, and always without blocks.
-    pub left: Option<usize>,
-    /// The record of which segments are still to come, behind four bytes.
-    pub begun: Option<Vec<u8>>,
+    left: Option<usize>,
+    /// Segments of the record are still to come.
+    is_begun: bool,
+    /// The record, behind four bytes.
+    record: Vec<u8>,
 }
 
-impl<'a> Dump<'a> {
-    /// The next record, its descriptor included. One that stands whole in the dump is not copied.
-    pub fn next(&mut self) -> Result<Option<Cow<'a, [u8]>>, FrameFault> {
+impl<R: Read> Dump<R> {
+    pub fn new(layout: Layout, input: R) -> Dump<R> {
+        let input = BufReader::with_capacity(PIECE, input);
+        Dump { layout, input, left: None, is_begun: false, record: Vec::with_capacity(LONGEST_RECORD) }
+    }
+
+    /// The next record, its descriptor included.
+    pub fn next(&mut self) -> io::Result<Result<Option<&[u8]>, FrameFault>> {
+        Ok(match self.join()? {
+            Ok(true) => Ok(Some(&self.record)),
+            Ok(false) => Ok(None),
+            Err(fault) => Err(fault),
+        })
+    }
+
+    /// Joins the next record; false at the end of the dump.
+    fn join(&mut self) -> io::Result<Result<bool, FrameFault>> {
         loop {
             if self.left.is_some_and(|left| left < DESCRIPTOR_LEN) {
-                return Err(FrameFault::SegmentCrossesBlock);
+                return Ok(Err(FrameFault::SegmentCrossesBlock));
             }
-            if self.rest.len() < DESCRIPTOR_LEN {
-                return self.end();
+            let mut descriptor = [0; DESCRIPTOR_LEN];
+            match self.take(&mut descriptor)? {
+                0 => return Ok(self.end()),
+                DESCRIPTOR_LEN => {}
+                _ => return Ok(Err(FrameFault::Truncated)),
             }
-            let len = usize::from(number2(self.rest, 0));
-            if self.layout == Layout::Bdw && self.left.is_none() {
-                self.open_block(len)?;
-                continue;
-            }
-            let segment = self.segment(len)?;
-            match (segment[2] % 4, self.begun.take()) {
-                (COMPLETE, _) if segment[2..4] == [0, 0] => return Ok(Some(Cow::Borrowed(segment))),
-                (COMPLETE, _) => return Ok(Some(with_descriptor(segment.to_vec()))),
-                (_, None) => self.begun = Some(segment.to_vec()),
-                (kind, Some(mut joined)) => {
-                    joined.extend_from_slice(&segment[DESCRIPTOR_LEN..]);
-                    if kind == LAST {
-                        return Ok(Some(with_descriptor(joined)));
-                    }
-                    self.begun = Some(joined);
-                }
+            let len = usize::from(number2(&descriptor, 0));
+            let checked = if self.layout == Layout::Bdw && self.left.is_none() {
+                self.open_block(&descriptor, len).map(|()| None)
+            } else {
+                self.check_segment(len, descriptor[2] % 4).map(|()| Some(descriptor[2] % 4))
+            };
+            match checked {
+                Err(fault) => return Ok(Err(fault)),
+                Ok(None) => {}
+                Ok(Some(kind)) => match self.join_segment(kind, len - DESCRIPTOR_LEN)? {
+                    Err(fault) => return Ok(Err(fault)),
+                    Ok(true) => return Ok(Ok(true)),
+                    Ok(false) => {}
+                },
             }
         }
     }
 
-    pub fn end(&self) -> Result<Option<Cow<'a, [u8]>>, FrameFault> {
-        if self.left.is_some() || !self.rest.is_empty() {
-            return Err(FrameFault::Truncated);
+    /// How many bytes there were of those asked for.
+    fn take(&mut self, bytes: &mut [u8]) -> io::Result<usize> {
+        let mut taken = 0;
+        while taken < bytes.len() {
+            match self.input.read(&mut bytes[taken..])? {
+                0 => break,
+                count => taken += count,
+            }
         }
-        match self.begun {
-            Some(_) => Err(FrameFault::MissingLast),
-            None => Ok(None),
+        Ok(taken)
+    }
+
+    fn end(&self) -> Result<bool, FrameFault> {
+        if self.left.is_some() {
+            Err(FrameFault::Truncated)
+        } else if self.is_begun {
+            Err(FrameFault::MissingLast)
+        } else {
+            Ok(false)
         }
     }
 
-    pub fn open_block(&mut self, len: usize) -> Result<(), FrameFault> {
-        if self.rest[0] >= 0x80 {
+    fn open_block(&mut self, descriptor: &[u8], len: usize) -> Result<(), FrameFault> {
+        if descriptor[0] >= 0x80 {
             return Err(FrameFault::ExtendedBlock);
         }
         if len < DESCRIPTOR_LEN {
             return Err(FrameFault::BlockLength);
         }
-        self.rest = &self.rest[DESCRIPTOR_LEN..];
         self.left = Some(len - DESCRIPTOR_LEN).filter(|left| *left > 0);
         Ok(())
     }
 
-    pub fn segment(&mut self, len: usize) -> Result<&'a [u8], FrameFault> {
-        let begins_record = self.rest[2] % 4 < 2;
+    fn check_segment(&mut self, len: usize, kind: u8) -> Result<(), FrameFault> {
+        let begins_record = kind < 2;
         if len < DESCRIPTOR_LEN {
             return Err(FrameFault::SegmentLength);
         }
         if self.left.is_some_and(|left| left < len) {
             return Err(FrameFault::SegmentCrossesBlock);
         }
-        match &self.begun {
-            None if !begins_record => return Err(FrameFault::OrphanSegment),
-            Some(_) if begins_record => return Err(FrameFault::MissingLast),
-            Some(joined) if joined.len() + len - DESCRIPTOR_LEN > LONGEST_RECORD => {
-                return Err(FrameFault::RecordTooLong);
-            }
-            _ => {}
+        if self.is_begun && begins_record {
+            return Err(FrameFault::MissingLast);
         }
-        let (segment, rest) = self.rest.split_at_checked(len).ok_or(FrameFault::Truncated)?;
-        self.rest = rest;
+        if !self.is_begun && !begins_record {
+            return Err(FrameFault::OrphanSegment);
+        }
+        if self.is_begun && self.record.len() + len - DESCRIPTOR_LEN > LONGEST_RECORD {
+            return Err(FrameFault::RecordTooLong);
+        }
         self.left = self.left.map(|left| left - len).filter(|left| *left > 0);
-        Ok(segment)
+        Ok(())
+    }
+
+    /// Joins the data of a segment; true where it completes the record.
+    fn join_segment(&mut self, kind: u8, len: usize) -> io::Result<Result<bool, FrameFault>> {
+        if !self.is_begun {
+            self.record.clear();
+            self.record.extend_from_slice(&[0; DESCRIPTOR_LEN]);
+        }
+        let at = self.record.len();
+        self.record.resize(at + len, 0);
+        let mut record = std::mem::take(&mut self.record);
+        let taken = self.take(&mut record[at..])?;
+        self.record = record;
+        if taken < len {
+            return Ok(Err(FrameFault::Truncated));
+        }
+        self.is_begun = kind != COMPLETE && kind != LAST;
+        if !self.is_begun {
+            let len = self.record.len() as u16;
+            self.record[..2].copy_from_slice(&len.to_be_bytes());
+        }
+        Ok(Ok(!self.is_begun))
     }
 }
 
@@ -135,19 +179,6 @@ impl Stop {
             Stop::End => "END".to_string(),
             Stop::Frame(fault) => format!("FRAME {}", *fault as u8),
             Stop::Full => "LEDGER 4".to_string(),
-        }
-    }
-}
-
-/// The records of a dump up to its end or its first fault.
-pub fn split(layout: Layout, bytes: &[u8]) -> (Vec<Cow<'_, [u8]>>, Stop) {
-    let mut dump = Dump { layout, rest: bytes, left: None, begun: None };
-    let mut records = Vec::new();
-    loop {
-        match dump.next() {
-            Ok(Some(record)) => records.push(record),
-            Ok(None) => return (records, Stop::End),
-            Err(fault) => return (records, Stop::Frame(fault)),
         }
     }
 }

@@ -4,44 +4,70 @@
 //! `plain check FILE LAYOUT` and `plain trial LAYOUT CPU EXCP RECORD` print what chargectl prints. One
 //! thing is done otherwise, and no text shows it: chargectl keeps each record by its name, the SHA-256 of
 //! its data. Here a record is known by the data itself, and only those of a dispute list are named.
+//!
+//! Built with `--cfg books`, `plain import BOOK FILE CPU EXCP RECORD` keeps books in a file, by SQLite's own
+//! library, and `plain serve BOOK PORT REQUESTS CPU EXCP RECORD` answers for them over HTTP.
 
 mod books;
 mod dumps;
+#[cfg(books)]
+mod filed;
 mod numbers;
 mod records;
+#[cfg(books)]
+mod served;
 mod sha256;
+#[cfg(books)]
+mod sqlite;
 mod texts;
 
 use books::{Books, Rates, import};
-use dumps::{Layout, Stop, split};
-use std::io::{BufWriter, Read, Write};
+use dumps::{Dump, Layout, Stop};
+use std::fs::File;
+use std::io::{BufWriter, Write};
 use std::process::ExitCode;
-use std::{env, fs, io};
+use std::{env, io};
 use texts::{write_check_line, write_disputes, write_receipt, write_statement};
 
 fn check(file: &str, layout: Layout) -> io::Result<Stop> {
-    let bytes = fs::read(file)?;
-    let (records, stop) = split(layout, &bytes);
-    let mut out = BufWriter::new(io::stdout().lock());
-    for (index, record) in records.iter().enumerate() {
-        write_check_line(&mut out, index + 1, record)?;
-    }
-    writeln!(out, "RECORDS {} STOP {}", records.len(), stop.text())?;
+    let mut dump = Dump::new(layout, File::open(file)?);
+    let mut out = BufWriter::with_capacity(65_536, io::stdout().lock());
+    let mut count = 0;
+    let stop = loop {
+        match dump.next()? {
+            Ok(Some(record)) => {
+                count += 1;
+                write_check_line(&mut out, count, record)?;
+            }
+            Ok(None) => break Stop::End,
+            Err(fault) => break Stop::Frame(fault),
+        }
+    };
+    writeln!(out, "RECORDS {count} STOP {}", stop.text())?;
     out.flush()?;
     Ok(stop)
 }
 
 fn trial(layout: Layout, rates: &Rates) -> io::Result<Stop> {
-    let mut bytes = Vec::new();
-    io::stdin().lock().read_to_end(&mut bytes)?;
-    let (records, stop) = split(layout, &bytes);
     let mut books = Books::default();
-    let (receipt, stop) = import(&mut books, &records, rates, stop);
+    let (receipt, stop) = import(&mut books, &mut Dump::new(layout, io::stdin().lock()), rates)?;
     let mut out = BufWriter::new(io::stdout().lock());
     write_receipt(&mut out, &receipt, &stop)?;
     write_statement(&mut out, &books)?;
     write_disputes(&mut out, &books)?;
     out.flush()?;
+    Ok(stop)
+}
+
+#[cfg(books)]
+fn import_into(book: &str, file: &str, rates: &Rates) -> io::Result<Stop> {
+    let mut dump = Dump::new(Layout::Rdw, File::open(file)?);
+    let db = filed::open(book);
+    let mut filed = filed::Filed::over(&db);
+    let (receipt, stop) = filed.import(&mut dump, rates)?;
+    drop(filed);
+    db.close();
+    write_receipt(&mut io::stdout().lock(), &receipt, &stop)?;
     Ok(stop)
 }
 
@@ -54,6 +80,16 @@ fn main() -> ExitCode {
         ["check", file, word] => check(file, layout(word)),
         ["trial", word, cpu, excp, record] => {
             trial(layout(word), &Rates { cpu: rate(cpu), excp: rate(excp), record: rate(record) })
+        }
+        #[cfg(books)]
+        ["import", book, file, cpu, excp, record] => {
+            import_into(book, file, &Rates { cpu: rate(cpu), excp: rate(excp), record: rate(record) })
+        }
+        #[cfg(books)]
+        ["serve", book, port, requests, cpu, excp, record] => {
+            let rates = Rates { cpu: rate(cpu), excp: rate(excp), record: rate(record) };
+            let number = |word: &str| word.parse().expect("a number");
+            served::serve(book, number(port) as u16, number(requests), &rates).map(|()| Stop::End)
         }
         _ => return ExitCode::from(2),
     };

@@ -66,6 +66,14 @@ impl Day {
         (1 <= day_of_year && day_of_year <= last && is_signed).then_some(Day { year, day_of_year })
     }
 
+    /// Days since 1970-01-01.
+    #[cfg(books)]
+    pub fn number(self) -> i64 {
+        let before = i64::from(self.year) - 1;
+        365 * (before - 1969) + (before / 4 - 492) - (before / 100 - 19) + (before / 400 - 4)
+            + i64::from(self.day_of_year) - 1
+    }
+
     pub fn text(self) -> String {
         let february = if is_leap(self.year) { 29 } else { 28 };
         let (mut month, mut day) = (1, self.day_of_year);

@@ -19,6 +19,15 @@ pub const SHA_ROUNDS: [u32; 64] = [
 
 /// The SHA-256 of FIPS 180-4, in small hexadecimal digits.
 pub fn sha256(data: &[u8]) -> String {
+    state_of(data).iter().map(|word| format!("{word:08x}")).collect()
+}
+
+#[cfg(books)]
+pub fn sha256_bytes(data: &[u8]) -> Vec<u8> {
+    state_of(data).iter().flat_map(|word| word.to_be_bytes()).collect()
+}
+
+fn state_of(data: &[u8]) -> [u32; 8] {
     let mut padded = data.to_vec();
     padded.push(0x80);
     padded.resize((data.len() + 9).next_multiple_of(64) - 8, 0);
@@ -27,7 +36,7 @@ pub fn sha256(data: &[u8]) -> String {
     for block in padded.chunks_exact(64) {
         compress(&mut state, block);
     }
-    state.iter().map(|word| format!("{word:08x}")).collect()
+    state
 }
 
 pub fn compress(state: &mut [u32; 8], block: &[u8]) {

@@ -95,14 +95,14 @@ pub fn write_disputes(out: &mut impl Write, books: &Books) -> io::Result<()> {
 pub fn write_variant(out: &mut impl Write, name: &str, usage: &Usage) -> io::Result<()> {
     let (day, amount) = (usage.day.text(), money(usage.sums.amount));
     write!(out, "  {name} {day} {amount:>21} ")?;
-    match count(usage.record, COMPLETION) {
+    match count(&usage.record, COMPLETION) {
         0 => write!(out, "----")?,
         _ => {
-            let at = offset(usage.record, COMPLETION);
-            write!(out, "{:04X}/{:04X}", number2(usage.record, at), number2(usage.record, at + 2))?;
+            let at = offset(&usage.record, COMPLETION);
+            write!(out, "{:04X}/{:04X}", number2(&usage.record, at), number2(&usage.record, at + 2))?;
         }
     }
-    let section = identification(usage.record);
+    let section = identification(&usage.record);
     writeln!(out, " {} {}", shown(&section[32..40]), shown(&section[8..16]))
 }
 

@@ -1,0 +1,173 @@
+"""The office's rules once more, apart from the program: what its commands print of a month. Only what the samples need.
+
+`samples/make` writes by it what `crates/worked_commands` has to print."""
+import collections
+import datetime
+import hashlib
+import struct
+import tomllib
+
+Record = collections.namedtuple("Record", "name identity day minute job centre shift cpu blocks amount code job_id program")
+EPOCH = datetime.date(1970, 1, 1)
+
+
+def joined(dump):
+    """The joined records of a dump of segments, without their descriptors."""
+    at, parts = 0, []
+    while at < len(dump):
+        length, kind = struct.unpack_from(">HB", dump, at)
+        parts.append(dump[at + 4:at + length])
+        at += length
+        if kind & 3 in (0, 2):
+            yield b"".join(parts)
+            parts = []
+
+
+def kind_of(data):
+    """What the receipt counts a record as."""
+    if data[1] != 30:
+        return {2: "HEADERS", 3: "TRAILERS", 7: "LOST"}.get(data[1], "OTHER")
+    if struct.unpack_from(">H", data, 18)[0] not in (4, 5):
+        return "OTHER"
+    places = [struct.unpack_from(">IHH", data, at - 4) for at in (32, 40, 48, 56)]
+    if places[3][2] == 0:
+        return "CONTINUED"
+    fits = all(number == 0 or offset + length <= len(data) + 4 for offset, length, number in places)
+    return "USAGE" if fits else "DAMAGED"
+
+
+def text(field):
+    return field.decode("cp037").rstrip()
+
+
+def day_of(packed):
+    return datetime.date(1900 + 100 * (packed[0] & 15) + int("%02x" % packed[1]), 1, 1) + datetime.timedelta(
+        int(packed[2:].hex()[:3]) - 1)
+
+
+class Tariff:
+    def __init__(self, file):
+        self.terms = tomllib.loads(file.decode())
+
+    def shift(self, weekday, minute):
+        def of(clock):
+            return 60 * int(clock[:2]) + int(clock[3:])
+        for shift in self.terms.get("shift", ()):
+            if weekday in shift["days"] and of(shift["from"]) <= minute < of(shift["to"]):
+                return shift["name"], shift["percent"]
+        return "BASE", 100
+
+    def centre(self, job):
+        """No sample record has accounting fields."""
+        for centre in self.terms.get("centre", ()):
+            if "account" not in centre and job.startswith(centre["job"]):
+                return centre["name"]
+        return "UNASSIGNED"
+
+    def record(self, data):
+        sections = [struct.unpack_from(">I", data, at - 4)[0] - 4 for at in (32, 40, 48, 56)]
+        work, activity, completion, processor = (data[at:] for at in sections)
+        subtype, step = data[18:20], work[40:42]
+        day, minute = day_of(data[6:10]), struct.unpack_from(">I", data, 2)[0] // 6000
+        job, rates = text(work[:8]), self.terms["rates"]
+        prefix = "step" if subtype == b"\0\4" else "job"
+        cpu = sum(struct.unpack_from(">II", processor, 4))
+        blocks = struct.unpack_from(">I", activity, 4)[0]
+        shift, percent = self.shift(day.isoweekday(), minute)
+        base = 10 * cpu * rates[prefix + "_cpu"] + blocks * rates[prefix + "_excp"] + 1000 * rates[prefix + "_record"]
+        identity = data[10:14] + work[:8] + work[64:72] + subtype + (step if subtype == b"\0\4" else b"\0\0")
+        code = "%s/%s" % (completion[:2].hex().upper(), completion[2:4].hex().upper())
+        return Record(hashlib.sha256(data).hexdigest(), identity, day, minute, job, self.centre(job), shift, cpu, blocks,
+                      (base * percent + 50000) // 100000, code, text(work[32:40]), text(work[8:16]))
+
+
+def decimals(number, places):
+    digits = str(abs(number)).rjust(places + 1, "0")
+    return ("-" if number < 0 else "") + digits[:-places] + "." + digits[-places:]
+
+
+class Books:
+    def __init__(self):
+        self.held, self.charged_at, self.closes = {}, [], []
+
+    def tariff(self, file):
+        self.prices = Tariff(file)
+        return ["DONE"]
+
+    def take(self, dump):
+        counts = collections.Counter()
+        for data in joined(dump):
+            kind = kind_of(data)
+            if kind == "USAGE":
+                record = self.prices.record(data)
+                kind = "KNOWN" if record.name in self.held else "KEPT"
+                self.held[record.name] = record
+            counts[kind] += 1
+        words = "KEPT KNOWN UNPRICED OTHER HEADERS TRAILERS LOST CONTINUED DAMAGED".split()
+        return [" ".join("%s %d" % (word, counts[word]) for word in words) + " STOP END"]
+
+    def undisputed(self):
+        count = collections.Counter(record.identity for record in self.held.values())
+        return {name for name, record in self.held.items() if count[record.identity] == 1}
+
+    def close(self, through):
+        self.charged_at.append({name for name in self.undisputed() if self.held[name].day <= through})
+        self.closes.append(through)
+        return ["DONE"]
+
+    def head(self, period):
+        return "CLOSED THROUGH %s" % self.closes[period - 1] if period <= len(self.closes) else "OPEN"
+
+    def charged(self, period):
+        """At the period's end, or now."""
+        return self.charged_at[period - 1] if period <= len(self.closes) else self.undisputed()
+
+    def before(self, period):
+        return self.closes[period - 2] if period > 1 else datetime.date.min
+
+    def rows(self, period):
+        groups = {}
+        for name in self.charged(period):
+            record = self.held[name]
+            if record.day > self.before(period):
+                sums = groups.setdefault((str(record.day), record.centre, record.shift), [0, 0, 0, 0])
+                for at, more in enumerate((1, record.cpu, record.blocks, record.amount)):
+                    sums[at] += more
+        return sorted(groups.items())
+
+    def statement(self, period):
+        def line(key, count, cpu, blocks, amount):
+            return "%-10s %-16s %-16s %8s %19s %18s %21s" % (key + (count, cpu, blocks, amount))
+        yield "STATEMENT PERIOD %d %s" % (period, self.head(period))
+        yield line(("DAY", "CENTRE", "SHIFT"), "COUNT", "CPU", "BLOCKS", "AMOUNT")
+        rows = self.rows(period) + [(("TOTAL", "", ""), [sum(column) for column in zip(*(r[1] for r in self.rows(period)))])]
+        for key, (count, cpu, blocks, amount) in rows:
+            yield line(key, count, decimals(cpu, 2), blocks, decimals(amount, 4))
+
+    def table(self, period):
+        yield "period,day,centre,shift,count,cpu,blocks,amount"
+        for key, (count, cpu, blocks, amount) in self.rows(period):
+            yield "%d,%s,%s,%s,%d,%s,%d,%s" % ((period,) + key + (count, decimals(cpu, 2), blocks, decimals(amount, 4)))
+
+    def adjustments(self, period):
+        before = self.charged(period - 1) if period > 1 else set()
+        added = {name for name in self.charged(period) - before if self.held[name].day <= self.before(period)}
+        lines = [(1, self.held[name]) for name in added] + [(-1, self.held[name]) for name in before - self.charged(period)]
+        yield "ADJUSTMENTS PERIOD %d %s" % (period, self.head(period))
+        for sign, one in sorted(lines, key=lambda line: (line[1].day, line[1].name)):
+            yield "%-5s %s %-16s %-16s %21s %s %s" % ("PLUS" if sign > 0 else "MINUS", one.day, one.centre, one.shift,
+                                                      decimals(sign * one.amount, 4), one.name, one.job)
+        yield "TOTAL" + 46 * " " + "%21s" % decimals(sum(sign * one.amount for sign, one in lines), 4)
+
+    def disputes(self):
+        groups = collections.defaultdict(list)
+        for record in self.held.values():
+            groups[record.identity].append(record)
+        disputed = sorted(group for group in groups.items() if len(group[1]) > 1)
+        yield "DISPUTES %d" % len(disputed)
+        for identity, members in disputed:
+            read = identity[12:20].hex().upper()
+            yield "%s %s READER %s %s SUBTYPE %d STEP %d" % (
+                (text(identity[:4]), text(identity[4:12]), read[:8], read[8:]) + struct.unpack(">HH", identity[20:]))
+            for one in sorted(members):
+                yield "  %s %s %21s %s %s %s" % (one.name, one.day, decimals(one.amount, 4), one.code, one.job_id, one.program)
