@@ -30,7 +30,7 @@ TOTAL                                               1               12.34       
 ";
 
 /// Books under the office's tariff that were handed the sample.
-fn with_sample(alloc: Global) -> Result<KeptBooks, Fail> {
+pub fn with_sample(alloc: Global) -> Result<KeptBooks, Fail> {
     let mut books = KeptBooks::new(alloc)?;
     books.give(&[tariff(alloc)?, import_of(alloc, &[&SAMPLE])?])?;
     Ok(books)

@@ -15,6 +15,8 @@ mod kept_books;
 #[cfg(test)]
 mod lists;
 #[cfg(test)]
+mod requests;
+#[cfg(test)]
 mod restart;
 #[cfg(test)]
 mod same;
