@@ -14,7 +14,7 @@ use Rattle.book_import.specs.declared.receipt.Stop.{Stop}
 use Rattle.book_import.specs.declared.receipt.Stop.TheVariants.{Ledger}
 use Rattle.book_import.specs.Dumps.{stop_behind}
 use Rattle.book_import.specs.Handled.{Imported, Answering, handle, go_on, handle_all, start_of}
-use Rattle.book_import.specs.Imports.{Handles, whole, out_of_memory, store_failed}
+use Rattle.book_import.specs.Imports.{IsTold, Handles, whole, out_of_memory, store_failed}
 use Rattle.book_import.specs.Laws.{import_of_records, book_left}
 use Rattle.book_import.specs.Repeats.{IsUnhindered, TwiceIsOnce, RunTwiceIsOnce}
 use Rattle.book_import.proofs.BookLemmas.{left_is}
@@ -39,26 +39,29 @@ memory_or_whole naming stop (suc count) (bytes ∷ rest) so_far =
       | Err fault ↦ inr refl
     ]
 
--- the events of a whole import into open books, which stay open
-record IsWhole (naming : Naming) (stop : Stop) (records : List (List ℕ)) (before : Book)
-    (events : List Event) (is : Bool) : Type 0 where
-  stays_open : is ≡ false
-  of_all : (import_of_records naming before stop records).events ≡ events
+-- all of the records were imported into open books, which stay open: the receipt, and the events
+pub record IsWhole (naming : Naming) (stop : Stop) (records : List (List ℕ)) (before : Book)
+    (once : Receipt) (events : List Event) (is : Bool) : Type 0 where
+  pub stays_open : is ≡ false
+  pub told : IsTold (import_of_records naming before stop records) once events
 
 -- where neither memory nor the store stopped it, the import is a whole one
-is_whole : (naming : Naming) (stop : Stop) (records : List (List ℕ)) (before : Book)
+pub is_whole : (naming : Naming) (stop : Stop) (records : List (List ℕ)) (before : Book)
     (once : Receipt) (events : List Event) (is : Bool)
     → Handles naming stop records once false before events is → IsUnhindered once
-    → IsWhole naming stop records before events is
+    → IsWhole naming stop records before once events is
 is_whole naming stop records before once events is (whole same told) unhindered =
-    record { stays_open = same; of_all = told.events }
+    record { stays_open = same; told = told }
 is_whole naming stop records before once events is (out_of_memory count same told) unhindered =
     elim (memory_or_whole naming stop count records (start_of before)) [
       | inl memory ↦
           absurd (unhindered.memory (ap (λ (r : Receipt). r.stop) (sym told.receipt) ∙ memory))
       | inr all ↦ record {
         stays_open = same;
-        of_all = ap (λ (one : Imported). one.events) (sym all) ∙ told.events;
+        told = record {
+          receipt = ap (λ (one : Imported). one.receipt) (sym all) ∙ told.receipt;
+          events = ap (λ (one : Imported). one.events) (sym all) ∙ told.events;
+        };
       }
     ]
 is_whole naming stop records before once events is
@@ -106,7 +109,7 @@ twice_is_once naming before stop again records once twice first second between i
     let all = is_whole naming stop records before once first between handled unhindered in
     let book : Book = after_all first before in
     let left : book ≡ book_left naming before stop records =
-    ap (λ events. after_all events before) (sym all.of_all) in
+    ap (λ events. after_all events before) (sym all.told.events) in
     let those = of_first naming again records book twice second is
     (subst (λ b. Handles naming again records twice b book second is) all.stays_open
     handled_again) in

@@ -1,5 +1,5 @@
 -- Calls on one ledger, one after another: their work, and the events that they make.
-use Rattle.std.proofs.Common.{◌≡◌, List, [], ◌∷◌, ◌++◌, None, Result, refl, sym, subst, map}
+use Rattle.std.proofs.Common.{◌≡◌, ℕ, List, [], ◌∷◌, ◌++◌, None, Result, refl, sym, subst, map}
 use Rattle.smf_frames.specs.Front.{front}
 use Rattle.book_model.specs.declared.fault.LedgerFault.{LedgerFault}
 use Rattle.book_model.specs.Accept.{accept_answer}
@@ -12,7 +12,7 @@ use Rattle.book_model.specs.Outcomes.{disputes_outcome, periods_outcome}
 use Rattle.book_model.specs.Records.{Naming}
 use Rattle.book_core.specs.Calls.{Calls, listed}
 use Rattle.book_core.specs.Ledgers.{Seen}
-use Rattle.book_core.specs.Work.{IsWork}
+use Rattle.book_core.specs.Work.{NoEvent, IsWork}
 use Rattle.book_core.proofs.FollowLemmas.{MakesAnswered, then_answered, calls_answered}
 use Rattle.book_core.proofs.FollowLemmas.{accept_event-answered, tariff_answered, close_answered}
 use Rattle.book_core.proofs.WorkLemmas.{no_work, work_then}
@@ -26,8 +26,8 @@ use Rattle.run_laws.specs.Calls.{work_of, works_of}
 use Rattle.run_laws.specs.declared.report.Report.{Report}
 use Rattle.run_laws.specs.declared.report.Report.TheVariants.{Statement, StatementTable}
 use Rattle.run_laws.specs.declared.report.Report.TheVariants.{AdjustmentList, DisputeList}
-use Rattle.run_laws.specs.declared.report.Report.TheVariants.{PeriodList}
-use Rattle.run_laws.specs.Reports.{report_outcome}
+use Rattle.run_laws.specs.declared.report.Report.TheVariants.{PeriodList, ReceiptLine}
+use Rattle.run_laws.specs.Reports.{report_outcome, report_work}
 
 -- a report is no event
 pub report_reads : (naming : Naming) (report : Report) (book : Book)
@@ -37,6 +37,7 @@ report_reads naming (StatementTable period) book = refl
 report_reads naming (AdjustmentList period) book = refl
 report_reads naming DisputeList book = refl
 report_reads naming PeriodList book = refl
+report_reads naming (ReceiptLine receipt) book = refl
 
 -- what is read makes none
 readings_answered : {V A : Type 0} (naming : Naming) (view : V → A) (outcome : Book → Outcome A)
@@ -46,6 +47,31 @@ readings_answered naming view outcome result none =
     calls_answered naming view outcome result (λ history answered.
     subst (λ event. IsAnswered naming (listed event ++ history))
     (sym (none (book_after history))) answered)
+
+-- nor do reports that books answer
+outcome_answered : (naming : Naming) (report : Report) (answer : Result (List ℕ) LedgerFault)
+    → MakesAnswered naming (Calls (λ answer. answer) (report_outcome naming report) answer)
+outcome_answered naming report answer =
+    readings_answered naming (λ answer. answer) (report_outcome naming report) answer
+    (report_reads naming report)
+
+-- nor does what asks no ledger
+none_answered : (naming : Naming) → MakesAnswered naming NoEvent
+none_answered naming = λ history was events is none answered.
+    subst (λ events. IsAnswered naming (events ++ history)) (sym none.none) answered
+
+-- so reports make none
+report_answered : (naming : Naming) (report : Report) (answer : Result (List ℕ) LedgerFault)
+    → MakesAnswered naming (report_work naming report answer)
+report_answered naming (Statement period) answer =
+    outcome_answered naming (Statement period) answer
+report_answered naming (StatementTable period) answer =
+    outcome_answered naming (StatementTable period) answer
+report_answered naming (AdjustmentList period) answer =
+    outcome_answered naming (AdjustmentList period) answer
+report_answered naming DisputeList answer = outcome_answered naming DisputeList answer
+report_answered naming PeriodList answer = outcome_answered naming PeriodList answer
+report_answered naming (ReceiptLine receipt) answer = none_answered naming
 
 -- each call makes only events that the books answered
 call_answered : (naming : Naming) (call : Call) → MakesAnswered naming (work_of naming call)
@@ -70,15 +96,12 @@ call_answered naming (ReadDisputes answer) =
     answer (λ book. refl)
 call_answered naming (ReadPeriods answer) =
     readings_answered naming (λ days. days.items) periods_outcome answer (λ book. refl)
-call_answered naming (ReadReport report answer) =
-    readings_answered naming (λ answer. answer) (report_outcome naming report) answer
-    (report_reads naming report)
+call_answered naming (ReadReport report answer) = report_answered naming report answer
 
 -- so do all of them
 pub calls_are_answered : (naming : Naming) (calls : List Call)
     → MakesAnswered naming (works_of naming calls)
-calls_are_answered naming [] = λ history was events is none answered.
-    subst (λ events. IsAnswered naming (events ++ history)) (sym none.none) answered
+calls_are_answered naming [] = none_answered naming
 calls_are_answered naming (call ∷ later) =
     then_answered naming (work_of naming call) (works_of naming later) (call_answered naming call)
     (calls_are_answered naming later)

@@ -1,29 +1,36 @@
 -- What a report tells: from the contracts of the calls before it, and its own.
 use Rattle.std.proofs.Common.{◌≡◌, ◌∙◌, List, [], ◌++◌, Option, Result, Ok, Err}
-use Rattle.std.proofs.Common.{refl, sym, ap, subst}
+use Rattle.std.proofs.Common.{◌∷◌, refl, sym, ap, subst, append-nil}
+use Rattle.std.specs.List.{concat}
 use Rattle.std.specs.Prelude.{ℕ, OnOk}
 use Rattle.std.specs.Io.KnownBytes.{Appends}
 use Rattle.book_model.specs.declared.fault.LedgerFault.{LedgerFault}
 use Rattle.book_model.specs.Books.{Book, new_book}
 use Rattle.book_model.specs.Events.{Event}
-use Rattle.book_model.specs.History.{book_of}
+use Rattle.book_model.specs.History.{book_after, book_of}
 use Rattle.book_model.specs.Outcomes.{Outcome}
 use Rattle.book_model.specs.Records.{Naming}
 use Rattle.book_model.proofs.OrderLemmas.{order_is_free}
 use Rattle.book_model.proofs.StepLemmas.{books_follow_history}
 use Rattle.book_core.specs.Calls.{IsCall}
-use Rattle.book_core.specs.Ledgers.{Seen}
+use Rattle.book_core.specs.Ledgers.{Seen, IsOpenAt}
 use Rattle.book_core.specs.Work.{IsWork}
 use Rattle.book_reports.specs.declared.fault.ReportFault.{ReportFault}
 use Rattle.book_import.specs.declared.command.Command.{Command}
 use Rattle.book_import.specs.declared.command.Reply.{Reply}
 use Rattle.book_import.specs.Commands.{Runs}
+use Rattle.book_import.specs.declared.receipt.Receipt.{Receipt}
+use Rattle.book_reports.specs.ReceiptLines.{receipt_line_text}
 use Rattle.book_reports.specs.Reports.{IsPassedOn, IsReport}
+use Rattle.run_laws.specs.CallLaws.{IsStillOpen}
 use Rattle.run_laws.specs.Calls.{ledger_after}
 use Rattle.run_laws.specs.Headline.{Reading, IsRead, Tells, ReportsFollowHistory}
 use Rattle.run_laws.specs.Headline.{TellsAfterRun}
 use Rattle.run_laws.specs.declared.report.Report.{Report}
-use Rattle.run_laws.specs.Reports.{report_outcome, IsTextOf, DiffersAsAllowed}
+use Rattle.run_laws.specs.declared.report.Report.TheVariants.{Statement, StatementTable}
+use Rattle.run_laws.specs.declared.report.Report.TheVariants.{AdjustmentList, DisputeList}
+use Rattle.run_laws.specs.declared.report.Report.TheVariants.{PeriodList, ReceiptLine}
+use Rattle.run_laws.specs.Reports.{report_outcome, IsWrittenReport, IsTextOf, DiffersAsAllowed}
 use Rattle.run_laws.proofs.CallLemmas.{report_reads}
 use Rattle.run_laws.proofs.LeavingLemmas.{calls_follow_history, open_before, read_at}
 
@@ -38,17 +45,20 @@ passed_text (Err fault) held holds passed = absurd (ok_not_err passed.0)
         → ⊥
     ok_not_err same = cc
 
--- a report tells of the whole history
-pub read_tells : {L : Type 0} (seen : L → Seen) (naming : Naming) (start : List Event)
+-- a report that books answered tells of the whole history
+books_tell : {L : Type 0} (seen : L → Seen) (naming : Naming) (start : List Event)
     (report : Report) (reading : Reading L) → IsRead seen naming start report reading
+    → IsReport (seen (ledger_after reading.before reading.steps)) (seen reading.after)
+    (report_outcome (seen (ledger_after reading.before reading.steps)).naming report)
+    reading.held reading.holds (Ok tt)
     → Tells seen naming start report reading
-read_tells seen naming start report reading read =
+books_tell seen naming start report reading read answered =
     let between : Seen = seen (ledger_after reading.before reading.steps) in
-    let passed = passed_text read.read.answer reading.held reading.holds read.read.passed_on in
+    let passed = passed_text answered.answer reading.held reading.holds answered.passed_on in
     let outcome : Book → Outcome (List ℕ) = report_outcome between.naming report in
     let call : IsCall (λ text. text) between (seen reading.after) (Ok passed.0) outcome =
     subst (λ answer. IsCall (λ text. text) between (seen reading.after) answer outcome) passed.1
-    read.read.call in
+    answered.call in
     let left = calls_follow_history seen naming start reading.before reading.steps read.answered
     read.opened read.done (open_before call read.honest) in
     let history : List Event = left.events ++ start in
@@ -66,17 +76,69 @@ read_tells seen naming start report reading read =
       left = told.1;
     }
 
--- histories that differ as allowed have one text
+-- a line that was written whole is that of its receipt
+written_line : (receipt : Receipt) (held holds : Option (List ℕ))
+    → Appends held holds (concat (receipt_line_text receipt ∷ []))
+    → Appends held holds (receipt_line_text receipt)
+written_line receipt held holds written =
+    subst (Appends held holds) (append-nil (receipt_line_text receipt)) written
+
+-- the line of a receipt leaves an open ledger at the books of the whole history
+line_tells : {L : Type 0} (seen : L → Seen) (naming : Naming) (start : List Event)
+    (receipt : Receipt) (reading : Reading L)
+    → IsRead seen naming start (ReceiptLine receipt) reading
+    → Tells seen naming start (ReceiptLine receipt) reading
+line_tells {L} seen naming start receipt reading read =
+    let same : reading.after ≡ ledger_after reading.before reading.steps = read.read.ledger in
+    let still = subst (λ (ledger : L). IsStillOpen (seen ledger)) same
+    (record { is_open = read.open_behind; honest = read.honest }) in
+    let left = calls_follow_history seen naming start reading.before reading.steps read.answered
+    read.opened read.done still in
+    record {
+      events = left.events;
+      made = left.made;
+      answered = left.answered;
+      text = receipt_line_text receipt;
+      written = written_line receipt reading.held reading.holds read.read.line;
+      is = refl;
+      left = subst (λ (ledger : L). IsOpenAt naming (book_after (left.events ++ start))
+          (seen ledger)) (sym same) left.left;
+    }
+
+-- each of the six reports tells
+pub read_tells : {L : Type 0} (seen : L → Seen) (naming : Naming) (start : List Event)
+    (report : Report) (reading : Reading L) → IsRead seen naming start report reading
+    → Tells seen naming start report reading
+read_tells seen naming start (Statement period) reading read =
+    books_tell seen naming start (Statement period) reading read read.read
+read_tells seen naming start (StatementTable period) reading read =
+    books_tell seen naming start (StatementTable period) reading read read.read
+read_tells seen naming start (AdjustmentList period) reading read =
+    books_tell seen naming start (AdjustmentList period) reading read read.read
+read_tells seen naming start DisputeList reading read =
+    books_tell seen naming start DisputeList reading read read.read
+read_tells seen naming start PeriodList reading read =
+    books_tell seen naming start PeriodList reading read read.read
+read_tells seen naming start (ReceiptLine receipt) reading read =
+    line_tells seen naming start receipt reading read
+
+-- histories that differ as allowed define one book
+pub same_book : (one other : List Event) → DiffersAsAllowed one other
+    → book_of one ≡ book_of other
+same_book one other differs =
+    sym (books_follow_history one)
+    ∙ order_is_free new_book one other differs.rulings differs.between
+    ∙ books_follow_history other
+
+-- so they have one text
 same_text : (naming : Naming) (one other : List Event) (report : Report) (text text_other : List ℕ)
     → DiffersAsAllowed one other → IsTextOf naming one report text
     → IsTextOf naming other report text_other → text ≡ text_other
 same_text naming one other report text text_other differs is is_other =
-    let same : book_of one ≡ book_of other =
-    sym (books_follow_history one)
-    ∙ order_is_free new_book one other differs.rulings differs.between
-    ∙ books_follow_history other in
     ok_injective
-    (sym is ∙ ap (λ book. (report_outcome naming report book).answer) same ∙ is_other)
+    (sym is
+    ∙ ap (λ book. (report_outcome naming report book).answer) (same_book one other differs)
+    ∙ is_other)
   where
     value_or : List ℕ → Result (List ℕ) LedgerFault → List ℕ
     value_or other (Ok value) = value
@@ -103,11 +165,10 @@ pub tells_after_run : {L : Type 0} (seen : L → Seen) (commands : List Command)
     (replies : List Reply) (report : Report) (before between after : L)
     (held holds : Option (List ℕ)) (result : Result (Unit {0}) ReportFault)
     → IsWork (seen before) (seen between) (Runs (seen before).naming commands replies)
-    → IsReport (seen between) (seen after) (report_outcome (seen between).naming report) held holds
-    result
+    → IsWrittenReport seen between after report held holds result
     → OnOk result (TellsAfterRun seen commands report before after held holds)
 tells_after_run seen commands replies report before between after held holds (Ok done) ran read =
-    λ naming start answered opened honest. (
+    λ naming start answered opened honest open_behind. (
       replies,
       between,
       read_tells seen naming start report _ (record {
@@ -115,6 +176,7 @@ tells_after_run seen commands replies report before between after held holds (Ok
         opened = opened;
         done = (ran, tt);
         read = read;
+        open_behind = open_behind;
         honest = honest;
       }),
     )

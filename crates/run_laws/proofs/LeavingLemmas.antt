@@ -1,5 +1,5 @@
 -- What work on an open ledger leaves of it, where it is still open.
-use Rattle.std.proofs.Common.{◌≡◌, ◌∙◌, false, List, [], Ok, refl, sym, ap, subst}
+use Rattle.std.proofs.Common.{◌≡◌, ◌∙◌, Bool, true, false, List, [], Ok, refl, sym, ap, subst}
 use Rattle.std.specs.Prelude.{◌||◌}
 use Rattle.book_model.specs.Books.{Book, new_book}
 use Rattle.book_model.specs.Events.{Event, after_all}
@@ -48,6 +48,21 @@ work_leaves {start = start} {old = old} {new = new} {Made = Made} opened work st
         books = work.books still.honest opened.books;
       };
     }
+
+-- a ledger that work left open was open before it
+pub open_earlier : {old new : Seen} {Made : Work} → IsWork old new Made → IsStillOpen new
+    → IsStillOpen old
+open_earlier {old = old} work still = record {
+  is_open = not_shut old.must_reopen (λ shut.
+      let reopened = (work.alone shut).reopen in
+      let is_open = still.is_open in
+      cc);
+  honest = work.honest still.honest;
+}
+  where
+    not_shut : (shut : Bool) → (shut ≡ true → ⊥) → shut ≡ false
+    not_shut true never = absurd (never refl)
+    not_shut false never = refl
 
 module _ {V A : Type 0} {view : V → A} {value : V} {outcome : Book → Outcome A} where
   -- a list was answered: the ledger was open, and is

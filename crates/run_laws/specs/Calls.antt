@@ -23,7 +23,7 @@ use Rattle.book_import.specs.declared.receipt.Stop.{Stop}
 use Rattle.book_import.specs.Commands.{Runs}
 use Rattle.book_import.specs.Imports.{Imports}
 use Rattle.run_laws.specs.declared.report.Report.{Report}
-use Rattle.run_laws.specs.Reports.{report_outcome}
+use Rattle.run_laws.specs.Reports.{report_work}
 
 -- What was asked of a ledger, and what it answered: commands by `run`; the import of a dump, whose
 -- reading something may have cut short; a record; a tariff; a close; a list of a period, of the
@@ -56,8 +56,7 @@ work_of naming (ReadAdjustments period answer) =
 work_of naming (ReadDisputes answer) =
     Calls (λ found. map dispute_shown found.items) (disputes_outcome naming) answer
 work_of naming (ReadPeriods answer) = Calls (λ days. days.items) periods_outcome answer
-work_of naming (ReadReport report answer) =
-    Calls (λ answer. answer) (report_outcome naming report) answer
+work_of naming (ReadReport report answer) = report_work naming report answer
 
 -- the work of all calls, one after the other
 abbrev pub works_of : Naming → List Call → Work

@@ -1,6 +1,8 @@
-//! The reports of books, by one name each.
+//! The reports, by one name each.
 
-/// A report that tells of books. The receipt line is none: it tells of one import.
+use book_import::Receipt;
+
+/// A report: the first five tell of books, the last of one import.
 #[derive(Clone, Copy, Debug)]
 pub enum Report {
     /// The statement of a period.
@@ -13,4 +15,6 @@ pub enum Report {
     DisputeList,
     /// The periods.
     PeriodList,
+    /// The line of a receipt.
+    ReceiptLine(Receipt),
 }

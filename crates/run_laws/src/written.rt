@@ -3,21 +3,20 @@
 ghost use Rattle.std.specs.Prelude.{◌≡◌, All, OnOk, false};
 ghost use Rattle.streams.specs.Sinks.{has_failed, writer_of};
 ghost use Rattle.book_import.specs.Commands.{IsAskable};
-ghost use Rattle.book_reports.specs.Reports.{IsReport};
 ghost use Rattle.book_reports.specs.Writing.{is_write_fault};
 ghost use Rattle.run_laws.specs.Headline.{TellsAfterRun};
-ghost use Rattle.run_laws.specs.Reports.{report_outcome};
+ghost use Rattle.run_laws.specs.Reports.{IsWrittenReport};
 
 use crate::report::Report;
 use book_core::{Ledger, Sink};
 use book_import::{Command, run};
 use book_reports::{
-    ReportFault, adjustment_list, dispute_list, period_list, statement, statement_csv,
+    ReportFault, adjustment_list, dispute_list, period_list, receipt_line, statement, statement_csv,
 };
 use std::alloc::Global;
 use std::io::Write;
 
-/// Writes a report of the books.
+/// Writes a report. For the line of a receipt the books are not asked.
 pub fn write_report<L: Ledger, W: Write + Drop>(
     alloc: Global,
     ledger: &mut L,
@@ -25,8 +24,7 @@ pub fn write_report<L: Ledger, W: Write + Drop>(
     sink: &mut Sink<W>,
 ) -> Result<(), ReportFault>
     requires { has_failed sink.old ≡ false }
-    ensures report { IsReport (L.seen ledger.old) (L.seen ledger.new)
-        (report_outcome (L.seen ledger.old).naming report)
+    ensures report { IsWrittenReport L.seen ledger.old ledger.new report
         (W.contents (writer_of sink.old)) (W.contents (writer_of sink.new)) result }
     ensures failed { has_failed sink.new ≡ is_write_fault result }
 {
@@ -36,6 +34,7 @@ pub fn write_report<L: Ledger, W: Write + Drop>(
         Report::AdjustmentList(period) => adjustment_list(alloc, ledger, period, sink),
         Report::DisputeList => dispute_list(alloc, ledger, sink),
         Report::PeriodList => period_list(alloc, ledger, sink),
+        Report::ReceiptLine(receipt) => receipt_line(alloc, &receipt, sink),
     }
 }
 

@@ -1,0 +1,83 @@
+-- What the receipt of an import tells, whatever calls came before it.
+use Rattle.std.specs.Prelude.{◌≡◌, ℕ, false, List, ◌++◌, Option}
+use Rattle.smf_frames.specs.declared.dump.Layout.{Layout}
+use Rattle.smf_frames.specs.Front.{front}
+use Rattle.book_model.specs.Answered.{IsAnswered}
+use Rattle.book_model.specs.Events.{Event}
+use Rattle.book_model.specs.History.{book_after, book_of}
+use Rattle.book_model.specs.Records.{Naming}
+use Rattle.book_core.specs.Ledgers.{Seen, IsOpenAt}
+use Rattle.book_core.specs.Work.{IsWork}
+use Rattle.book_import.specs.declared.receipt.Receipt.{Receipt}
+use Rattle.book_import.specs.declared.receipt.Stop.{Stop}
+use Rattle.book_import.specs.Dumps.{stop_behind}
+use Rattle.book_import.specs.Imports.{Imports}
+use Rattle.book_import.specs.Laws.{import_of_records}
+use Rattle.book_import.specs.Repeats.{IsUnhindered}
+use Rattle.run_laws.specs.CallLaws.{IsStillOpen}
+use Rattle.run_laws.specs.Calls.{Step, AreDone, calls_of, ledger_after, works_of}
+use Rattle.run_laws.specs.Reports.{DiffersAsAllowed}
+
+-- the bytes of a dump, and what cut their reading short, if anything did
+pub record Dump : Type 0 where
+  pub layout : Layout
+  pub cut : Option Stop
+  pub bytes : List ℕ
+
+-- the receipt that the definitions give for the import of a dump into the book of a history, looked
+-- at as a whole
+abbrev pub receipt_of : Naming → List Event → Dump → Receipt
+receipt_of naming history dump =
+    let found = front dump.layout dump.bytes in
+    (import_of_records naming (book_of history) (stop_behind dump.cut found) found.records).receipt
+
+-- A ledger of some kind, as it was in the beginning; the calls on it, with the ledger after each;
+-- and an import then: its receipt, and the ledger after it.
+pub record Importing (L : Type 0) : Type 0 where
+  pub before : L
+  pub steps : List (Step L)
+  pub receipt : Receipt
+  pub after : L
+
+-- The ledger was opened at the books of a history that calls made, new books if that is empty. Each
+-- call on it kept its contract, and so did the import, which neither want of memory nor the store
+-- stopped. The ledger is open behind it, and what it is kept on returned what was written.
+pub record IsImported {L : Type 0} (seen : L → Seen) (naming : Naming) (start : List Event)
+    (dump : Dump) (importing : Importing L) : Type 0 where
+  pub answered : IsAnswered naming start
+  pub opened : IsOpenAt naming (book_after start) (seen importing.before)
+  pub done : AreDone seen importing.before importing.steps
+  pub imported :
+      let between : Seen = seen (ledger_after importing.before importing.steps) in
+      IsWork between (seen importing.after)
+      (Imports between.naming dump.layout dump.cut dump.bytes importing.receipt)
+  pub unhindered : IsUnhindered importing.receipt
+  pub still : IsStillOpen (seen importing.after)
+
+-- The calls made these events, the newest first; and the receipt is the one that the definitions
+-- give for the whole history before the import.
+pub record Counts {L : Type 0} (naming : Naming) (start : List Event) (dump : Dump)
+    (importing : Importing L) : Type 0 where
+  pub events : List Event
+  pub made : works_of naming (calls_of importing.steps) false (book_after start) events false
+  pub answered : IsAnswered naming (events ++ start)
+  pub is : importing.receipt ≡ receipt_of naming (events ++ start) dump
+
+-- Both count; and where the histories before them differ as allowed, the receipts are the same.
+pub record CountTheSame {L M : Type 0} (naming : Naming) (start start_other : List Event)
+    (dump : Dump) (one : Importing L) (other : Importing M) : Type 0 where
+  pub told : Counts naming start dump one
+  pub other_told : Counts naming start_other dump other
+  pub same : DiffersAsAllowed (told.events ++ start) (other_told.events ++ start_other)
+      → one.receipt ≡ other.receipt
+
+-- After any calls the receipt of an import is the one that the definitions give for the office's
+-- rulings, the records that were accepted between them, and the bytes of the dump; and two ledgers
+-- of any kinds answer the same receipt, and so have the same line of it, where the histories differ
+-- as allowed.
+abbrev pub ReceiptsFollowHistory : {L M : Type 0} → (L → Seen) → (M → Seen) → Type 0
+ReceiptsFollowHistory {L} {M} seen seen_other =
+    (naming : Naming) (start start_other : List Event) (dump : Dump) (one : Importing L)
+    (other : Importing M)
+    → IsImported seen naming start dump one → IsImported seen_other naming start_other dump other
+    → CountTheSame naming start start_other dump one other
