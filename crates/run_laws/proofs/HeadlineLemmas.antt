@@ -77,7 +77,7 @@ books_tell seen naming start report reading read answered =
     }
 
 -- a line that was written whole is that of its receipt
-written_line : (receipt : Receipt) (held holds : Option (List ℕ))
+pub written_line : (receipt : Receipt) (held holds : Option (List ℕ))
     → Appends held holds (concat (receipt_line_text receipt ∷ []))
     → Appends held holds (receipt_line_text receipt)
 written_line receipt held holds written =

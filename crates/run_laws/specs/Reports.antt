@@ -50,8 +50,8 @@ IsWrittenReport seen old new (ReceiptLine receipt) held holds result =
 IsWrittenReport seen old new report held holds result =
     IsReport (seen old) (seen new) (report_outcome (seen old).naming report) held holds result
 
--- Books that answered a report are open. For the line of a receipt none were asked, so of them it is
--- said here.
+-- Books that answered a report are open. For the line of a receipt none were asked: that they are
+-- open is said here.
 abbrev pub IsOpenBehind : Report → Seen → Type 0
 IsOpenBehind (ReceiptLine receipt) after = after.must_reopen ≡ false
 IsOpenBehind report after = Unit {0}

@@ -59,17 +59,17 @@ pub fn calls_follow_history<L: Ledger>()
 
 /// The headline: whatever calls were made on new books, each of the six reports that is written
 /// behind them is the text that the definitions give for the office's rulings and the records that
-/// were accepted between them. Two ledgers of any kinds give the same text, byte for byte, where their histories
-/// have the same rulings in the same order, and the same sets of accepted records between
-/// neighbouring rulings.
+/// were accepted between them. Two ledgers of any kinds give the same text, byte for byte, where
+/// their histories have the same rulings in the same order, and the same sets of accepted records
+/// between neighbouring rulings.
 pub fn reports_follow_history<L: Ledger, M: Ledger>()
     ensures { ReportsFollowHistory L.seen M.seen }
 {}
 
-/// So does the receipt of an import, and with it its line: whatever calls were made before it, the
-/// receipt is the one that the definitions give for the history and the bytes of the dump, where
-/// neither want of memory nor the store stopped the import. Two ledgers of any kinds answer the same
-/// receipt of the same dump, where their histories differ as above.
+/// The same of the receipt of an import, and of its line: whatever calls were made before, they are
+/// those that the definitions give for the history and the bytes of the dump, where neither want of
+/// memory nor the store stopped the import. Two ledgers of any kinds answer the same receipt of the
+/// same dump, and have the same line of it, where their histories differ as above.
 pub fn receipts_follow_history<L: Ledger, M: Ledger>()
     ensures { ReceiptsFollowHistory L.seen M.seen }
 {}

@@ -13,4 +13,4 @@ pub use laws::{
     runs_conserve, runs_follow_history, runs_make_history,
 };
 pub use report::Report;
-pub use written::{report_after, write_report};
+pub use written::{import_after, report_after, write_report};
