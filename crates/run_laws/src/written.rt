@@ -52,8 +52,9 @@ pub fn report_after<L: Ledger, W: Write + Drop>(
 ) -> Result<(), ReportFault>
     requires askable { All IsAskable commands.now }
     requires failed { has_failed sink.old ≡ false }
-    ensures { OnOk result (TellsAfterRun L.seen commands.now report ledger.old ledger.new
+    ensures told { OnOk result (TellsAfterRun L.seen commands.now report ledger.old ledger.new
         (W.contents (writer_of sink.old)) (W.contents (writer_of sink.new))) }
+    ensures failed { has_failed sink.new ≡ is_write_fault result }
 {
     run(alloc, ledger, commands)?;
     write_report(alloc, ledger, report, sink)
@@ -71,9 +72,10 @@ pub fn import_after<L: Ledger, W: Write + Drop>(
 ) -> Result<Receipt, ReportFault>
     requires askable { All IsAskable earlier.now }
     requires failed { has_failed sink.old ≡ false }
-    ensures { IfOk result (λ receipt. CountsAfterRun L.seen earlier.now
+    ensures told { IfOk result (λ receipt. CountsAfterRun L.seen earlier.now
         (record { layout = layout; cut = None; bytes = bytes.now }) receipt ledger.old ledger.new
         (W.contents (writer_of sink.old)) (W.contents (writer_of sink.new))) }
+    ensures failed { has_failed sink.new ≡ is_write_fault result }
 {
     run(alloc, ledger, earlier)?;
     let receipt = import_bytes(alloc, ledger, layout, bytes);

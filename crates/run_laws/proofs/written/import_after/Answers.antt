@@ -3,8 +3,8 @@ use Rattle.streams.specs.Sinks.{writer_of}
 use Rattle.run_laws.proofs.ImportLemmas.{counts_after_run}
 use Rattle.run_laws.proofs.written.import_after.Goals as goal
 
-pub returns : goal.returns
-returns g c =
+pub returns-clause-told : goal.returns-clause-told
+returns-clause-told g c =
     counts_after_run g.L.Ledger.seen c.args.earlier.now c.in_ok-run.field-0.items
     (record { layout = c.args.layout; cut = None; bytes = c.args.bytes.now })
     c.import_bytes-receipt.result c.args.ledger.now c.run.new.ledger
