@@ -24,12 +24,12 @@ use Rattle.book_core.specs.declared.closed.ClosedPeriod.{ClosedPeriod}
 use Rattle.book_core.specs.declared.ending.Ending.{Ending}
 use Rattle.book_core.specs.declared.held.HeldRecord.{HeldRecord}
 use Rattle.book_core.specs.declared.share.Share.{Share}
-use Rattle.book_core.specs.Plain.{Entry, ruled_by, AreBooked}
+use Rattle.book_core.specs.Plain.{Entry, held_in, record_of, ruled_by, AreBooked}
 use Rattle.book_core.specs.PlainBook.{book_with}
 use Rattle.book_core.specs.Shares.{Names, NamesOf, SharesOf, AreNamed, IsEnding, under_name}
 use Rattle.book_core.specs.Shares.{charges, is_named, period_with, share_at}
 use Rattle.book_core.specs.Shares.{share_closed}
-use Rattle.book_core.proofs.HeldLemmas.{held_in, held_in-more}
+use Rattle.book_core.proofs.HeldLemmas.{held_in-more}
 use Rattle.book_core.proofs.NameLemmas.{each_named_by, each_shared_by}
 use Rattle.book_core.proofs.NameLemmas.{posted-kept, past-kept}
 use Rattle.book_core.proofs.ShareLemmas.{where-agree, with-agree, charged-ends, period-ends}
@@ -185,7 +185,7 @@ pub book-kept : (tariffs : List Tariffed) (entries : List Entry) (posted : Names
     (closed : List ClosedPeriod) (name : List ℕ) (h : HeldRecord)
     → under_name name entries ≡ None → AreNamed entries posted closed
     → book_with tariffs (insert_entry by_bytes entries name h) posted closed
-    ≡ keep h.bytes.items (book_with tariffs entries posted closed)
+    ≡ keep (record_of h) (book_with tariffs entries posted closed)
 book-kept tariffs entries posted closed name h missing named =
     let held = held_in-more entries name h missing in
     let stays = posted-kept entries name h missing posted closed named in

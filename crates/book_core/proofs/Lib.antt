@@ -4,6 +4,7 @@ pub mod WorkLemmas
 pub mod FollowLemmas
 pub mod EntryLemmas
 pub mod HeldLemmas
+pub mod RecallLemmas
 pub mod AcceptLemmas
 pub mod ChargedLemmas
 pub mod DisputeLemmas

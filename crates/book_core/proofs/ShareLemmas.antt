@@ -25,10 +25,10 @@ use Rattle.book_model.proofs.SumsAlike.{SumsAlike, filter_map-alike}
 use Rattle.book_model.proofs.SetLemmas.{those-set_of, those-alike, has-texts, same_bytes-by_cmp}
 use Rattle.book_core.specs.declared.ending.Ending.{Ending}
 use Rattle.book_core.specs.declared.share.Share.{Share}
-use Rattle.book_core.specs.Plain.{Entry, entry_records, AreBooked, is_alone}
+use Rattle.book_core.specs.Plain.{Entry, entry_records, held_in, AreBooked, is_alone}
 use Rattle.book_core.specs.Shares.{share_of, is_counted, is_added, is_taken, charges, share_at}
 use Rattle.book_core.specs.Shares.{records_where, period_with, IsEnding}
-use Rattle.book_core.proofs.HeldLemmas.{held_in, bytes_of, records_differ, held-alike, each_priced}
+use Rattle.book_core.proofs.HeldLemmas.{bytes_of, records_differ, held-alike, each_priced}
 use Rattle.book_core.proofs.ChargedLemmas.{each_undisputed}
 use Rattle.book_core.proofs.TariffLemmas.{each_dated}
 use Rattle.book_core.proofs.EntryLemmas.{any-filter, any_at_itself}

@@ -4,6 +4,7 @@ pub mod Ledgers
 pub mod Work
 pub mod Calls
 pub mod Follow
+pub mod Recalling
 pub mod Plain
 pub mod Shares
 pub mod PlainBook

@@ -2,8 +2,6 @@
 use Rattle.std.specs.Prelude.{◌≡◌, List, map, Result}
 use Rattle.book_model.specs.declared.fault.LedgerFault.{LedgerFault}
 use Rattle.book_model.specs.declared.naming.Naming.{Ghosts}
-use Rattle.book_model.specs.Sets.{set_of}
-use Rattle.book_model.specs.Records.{by_bytes}
 use Rattle.book_model.specs.Rulings.{Tariffed}
 use Rattle.book_model.specs.Periods.{Period}
 use Rattle.book_model.specs.Books.{Book}
@@ -13,7 +11,7 @@ use Rattle.book_core.specs.declared.closed.ClosedPeriod.{ClosedPeriod}
 use Rattle.book_core.specs.declared.period.Period.{Period as ReadPeriod}
 use Rattle.book_core.specs.declared.plain.PlainLedger.{PlainLedger}
 use Rattle.book_core.specs.Ledgers.{Seen, in_memory}
-use Rattle.book_core.specs.Plain.{Entry, entry_records, ruled_by}
+use Rattle.book_core.specs.Plain.{Entry, held_in, ruled_by}
 use Rattle.book_core.specs.Shares.{Names, records_where, is_named, period_with}
 use Rattle.book_core.specs.Shares.{share_closed, share_in}
 
@@ -21,7 +19,7 @@ use Rattle.book_core.specs.Shares.{share_closed, share_in}
 abbrev pub book_with : List Tariffed → List Entry → Names → List ClosedPeriod → Book
 book_with tariffs entries posted closed = record {
   rulings = ruled_by tariffs closed;
-  held = set_of by_bytes (entry_records entries);
+  held = held_in entries;
   posted = records_where (is_named posted) entries;
   past = map (λ period. period_with (share_closed period) entries) closed;
 }

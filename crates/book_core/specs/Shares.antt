@@ -18,7 +18,7 @@ use Rattle.book_core.specs.declared.period.Period.{Period as ReadPeriod}
 use Rattle.book_core.specs.declared.period.Period.TheVariants.{Closed, Open}
 use Rattle.book_core.specs.declared.share.Share.{Share}
 use Rattle.book_core.specs.declared.share.Share.TheVariants.{Counted, Added, Taken}
-use Rattle.book_core.specs.Plain.{Entry, entry_records}
+use Rattle.book_core.specs.Plain.{Entry, entry_records, record_of}
 
 -- the names of some records
 abbrev pub Names : Type 0
@@ -51,7 +51,7 @@ abbrev pub line_of : Bool → Entry → Line
 line_of plus entry = record {
   plus = plus;
   name = entry.0;
-  job = job_of entry.1.bytes.items;
+  job = job_of (record_of entry.1);
   priced = entry.1.priced;
 }
 

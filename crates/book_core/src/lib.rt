@@ -14,6 +14,7 @@ mod lines;
 mod period;
 mod plain;
 mod pricing;
+mod recalled;
 mod room;
 mod share;
 mod variant;

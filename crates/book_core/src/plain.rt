@@ -5,7 +5,7 @@ ghost use Rattle.std.proofs.Props.{props};
 ghost use Rattle.book_model.specs.Limits.{last_period};
 ghost use Rattle.book_model.specs.Records.{by_bytes};
 ghost use Rattle.book_model.specs.Rulings.{are_rising};
-ghost use Rattle.book_core.specs.Plain.{AreBooked, ruled_by};
+ghost use Rattle.book_core.specs.Plain.{AreBooked, AreHeld, ruled_by};
 ghost use Rattle.book_core.specs.Shares.{AreNamed};
 
 mod lists;
@@ -16,6 +16,7 @@ use crate::accepted_tariff::AcceptedTariff;
 use crate::closed::ClosedPeriod;
 use crate::held::HeldRecord;
 use crate::ledger::Ledger;
+use crate::recalled::Recalled;
 use book_model::{Accepted, ChargeRow, Dispute, LedgerFault, Line, Naming, Ruled};
 use std::alloc::{AllocError, Global};
 use std::collections::{BTreeMap, BTreeSet};
@@ -27,6 +28,7 @@ pub struct PlainLedger<N: Naming + Drop> {
     naming: N,
     tariffs: Vec<AcceptedTariff>,
     held: BTreeMap<[u8; 32], HeldRecord>,
+    recalled: Recalled,
     /// What the records cost together.
     total: u64,
     /// The names of the records that the last close charged.
@@ -36,6 +38,7 @@ pub struct PlainLedger<N: Naming + Drop> {
     ghost rising: { IsStrictlySortedBy by_bytes (keys_of held.entries) } by { Prim.hlevel props },
     ghost kept: { AreBooked (N.name_of naming) (ruled_by tariffs.items closed.items)
         held.entries total },
+    ghost recalls: { AreHeld held.entries recalled },
     ghost named: { AreNamed held.entries posted closed.items },
     ghost few: { length closed.items < last_period },
 }
@@ -74,6 +77,7 @@ impl<N: Naming + Drop> PlainLedger<N> {
             naming,
             tariffs,
             held: BTreeMap::new(alloc),
+            recalled: Recalled::new(alloc),
             total: 0,
             posted: BTreeSet::new(alloc),
             closed: Vec::new(alloc),

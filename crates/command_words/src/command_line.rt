@@ -168,51 +168,89 @@ fn serve_option<'a>(
         .value_parser(clap::value_parser!(u32).range(1..=most))
 }
 
-fn serve_command<'a>(alloc: Global) -> Result<Command<'a>, Error> {
-    let port = serve_option(alloc, "port", "PORT", "The port on 127.0.0.1", 65_535);
+fn port_option<'a>(alloc: Global) -> Arg<'a> {
+    serve_option(alloc, "port", "PORT", "The port on 127.0.0.1", 65_535)
+}
+
+fn requests_option<'a>(alloc: Global) -> Arg<'a> {
     let help = "How many connections to answer, one after the other";
-    let requests = serve_option(alloc, "requests", "NUMBER", help, MOST_REQUESTS);
+    serve_option(alloc, "requests", "NUMBER", help, MOST_REQUESTS)
+}
+
+fn serve_command<'a>(alloc: Global) -> Result<Command<'a>, Error> {
+    let about = "Answers for the books over HTTP, on this machine";
     Ok(
-        book_command(
-            alloc,
-            "serve",
-            "Answers for the books over HTTP, on this machine",
-        )?
-        .arg(port)?
-        .arg(requests)?,
+        book_command(alloc, "serve", about)?
+            .arg(port_option(alloc))?
+            .arg(requests_option(alloc))?,
     )
 }
 
-fn explain_command<'a>(alloc: Global) -> Result<Command<'a>, Error> {
-    let kind = word(alloc, "kind", "What the number is the number of")
+fn kind_word<'a>(alloc: Global) -> Arg<'a> {
+    word(alloc, "kind", "What the number is the number of")
         .value_name("KIND")
-        .value_parser(NUMBER_KINDS.as_slice());
-    let number = word(alloc, "number", "The number on standard error or in a list")
+        .value_parser(NUMBER_KINDS.as_slice())
+}
+
+fn number_word<'a>(alloc: Global) -> Arg<'a> {
+    word(alloc, "number", "The number on standard error or in a list")
         .value_name("NUMBER")
-        .value_parser(clap::value_parser!(u16));
+        .value_parser(clap::value_parser!(u16))
+}
+
+fn explain_command<'a>(alloc: Global) -> Result<Command<'a>, Error> {
     Ok(
         Command::new(alloc, "explain")
             .about("Says what a number means, and what to do")
-            .arg(kind)?
-            .arg(number)?,
+            .arg(kind_word(alloc))?
+            .arg(number_word(alloc))?,
+    )
+}
+
+/// With the commands that read a dump and keep no books.
+fn with_dump_commands(
+    alloc: Global,
+    program: Command<'_>,
+    highest: u32,
+) -> Result<Command<'_>, Error> {
+    Ok(
+        program
+            .subcommand(trial_command(alloc, highest)?)?
+            .subcommand(check_command(alloc)?)?,
+    )
+}
+
+/// With the commands that write to books.
+fn with_writing_commands(alloc: Global, program: Command<'_>) -> Result<Command<'_>, Error> {
+    Ok(
+        program
+            .subcommand(book_command(alloc, "init", "Makes new books in a file")?)?
+            .subcommand(tariff_command(alloc)?)?
+            .subcommand(import_command(alloc)?)?
+            .subcommand(close_command(alloc)?)?,
+    )
+}
+
+/// With the commands that read books.
+fn with_reading_commands(alloc: Global, program: Command<'_>) -> Result<Command<'_>, Error> {
+    Ok(
+        program
+            .subcommand(statement_command(alloc)?)?
+            .subcommand(adjustments_command(alloc)?)?
+            .subcommand(book_command(alloc, "disputes", "Prints the records in dispute")?)?,
     )
 }
 
 fn command_line<'a>(alloc: Global, program: &'a str, highest: u32) -> Result<Command<'a>, Error> {
+    let command = Command::new(alloc, program)
+        .about("The books of a chargeback office, read from SMF type 30 records")
+        .version(VERSION)
+        .subcommand_required(true);
+    let command = with_dump_commands(alloc, command, highest)?;
+    let command = with_writing_commands(alloc, command)?;
+    let command = with_reading_commands(alloc, command)?;
     Ok(
-        Command::new(alloc, program)
-            .about("The books of a chargeback office, read from SMF type 30 records")
-            .version(VERSION)
-            .subcommand_required(true)
-            .subcommand(trial_command(alloc, highest)?)?
-            .subcommand(check_command(alloc)?)?
-            .subcommand(book_command(alloc, "init", "Makes new books in a file")?)?
-            .subcommand(tariff_command(alloc)?)?
-            .subcommand(import_command(alloc)?)?
-            .subcommand(close_command(alloc)?)?
-            .subcommand(statement_command(alloc)?)?
-            .subcommand(adjustments_command(alloc)?)?
-            .subcommand(book_command(alloc, "disputes", "Prints the records in dispute")?)?
+        command
             .subcommand(serve_command(alloc)?)?
             .subcommand(explain_command(alloc)?)?,
     )
@@ -240,8 +278,8 @@ fn matches_in<'a>(
 }
 
 /// The command that the words ask for, of which the first is the program's name, where no rate is
-/// higher than that; help and faults speak of the program by the name that is given. Wrong without a text would be a subcommand or a missing file that
-/// `command_line` does not let pass.
+/// higher than that; help and faults speak of the program by the name that is given. Wrong without
+/// a text would be a subcommand or a missing file that `command_line` does not let pass.
 pub fn requested_by<'a>(
     alloc: Global,
     program: &'a str,

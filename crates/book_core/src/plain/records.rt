@@ -2,6 +2,7 @@
 
 ghost use Rattle.std.specs.Prelude.{◌≡◌, Ok, Err, if◌then◌else◌};
 ghost use Rattle.book_model.specs.Records.{same_bytes};
+ghost use Rattle.book_core.specs.Plain.{record_of};
 
 use super::PlainLedger;
 use crate::held::HeldRecord;
@@ -12,7 +13,7 @@ use smf_type30::Type30;
 
 /// What is answered to a record whose name one has that is held.
 fn known_or_clash(held: &HeldRecord, bytes: &[u8]) -> Result<Accepted, LedgerFault>
-    ensures { result ≡ (if same_bytes held.now.bytes.items bytes.now
+    ensures { result ≡ (if same_bytes (record_of held.now) bytes.now
         then Ok Accepted.Known else Err LedgerFault.DigestClash) }
 {
     if held.bytes.as_slice() == bytes {
@@ -24,6 +25,7 @@ fn known_or_clash(held: &HeldRecord, bytes: &[u8]) -> Result<Accepted, LedgerFau
 
 impl<N: Naming + Drop> PlainLedger<N> {
     ghost use Rattle.std.specs.Prelude.{◌≡◌};
+    ghost use Rattle.smf_type30.specs.Usage.{identity_of};
     ghost use Rattle.book_model.specs.Records.{IsUsageRecord};
     ghost use Rattle.book_model.specs.Outcomes.{accept_outcome};
     ghost use Rattle.book_core.specs.PlainBook.{IsPlainCall, naming_in};
@@ -35,13 +37,26 @@ impl<N: Naming + Drop> PlainLedger<N> {
         ensures { IsPlainCall (λ accepted. accepted) self.old self.new result
             (accept_outcome (N.name_of (naming_in self.old)) bytes.now) }
     {
+        let usage = Type30::of_usage(bytes);
+        if self.recalled.has(&usage.identity(), bytes) {
+            return Ok(Accepted::Known);
+        }
+        self.keep_named(&usage, bytes)
+    }
+
+    /// The same, by the record's name.
+    fn keep_named(&mut self, usage: &Type30<'_>, bytes: &[u8]) -> Result<Accepted, LedgerFault>
+        requires same { usage.now ≡ bytes.now }
+        requires usage { IsUsageRecord bytes.now }
+        ensures { IsPlainCall (λ accepted. accepted) self.old self.new result
+            (accept_outcome (N.name_of (naming_in self.old)) bytes.now) }
+    {
         let name = name_of(&self.naming, bytes);
         let count = self.held.len();
         if let Some(held) = self.held.get(&name) {
             return known_or_clash(held, bytes);
         }
-        let usage = Type30::of_usage(bytes);
-        let Some(priced) = price_in(&self.tariffs, &usage) else {
+        let Some(priced) = price_in(&self.tariffs, usage) else {
             return Ok(Accepted::Unpriced);
         };
         let amount = priced.amount;
@@ -49,8 +64,11 @@ impl<N: Naming + Drop> PlainLedger<N> {
             return Err(LedgerFault::Full);
         }
         let alloc = self.alloc;
-        let held = HeldRecord::new(alloc, &usage, bytes, priced)?;
+        let held = HeldRecord::new(alloc, usage, bytes, priced)?;
+        let identity = held.identity;
+        let record = held.bytes.clone()?;
         self.held.insert(name, held)?;
+        self.recalled.recall(identity, record);
         self.total += amount;
         Ok(Accepted::Kept)
     }

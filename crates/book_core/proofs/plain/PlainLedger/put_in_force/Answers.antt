@@ -113,6 +113,7 @@ invariant_of-self-2 g c =
           (sym c.push.ensures.items)
           (kept_under_if ledger.closed.items ledger.kept (is_ok c.push.result) _ terms undated
           later);
+      recalls = ledger.recalls;
       named = ledger.named;
       few = ledger.few;
     }

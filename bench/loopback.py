@@ -1,0 +1,105 @@
+"""Requests to a server on 127.0.0.1, for `run` and `serve`."""
+import pathlib
+import socket
+import subprocess
+import sys
+import time
+
+ROOT = pathlib.Path(__file__).resolve().parent.parent
+CHARGECTL = ROOT / "crates" / "chargectl_main" / "out" / "chargectl_main"
+PLAIN_SOURCE = ROOT / "bench" / "plain" / "main.rs"
+CPU, EXCP, RECORD = "20000", "500", "100"
+TARIFF = """effective = "2024-01-01"
+[rates]
+step_cpu = %s
+step_excp = %s
+step_record = %s
+job_cpu = %s
+job_excp = %s
+job_record = %s
+""" % (CPU, EXCP, RECORD, CPU, EXCP, RECORD)
+
+# Where books are kept that are measured: a disk would be measured too.
+IN_MEMORY = "/dev/shm" if pathlib.Path("/dev/shm").is_dir() else None
+
+# How long a server may take to end once its last connection is answered, in seconds.
+SLACK = 5
+
+
+def free_port():
+    with socket.socket() as probe:
+        probe.bind(("127.0.0.1", 0))
+        return probe.getsockname()[1]
+
+
+class Server:
+    """A server on a port of its own, which ends after so many connections. The word None stands for the port."""
+
+    def __init__(self, words):
+        self.port = free_port()
+        words = [str(self.port) if word is None else str(word) for word in words]
+        self.process = subprocess.Popen(words, stdout=subprocess.PIPE, text=True)
+        self.expect("READY")
+
+    def expect(self, line):
+        said = self.process.stdout.readline().rstrip("\n")
+        if said != line:
+            self.process.kill()
+            sys.exit("bench: the server says %r and not %r" % (said, line))
+
+    def connect(self):
+        return socket.create_connection(("127.0.0.1", self.port))
+
+    def end(self):
+        if self.process.wait(SLACK) != 0:
+            sys.exit("bench: the server ended with status %d" % self.process.returncode)
+
+
+def chargectl(*words):
+    subprocess.run([CHARGECTL, *map(str, words)], stdout=subprocess.DEVNULL, check=True)
+
+
+def new_books(folder, name, dump):
+    book, tariff = folder / name, folder / "tariff"
+    tariff.write_text(TARIFF)
+    chargectl("init", book)
+    chargectl("tariff", book, tariff)
+    chargectl("import", book, dump)
+    return book
+
+
+def serving(book, requests):
+    return [CHARGECTL, "serve", book, "--port", None, "--requests", requests]
+
+
+def asked(server, request):
+    """All that is answered to a request."""
+    with server.connect() as client:
+        client.sendall(request)
+        answer = b""
+        while piece := client.recv(65_536):
+            answer += piece
+    return answer
+
+
+def get(path):
+    return b"GET %s HTTP/1.1\r\nHost: books\r\n\r\n" % path
+
+
+def post(body):
+    return b"POST /import HTTP/1.1\r\nHost: books\r\nContent-Length: %d\r\n\r\n" % len(body) + body
+
+
+def seconds_each(words, request, requests, rounds):
+    """The best time of a request, over several rounds of so many."""
+    taken = []
+    for _ in range(rounds):
+        server = Server(words)
+        begun = time.monotonic()
+        for _ in range(requests):
+            asked(server, request)
+        taken.append((time.monotonic() - begun) / requests)
+        for _ in range(requests):
+            server.expect("SERVED 200")
+        server.end()
+    return min(taken)
