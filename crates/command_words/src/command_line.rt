@@ -207,53 +207,38 @@ fn explain_command<'a>(alloc: Global) -> Result<Command<'a>, Error> {
     )
 }
 
-/// With the commands that read a dump and keep no books.
-fn with_dump_commands(
-    alloc: Global,
-    program: Command<'_>,
-    highest: u32,
-) -> Result<Command<'_>, Error> {
-    Ok(
-        program
-            .subcommand(trial_command(alloc, highest)?)?
-            .subcommand(check_command(alloc)?)?,
-    )
-}
-
-/// With the commands that write to books.
-fn with_writing_commands(alloc: Global, program: Command<'_>) -> Result<Command<'_>, Error> {
-    Ok(
-        program
-            .subcommand(book_command(alloc, "init", "Makes new books in a file")?)?
-            .subcommand(tariff_command(alloc)?)?
-            .subcommand(import_command(alloc)?)?
-            .subcommand(close_command(alloc)?)?,
-    )
-}
-
-/// With the commands that read books.
-fn with_reading_commands(alloc: Global, program: Command<'_>) -> Result<Command<'_>, Error> {
-    Ok(
-        program
-            .subcommand(statement_command(alloc)?)?
-            .subcommand(adjustments_command(alloc)?)?
-            .subcommand(book_command(alloc, "disputes", "Prints the records in dispute")?)?,
-    )
+/// The program with a command more, or the error that came first.
+fn with<'a>(
+    program: Result<Command<'a>, Error>,
+    command: Result<Command<'a>, Error>,
+) -> Result<Command<'a>, Error> {
+    Ok(program?.subcommand(command?)?)
 }
 
 fn command_line<'a>(alloc: Global, program: &'a str, highest: u32) -> Result<Command<'a>, Error> {
-    let command = Command::new(alloc, program)
-        .about("The books of a chargeback office, read from SMF type 30 records")
-        .version(VERSION)
-        .subcommand_required(true);
-    let command = with_dump_commands(alloc, command, highest)?;
-    let command = with_writing_commands(alloc, command)?;
-    let command = with_reading_commands(alloc, command)?;
-    Ok(
-        command
-            .subcommand(serve_command(alloc)?)?
-            .subcommand(explain_command(alloc)?)?,
-    )
+    let program = Ok(
+        Command::new(alloc, program)
+            .about("The books of a chargeback office, read from SMF type 30 records")
+            .version(VERSION)
+            .subcommand_required(true),
+    );
+    let program = with(program, trial_command(alloc, highest));
+    let program = with(program, check_command(alloc));
+    let program = with(
+        program,
+        book_command(alloc, "init", "Makes new books in a file"),
+    );
+    let program = with(program, tariff_command(alloc));
+    let program = with(program, import_command(alloc));
+    let program = with(program, close_command(alloc));
+    let program = with(program, statement_command(alloc));
+    let program = with(program, adjustments_command(alloc));
+    let program = with(
+        program,
+        book_command(alloc, "disputes", "Prints the records in dispute"),
+    );
+    let program = with(program, serve_command(alloc));
+    with(program, explain_command(alloc))
 }
 
 /// What `clap` says of words that it does not take.
