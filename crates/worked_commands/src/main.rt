@@ -51,5 +51,7 @@ fn main(rt: HostRuntime) -> Result<(), Fail> {
         print!(rt; "{}{}", left.output, left.errors)?;
     }
     fs::remove_file(&rt, books.as_str())?;
+    let log = format!(in rt.alloc(); "{books}-wal")?;
+    let _ = fs::remove_file(&rt, log.as_str());
     Ok(())
 }
