@@ -10,7 +10,6 @@ pub mod RulingMeaning
 pub mod Rulings
 pub mod ReadRows
 pub mod RulingReading
-pub mod Decoding
 pub mod Meaning
 pub mod RowLayouts
 pub mod RecordMeaning
