@@ -17,7 +17,6 @@ pub mod SortedEntries
 pub mod Changes
 pub mod Holding
 pub mod Sorting
-pub mod SortedOnce
 pub mod NewKeys
 pub mod Moves
 pub mod KeyValues
