@@ -6,6 +6,7 @@ use smf_text::show;
 use std::alloc::{AllocError, Global};
 use std::fmt::Write;
 use std::test::Fail;
+use tariff_rules::Priced;
 
 /// A charge of the sample, whose name was computed by `sha256sum`.
 pub const PLUS_SAMPLE: &str = "\
@@ -17,20 +18,28 @@ pub const MINUS_SAMPLE: &str = "\
 MINUS 19753 UNASSIGNED BASE 249300 8c27b37ffc2d6b45885bdfcf08763cc2bc20e6aabb1104b0f0b9363bc86db55b PAYROLL1
 ";
 
-/// A line as it is written.
-fn write_line(alloc: Global, out: &mut String, line: &Line) -> Result<(), AllocError> {
-    let sign = if line.plus { "PLUS" } else { "MINUS" };
-    let priced = line.priced;
+/// What is charged, and when.
+fn write_priced(out: &mut String, priced: &Priced) -> Result<(), AllocError> {
     let (centre, shift) = (priced.centre.text(), priced.shift.text());
-    write!(
-        out,
-        "{sign} {} {centre} {shift} {} ",
-        priced.day, priced.amount
-    )?;
-    for byte in line.name {
+    write!(out, "{} {centre} {shift} {} ", priced.day, priced.amount)
+}
+
+/// A record's name, two digits a byte.
+fn write_name(out: &mut String, name: &[u8; 32]) -> Result<(), AllocError> {
+    for byte in name {
         write!(out, "{byte:02x}")?;
     }
-    writeln!(out, " {}", show(alloc, &line.job)?)
+    Ok(())
+}
+
+/// A line as it is written.
+fn write_line(alloc: Global, out: &mut String, line: &Line) -> Result<(), AllocError> {
+    out.push_str(if line.plus { "PLUS " } else { "MINUS " })?;
+    write_priced(out, &line.priced)?;
+    write_name(out, &line.name)?;
+    out.push_str(" ")?;
+    out.push_str(show(alloc, &line.job)?.as_str())?;
+    out.push_str("\n")
 }
 
 /// The adjustment lines of a period of the books.

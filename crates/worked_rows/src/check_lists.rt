@@ -1,5 +1,6 @@
 //! Check lists, also over readers and writers that fail.
 
+use crate::same::{same_bytes, same_check, same_number};
 use book_core::{Sink, Source};
 use book_import::{MAX_READS, Stop};
 use book_reports::ReportFault;
@@ -7,6 +8,7 @@ use program_answers::check_list;
 use smf_frames::{FrameFault, Layout};
 use std::alloc::{AllocError, Global};
 use std::io::{Read, Write};
+use std::process::Abort;
 use std::test::Fail;
 use worked_samples::readers::{Endless, InPieces};
 use worked_samples::sample::{LEN, SAMPLE, joined, other_step, short_record};
@@ -41,10 +43,18 @@ fn check_over<R: Read + Drop, W: Write + Drop>(
     (answer, sink.into_inner())
 }
 
-/// The list of all of a dump of segments, and why it has no more records.
-pub fn check_of(alloc: Global, dump: &[u8]) -> Result<(String, Stop), Fail> {
+/// Asserts the list of all of a dump of segments, and why it has no more records.
+pub fn assert_check(
+    rt: &impl Abort,
+    alloc: Global,
+    dump: &[u8],
+    want: &str,
+    stop: Stop,
+) -> Result<(), Fail> {
     let (answer, text) = check_over(alloc, dump, u32::MAX, Vec::new(alloc));
-    Ok((String::from_utf8(text)?, answer?))
+    same_bytes(rt, &text, want.as_bytes(), "check list");
+    same_check(rt, answer, Ok(stop), want);
+    Ok(())
 }
 
 /// A dump of the sample and another step.
@@ -62,9 +72,7 @@ fn each_record_has_its_line(rt: HostRuntime) -> Result<(), Fail> {
         (&bracketed, HEADER_TRAILER_STEP),
     ];
     for (dump, want) in cases {
-        let (text, stop) = check_of(alloc, dump)?;
-        assert_eq!(rt; text.as_str(), want);
-        assert_eq!(rt; stop, Stop::End, "{want}");
+        assert_check(&rt, alloc, dump, want, Stop::End)?;
     }
     Ok(())
 }
@@ -86,9 +94,7 @@ fn a_list_of_no_records_says_why_there_are_none(rt: HostRuntime) -> Result<(), F
         ),
     ];
     for (dump, stop, want) in cases {
-        let (text, told) = check_of(alloc, dump)?;
-        assert_eq!(rt; text.as_str(), want);
-        assert_eq!(rt; told, stop, "{want}");
+        assert_check(&rt, alloc, dump, want, stop)?;
     }
     Ok(())
 }
@@ -110,12 +116,8 @@ fn a_reader_that_fails_leaves_the_records_before_it(rt: HostRuntime) -> Result<(
     for (reads, size, stop, want) in cases {
         let reader = InPieces::failing_behind(reads, &dump, size);
         let (answer, text) = check_over(alloc, reader, u32::MAX, Vec::new(alloc));
-        assert_eq!(rt; answer, Ok(stop), "{reads} reads of {size} bytes");
-        assert_eq!(rt;
-            text.as_slice(),
-            want.as_bytes(),
-            "{reads} reads of {size} bytes"
-        );
+        same_bytes(&rt, &text, want.as_bytes(), "so many reads");
+        same_check(&rt, answer, Ok(stop), want);
     }
     Ok(())
 }
@@ -129,8 +131,8 @@ fn a_check_stops_where_no_more_reads_are_allowed(rt: HostRuntime) -> Result<(), 
     ];
     for (reads, want) in cases {
         let (answer, text) = check_over(alloc, Endless::new(), reads, Vec::new(alloc));
-        assert_eq!(rt; answer, Ok(Stop::ReadLimit), "{reads} reads");
-        assert_eq!(rt; text.as_slice(), want.as_bytes(), "{reads} reads");
+        same_bytes(&rt, &text, want.as_bytes(), "so many reads");
+        same_check(&rt, answer, Ok(Stop::ReadLimit), want);
     }
     Ok(())
 }
@@ -153,16 +155,18 @@ fn a_writer_that_fails_has_a_front_of_the_list(rt: HostRuntime) -> Result<(), Fa
     for (writes, count) in cases {
         let writer = Takes::up_to(alloc, 7, writes);
         let (answer, writer) = check_over(alloc, dump.as_slice(), u32::MAX, writer);
-        assert!(rt;
-            writer.taken.as_slice() == &TWO_STEPS.as_bytes()[..count],
-            "{writes} writes"
+        same_bytes(
+            &rt,
+            &writer.taken,
+            &TWO_STEPS.as_bytes()[..count],
+            "so many writes",
         );
         let want = if count == TWO_STEPS.len() {
             Ok(Stop::End)
         } else {
             Err(ReportFault::Write)
         };
-        assert_eq!(rt; answer, want, "{writes} writes");
+        same_check(&rt, answer, want, "so many writes");
     }
     Ok(())
 }
@@ -180,9 +184,9 @@ fn each_piece_is_listed_before_the_next_is_read(rt: HostRuntime) -> Result<(), F
         let writer = Takes::up_to(alloc, usize::MAX, u32::MAX);
         let reader = InPieces::of(&dump, size);
         let (answer, writer) = check_over(alloc, reader, u32::MAX, writer);
-        assert_eq!(rt; answer, Ok(Stop::End), "{case}");
-        assert_eq!(rt; writer.taken.as_slice(), TWO_STEPS.as_bytes(), "{case}");
-        assert_eq!(rt; writer.asked, writes, "{case}");
+        same_check(&rt, answer, Ok(Stop::End), case);
+        same_bytes(&rt, &writer.taken, TWO_STEPS.as_bytes(), case);
+        same_number(&rt, u64::from(writer.asked), writes, case);
     }
     Ok(())
 }

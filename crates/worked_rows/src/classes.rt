@@ -1,10 +1,12 @@
 //! What receipts and check lists say of the classes of records.
 
-use crate::check_lists::check_of;
-use crate::office::{dispute_list, import, new_books};
-use crate::receipts::{one_damaged, one_kept, receipt_for};
+use crate::asserted::{assert_dispute_list, assert_import};
+use crate::check_lists::assert_check;
+use crate::office::new_books;
+use crate::receipts::{assert_receipt, one_damaged, one_kept};
 use book_import::{Receipt, Stop};
 use std::alloc::Global;
+use std::process::Abort;
 use std::test::Fail;
 use worked_samples::classed;
 use worked_samples::classed::{Classed, dump_of};
@@ -61,20 +63,24 @@ const SHORT_RECORDS: &str = "\
 RECORDS 7 STOP END
 ";
 
-/// The check list of a dump of the records.
-fn list_of(alloc: Global, records: &[Classed]) -> Result<String, Fail> {
-    let (list, _) = check_of(alloc, &dump_of(alloc, records)?)?;
-    Ok(list)
+/// Asserts the check list of a dump of the records.
+fn assert_list(
+    rt: &impl Abort,
+    alloc: Global,
+    records: &[Classed],
+    want: &str,
+) -> Result<(), Fail> {
+    assert_check(rt, alloc, &dump_of(alloc, records)?, want, Stop::End)
 }
 
 #[test]
 fn every_class(rt: HostRuntime) -> Result<(), Fail> {
     let alloc = rt.alloc();
     let records = classed::every_class(alloc)?;
-    assert_eq!(rt; list_of(alloc, &records)?.as_str(), EVERY_CLASS);
+    assert_list(&rt, alloc, &records, EVERY_CLASS)?;
 
+    let dump = dump_of(alloc, &records)?;
     let mut ledger = new_books(alloc)?;
-    let receipt = import(alloc, &dump_of(alloc, &records)?, &mut ledger);
     let want = Receipt {
         kept: 1,
         known: 0,
@@ -87,45 +93,45 @@ fn every_class(rt: HostRuntime) -> Result<(), Fail> {
         damaged: 0,
         stop: Stop::End,
     };
-    assert_eq!(rt; receipt, want);
-    assert_eq!(rt; dispute_list(alloc, &mut ledger)?.as_str(), "DISPUTES 0\n");
-    Ok(())
+    assert_import(
+        &rt,
+        alloc,
+        &mut ledger,
+        &dump,
+        want,
+        "a record of each class",
+    );
+    assert_dispute_list(&rt, alloc, &mut ledger, "DISPUTES 0\n")
 }
 
 #[test]
 fn whole_records_have_the_class_of_their_type(rt: HostRuntime) -> Result<(), Fail> {
     let records = classed::whole_records(rt.alloc())?;
-    assert_eq!(rt; list_of(rt.alloc(), &records)?.as_str(), EACH_TYPE);
-    Ok(())
+    assert_list(&rt, rt.alloc(), &records, EACH_TYPE)
 }
 
 #[test]
 fn each_damage(rt: HostRuntime) -> Result<(), Fail> {
     let records = classed::each_damage(rt.alloc())?;
-    assert_eq!(rt; list_of(rt.alloc(), &records)?.as_str(), EACH_DAMAGE);
-    Ok(())
+    assert_list(&rt, rt.alloc(), &records, EACH_DAMAGE)
 }
 
 #[test]
 fn short_records(rt: HostRuntime) -> Result<(), Fail> {
     let records = classed::short_records(rt.alloc())?;
-    assert_eq!(rt; list_of(rt.alloc(), &records)?.as_str(), SHORT_RECORDS);
-    Ok(())
+    assert_list(&rt, rt.alloc(), &records, SHORT_RECORDS)
 }
 
 #[test]
 fn last_hundredth_of_a_day(rt: HostRuntime) -> Result<(), Fail> {
-    let alloc = rt.alloc();
     let last = timed(SAMPLE, 8_639_999);
-    assert_eq!(rt; receipt_for(alloc, &last)?, one_kept(Stop::End));
     let too_late = timed(SAMPLE, 8_640_000);
-    assert_eq!(rt; receipt_for(alloc, &too_late)?, one_damaged(), "24:00");
-    Ok(())
+    assert_receipt(&rt, rt.alloc(), &last, one_kept(Stop::End), "the last")?;
+    assert_receipt(&rt, rt.alloc(), &too_late, one_damaged(), "24:00")
 }
 
 #[test]
 fn packed_dates(rt: HostRuntime) -> Result<(), Fail> {
     let record = dated(SAMPLE, [0x01, 0x23, 0x36, 0x6F]);
-    assert_eq!(rt; receipt_for(rt.alloc(), &record)?, one_damaged());
-    Ok(())
+    assert_receipt(&rt, rt.alloc(), &record, one_damaged(), "day 366 of 2023")
 }

@@ -1,8 +1,12 @@
 //! What comes late, again or in contradiction after a close. Records cost 2.0000 for a CPU second
 //! and 0.0500 for 1,000 blocks: the sample 24.9300, each variant 0.0200 more.
 
-use crate::adjustments::{MINUS_SAMPLE, PLUS_SAMPLE, adjustments};
-use crate::office::{dispute_list, import, new_books, statement};
+use crate::adjustments::{MINUS_SAMPLE, PLUS_SAMPLE};
+use crate::asserted::{
+    assert_adjustments, assert_close, assert_dispute_list, assert_disputes, assert_import,
+    assert_no_period, assert_statement,
+};
+use crate::office::{import, new_books};
 use crate::receipts::one_kept;
 use book_core::{Ledger, LedgerFault, PlainLedger, Ruled, ShaNames};
 use book_import::{Receipt, Stop};
@@ -71,32 +75,32 @@ fn assert_periods<L: Ledger>(
     statements: (&str, &str),
     lines: &str,
 ) -> Result<(), Fail> {
-    assert_eq!(rt; statement(alloc, ledger, 1)?.as_str(), statements.0);
-    assert_eq!(rt; statement(alloc, ledger, 2)?.as_str(), statements.1);
-    assert_eq!(rt; adjustments(alloc, ledger, 1)?.as_str(), "");
-    assert_eq!(rt; adjustments(alloc, ledger, 2)?.as_str(), lines);
-    Ok(())
+    assert_statement(rt, alloc, ledger, 1, statements.0)?;
+    assert_statement(rt, alloc, ledger, 2, statements.1)?;
+    assert_adjustments(rt, alloc, ledger, 1, "")?;
+    assert_adjustments(rt, alloc, ledger, 2, lines)
+}
+
+/// Asserts that the sample was charged in period 1, and is taken back in period 2.
+fn assert_taken_back<L: Ledger>(
+    rt: &impl Abort,
+    alloc: Global,
+    ledger: &mut L,
+) -> Result<(), Fail> {
+    assert_periods(rt, alloc, ledger, (JANUARY, EMPTY_FEBRUARY), MINUS_SAMPLE)
 }
 
 #[test]
 fn variant_after_close(rt: HostRuntime) -> Result<(), Fail> {
-    let alloc = rt.alloc();
+    let (alloc, kept) = (rt.alloc(), one_kept(Stop::End));
     let mut ledger = new_books(alloc)?;
-    assert_eq!(rt; import(alloc, &SAMPLE, &mut ledger), one_kept(Stop::End));
-    assert_eq!(rt; ledger.close(1, JANUARY_31), Ok(Ruled::Done));
+    assert_import(&rt, alloc, &mut ledger, &SAMPLE, kept, "the sample");
+    assert_close(&rt, &mut ledger, 1, JANUARY_31, Ok(Ruled::Done), "period 1");
     assert_periods(&rt, alloc, &mut ledger, (JANUARY, EMPTY_FEBRUARY), "")?;
 
-    let receipt = import(alloc, &variant_1201(), &mut ledger);
-    assert_eq!(rt; receipt, one_kept(Stop::End));
-    assert_periods(
-        &rt,
-        alloc,
-        &mut ledger,
-        (JANUARY, EMPTY_FEBRUARY),
-        MINUS_SAMPLE,
-    )?;
-    assert_eq!(rt; ledger.disputes()?.len(), 1);
-    Ok(())
+    assert_import(&rt, alloc, &mut ledger, &variant_1201(), kept, "a variant");
+    assert_taken_back(&rt, alloc, &mut ledger)?;
+    assert_disputes(&rt, &mut ledger, 1)
 }
 
 #[test]
@@ -106,40 +110,66 @@ fn late_record_then_variant(rt: HostRuntime) -> Result<(), Fail> {
     let statements = (EMPTY_JANUARY, EMPTY_FEBRUARY);
     import(alloc, &SAMPLE, &mut ledger);
     assert_periods(&rt, alloc, &mut ledger, statements, PLUS_SAMPLE)?;
-    assert_eq!(rt; ledger.disputes()?.len(), 0);
+    assert_disputes(&rt, &mut ledger, 0)?;
 
     import(alloc, &variant_1201(), &mut ledger);
     assert_periods(&rt, alloc, &mut ledger, statements, "")?;
-    assert_eq!(rt; ledger.disputes()?.len(), 1);
-    Ok(())
+    assert_disputes(&rt, &mut ledger, 1)
+}
+
+/// Asserts the books of the sample and two variants behind a second close.
+fn assert_third_variant<L: Ledger>(
+    rt: &impl Abort,
+    alloc: Global,
+    ledger: &mut L,
+) -> Result<(), Fail> {
+    assert_statement(rt, alloc, ledger, 1, JANUARY)?;
+    assert_adjustments(rt, alloc, ledger, 2, MINUS_SAMPLE)?;
+    assert_adjustments(rt, alloc, ledger, 3, "")?;
+    assert_dispute_list(rt, alloc, ledger, THREE_VARIANTS)
 }
 
 #[test]
 fn third_variant(rt: HostRuntime) -> Result<(), Fail> {
     let alloc = rt.alloc();
     let (variant, third) = (variant_1201(), variant_1202());
+    let again = joined(alloc, &[&SAMPLE, &variant, &third])?;
     let mut ledger = closed_after(alloc, &SAMPLE)?;
     import(alloc, &variant, &mut ledger);
     import(alloc, &third, &mut ledger);
-    assert_periods(
-        &rt,
-        alloc,
-        &mut ledger,
-        (JANUARY, EMPTY_FEBRUARY),
-        MINUS_SAMPLE,
-    )?;
+    assert_taken_back(&rt, alloc, &mut ledger)?;
 
-    assert_eq!(rt; ledger.close(2, FEBRUARY_29), Ok(Ruled::Done));
-    let again = joined(alloc, &[&SAMPLE, &variant, &third])?;
+    assert_close(
+        &rt,
+        &mut ledger,
+        2,
+        FEBRUARY_29,
+        Ok(Ruled::Done),
+        "period 2",
+    );
     let want = Receipt {
         known: 3,
         ..Receipt::stopped(Stop::End)
     };
-    assert_eq!(rt; import(alloc, &again, &mut ledger), want);
-    assert_eq!(rt; statement(alloc, &mut ledger, 1)?.as_str(), JANUARY);
-    assert_eq!(rt; adjustments(alloc, &mut ledger, 2)?.as_str(), MINUS_SAMPLE);
-    assert_eq!(rt; adjustments(alloc, &mut ledger, 3)?.as_str(), "");
-    assert_eq!(rt; dispute_list(alloc, &mut ledger)?.as_str(), THREE_VARIANTS);
+    assert_import(&rt, alloc, &mut ledger, &again, want, "all three again");
+    assert_third_variant(&rt, alloc, &mut ledger)
+}
+
+/// Asserts what books with one close answer to closes that change nothing.
+fn assert_refused<L: Ledger>(rt: &impl Abort, alloc: Global, ledger: &mut L) -> Result<(), Fail> {
+    let out_of_turn = Err(LedgerFault::WrongPeriod(2));
+    let not_later = Err(LedgerFault::NotLater);
+    let refusals = [
+        ("again", 1, JANUARY_31, Ok(Ruled::Already)),
+        ("again, through another day", 1, FEBRUARY_29, out_of_turn),
+        ("the next but one", 3, FEBRUARY_29, out_of_turn),
+        ("period 0", 0, JANUARY_31, out_of_turn),
+        ("the next, through the same day", 2, JANUARY_31, not_later),
+    ];
+    for (case, period, through, want) in refusals {
+        assert_close(rt, ledger, period, through, want, case);
+        assert_periods(rt, alloc, ledger, (EMPTY_JANUARY, FEBRUARY), "")?;
+    }
     Ok(())
 }
 
@@ -147,55 +177,19 @@ fn third_variant(rt: HostRuntime) -> Result<(), Fail> {
 fn dated_after_close(rt: HostRuntime) -> Result<(), Fail> {
     let alloc = rt.alloc();
     let mut ledger = closed_after(alloc, &dated(SAMPLE, PACKED_FEBRUARY_1))?;
-    let refusals = [
-        ("again", 1, JANUARY_31, Ok(Ruled::Already)),
-        (
-            "again, through another day",
-            1,
-            FEBRUARY_29,
-            Err(LedgerFault::WrongPeriod(2)),
-        ),
-        (
-            "the next but one",
-            3,
-            FEBRUARY_29,
-            Err(LedgerFault::WrongPeriod(2)),
-        ),
-        ("period 0", 0, JANUARY_31, Err(LedgerFault::WrongPeriod(2))),
-        (
-            "the next, through the same day",
-            2,
-            JANUARY_31,
-            Err(LedgerFault::NotLater),
-        ),
-    ];
-    for (case, period, through, want) in refusals {
-        assert_eq!(rt; ledger.close(period, through), want, "{case}");
-        assert_periods(&rt, alloc, &mut ledger, (EMPTY_JANUARY, FEBRUARY), "")?;
-    }
-    for period in [0, 3, u16::MAX] {
-        let rows = ledger.charges(period).err();
-        assert_eq!(rt; rows, Some(LedgerFault::NoSuchPeriod), "rows of {period}");
-        let lines = ledger.adjustments(period).err();
-        assert_eq!(rt; lines, Some(LedgerFault::NoSuchPeriod), "lines of {period}");
-    }
+    assert_refused(&rt, alloc, &mut ledger)?;
+    assert_no_period(&rt, &mut ledger, 0);
+    assert_no_period(&rt, &mut ledger, 3);
+    assert_no_period(&rt, &mut ledger, u16::MAX);
     Ok(())
 }
 
 #[test]
 fn later_dated_variant(rt: HostRuntime) -> Result<(), Fail> {
-    let alloc = rt.alloc();
+    let (alloc, kept) = (rt.alloc(), one_kept(Stop::End));
     let mut ledger = closed_after(alloc, &SAMPLE)?;
     let variant = dated(variant_1201(), PACKED_FEBRUARY_2);
-    let receipt = import(alloc, &variant, &mut ledger);
-    assert_eq!(rt; receipt, one_kept(Stop::End));
-    assert_periods(
-        &rt,
-        alloc,
-        &mut ledger,
-        (JANUARY, EMPTY_FEBRUARY),
-        MINUS_SAMPLE,
-    )?;
-    assert_eq!(rt; ledger.disputes()?.len(), 1);
-    Ok(())
+    assert_import(&rt, alloc, &mut ledger, &variant, kept, "a variant");
+    assert_taken_back(&rt, alloc, &mut ledger)?;
+    assert_disputes(&rt, &mut ledger, 1)
 }

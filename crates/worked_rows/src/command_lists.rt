@@ -3,14 +3,17 @@
 ghost use Rattle.std.specs.Prelude.{IfOk};
 ghost use Rattle.book_import.specs.Commands.{IsAskable};
 
-use crate::adjustments::{MINUS_SAMPLE, adjustments};
+use crate::adjustments::MINUS_SAMPLE;
+use crate::asserted::{assert_adjustments, assert_disputes, assert_rows, assert_statement};
 use crate::closed_periods::{FEBRUARY_29, JANUARY_31};
-use crate::office::{new_books, statement};
+use crate::office::new_books;
 use crate::receipts::one_kept;
+use crate::same::same_replies;
 use book_core::{Ledger, LedgerFault, PlainLedger, Ruled, ShaNames};
 use book_import::{Command, Receipt, Reply, Stop, run};
 use smf_frames::Layout;
 use std::alloc::{AllocError, Global};
+use std::process::Abort;
 use std::test::Fail;
 use tariff_rules::{Key, TariffFault};
 use worked_samples::sample::{SAMPLE, joined, variant_1201, variant_1202};
@@ -53,6 +56,19 @@ fn close_of(period: u16) -> Command
     }
 }
 
+/// Asserts that the sample was charged in period 1 and is taken back in period 2, and that the open
+/// period has no rows.
+fn assert_taken_back<L: Ledger>(
+    rt: &impl Abort,
+    alloc: Global,
+    ledger: &mut L,
+    open: u16,
+) -> Result<(), Fail> {
+    assert_statement(rt, alloc, ledger, 1, JANUARY)?;
+    assert_adjustments(rt, alloc, ledger, 2, MINUS_SAMPLE)?;
+    assert_rows(rt, ledger, open, 0)
+}
+
 #[test]
 fn variant_after_close_in_one_list(rt: HostRuntime) -> Result<(), Fail> {
     let alloc = rt.alloc();
@@ -70,12 +86,9 @@ fn variant_after_close_in_one_list(rt: HostRuntime) -> Result<(), Fail> {
     ];
     let mut ledger = new_books(alloc)?;
     let replies = run(alloc, &mut ledger, &commands)?;
-    assert_eq!(rt; replies.as_slice(), want.as_slice());
-    assert_eq!(rt; statement(alloc, &mut ledger, 1)?.as_str(), JANUARY);
-    assert_eq!(rt; ledger.charges(2)?.len(), 0);
-    assert_eq!(rt; adjustments(alloc, &mut ledger, 2)?.as_str(), MINUS_SAMPLE);
-    assert_eq!(rt; ledger.disputes()?.len(), 1);
-    Ok(())
+    same_replies(&rt, &replies, &want);
+    assert_taken_back(&rt, alloc, &mut ledger, 2)?;
+    assert_disputes(&rt, &mut ledger, 1)
 }
 
 #[test]
@@ -104,12 +117,9 @@ fn third_variant_in_one_list(rt: HostRuntime) -> Result<(), Fail> {
     ];
     let mut ledger = new_books(alloc)?;
     let replies = run(alloc, &mut ledger, &commands)?;
-    assert_eq!(rt; replies.as_slice(), want.as_slice());
-    assert_eq!(rt; statement(alloc, &mut ledger, 1)?.as_str(), JANUARY);
-    assert_eq!(rt; adjustments(alloc, &mut ledger, 2)?.as_str(), MINUS_SAMPLE);
-    assert_eq!(rt; ledger.charges(3)?.len(), 0);
-    assert_eq!(rt; adjustments(alloc, &mut ledger, 3)?.as_str(), "");
-    Ok(())
+    same_replies(&rt, &replies, &want);
+    assert_taken_back(&rt, alloc, &mut ledger, 3)?;
+    assert_adjustments(&rt, alloc, &mut ledger, 3, "")
 }
 
 #[test]
@@ -145,14 +155,13 @@ fn a_refused_command_keeps_none_from_its_turn(rt: HostRuntime) -> Result<(), Fai
     ];
     let mut ledger = PlainLedger::new(alloc, ShaNames)?;
     let replies = run(alloc, &mut ledger, &commands)?;
-    assert_eq!(rt; replies.as_slice(), want.as_slice());
-    assert_eq!(rt; statement(alloc, &mut ledger, 1)?.as_str(), JANUARY);
-    Ok(())
+    same_replies(&rt, &replies, &want);
+    assert_statement(&rt, alloc, &mut ledger, 1, JANUARY)
 }
 
 #[test]
 fn no_commands_have_no_replies(rt: HostRuntime) -> Result<(), Fail> {
     let mut ledger = new_books(rt.alloc())?;
-    assert_eq!(rt; run(rt.alloc(), &mut ledger, &[])?.len(), 0);
+    same_replies(&rt, &run(rt.alloc(), &mut ledger, &[])?, &[]);
     Ok(())
 }

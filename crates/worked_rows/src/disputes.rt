@@ -2,13 +2,15 @@
 
 ghost use Rattle.std.specs.Prelude.{replicate};
 
-use crate::office::{dispute_list, import, new_books, report};
+use crate::asserted::{assert_dispute_list, assert_import, assert_report};
+use crate::office::{import, new_books};
 use crate::statements::ONE_STEP;
-use crate::trials::trial_text;
-use book_core::{LedgerFault, Naming, PlainLedger};
+use crate::trials::assert_trial;
+use book_core::{Ledger, LedgerFault, Naming, PlainLedger};
 use book_import::{Receipt, Stop};
 use smf_frames::Layout;
 use std::alloc::Global;
+use std::process::Abort;
 use std::test::Fail;
 use worked_samples::sample::{
     Record, SAMPLE, Section, joined, other_job, other_step, other_subtype, variant_1201, without,
@@ -51,12 +53,18 @@ SYSA A\\E0\\00 READER 002BC320 0124031F SUBTYPE 4 STEP 1
   36853142b2ae29444cdf8b1fe6fc696e5a1f22c34d2622b190046f5e5a3999b8 2024-01-31               24.9300 0000/0000 JOB00042 PAYCALC
 ";
 
-/// The dispute list of new books that were handed two records.
-fn disputes_of(alloc: Global, one: Record, other: Record) -> Result<String, Fail> {
+/// Asserts the dispute list of new books that were handed two records.
+fn assert_disputes_of(
+    rt: &impl Abort,
+    alloc: Global,
+    one: Record,
+    other: Record,
+    want: &str,
+) -> Result<(), Fail> {
     let mut ledger = new_books(alloc)?;
     import(alloc, &one, &mut ledger);
     import(alloc, &other, &mut ledger);
-    dispute_list(alloc, &mut ledger)
+    assert_dispute_list(rt, alloc, &mut ledger, want)
 }
 
 #[test]
@@ -65,29 +73,36 @@ fn two_variants(rt: HostRuntime) -> Result<(), Fail> {
     let variant = variant_1201();
     let sample_first = joined(alloc, &[&SAMPLE, &variant])?;
     let variant_first = joined(alloc, &[&variant, &SAMPLE])?;
-    let text = trial_text(alloc, sample_first.as_slice(), Layout::Rdw)?;
-    assert_eq!(rt; text.as_str(), TWO_VARIANTS);
-    let text = trial_text(alloc, variant_first.as_slice(), Layout::Rdw)?;
-    assert_eq!(rt; text.as_str(), TWO_VARIANTS, "the other way round");
-    Ok(())
+    assert_trial(
+        &rt,
+        alloc,
+        &sample_first,
+        Layout::Rdw,
+        TWO_VARIANTS,
+        "sample first",
+    )?;
+    assert_trial(
+        &rt,
+        alloc,
+        &variant_first,
+        Layout::Rdw,
+        TWO_VARIANTS,
+        "variant first",
+    )
 }
 
 #[test]
 fn an_absent_completion_shows_as_hyphens(rt: HostRuntime) -> Result<(), Fail> {
     let one = without(SAMPLE, Section::Completion);
     let other = without(variant_1201(), Section::Completion);
-    let text = disputes_of(rt.alloc(), one, other)?;
-    assert_eq!(rt; text.as_str(), NO_COMPLETION);
-    Ok(())
+    assert_disputes_of(&rt, rt.alloc(), one, other, NO_COMPLETION)
 }
 
 #[test]
 fn no_step_tells_job_ends_apart(rt: HostRuntime) -> Result<(), Fail> {
     let one = other_subtype(SAMPLE, 5);
     let other = other_step(one, 2);
-    let text = disputes_of(rt.alloc(), one, other)?;
-    assert_eq!(rt; text.as_str(), TWO_JOB_ENDS);
-    Ok(())
+    assert_disputes_of(&rt, rt.alloc(), one, other, TWO_JOB_ENDS)
 }
 
 #[test]
@@ -95,9 +110,7 @@ fn an_odd_job_name_is_shown_in_a_dispute(rt: HostRuntime) -> Result<(), Fail> {
     let name = [0xC1, 0xE0, 0x00, 0x40, 0x40, 0x40, 0x40, 0x40];
     let one = other_job(SAMPLE, name);
     let other = other_job(variant_1201(), name);
-    let text = disputes_of(rt.alloc(), one, other)?;
-    assert_eq!(rt; text.as_str(), ODD_JOB);
-    Ok(())
+    assert_disputes_of(&rt, rt.alloc(), one, other, ODD_JOB)
 }
 
 /// Gives every record one name.
@@ -112,33 +125,28 @@ impl Naming for OneName {
     }
 }
 
-#[test]
-fn digest_clash(rt: HostRuntime) -> Result<(), Fail> {
-    let alloc = rt.alloc();
-    let mut ledger = PlainLedger::flat(alloc, OneName, tariff(alloc)?)?;
+/// Asserts that books which give every record one name know a copy, and refuse another record.
+fn assert_clash<L: Ledger>(rt: &impl Abort, alloc: Global, ledger: &mut L) -> Result<(), Fail> {
+    let step = other_step(SAMPLE, 2);
     let twice = joined(alloc, &[&SAMPLE, &SAMPLE])?;
-    let receipt = import(alloc, &twice, &mut ledger);
-    let want = Receipt {
+    let between = joined(alloc, &[&SAMPLE, &step, &SAMPLE])?;
+    let one_known = Receipt {
         kept: 1,
         known: 1,
         ..Receipt::stopped(Stop::End)
     };
-    assert_eq!(rt; receipt, want);
-    assert_eq!(rt; report(alloc, &mut ledger)?.as_str(), ONE_STEP);
+    assert_import(rt, alloc, ledger, &twice, one_known, "one record");
+    assert_report(rt, alloc, ledger, ONE_STEP, "one record")?;
 
-    let receipt = import(alloc, &other_step(SAMPLE, 2), &mut ledger);
-    let clash = Stop::Ledger(LedgerFault::DigestClash);
-    assert_eq!(rt; receipt, Receipt::stopped(clash));
-    let between = joined(alloc, &[&SAMPLE, &other_step(SAMPLE, 2), &SAMPLE])?;
-    let want = Receipt {
-        known: 1,
-        ..Receipt::stopped(clash)
-    };
-    assert_eq!(rt;
-        import(alloc, &between, &mut ledger),
-        want,
-        "none behind it"
-    );
-    assert_eq!(rt; report(alloc, &mut ledger)?.as_str(), ONE_STEP);
-    Ok(())
+    let none = Receipt::stopped(Stop::Ledger(LedgerFault::DigestClash));
+    assert_import(rt, alloc, ledger, &step, none, "another record");
+    let one_before = Receipt { known: 1, ..none };
+    assert_import(rt, alloc, ledger, &between, one_before, "none behind it");
+    assert_report(rt, alloc, ledger, ONE_STEP, "none behind it")
+}
+
+#[test]
+fn digest_clash(rt: HostRuntime) -> Result<(), Fail> {
+    let mut ledger = PlainLedger::flat(rt.alloc(), OneName, tariff(rt.alloc())?)?;
+    assert_clash(&rt, rt.alloc(), &mut ledger)
 }

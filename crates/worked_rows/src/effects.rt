@@ -98,6 +98,11 @@ impl Withdrawal {
     }
 }
 
+/// Asserts what changes.
+fn same_effects(rt: &impl Abort, got: &Effects, want: &Effects, case: &str) {
+    assert_eq!(rt; *got, *want, "{case}");
+}
+
 #[test]
 fn a_record_that_is_alone_is_charged(rt: HostRuntime) -> Result<(), Fail> {
     let cases = [
@@ -117,7 +122,7 @@ fn a_record_that_is_alone_is_charged(rt: HostRuntime) -> Result<(), Fail> {
             charges(Some(DayChange::Add(priced)), None)
         };
         let effects = plan(&view_of(through, &[]), NEW, &priced);
-        assert_eq!(rt; effects, want, "{case}: {day}");
+        same_effects(&rt, &effects, &want, case);
     }
     Ok(())
 }
@@ -135,7 +140,7 @@ fn assert_planned(
     for day in DAYS {
         let priced = new_price(alloc, day)?;
         let effects = plan(view, NEW, &priced);
-        assert_eq!(rt; effects, *want, "{case}: a new record of {day}");
+        same_effects(rt, &effects, want, case);
     }
     Ok(())
 }

@@ -53,6 +53,21 @@ fn lines(alloc: Global, tables: &PlainTables) -> Result<Vec<(u16, bool)>, AllocE
     Ok(lines)
 }
 
+/// Asserts the charge rows.
+fn assert_days(rt: &impl Abort, got: &[(u16, i32, u64, u64)], want: &[(u16, i32, u64, u64)]) {
+    assert_eq!(rt; got, want, "charge rows");
+}
+
+/// Asserts the lines.
+fn assert_lines(rt: &impl Abort, got: &[(u16, bool)], want: &[(u16, bool)]) {
+    assert_eq!(rt; got, want, "lines");
+}
+
+/// Asserts the marks.
+fn assert_marks(rt: &impl Abort, got: &[(bool, bool)], want: &[(bool, bool)]) {
+    assert_eq!(rt; got, want, "marks");
+}
+
 /// Asserts the charge rows, the lines and the marks.
 fn assert_rows(
     rt: &impl Abort,
@@ -60,9 +75,9 @@ fn assert_rows(
     tables: &PlainTables,
     want: (&[(u16, i32, u64, u64)], &[(u16, bool)], &[(bool, bool)]),
 ) -> Result<(), Fail> {
-    assert_eq!(rt; days(alloc, tables)?.as_slice(), want.0, "charge rows");
-    assert_eq!(rt; lines(alloc, tables)?.as_slice(), want.1, "lines");
-    assert_eq!(rt; marks(alloc, tables)?.as_slice(), want.2, "marks");
+    assert_days(rt, &days(alloc, tables)?, want.0);
+    assert_lines(rt, &lines(alloc, tables)?, want.1);
+    assert_marks(rt, &marks(alloc, tables)?, want.2);
     Ok(())
 }
 

@@ -1,7 +1,9 @@
 //! The largest amounts that records can have, and books that are full of them.
 
-use crate::office::{books_under, import, report};
+use crate::asserted::{assert_import, assert_report};
+use crate::office::books_under;
 use crate::receipts::one_kept;
+use crate::same::same_number;
 use book_core::LedgerFault;
 use book_import::{Receipt, Stop};
 use std::test::Fail;
@@ -44,18 +46,34 @@ fn largest_amounts(rt: HostRuntime) -> Result<(), Fail> {
     let alloc = rt.alloc();
     let largest = measuring(with_blocks(SAMPLE, u32::MAX), u32::MAX, u32::MAX);
     let priced = price_of(&Tariff::parse(alloc, HIGHEST)?, &largest)?;
-    assert_eq!(rt; priced.amount, 90_194_314_195_000_000);
+    same_number(
+        &rt,
+        priced.amount,
+        90_194_314_195_000_000,
+        "the largest amount",
+    );
 
+    let kept = one_kept(Stop::End);
+    let full = Receipt::stopped(Stop::Ledger(LedgerFault::Full));
     let mut ledger = books_under(alloc, HIGHEST)?;
     for step in 1..45u16 {
-        let receipt = import(alloc, &other_step(largest, step), &mut ledger);
-        assert_eq!(rt; receipt, one_kept(Stop::End), "step {step}");
+        assert_import(
+            &rt,
+            alloc,
+            &mut ledger,
+            &other_step(largest, step),
+            kept,
+            "44 steps",
+        );
     }
-    assert_eq!(rt; report(alloc, &mut ledger)?.as_str(), FULL);
-
-    let receipt = import(alloc, &other_step(largest, 45), &mut ledger);
-    let full = Receipt::stopped(Stop::Ledger(LedgerFault::Full));
-    assert_eq!(rt; receipt, full, "step 45");
-    assert_eq!(rt; report(alloc, &mut ledger)?.as_str(), FULL);
-    Ok(())
+    assert_report(&rt, alloc, &mut ledger, FULL, "44 steps")?;
+    assert_import(
+        &rt,
+        alloc,
+        &mut ledger,
+        &other_step(largest, 45),
+        full,
+        "step 45",
+    );
+    assert_report(&rt, alloc, &mut ledger, FULL, "step 45")
 }

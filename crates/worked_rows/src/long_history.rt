@@ -1,7 +1,11 @@
 //! A long history of commands, after each of which every list is compared with that of a second,
 //! slow ledger.
 
+use crate::asserted::assert_no_period;
 use crate::history::{Numbers, TURNS, command};
+use crate::same::{
+    holds, same_bytes, same_days, same_lines, same_members, same_number, same_replies, same_rows,
+};
 use crate::slow_ledger::lists::{disputes, lines, rows};
 use crate::slow_ledger::rules::Rules;
 use crate::slow_ledger::{Kind, SlowLedger};
@@ -82,25 +86,33 @@ fn slow_reply(
 fn compare_disputes<L: Ledger>(
     rt: &impl Abort,
     alloc: Global,
-    turn: u32,
+    case: &str,
     ledger: &mut L,
     rules: &Rules<'_>,
     open: u16,
 ) -> Result<(), Fail> {
     let (found, want) = (ledger.disputes()?, disputes(alloc, rules, open)?);
-    assert_eq!(rt; found.len(), want.len(), "disputes after {turn}");
+    same_number(rt, found.len() as u64, want.len() as u64, case);
     for (one, other) in found.iter().zip(want.iter()) {
-        assert_eq!(rt;
-            one.identity.as_slice(),
-            other.identity.as_slice(),
-            "identities after {turn}"
-        );
-        assert_eq!(rt;
-            one.members.as_slice(),
-            other.members.as_slice(),
-            "members after {turn}"
-        );
+        same_bytes(rt, &one.identity, &other.identity, case);
+        same_members(rt, &one.members, &other.members, case);
     }
+    Ok(())
+}
+
+/// Asserts that the rows and lines of a period of both books are the same.
+fn compare_period<L: Ledger>(
+    rt: &impl Abort,
+    alloc: Global,
+    case: &str,
+    ledger: &mut L,
+    rules: &Rules<'_>,
+    period: u16,
+) -> Result<(), Fail> {
+    let want = rows(alloc, rules, period)?;
+    same_rows(rt, &ledger.charges(period)?, &want, period, case);
+    let want = lines(alloc, rules, period)?;
+    same_lines(rt, &ledger.adjustments(period)?, &want, period, case);
     Ok(())
 }
 
@@ -108,41 +120,20 @@ fn compare_disputes<L: Ledger>(
 fn compare<L: Ledger>(
     rt: &impl Abort,
     alloc: Global,
-    turn: u32,
+    case: &str,
     ledger: &mut L,
     slow: &SlowLedger,
 ) -> Result<(), Fail> {
-    let days = ledger.periods()?;
-    assert_eq!(rt;
-        days.as_slice(),
-        slow.closes.as_slice(),
-        "closes after {turn}"
-    );
+    same_days(rt, &ledger.periods()?, &slow.closes, case);
     let facts = slow.facts()?;
     let rules = Rules::of(&facts, &slow.closes);
     let open = slow.open();
     for period in 1..=open {
-        assert_eq!(rt;
-            ledger.charges(period)?.as_slice(),
-            rows(alloc, &rules, period)?.as_slice(),
-            "rows of {period} after {turn}"
-        );
-        assert_eq!(rt;
-            ledger.adjustments(period)?.as_slice(),
-            lines(alloc, &rules, period)?.as_slice(),
-            "lines of {period} after {turn}"
-        );
+        compare_period(rt, alloc, case, ledger, &rules, period)?;
     }
-    for period in [0, open.saturating_add(1)] {
-        let fault = Some(LedgerFault::NoSuchPeriod);
-        assert_eq!(rt; ledger.charges(period).err(), fault, "rows of {period}");
-        assert_eq!(rt;
-            ledger.adjustments(period).err(),
-            fault,
-            "lines of {period}"
-        );
-    }
-    compare_disputes(rt, alloc, turn, ledger, &rules, open)
+    assert_no_period(rt, ledger, 0);
+    assert_no_period(rt, ledger, open.saturating_add(1));
+    compare_disputes(rt, alloc, case, ledger, &rules, open)
 }
 
 /// Asserts that all came that a history may have.
@@ -159,6 +150,11 @@ fn assert_came(rt: &impl Abort, came: &Came) {
     for kind in kinds {
         assert!(rt; came.kinds.contains(&kind), "{kind:?}");
     }
+    assert_replies(rt, came);
+}
+
+/// Asserts that all came that is replied to rulings.
+fn assert_replies(rt: &impl Abort, came: &Came) {
     let tariffs = [
         ruled(Ok(Ruled::Done)),
         ruled(Ok(Ruled::Already)),
@@ -167,7 +163,7 @@ fn assert_came(rt: &impl Abort, came: &Came) {
         ruled(Err(LedgerFault::RecordsDated)),
     ];
     for reply in tariffs {
-        assert!(rt; came.tariffs.contains(&reply), "tariffs: {reply:?}");
+        holds(rt, came.tariffs.contains(&reply), "a reply to a tariff");
     }
     let closes = [
         ruled(Ok(Ruled::Done)),
@@ -176,7 +172,7 @@ fn assert_came(rt: &impl Abort, came: &Came) {
         ruled(Err(LedgerFault::NotLater)),
     ];
     for reply in closes {
-        assert!(rt; came.closes.contains(&reply), "closes: {reply:?}");
+        holds(rt, came.closes.contains(&reply), "a reply to a close");
     }
 }
 
@@ -191,8 +187,9 @@ fn a_slow_ledger_has_the_same_lists(rt: HostRuntime) -> Result<(), Fail> {
         let commands = [command(alloc, &mut numbers, turn, &slow.closes)?];
         let replies = run(alloc, &mut ledger, &commands)?;
         let want = slow_reply(alloc, &mut slow, &commands[0], &mut came)?;
-        assert_eq!(rt; replies.as_slice(), [want].as_slice(), "reply to {turn}");
-        compare(&rt, alloc, turn, &mut ledger, &slow)?;
+        let case = format!(in alloc; "after {turn}")?;
+        same_replies(&rt, &replies, &[want]);
+        compare(&rt, alloc, case.as_str(), &mut ledger, &slow)?;
     }
     assert_came(&rt, &came);
     Ok(())

@@ -7,6 +7,8 @@ mod accounts;
 #[cfg(test)]
 mod adjustments;
 #[cfg(test)]
+mod asserted;
+#[cfg(test)]
 mod calls;
 #[cfg(test)]
 mod check_lists;
@@ -35,6 +37,8 @@ mod kept_rows;
 #[cfg(test)]
 mod largest;
 #[cfg(test)]
+mod long_dumps;
+#[cfg(test)]
 mod long_history;
 #[cfg(test)]
 mod messages;
@@ -45,6 +49,8 @@ mod plain_tables;
 mod receipts;
 #[cfg(test)]
 mod reports;
+#[cfg(test)]
+mod same;
 mod sample_tariff;
 #[cfg(test)]
 mod slow_ledger;

@@ -1,5 +1,6 @@
 //! What the program says of a fault in one line, and the status that goes with it.
 
+use crate::same::{same_bytes, same_number};
 use book_core::LedgerFault;
 use book_import::Stop;
 use book_reports::ReportFault;
@@ -7,8 +8,15 @@ use program_answers::{report_failed, stopped, words_failed};
 use smf_frames::FrameFault;
 use std::io;
 use std::io::ErrorKind;
+use std::process::Abort;
 use std::test::Fail;
 use tariff_rules::{Key, TariffFault};
+
+/// Asserts the status that is told, and the line.
+fn assert_told(rt: &impl Abort, told: u8, errors: &[u8], status: u8, line: &str) {
+    same_number(rt, u64::from(told), u64::from(status), line);
+    same_bytes(rt, errors, line.as_bytes(), line);
+}
 
 #[test]
 fn each_fault_has_its_line_and_its_status(rt: HostRuntime) -> Result<(), Fail> {
@@ -39,8 +47,8 @@ fn each_fault_has_its_line_and_its_status(rt: HostRuntime) -> Result<(), Fail> {
     ];
     for (fault, status, line) in cases {
         let mut errors = Vec::new(rt.alloc());
-        assert_eq!(rt; report_failed(&mut errors, fault).code(), status, "{line}");
-        assert!(rt; errors.as_slice() == line.as_bytes(), "{line}");
+        let told = report_failed(&mut errors, fault).code();
+        assert_told(&rt, told, &errors, status, line);
     }
     Ok(())
 }
@@ -69,9 +77,8 @@ fn each_stop_has_its_line_and_its_status(rt: HostRuntime) -> Result<(), Fail> {
     ];
     for (stop, status, line) in cases {
         let mut errors = Vec::new(rt.alloc());
-        let found = stopped(&mut errors, stop);
-        assert_eq!(rt; found.code(), status, "{stop:?}");
-        assert!(rt; errors.as_slice() == line.as_bytes(), "{stop:?}");
+        let told = stopped(&mut errors, stop).code();
+        assert_told(&rt, told, &errors, status, line);
     }
     Ok(())
 }
@@ -85,8 +92,8 @@ fn words_that_could_not_be_taken_over_have_one_line(rt: HostRuntime) -> Result<(
     for (kind, status, line) in cases {
         let error: io::Error = kind.into();
         let mut errors = Vec::new(rt.alloc());
-        assert_eq!(rt; words_failed(&mut errors, &error).code(), status, "{line}");
-        assert!(rt; errors.as_slice() == line.as_bytes(), "{line}");
+        let told = words_failed(&mut errors, &error).code();
+        assert_told(&rt, told, &errors, status, line);
     }
     Ok(())
 }

@@ -1,11 +1,14 @@
 //! Receipts, and the line that shows one.
 
-use crate::office::{books_under, import, new_books};
+use crate::asserted::assert_import;
+use crate::office::{books_under, new_books};
+use crate::same::same_text;
 use book_core::LedgerFault;
 use book_import::{Receipt, Stop};
 use book_reports::receipt_line_text;
 use smf_frames::FrameFault;
 use std::alloc::Global;
+use std::process::Abort;
 use std::test::Fail;
 use worked_samples::sample::{SAMPLE, dated, joined, other_step, variant_1201};
 use worked_samples::tariffs::{CPU_RATE, file_from};
@@ -39,17 +42,23 @@ pub fn one_damaged() -> Receipt {
     }
 }
 
-/// What new books answer to a dump of one record.
-pub fn receipt_for(alloc: Global, record: &[u8]) -> Result<Receipt, Fail> {
+/// Asserts what new books answer to a dump of one record.
+pub fn assert_receipt(
+    rt: &impl Abort,
+    alloc: Global,
+    record: &[u8],
+    want: Receipt,
+    case: &str,
+) -> Result<(), Fail> {
     let mut ledger = new_books(alloc)?;
-    Ok(import(alloc, record, &mut ledger))
+    assert_import(rt, alloc, &mut ledger, record, want, case);
+    Ok(())
 }
 
 #[test]
 fn a_receipt_counts_what_became_of_each_record(rt: HostRuntime) -> Result<(), Fail> {
     let alloc = rt.alloc();
     let file = file_from(alloc, "2024-01-01", CPU_RATE, "")?;
-    let mut ledger = books_under(alloc, file.as_str())?;
     let unpriced = dated(SAMPLE, [0x01, 0x23, 0x36, 0x5F]);
     let step = other_step(SAMPLE, 2);
     let dump = joined(
@@ -64,19 +73,20 @@ fn a_receipt_counts_what_became_of_each_record(rt: HostRuntime) -> Result<(), Fa
             &[0x00, 0xA8],
         ],
     )?;
+    let mut ledger = books_under(alloc, file.as_str())?;
     let want = Receipt {
         kept: 3,
         known: 1,
         unpriced: 2,
         ..Receipt::stopped(Stop::Frame(FrameFault::Truncated))
     };
-    assert_eq!(rt; import(alloc, &dump, &mut ledger), want);
+    assert_import(&rt, alloc, &mut ledger, &dump, want, "once");
     let want = Receipt {
         known: 4,
         unpriced: 2,
         ..Receipt::stopped(Stop::Frame(FrameFault::Truncated))
     };
-    assert_eq!(rt; import(alloc, &dump, &mut ledger), want, "again");
+    assert_import(&rt, alloc, &mut ledger, &dump, want, "again");
     Ok(())
 }
 
@@ -106,7 +116,7 @@ fn a_receipt_line_has_nine_counts_and_the_stop(rt: HostRuntime) -> Result<(), Fa
         };
         let text = receipt_line_text(rt.alloc(), &receipt)?;
         let line = format!(in rt.alloc(); "{counts} STOP {want}\n")?;
-        assert_eq!(rt; text.as_str(), line.as_str());
+        same_text(&rt, text.as_str(), line.as_str(), want);
     }
     Ok(())
 }

@@ -3,6 +3,7 @@
 
 use crate::closed_periods::{FEBRUARY_29, JANUARY_31, closed_after};
 use crate::office::{import, new_books};
+use crate::same::{same_bytes, same_written};
 use crate::statements::{NO_STEP, ONE_STEP};
 use book_core::{Ledger, LedgerFault, PlainLedger, ShaNames, Sink};
 use book_import::{Receipt, Stop};
@@ -10,6 +11,7 @@ use book_reports::{
     ReportFault, adjustment_list, dispute_list, period_list, receipt_line, statement, statement_csv,
 };
 use std::alloc::Global;
+use std::process::Abort;
 use std::test::Fail;
 use worked_samples::sample::{SAMPLE, variant_1201};
 use worked_samples::texts::JANUARY;
@@ -56,38 +58,76 @@ const RECEIPT: &str = "\
 KEPT 0 KNOWN 0 UNPRICED 0 OTHER 0 HEADERS 0 TRAILERS 0 LOST 0 CONTINUED 0 DAMAGED 0 STOP END
 ";
 
-/// What was written.
-fn text_of(sink: Sink<Vec<u8>>) -> Result<String, Fail> {
-    Ok(String::from_utf8(sink.into_inner())?)
+/// Asserts what was written.
+fn assert_written(rt: &impl Abort, sink: Sink<Vec<u8>>, want: &str, what: &str) {
+    same_bytes(rt, &sink.into_inner(), want.as_bytes(), what);
 }
 
-/// The statement of a period as a table, as it is written.
-fn table<L: Ledger>(alloc: Global, ledger: &mut L, period: u16) -> Result<String, Fail> {
+/// Asserts the statement of period 1 as a table, as it is written.
+fn assert_table<L: Ledger>(
+    rt: &impl Abort,
+    alloc: Global,
+    ledger: &mut L,
+    want: &str,
+) -> Result<(), Fail> {
     let mut sink = Sink::new(Vec::new(alloc));
-    statement_csv(alloc, ledger, period, &mut sink)?;
-    text_of(sink)
+    statement_csv(alloc, ledger, 1, &mut sink)?;
+    assert_written(rt, sink, want, "the table of period 1");
+    Ok(())
 }
 
-/// The adjustments of a period, as they are written.
-fn adjustments<L: Ledger>(alloc: Global, ledger: &mut L, period: u16) -> Result<String, Fail> {
+/// Asserts the adjustments of a period, as they are written.
+fn assert_adjustments<L: Ledger>(
+    rt: &impl Abort,
+    alloc: Global,
+    ledger: &mut L,
+    period: u16,
+    want: &str,
+) -> Result<(), Fail> {
     let mut sink = Sink::new(Vec::new(alloc));
     adjustment_list(alloc, ledger, period, &mut sink)?;
-    text_of(sink)
+    assert_written(rt, sink, want, "adjustments");
+    Ok(())
 }
 
-/// The list of periods, as it is written.
-fn periods<L: Ledger>(alloc: Global, ledger: &mut L) -> Result<String, Fail> {
+/// Asserts the list of periods, as it is written.
+fn assert_periods<L: Ledger>(
+    rt: &impl Abort,
+    alloc: Global,
+    ledger: &mut L,
+    want: &str,
+) -> Result<(), Fail> {
     let mut sink = Sink::new(Vec::new(alloc));
     period_list(alloc, ledger, &mut sink)?;
-    text_of(sink)
+    assert_written(rt, sink, want, "periods");
+    Ok(())
 }
 
-/// The statement of period 1 and behind it the list of disputes, as they are written.
-fn both<L: Ledger>(alloc: Global, ledger: &mut L) -> Result<String, Fail> {
+/// Asserts the statement of period 1, as it is written.
+fn assert_statement<L: Ledger>(
+    rt: &impl Abort,
+    alloc: Global,
+    ledger: &mut L,
+    want: &str,
+) -> Result<(), Fail> {
+    let mut sink = Sink::new(Vec::new(alloc));
+    statement(alloc, ledger, 1, &mut sink)?;
+    assert_written(rt, sink, want, "the statement of period 1");
+    Ok(())
+}
+
+/// Asserts the statement of period 1 and behind it the list of disputes, as they are written.
+fn assert_both<L: Ledger>(
+    rt: &impl Abort,
+    alloc: Global,
+    ledger: &mut L,
+    want: &str,
+) -> Result<(), Fail> {
     let mut sink = Sink::new(Vec::new(alloc));
     statement(alloc, ledger, 1, &mut sink)?;
     dispute_list(alloc, ledger, &mut sink)?;
-    text_of(sink)
+    assert_written(rt, sink, want, "statement and disputes");
+    Ok(())
 }
 
 #[test]
@@ -95,23 +135,18 @@ fn one_record(rt: HostRuntime) -> Result<(), Fail> {
     let alloc = rt.alloc();
     let mut ledger = new_books(alloc)?;
     import(alloc, &SAMPLE, &mut ledger);
-    assert_eq!(rt; both(alloc, &mut ledger)?.as_str(), ONE_STEP);
-    assert_eq!(rt; table(alloc, &mut ledger, 1)?.as_str(), ONE_ROW);
-    Ok(())
+    assert_both(&rt, alloc, &mut ledger, ONE_STEP)?;
+    assert_table(&rt, alloc, &mut ledger, ONE_ROW)
 }
 
 #[test]
 fn new_books_are_empty(rt: HostRuntime) -> Result<(), Fail> {
     let alloc = rt.alloc();
     let mut ledger = PlainLedger::new(alloc, ShaNames)?;
-    assert_eq!(rt; both(alloc, &mut ledger)?.as_str(), NO_STEP);
-    assert_eq!(rt; table(alloc, &mut ledger, 1)?.as_str(), HEADING);
-    assert_eq!(rt; adjustments(alloc, &mut ledger, 1)?.as_str(), NO_LINE);
-    assert_eq!(rt;
-        periods(alloc, &mut ledger)?.as_str(),
-        "PERIODS 1\n1 OPEN\n"
-    );
-    Ok(())
+    assert_both(&rt, alloc, &mut ledger, NO_STEP)?;
+    assert_table(&rt, alloc, &mut ledger, HEADING)?;
+    assert_adjustments(&rt, alloc, &mut ledger, 1, NO_LINE)?;
+    assert_periods(&rt, alloc, &mut ledger, "PERIODS 1\n1 OPEN\n")
 }
 
 #[test]
@@ -119,13 +154,10 @@ fn variant_after_close(rt: HostRuntime) -> Result<(), Fail> {
     let alloc = rt.alloc();
     let mut ledger = closed_after(alloc, &SAMPLE)?;
     import(alloc, &variant_1201(), &mut ledger);
-    let mut sink = Sink::new(Vec::new(alloc));
-    statement(alloc, &mut ledger, 1, &mut sink)?;
-    assert_eq!(rt; text_of(sink)?.as_str(), JANUARY);
-    assert_eq!(rt; table(alloc, &mut ledger, 1)?.as_str(), ONE_ROW);
-    assert_eq!(rt; adjustments(alloc, &mut ledger, 2)?.as_str(), TAKEN_BACK);
-    assert_eq!(rt; periods(alloc, &mut ledger)?.as_str(), TWO_PERIODS);
-    Ok(())
+    assert_statement(&rt, alloc, &mut ledger, JANUARY)?;
+    assert_table(&rt, alloc, &mut ledger, ONE_ROW)?;
+    assert_adjustments(&rt, alloc, &mut ledger, 2, TAKEN_BACK)?;
+    assert_periods(&rt, alloc, &mut ledger, TWO_PERIODS)
 }
 
 #[test]
@@ -134,8 +166,20 @@ fn late_record(rt: HostRuntime) -> Result<(), Fail> {
     let mut ledger = closed_after(alloc, &[])?;
     import(alloc, &SAMPLE, &mut ledger);
     ledger.close(2, FEBRUARY_29)?;
-    assert_eq!(rt; adjustments(alloc, &mut ledger, 2)?.as_str(), CAME_LATE);
-    Ok(())
+    assert_adjustments(&rt, alloc, &mut ledger, 2, CAME_LATE)
+}
+
+/// Asserts that no text of a period is begun, since the books have no such period.
+fn assert_refused<L: Ledger>(rt: &impl Abort, alloc: Global, ledger: &mut L, period: u16) {
+    let refused = Err(ReportFault::Ledger(LedgerFault::NoSuchPeriod));
+    let mut sink = Sink::new(Vec::new(alloc));
+    let answer = statement(alloc, ledger, period, &mut sink);
+    assert_eq!(rt; answer, refused, "statement of {period}");
+    let answer = statement_csv(alloc, ledger, period, &mut sink);
+    assert_eq!(rt; answer, refused, "table of {period}");
+    let answer = adjustment_list(alloc, ledger, period, &mut sink);
+    assert_eq!(rt; answer, refused, "adjustments of {period}");
+    assert_written(rt, sink, "", "no such period");
 }
 
 #[test]
@@ -143,16 +187,8 @@ fn what_the_books_refuse_is_not_begun(rt: HostRuntime) -> Result<(), Fail> {
     let alloc = rt.alloc();
     let mut ledger = PlainLedger::new(alloc, ShaNames)?;
     ledger.close(1, JANUARY_31)?;
-    let refused = Err(ReportFault::Ledger(LedgerFault::NoSuchPeriod));
     for period in [0, 3, u16::MAX] {
-        let mut sink = Sink::new(Vec::new(alloc));
-        let answer = statement(alloc, &mut ledger, period, &mut sink);
-        assert_eq!(rt; answer, refused, "statement of {period}");
-        let answer = statement_csv(alloc, &mut ledger, period, &mut sink);
-        assert_eq!(rt; answer, refused, "table of {period}");
-        let answer = adjustment_list(alloc, &mut ledger, period, &mut sink);
-        assert_eq!(rt; answer, refused, "adjustments of {period}");
-        assert_eq!(rt; text_of(sink)?.as_str(), "", "{period}");
+        assert_refused(&rt, alloc, &mut ledger, period);
     }
     Ok(())
 }
@@ -163,8 +199,8 @@ fn a_failed_write_leaves_a_front(rt: HostRuntime) -> Result<(), Fail> {
     let mut ledger = PlainLedger::new(alloc, ShaNames)?;
     let mut sink = Sink::new(Takes::up_to(alloc, 7, 1));
     let answer = period_list(alloc, &mut ledger, &mut sink);
-    assert_eq!(rt; answer, Err(ReportFault::Write));
-    assert_eq!(rt; sink.into_inner().taken.as_slice(), b"PERIODS".as_slice());
+    same_written(&rt, answer, Err(ReportFault::Write), "a second write");
+    same_bytes(&rt, &sink.into_inner().taken, b"PERIODS", "the first write");
     Ok(())
 }
 
@@ -173,6 +209,6 @@ fn the_receipt_line(rt: HostRuntime) -> Result<(), Fail> {
     let alloc = rt.alloc();
     let mut sink = Sink::new(Vec::new(alloc));
     receipt_line(alloc, &Receipt::stopped(Stop::End), &mut sink)?;
-    assert_eq!(rt; text_of(sink)?.as_str(), RECEIPT);
+    assert_written(&rt, sink, RECEIPT, "the receipt of nothing");
     Ok(())
 }

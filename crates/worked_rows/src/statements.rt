@@ -1,11 +1,14 @@
 //! What records cost: the texts that the office agreed on, written out.
 
-use crate::office::{import, new_books, report};
-use crate::trials::trial_text;
+use crate::asserted::{assert_import, assert_report};
+use crate::office::{import, new_books};
+use crate::same::{same_number, same_parts, same_text};
+use crate::trials::assert_trial;
 use book_core::{Ledger, PlainLedger, ShaNames};
 use book_import::{Receipt, Stop};
 use book_reports::statement_text;
 use smf_frames::Layout;
+use std::process::Abort;
 use std::test::Fail;
 use worked_samples::readings::{price_of, stop_of};
 use worked_samples::sample::{
@@ -68,19 +71,28 @@ DISPUTES 0
 
 #[test]
 fn one_record(rt: HostRuntime) -> Result<(), Fail> {
-    let text = trial_text(rt.alloc(), SAMPLE.as_slice(), Layout::Rdw)?;
-    assert_eq!(rt; text.as_str(), ONE_RECORD);
-    Ok(())
+    assert_trial(
+        &rt,
+        rt.alloc(),
+        &SAMPLE,
+        Layout::Rdw,
+        ONE_RECORD,
+        "the sample",
+    )
 }
 
 #[test]
 fn empty_input(rt: HostRuntime) -> Result<(), Fail> {
     let nothing: &[u8] = &[];
-    assert_eq!(rt; stop_of(rt.alloc(), Layout::Rdw, nothing)?, (0, 0, false));
-    assert_eq!(rt; stop_of(rt.alloc(), Layout::Bdw, nothing)?, (0, 0, false));
-    let text = trial_text(rt.alloc(), nothing, Layout::Rdw)?;
-    assert_eq!(rt; text.as_str(), NO_RECORD);
-    Ok(())
+    for layout in [Layout::Rdw, Layout::Bdw] {
+        same_parts(
+            &rt,
+            stop_of(rt.alloc(), layout, nothing)?,
+            (0, 0, false),
+            "nothing",
+        );
+    }
+    assert_trial(&rt, rt.alloc(), nothing, Layout::Rdw, NO_RECORD, "nothing")
 }
 
 #[test]
@@ -96,12 +108,11 @@ fn order_and_copies_within_a_dump_make_no_difference(rt: HostRuntime) -> Result<
         ),
     ];
     for (case, dump, known) in &cases {
-        let text = trial_text(alloc, dump.as_slice(), Layout::Rdw)?;
         let want = format!(in alloc;
             "KEPT 2 KNOWN {known} UNPRICED 0 OTHER 0 HEADERS 0 TRAILERS 0 LOST 0 CONTINUED 0 \
             DAMAGED 0 STOP END\n{TWO_STEPS}"
         )?;
-        assert_eq!(rt; text.as_str(), want.as_str(), "{case}");
+        assert_trial(&rt, alloc, dump, Layout::Rdw, want.as_str(), case)?;
     }
     Ok(())
 }
@@ -118,14 +129,13 @@ fn repeated_and_overlapping(rt: HostRuntime) -> Result<(), Fail> {
     ];
     let mut ledger = new_books(alloc)?;
     for (case, dump, kept, known) in cases {
-        let receipt = import(alloc, dump, &mut ledger);
         let want = Receipt {
             kept,
             known,
             ..Receipt::stopped(Stop::End)
         };
-        assert_eq!(rt; receipt, want, "{case}");
-        assert_eq!(rt; report(alloc, &mut ledger)?.as_str(), TWO_STEPS, "{case}");
+        assert_import(&rt, alloc, &mut ledger, dump, want, case);
+        assert_report(&rt, alloc, &mut ledger, TWO_STEPS, case)?;
     }
     Ok(())
 }
@@ -135,7 +145,17 @@ fn without_an_io_section_no_blocks_are_charged(rt: HostRuntime) -> Result<(), Fa
     let alloc = rt.alloc();
     let mut ledger = new_books(alloc)?;
     import(alloc, &without(SAMPLE, Section::InputOutput), &mut ledger);
-    assert_eq!(rt; report(alloc, &mut ledger)?.as_str(), NO_BLOCKS);
+    assert_report(&rt, alloc, &mut ledger, NO_BLOCKS, "no blocks")
+}
+
+/// Asserts the amount of one row, of two records that have a hundredth of a second of CPU time each.
+fn assert_hundredths<L: Ledger>(rt: &impl Abort, ledger: &mut L, amount: u64) -> Result<(), Fail> {
+    let rows = ledger.charges(1)?;
+    assert_eq!(rt; rows.len(), 1);
+    same_number(rt, rows[0].count, 2, "records");
+    same_number(rt, rows[0].cpu, 2, "hundredths");
+    same_number(rt, rows[0].blocks, 0, "blocks");
+    same_number(rt, rows[0].amount, amount, "amount");
     Ok(())
 }
 
@@ -146,19 +166,11 @@ fn rounds_once(rt: HostRuntime) -> Result<(), Fail> {
     let step = other_step(least, 2);
     let dump = joined(alloc, &[&least, &step])?;
     for (cpu, one, both) in [(5, 0, 0), (50, 1, 2)] {
-        assert_eq!(rt;
-            price_of(&flat(alloc, cpu, 0)?, &least)?.amount,
-            one,
-            "rate {cpu}"
-        );
+        let priced = price_of(&flat(alloc, cpu, 0)?, &least)?;
+        same_number(&rt, priced.amount, one, "the amount of one");
         let mut ledger = PlainLedger::flat(alloc, ShaNames, flat(alloc, cpu, 0)?)?;
         import(alloc, &dump, &mut ledger);
-        let rows = ledger.charges(1)?;
-        assert_eq!(rt; rows.len(), 1, "rate {cpu}");
-        assert_eq!(rt; rows[0].count, 2, "rate {cpu}");
-        assert_eq!(rt; rows[0].cpu, 2, "rate {cpu}");
-        assert_eq!(rt; rows[0].blocks, 0, "rate {cpu}");
-        assert_eq!(rt; rows[0].amount, both, "rate {cpu}");
+        assert_hundredths(&rt, &mut ledger, both)?;
     }
     Ok(())
 }
@@ -166,6 +178,6 @@ fn rounds_once(rt: HostRuntime) -> Result<(), Fail> {
 #[test]
 fn the_statement_of_no_rows_has_totals_of_zero(rt: HostRuntime) -> Result<(), Fail> {
     let text = statement_text(rt.alloc(), 2, Some(19_753), &[])?;
-    assert_eq!(rt; text.as_str(), CLOSED);
+    same_text(&rt, text.as_str(), CLOSED, "no rows");
     Ok(())
 }

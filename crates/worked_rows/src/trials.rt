@@ -1,6 +1,7 @@
 //! Trials, also over readers and writers that fail.
 
 use crate::receipts::kept;
+use crate::same::{holds, same_answer, same_bytes};
 use book_core::{Sink, Source};
 use book_import::{MAX_READS, Receipt, Stop};
 use book_reports::ReportFault;
@@ -32,14 +33,23 @@ fn trial_over<R: Read + Drop, W: Write + Drop>(
 }
 
 /// All that a trial of all of a dump writes.
-pub fn trial_text<R: Read + Drop>(
-    alloc: Global,
-    reader: R,
-    layout: Layout,
-) -> Result<String, Fail> {
+fn trial_text<R: Read + Drop>(alloc: Global, reader: R, layout: Layout) -> Result<Vec<u8>, Fail> {
     let (answer, text) = trial_over(alloc, reader, layout, u32::MAX, Vec::new(alloc))?;
     answer?;
-    Ok(String::from_utf8(text)?)
+    Ok(text)
+}
+
+/// Asserts all that a trial of all of a dump writes.
+pub fn assert_trial(
+    rt: &impl Abort,
+    alloc: Global,
+    dump: &[u8],
+    layout: Layout,
+    want: &str,
+    case: &str,
+) -> Result<(), Fail> {
+    same_bytes(rt, &trial_text(alloc, dump, layout)?, want.as_bytes(), case);
+    Ok(())
 }
 
 #[test]
@@ -56,16 +66,14 @@ fn a_reader_that_fails_leaves_the_records_before_it(rt: HostRuntime) -> Result<(
         (5, 100, 2, Stop::End),
     ];
     for (reads, size, count, stop) in cases {
+        let case = format!(in alloc; "{reads} reads of {size} bytes")?;
         let reader = InPieces::failing_behind(reads, &dump, size);
         let (answer, text) = trial_over(alloc, reader, Layout::Rdw, u32::MAX, Vec::new(alloc))?;
-        assert_eq!(rt;
-            answer,
-            Ok(kept(count, stop)),
-            "{reads} reads of {size} bytes"
-        );
-        assert!(rt;
+        same_answer(&rt, answer, Ok(kept(count, stop)), case.as_str());
+        holds(
+            &rt,
             text.ends_with(b"DISPUTES 0\n".as_slice()),
-            "{reads} reads of {size} bytes"
+            case.as_str(),
         );
     }
     Ok(())
@@ -77,7 +85,12 @@ fn reading_stops_where_no_more_reads_are_allowed(rt: HostRuntime) -> Result<(), 
     for (reads, count) in [(0, 0), (1, 0), (3, 1)] {
         let reader = Endless::new();
         let (answer, _) = trial_over(alloc, reader, Layout::Rdw, reads, Vec::new(alloc))?;
-        assert_eq!(rt; answer, Ok(kept(count, Stop::ReadLimit)), "{reads} reads");
+        same_answer(
+            &rt,
+            answer,
+            Ok(kept(count, Stop::ReadLimit)),
+            "so many reads",
+        );
     }
     Ok(())
 }
@@ -93,17 +106,14 @@ fn is_written_whole(
     let writer = Takes::up_to(alloc, size, writes);
     let (answer, writer) = trial_over(alloc, SAMPLE.as_slice(), Layout::Rdw, u32::MAX, writer)?;
     let text = writer.taken.as_slice();
-    assert!(rt;
-        ONE_RECORD.as_bytes().starts_with(text),
-        "{writes} writes of {size}"
-    );
+    holds(rt, ONE_RECORD.as_bytes().starts_with(text), "a front");
     let is_whole = text.len() == ONE_RECORD.len();
     let want = if is_whole {
         Ok(kept(1, Stop::End))
     } else {
         Err(ReportFault::Write)
     };
-    assert_eq!(rt; answer, want, "{writes} writes of {size}");
+    same_answer(rt, answer, want, "as much as there is room for");
     Ok(is_whole)
 }
 
@@ -114,12 +124,8 @@ fn a_writer_that_fails_has_a_front_of_the_text(rt: HostRuntime) -> Result<(), Fa
     for (writes, len) in [(0, 0), (1, 93), (2, 93 + 369)] {
         let writer = Takes::up_to(alloc, usize::MAX, writes);
         let (answer, writer) = trial_over(alloc, SAMPLE.as_slice(), Layout::Rdw, u32::MAX, writer)?;
-        assert_eq!(rt; answer, Err(ReportFault::Write), "{writes} writes");
-        assert_eq!(rt; writer.taken.len(), len, "{writes} writes");
-        assert!(rt;
-            ONE_RECORD.as_bytes().starts_with(&writer.taken),
-            "{writes} writes"
-        );
+        same_answer(&rt, answer, Err(ReportFault::Write), "a failed write");
+        same_bytes(&rt, &writer.taken, &ONE_RECORD.as_bytes()[..len], "a front");
     }
     Ok(())
 }
@@ -129,6 +135,6 @@ fn a_writer_may_take_a_few_bytes_a_time(rt: HostRuntime) -> Result<(), Fail> {
     for writes in 0..99 {
         is_written_whole(&rt, rt.alloc(), 7, writes)?;
     }
-    assert!(rt; is_written_whole(&rt, rt.alloc(), 7, 99)?);
+    holds(&rt, is_written_whole(&rt, rt.alloc(), 7, 99)?, "99 writes");
     Ok(())
 }

@@ -4,7 +4,8 @@ ghost use Rattle.smf_text.specs.Day.{IsDay};
 ghost use Rattle.book_import.specs.Commands.{IsAskable};
 
 use crate::plain_tables::PlainTables;
-use book_core::{Ledger, PlainLedger, Ruled, ShaNames};
+use crate::same::{holds, same_bytes, same_days, same_lines, same_members, same_number, same_rows};
+use book_core::{Ledger, PlainLedger, Ruled, ShaNames, Variant};
 use book_import::{Command, Reply, run};
 use smf_frames::{Layout, split};
 use std::alloc::Global;
@@ -77,7 +78,7 @@ impl TwiceKept {
         match (command, reply) {
             (Command::Import { layout, bytes }, Reply::Receipt(receipt)) => {
                 let kept = self.keep_all(*layout, bytes)?;
-                assert_eq!(rt; receipt.kept, kept, "kept after {case}");
+                same_number(rt, receipt.kept, kept, case);
                 Ok(())
             }
             (Command::Tariff(text), Reply::Ruled(Ruled::Done)) => {
@@ -105,51 +106,50 @@ impl TwiceKept {
 
     /// Asserts that each list of the ledger is that which is read of the tables.
     fn assert_same(&mut self, rt: &impl Abort, case: &str) -> Result<(), Fail> {
-        let closes = self.ledger.periods()?;
-        assert_eq!(rt;
-            closes.as_slice(),
-            self.tables.closes.as_slice(),
-            "closes after {case}"
-        );
+        same_days(rt, &self.ledger.periods()?, &self.tables.closes, case);
         for period in 1..=self.tables.open() {
-            assert_eq!(rt;
-                self.ledger.charges(period)?.as_slice(),
-                self.tables.charges(period)?.as_slice(),
-                "rows of {period} after {case}"
-            );
-            assert_eq!(rt;
-                self.ledger.adjustments(period)?.as_slice(),
-                self.tables.adjustments(period)?.as_slice(),
-                "lines of {period} after {case}"
-            );
+            self.assert_same_rows(rt, period, case)?;
+            self.assert_same_lines(rt, period, case)?;
         }
         self.assert_same_disputes(rt, case)
+    }
+
+    /// Asserts that the charge rows of a period are the same.
+    fn assert_same_rows(&mut self, rt: &impl Abort, period: u16, case: &str) -> Result<(), Fail> {
+        let want = self.tables.charges(period)?;
+        same_rows(rt, &self.ledger.charges(period)?, &want, period, case);
+        Ok(())
+    }
+
+    /// Asserts that the adjustment lines of a period are the same.
+    fn assert_same_lines(&mut self, rt: &impl Abort, period: u16, case: &str) -> Result<(), Fail> {
+        let want = self.tables.adjustments(period)?;
+        same_lines(rt, &self.ledger.adjustments(period)?, &want, period, case);
+        Ok(())
     }
 
     /// Asserts that the disputes are the same, and that their records alone are not charged.
     fn assert_same_disputes(&mut self, rt: &impl Abort, case: &str) -> Result<(), Fail> {
         let disputes = self.ledger.disputes()?;
         let groups = self.tables.disputes()?;
-        assert_eq!(rt; disputes.len(), groups.len(), "disputes after {case}");
+        same_number(rt, disputes.len() as u64, groups.len() as u64, case);
         let mut uncharged: usize = 0;
         for (dispute, (identity, members)) in disputes.iter().zip(&groups) {
-            assert_eq!(rt;
-                dispute.identity.as_slice(),
-                identity.as_slice(),
-                "identities after {case}"
-            );
-            assert_eq!(rt;
-                dispute.members.as_slice(),
-                members.as_slice(),
-                "members after {case}"
-            );
-            for variant in members {
-                let row = self.tables.records.get(&variant.name);
-                assert!(rt; row.is_some_and(|row| !row.charged), "marks after {case}");
-            }
+            same_bytes(rt, &dispute.identity, identity, case);
+            same_members(rt, &dispute.members, members, case);
+            self.assert_not_charged(rt, members, case);
             uncharged = uncharged.saturating_add(members.len());
         }
-        assert_eq!(rt; self.tables.uncharged(), uncharged, "marks after {case}");
+        let want = self.tables.uncharged();
+        same_number(rt, uncharged as u64, want as u64, case);
         Ok(())
+    }
+
+    /// Asserts that the records of a dispute are not charged.
+    fn assert_not_charged(&self, rt: &impl Abort, members: &[Variant], case: &str) {
+        for variant in members {
+            let row = self.tables.records.get(&variant.name);
+            holds(rt, row.is_some_and(|row| !row.charged), case);
+        }
     }
 }

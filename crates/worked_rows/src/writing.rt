@@ -1,5 +1,6 @@
 //! How a text is written.
 
+use crate::same::{holds, same_bytes, same_number, same_written};
 use book_core::Sink;
 use book_reports::{ReportFault, write_text};
 use std::test::Fail;
@@ -18,11 +19,11 @@ fn a_text_is_written_up_to_the_first_write_that_fails(rt: HostRuntime) -> Result
     ];
     for (case, size, writes, want, taken, asked) in cases {
         let mut sink = Sink::new(Takes::up_to(rt.alloc(), size, writes));
-        assert_eq!(rt; write_text(&mut sink, LINE), want, "{case}");
-        assert_eq!(rt; sink.failed(), want.is_err(), "{case}");
+        same_written(&rt, write_text(&mut sink, LINE), want, case);
+        holds(&rt, sink.failed() == want.is_err(), case);
         let writer = sink.into_inner();
-        assert_eq!(rt; writer.taken.as_slice(), taken.as_bytes(), "{case}");
-        assert_eq!(rt; writer.asked, asked, "{case}");
+        same_bytes(&rt, &writer.taken, taken.as_bytes(), case);
+        same_number(&rt, u64::from(writer.asked), asked, case);
     }
     Ok(())
 }

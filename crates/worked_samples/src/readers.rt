@@ -1,6 +1,6 @@
 //! Readers that give a dump in pieces, not whole, or without end.
 
-use crate::sample::{LEN, SAMPLE};
+use crate::sample::{LEN, SAMPLE, ShortRecord, short_record};
 use std::io;
 use std::io::{ErrorKind, Read};
 
@@ -61,6 +61,43 @@ impl Read for Endless {
         for byte in buffer[..count].iter_mut() {
             self.at %= LEN;
             *byte = SAMPLE[self.at];
+            self.at += 1;
+        }
+        Ok(count)
+    }
+}
+
+/// How long a record is that is its header alone.
+const SHORT_LEN: usize = 18;
+
+/// Gives a dump header so many times, as many bytes at a read as there is room for. It takes no
+/// memory, however long the dump is.
+#[derive(Drop)]
+pub struct Headers {
+    record: ShortRecord,
+    at: usize,
+    /// How many bytes are left.
+    left: usize,
+}
+
+impl Headers {
+    /// Gives it so many times.
+    pub fn of(count: u32) -> Headers {
+        Headers {
+            record: short_record(2),
+            at: 0,
+            left: count as usize * SHORT_LEN,
+        }
+    }
+}
+
+impl Read for Headers {
+    fn read(&mut self, buffer: &mut [u8]) -> io::Result<usize> {
+        let count = buffer.len().min(self.left);
+        self.left -= count;
+        for byte in buffer[..count].iter_mut() {
+            self.at %= SHORT_LEN;
+            *byte = self.record[self.at];
             self.at += 1;
         }
         Ok(count)
