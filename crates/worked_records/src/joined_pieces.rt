@@ -3,6 +3,7 @@
 use smf_frames::Layout::{Bdw, Rdw};
 use smf_frames::{FrameFault, Joiner, Layout, Split, split};
 use std::alloc::{AllocError, Global};
+use std::process::Abort;
 use std::test::Fail;
 use worked_samples::readings::stop_of;
 use worked_samples::sample::{SAMPLE, joined, other_step};
@@ -146,32 +147,65 @@ fn differing_size(alloc: Global, layout: Layout, dump: &[u8]) -> Result<Option<u
     Ok(None)
 }
 
+/// A dump by name, and how many records it has, the number of the fault behind them, or 0, and
+/// whether that stays whatever follows.
+type Case<'a> = (&'a str, Layout, &'a [u8], (usize, u8, bool));
+
+/// Asserts what dumps are cut into, and that pieces make no difference.
+fn assert_cases(rt: &impl Abort, alloc: Global, cases: &[Case<'_>]) -> Result<(), Fail> {
+    for (case, layout, dump, want) in cases {
+        assert_eq!(rt; stop_of(alloc, *layout, dump)?, *want, "{case}");
+        assert_eq!(rt; differing_size(alloc, *layout, dump)?, None, "{case}");
+    }
+    Ok(())
+}
+
 #[test]
 fn records_come_in_pieces(rt: HostRuntime) -> Result<(), Fail> {
     let alloc = rt.alloc();
-    let (spanned, first) = (spanned(alloc)?, first_segment(alloc)?);
-    let two = joined(alloc, &[&spanned, &other_step(SAMPLE, 2)])?;
+    let step = other_step(SAMPLE, 2);
+    let both = joined(alloc, &[&SAMPLE, &step])?;
     let block = joined(alloc, &[&[0x00, 0xAC, 0x00, 0x00], &SAMPLE])?;
-    let spanned_block = joined(alloc, &[&[0x00, 0xB4, 0x00, 0x00], &spanned, &block])?;
-    let torn = joined(alloc, &[&SAMPLE, &first])?;
+    let torn = joined(alloc, &[&step, &first_segment(alloc)?])?;
+    let (shorter, _) = torn.split_at(torn.len().saturating_sub(1));
     let half = joined(alloc, &[&SAMPLE, &[0x00, 0xA8, 0x00]])?;
-    let garbage = joined(alloc, &[&two, &[0x00, 0x03, 0x00, 0x00, 0x00, 0x00]])?;
-    let cases: [(&str, Layout, &[u8], (usize, u8, bool)); 9] = [
+    let cases: [Case<'_>; 8] = [
         ("nothing", Rdw, &[], (0, 0, false)),
         ("nothing, in blocks", Bdw, &[], (0, 0, false)),
         ("one record", Rdw, &SAMPLE, (1, 0, false)),
-        ("three segments and a record", Rdw, &two, (2, 0, false)),
+        ("two records", Rdw, &both, (2, 0, false)),
         ("a record in a block", Bdw, &block, (1, 0, false)),
-        ("two blocks", Bdw, &spanned_block, (2, 0, false)),
         ("a torn end", Rdw, &torn, (1, 6, false)),
+        ("a torn end, a byte less", Rdw, shorter, (1, 8, false)),
         ("half a descriptor", Rdw, &half, (1, 8, false)),
+    ];
+    assert_cases(&rt, alloc, &cases)
+}
+
+#[test]
+fn spanned_records_come_in_pieces(rt: HostRuntime) -> Result<(), Fail> {
+    let alloc = rt.alloc();
+    let (spanned, first) = (spanned(alloc)?, first_segment(alloc)?);
+    let (between, last) = (segment_between(alloc)?, last_segment(alloc)?);
+    let two = joined(alloc, &[&spanned, &other_step(SAMPLE, 2)])?;
+    let (long, short) = ([0x00, 0x84, 0x00, 0x00], [0x00, 0x34, 0x00, 0x00]);
+    let over_blocks = joined(alloc, &[&long, &first, &between, &short, &last])?;
+    let block = joined(alloc, &[&[0x00, 0xAC, 0x00, 0x00], &SAMPLE])?;
+    let in_block = joined(alloc, &[&[0x00, 0xB4, 0x00, 0x00], &spanned, &block])?;
+    let garbage = joined(alloc, &[&two, &[0x00, 0x03, 0x00, 0x00, 0x00, 0x00]])?;
+    let cases: [Case<'_>; 5] = [
+        ("three segments", Rdw, &spanned, (1, 0, false)),
+        ("three segments and a record", Rdw, &two, (2, 0, false)),
+        (
+            "three segments in two blocks",
+            Bdw,
+            &over_blocks,
+            (1, 0, false),
+        ),
+        ("two blocks", Bdw, &in_block, (2, 0, false)),
         ("garbage behind records", Rdw, &garbage, (2, 1, true)),
     ];
-    for (case, layout, dump, want) in cases {
-        assert_eq!(rt; stop_of(alloc, layout, dump)?, want, "{case}");
-        assert_eq!(rt; differing_size(alloc, layout, dump)?, None, "{case}");
-    }
-    Ok(())
+    assert_cases(&rt, alloc, &cases)
 }
 
 #[test]
@@ -182,7 +216,7 @@ fn frame_faults_come_in_pieces(rt: HostRuntime) -> Result<(), Fail> {
     let two_first = joined(alloc, &[&first, &first])?;
     let cut_block = joined(alloc, &[&[0x00, 0xAC, 0x00, 0x00], &SAMPLE[..100]])?;
     let no_room = joined(alloc, &[&[0x00, 0xAE, 0x00, 0x00], &SAMPLE, &[0, 0]])?;
-    let cases: [(&str, Layout, &[u8], (usize, u8, bool)); 12] = [
+    let cases: [Case<'_>; 12] = [
         ("segment of 3 bytes", Rdw, &[0, 3, 0, 0], (0, 1, true)),
         ("block of 3 bytes", Bdw, &[0, 3, 0, 0], (0, 2, true)),
         ("extended", Bdw, &[128, 172, 0, 0], (0, 3, true)),
@@ -196,11 +230,7 @@ fn frame_faults_come_in_pieces(rt: HostRuntime) -> Result<(), Fail> {
         ("half a descriptor", Rdw, &[0, 8], (0, 8, false)),
         ("100 bytes of a block", Bdw, &cut_block, (0, 8, false)),
     ];
-    for (case, layout, dump, want) in cases {
-        assert_eq!(rt; stop_of(alloc, layout, dump)?, want, "{case}");
-        assert_eq!(rt; differing_size(alloc, layout, dump)?, None, "{case}");
-    }
-    Ok(())
+    assert_cases(&rt, alloc, &cases)
 }
 
 #[test]
