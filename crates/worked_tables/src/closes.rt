@@ -18,7 +18,7 @@ use worked_samples::sample::{SAMPLE, dated, joined, variant_1201, variant_1202};
 const DONE: Reply = Reply::Ruled(Ruled::Done);
 
 /// 2024-02-01, as a record has it.
-const PACKED_FEBRUARY_1: [u8; 4] = [0x01, 0x24, 0x03, 0x2F];
+pub const PACKED_FEBRUARY_1: [u8; 4] = [0x01, 0x24, 0x03, 0x2F];
 
 /// 2024-02-02.
 const PACKED_FEBRUARY_2: [u8; 4] = [0x01, 0x24, 0x03, 0x3F];

@@ -4,8 +4,10 @@
 ghost use Rattle.std.specs.Prelude.{All};
 ghost use Rattle.book_import.specs.Commands.{IsAskable};
 
+use crate::requests::answered;
 use crate::{lists, shown};
 use book_core::{ChargeRow, Dispute, Ledger, LedgerFault, Line, ShaNames};
+use book_http::Served;
 use book_import::{Command, Reply};
 use book_tables::TableLedger;
 use sqlite::{Alter, Connection, MemStore};
@@ -137,6 +139,14 @@ impl KeptBooks {
         let text = lists::statement(self.alloc, &mut ledger, period);
         self.close(ledger);
         text
+    }
+
+    /// What the books answer to a request.
+    pub fn answer(&mut self, request: &[u8]) -> Result<(Served, String), Fail> {
+        let mut ledger = self.open()?;
+        let answer = answered(self.alloc, &mut ledger, request);
+        self.close(ledger);
+        answer
     }
 
     /// What a query shows.

@@ -59,48 +59,29 @@ fn assert_stored(rt: &impl Abort, alloc: Global, books: &mut TwinBooks) -> Resul
     Ok(())
 }
 
-#[test]
-fn tariffs_in_order(rt: HostRuntime) -> Result<(), Fail> {
-    let alloc = rt.alloc();
-    let mut books = priced_late(&rt, alloc)?;
-    assert_stored(&rt, alloc, &mut books)?;
+/// Hands in tariff files behind the first, which books already have, and asserts each reply.
+fn assert_later_tariffs(rt: &impl Abort, alloc: Global, books: &mut TwinBooks) -> Result<(), Fail> {
     let exists = Reply::Refused(LedgerFault::TariffExists);
     let early = Reply::Refused(LedgerFault::TariffDate);
     let dated = Reply::Refused(LedgerFault::RecordsDated);
-    let first = "2024-01-01";
-    assert_tariff(&rt, alloc, &mut books, (first, ""), ALREADY, "the same")?;
-    assert_tariff(
-        &rt,
-        alloc,
-        &mut books,
-        (first, "# again"),
-        exists,
-        "another text",
-    )?;
-    assert_tariff(
-        &rt,
-        alloc,
-        &mut books,
-        ("2023-12-31", ""),
-        early,
-        "the day before",
-    )?;
-    assert_tariff(
-        &rt,
-        alloc,
-        &mut books,
-        ("2024-01-31", ""),
-        dated,
-        "the record's day",
-    )?;
-    assert_tariff(
-        &rt,
-        alloc,
-        &mut books,
-        ("2024-02-01", ""),
-        DONE,
-        "the day after",
-    )?;
+    let cases = [
+        (("2024-01-01", ""), ALREADY, "the same"),
+        (("2024-01-01", "# again"), exists, "another text"),
+        (("2023-12-31", ""), early, "the day before"),
+        (("2024-01-31", ""), dated, "the record's day"),
+        (("2024-02-01", ""), DONE, "the day after"),
+    ];
+    for (file, want, case) in cases {
+        assert_tariff(rt, alloc, books, file, want, case)?;
+    }
+    Ok(())
+}
+
+#[test]
+fn tariffs_in_order(rt: HostRuntime) -> Result<(), Fail> {
+    let mut books = priced_late(&rt, rt.alloc())?;
+    assert_stored(&rt, rt.alloc(), &mut books)?;
+    assert_later_tariffs(&rt, rt.alloc(), &mut books)?;
     same_text(&rt, &books.kept.statement(1)?, ONE_STEP, "statement");
     Ok(())
 }
