@@ -90,8 +90,8 @@ def post(body):
     return b"POST /import HTTP/1.1\r\nHost: books\r\nContent-Length: %d\r\n\r\n" % len(body) + body
 
 
-def seconds_each(words, request, requests, rounds):
-    """The best time of a request, over several rounds of so many."""
+def seconds_each(words, request, requests, rounds, status=200):
+    """The best time of a request that is answered with that status, over several rounds of so many."""
     taken = []
     for _ in range(rounds):
         server = Server(words)
@@ -100,6 +100,6 @@ def seconds_each(words, request, requests, rounds):
             asked(server, request)
         taken.append((time.monotonic() - begun) / requests)
         for _ in range(requests):
-            server.expect("SERVED 200")
+            server.expect("SERVED %d" % status)
         server.end()
     return min(taken)
