@@ -1,15 +1,14 @@
 //! The commands on books in a file. Faults are found in the order of the words: a date, the books,
 //! the file, and then what the books say.
 
+use crate::asked::{Dump, PeriodEnd, Report, TariffText, Written};
 use crate::file_books::{ask_books, close_books, expect_books, make_books};
 use crate::progress::Watched;
 use crate::trouble::{Trouble, ended};
-use book_core::{Ledger, LedgerFault, Ruled, Sink, Source};
-use book_import::{MAX_READS, Receipt, import};
-use book_reports::{adjustment_list, dispute_list, receipt_line, statement_csv};
+use book_core::{LedgerFault, Ruled, Sink};
+use book_reports::receipt_line;
 use smf_frames::Layout;
 use smf_text::day_of_text;
-use std::alloc::Global;
 use std::fs;
 use std::io::{IsTerminal, Read, Write};
 use tariff_rules::{MAX_TEXT, TariffFault};
@@ -29,7 +28,7 @@ pub(crate) fn tariff<O: Write + Drop>(
 ) -> Result<(), Trouble> {
     expect_books(rt, book)?;
     let text = tariff_text(rt, file)?;
-    let ruled = ask_books(rt, book, |books| books.tariff(&text))?;
+    let ruled = ask_books(rt, book, TariffText { text })?;
     say_ruled(ruled?, output)
 }
 
@@ -61,7 +60,7 @@ pub(crate) fn close<O: Write + Drop>(
         return Err(Trouble::Word);
     };
     expect_books(rt, book)?;
-    let ruled = ask_books(rt, book, |books| books.close(period, through))?;
+    let ruled = ask_books(rt, book, PeriodEnd { period, through })?;
     say_ruled(ruled?, output)
 }
 
@@ -86,66 +85,29 @@ pub(crate) fn import_dump<O: Write + Drop>(
     expect_books(rt, book)?;
     let input = fs::open(rt, file)?;
     let is_shown = !quiet && rt.stderr().is_terminal();
-    let input = Watched::new(rt, input, layout, is_shown);
-    let receipt = ask_books(rt, book, |books| import_watched(rt, input, layout, books))?;
+    let asked = Dump {
+        alloc: rt.alloc(),
+        input: Watched::new(rt, input, layout, is_shown),
+        layout,
+    };
+    let receipt = ask_books(rt, book, asked)?;
     let mut sink = Sink::new(output);
     receipt_line(rt.alloc(), &receipt, &mut sink)?;
     ended(receipt.stop)
 }
 
-/// Reads a dump into a ledger, and takes away the line that shows how far it is.
-fn import_watched<R: Read + Drop, L: Ledger>(
-    rt: &HostRuntime,
-    input: Watched<'_, R>,
-    layout: Layout,
-    books: &mut L,
-) -> Receipt {
-    let mut source = Source::new(input);
-    let receipt = import(rt.alloc(), &mut source, layout, MAX_READS, books);
-    source.into_inner().end();
-    receipt
-}
-
-/// Prints the statement of a period.
-pub(crate) fn statement<O: Write + Drop>(
+/// Prints a report of the books.
+pub(crate) fn report<O: Write + Drop>(
     rt: &HostRuntime,
     book: &str,
-    period: u16,
-    csv: bool,
+    report: Report,
     output: O,
 ) -> Result<(), Trouble> {
     expect_books(rt, book)?;
-    Ok(ask_books(rt, book, |books| {
-        let mut sink = Sink::new(output);
-        if csv {
-            statement_csv(rt.alloc(), books, period, &mut sink)
-        } else {
-            book_reports::statement(rt.alloc(), books, period, &mut sink)
-        }
-    })??)
-}
-
-/// Prints the adjustment lines of a period.
-pub(crate) fn adjustments<O: Write + Drop>(
-    rt: &HostRuntime,
-    book: &str,
-    period: u16,
-    output: O,
-) -> Result<(), Trouble> {
-    expect_books(rt, book)?;
-    Ok(ask_books(rt, book, |books| {
-        adjustment_list(rt.alloc(), books, period, &mut Sink::new(output))
-    })??)
-}
-
-/// Prints the records in dispute.
-pub(crate) fn disputes<O: Write + Drop>(
-    rt: &HostRuntime,
-    book: &str,
-    output: O,
-) -> Result<(), Trouble> {
-    expect_books(rt, book)?;
-    Ok(ask_books(rt, book, |books| {
-        dispute_list(rt.alloc(), books, &mut Sink::new(output))
-    })??)
+    let asked = Written {
+        alloc: rt.alloc(),
+        report,
+        output,
+    };
+    Ok(ask_books(rt, book, asked)??)
 }

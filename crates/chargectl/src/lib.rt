@@ -1,6 +1,7 @@
 //! What the program of the chargeback office does with its words and streams.
 #![tactic(auto)]
 
+mod asked;
 mod book_commands;
 mod connection;
 mod explained;

@@ -1,6 +1,7 @@
 //! What the program does with its words and streams.
 
-use crate::book_commands::{adjustments, close, disputes, import_dump, init, statement, tariff};
+use crate::asked::Report;
+use crate::book_commands::{close, import_dump, init, report, tariff};
 use crate::explained::explained;
 use crate::progress::Watched;
 use crate::serve::serve;
@@ -65,9 +66,21 @@ fn run<I: Read + Drop, O: Write + Drop>(
             quiet,
         } => { import_dump(rt, book, file, layout, quiet, output) }
         Request::Close { book, period, date } => close(rt, book, period, date, output),
-        Request::Statement { book, period, csv } => statement(rt, book, period, csv, output),
-        Request::Adjustments { book, period } => adjustments(rt, book, period, output),
-        Request::Disputes { book } => disputes(rt, book, output),
+        Request::Statement { book, period, csv } => {
+            let asked = if csv {
+                Report::StatementTable(period)
+            } else {
+                Report::Statement(period)
+            };
+            report(rt, book, asked, output)
+        }
+        Request::Adjustments { book, period } => report(
+            rt,
+            book,
+            Report::Adjustments(period),
+            output,
+        ),
+        Request::Disputes { book } => report(rt, book, Report::Disputes, output),
         Request::Explain { kind, number } => explain(kind, number, output),
         Request::Serve {
             book,

@@ -1,9 +1,9 @@
 //! Answers for the books over HTTP, on this machine alone.
 
 use crate::connection::Client;
-use crate::file_books::{FileBooks, close_books, expect_books, open_books};
+use crate::file_books::{close_books, expect_books, open_books};
 use crate::trouble::Trouble;
-use book_core::{Sink, Source};
+use book_core::{Ledger, Sink, Source};
 use book_http::{Served, serve_one};
 use std::io;
 use std::io::Write;
@@ -39,7 +39,7 @@ pub(crate) fn serve<O: Write + Drop>(
 }
 
 /// Answers one connection. Where the clock fails there is no bound on it, so nothing is read.
-fn answer(rt: &HostRuntime, stream: &TcpStream, books: &mut FileBooks) -> Served {
+fn answer<L: Ledger>(rt: &HostRuntime, stream: &TcpStream, books: &mut L) -> Served {
     let Ok(client) = Client::accepted(rt, stream) else {
         return Served::ReadFault;
     };
