@@ -1,21 +1,28 @@
 -- The book of a plain ledger: a period of it by its number, and what a close and a record change.
 use Rattle.std.proofs.Common.{◌≡◌, ◌∙◌, ℕ, ◌+◌, ◌-◌, ◌≤◌, List, [], ◌∷◌, ◌++◌, length, map, refl}
 use Rattle.std.proofs.Common.{sym, ap, Bool, true, false, Option, Some, None, slice_get, arith, inl}
-use Rattle.std.proofs.Common.{inr}
+use Rattle.std.proofs.Common.{inr, zero, suc, ◌<◌, take, get_or, add-one}
 use Rattle.std.proofs.Common.{Result, Ok, Err}
-use Rattle.std.specs.Prelude.{◌==◌, ℤ, if◌then◌else◌, ok_or}
+use Rattle.std.specs.Prelude.{◌==◌, ℤ, int_lt, not, if◌then◌else◌, ok_or}
 use Rattle.std.specs.BTreeMap.{insert_entry}
 use Rattle.std.specs.List.{last_or}
 use Rattle.std.specs.List.Sorted.{IsStrictlySortedBy}
 use Rattle.std.specs.Map.{keys_of}
-use Rattle.std.specs.Option.{option_map}
+use Rattle.std.specs.Option.{option_map, option_map_or}
 use Rattle.std.proofs.lemmas.Bool.Decides.{nat_tests}
 use Rattle.std.proofs.lemmas.List.{length-map, map-append}
 use Rattle.std.proofs.lemmas.Option.{slice_get-map, slice_get_past, slice_get_cases}
 use Rattle.book_model.specs.declared.fault.LedgerFault.{LedgerFault}
 use Rattle.book_model.specs.declared.fault.LedgerFault.TheVariants.{NoSuchPeriod}
 use Rattle.book_model.specs.Books.{Book, open_number, open_period, period_of}
-use Rattle.book_model.specs.Events.{keep, close}
+use Rattle.book_model.specs.declared.answer.Ruled.{Ruled}
+use Rattle.book_model.specs.Answers.{IsBookCall}
+use Rattle.book_model.specs.Outcomes.{close_event, close_outcome}
+use Rattle.book_model.specs.Limits.{last_period}
+use Rattle.book_model.specs.RulingAnswers.{close_answer, is_closed}
+use Rattle.book_model.proofs.CallLemmas.{close_by}
+use Rattle.book_model.proofs.AnswerLemmas.{answers_itself, calls}
+use Rattle.book_model.specs.Events.{after_any, keep, close}
 use Rattle.book_model.specs.Periods.{Period}
 use Rattle.book_model.specs.Records.{Naming, by_bytes}
 use Rattle.book_model.specs.Rulings.{Tariffed, last_close}
@@ -45,6 +52,18 @@ read_of read (Some one) period is =
     unwrap_ok : {P : Type 0} → Result P LedgerFault → P → P
     unwrap_ok (Ok one) other = one
     unwrap_ok (Err fault) other = other
+
+-- what is made of the first elements of a list, and of the one behind them
+map-take_suc : {X Y : Type 0} (f : X → Y) (xs : List X) (i : ℕ) (x : X) → i < length xs
+    → x ≡ get_or xs i x → map f (take i xs) ++ f x ∷ [] ≡ map f (take (suc i) xs)
+map-take_suc f [] i x within is = absurd (omega arith)
+map-take_suc f (y ∷ ys) zero x within is = ap (λ x. f x ∷ []) is
+map-take_suc f (y ∷ ys) (suc i) x within is =
+    ap (λ days. f y ∷ days) (map-take_suc f ys i x (omega arith) is)
+
+pub map-take_more : {X Y : Type 0} (f : X → Y) (xs : List X) (i : ℕ) (x : X) → i < length xs
+    → x ≡ get_or xs i x → map f (take i xs) ++ f x ∷ [] ≡ map f (take (i + 1) xs)
+map-take_more f xs i x within is = rw add-one (map-take_suc f xs i x within is)
 
 -- the last of a list is found at its end
 last_or-found : {X : Type 0} (xs : List X) → last_or None xs ≡ slice_get xs (length xs - 1)
@@ -179,6 +198,61 @@ module _ {naming : Naming} (tariffs : List Tariffed) (closed : List ClosedPeriod
         past = past i;
       })
       ∙ ap (λ d. close d (book_with tariffs entries posted closed)) is_day
+
+-- a close that was asked for, by what it answered and by the event of that answer
+close_calls : (number : ℕ) (day : ℤ) (old new : Book) (result : Result Ruled LedgerFault)
+    → close_answer old number day ≡ result → new ≡ after_any (close_event day result) old
+    → IsBookCall (λ (value : Ruled). value) old new result (close_outcome number day)
+close_calls number day old new result answer book =
+    calls old new result (close_outcome number day) (close_event day)
+    (λ answer is. ap (close_event day) is) (λ fault. refl)
+    (answers_itself result _ answer) book
+
+-- a day is early where it is not after the last close
+early_by : (last : Option ℤ) (day : ℤ)
+    → not (option_map_or (λ close. int_lt close day) last true)
+    ≡ option_map_or (λ close. not (int_lt close day)) last false
+early_by None day = refl
+early_by (Some close) day = refl
+
+-- the same by the tests in their order, on what the ledger keeps
+pub close_calls-by : (tariffs : List Tariffed) (entries : List Entry) (posted : Names)
+    (periods : List ClosedPeriod) (number : ℕ) (day : ℤ) (new : Book) (next : ℕ)
+    (closed is_open late full : Bool)
+    → next ≡ length periods + 1
+    → closed ≡ is_closed number day (ruled_by tariffs periods)
+    → is_open ≡ (number == next)
+    → late ≡ option_map_or (λ close. int_lt close day) (last_close (ruled_by tariffs periods)) true
+    → full ≡ (number == last_period)
+    → new ≡ after_any (close_event day (close_by next closed is_open (not late) full))
+    (book_with tariffs entries posted periods)
+    → IsBookCall (λ (value : Ruled). value) (book_with tariffs entries posted periods) new
+    (close_by next closed is_open (not late) full) (close_outcome number day)
+close_calls-by tariffs entries posted periods number day new next closed is_open late full is_next
+    is_closed' is_open' is_late is_full changed =
+    let book = book_with tariffs entries posted periods in
+    let last = last_close (ruled_by tariffs periods) in
+    let same : next ≡ open_number book =
+    is_next ∙ sym (open_number-by tariffs entries posted periods) in
+    let early = ap not is_late ∙ early_by last day in
+    close_calls number day book new _
+    (λ i. close_by (sym same i) (sym is_closed' i) (sym (is_open' ∙ ap (λ n. number == n) same) i)
+    (sym early i) (sym is_full i))
+    changed
+
+-- no close changes how the entries are kept
+pub kept-closed : {naming : Naming} {tariffs : List Tariffed} (closed after : List ClosedPeriod)
+    {entries : List Entry} {total : ℕ}
+    → AreBooked naming (ruled_by tariffs closed) entries total
+    → AreBooked naming (ruled_by tariffs after) entries total
+kept-closed closed after kept = record {
+  named = kept.named;
+  priced = kept.priced;
+  summed = kept.summed;
+  small = kept.small;
+  few = kept.few;
+  in_order = kept.in_order;
+}
 
 -- the book with one entry more, under a name that none has
 pub book-kept : (tariffs : List Tariffed) (entries : List Entry) (posted : Names)

@@ -1,6 +1,6 @@
 -- Days, as the code holds them.
-use Rattle.std.proofs.Common.{FitsSigned, arith, w32}
-use Rattle.std.proofs.lemmas.Int.{ints}
+use Rattle.std.proofs.Common.{◌≡◌, FitsSigned, arith, w32, to_z, of_z}
+use Rattle.std.proofs.lemmas.Int.{ints, to_z-of_z}
 use Rattle.std.specs.Prelude.{ℤ, pos, negsuc}
 use Rattle.smf_text.specs.Day.{IsDay}
 
@@ -8,3 +8,7 @@ use Rattle.smf_text.specs.Day.{IsDay}
 pub day_fits : (day : ℤ) → IsDay day → FitsSigned w32 day
 day_fits (pos n) is = record { sfits = omega (arith, ints) }
 day_fits (negsuc n) is = record { sfits = omega (arith, ints) }
+
+-- and is the same there
+pub day_kept : (day : ℤ) → IsDay day → to_z w32 (of_z w32 day) ≡ day
+day_kept day is = to_z-of_z w32 day (day_fits day is)

@@ -2,6 +2,7 @@
 use Rattle.std.proofs.Common.{◌≡◌, ◌∙◌, ℕ, List, [], ◌∷◌, ◌++◌, refl, sym, ap, subst, Bool}
 use Rattle.std.proofs.Common.{true, false, cond, Option, Some, None, get_or}
 use Rattle.std.proofs.Common.{map}
+use Rattle.std.proofs.lemmas.List.Elements.{All-push}
 use Rattle.std.proofs.lemmas.Option.{slice_get-get_or}
 use Rattle.book_model.proofs.ListLemmas.{map-agree}
 use Rattle.std.specs.Prelude.{All, filter}
@@ -258,3 +259,21 @@ module _ (entries : List Entry) (name : List ℕ) (h : HeldRecord)
               → found ≡ None
           not_put true found none = cc
           not_put false found none = none
+
+-- after a close it is so again, where only what is held was charged, and has a share
+pub named-closed : (test : Entry → Bool) (share : Entry → Option Share) (entries : List Entry)
+    (names posted : Names) (closed : List ClosedPeriod) (one : ClosedPeriod)
+    (all : List ClosedPeriod) → all ≡ closed ++ one ∷ []
+    → AreNamed entries names closed → NamesOf test entries posted
+    → SharesOf share entries one.shares → AreNamed entries posted all
+named-closed test share entries names posted closed one all is named names_are shares_are =
+    let Missing : ClosedPeriod → Type 0 = λ period. (name : List ℕ) → under_name name entries ≡ None
+    → tree.get by_bytes period.shares name ≡ None in
+    let last : Missing one = λ name none. shares_are name
+    ∙ ap (option_and_then (λ held. share (name, held))) none in
+    record {
+      posted = λ name none. names_are name
+          ∙ ap (λ found. option_map_or (λ held. test (name, held)) found false) none;
+      past = subst (All Missing) (sym is)
+          (All-push Missing closed one named.past last);
+    }

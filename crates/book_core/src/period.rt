@@ -40,6 +40,13 @@ impl Period<'_> {
         }
     }
 
+    /// The period counts the record of a name.
+    fn counts(&self, posted: &BTreeSet<[u8; 32]>, name: &[u8; 32], kept: &HeldRecord) -> bool
+        ensures { result ≡ is_counted (spec.share_in self.now posted.now (name.now, kept.now)) }
+    {
+        matches!(self.share(posted, name, kept), Some(Share::Counted))
+    }
+
     /// What the records cost that the period counts, by name.
     pub(crate) fn prices(
         &self,
@@ -53,7 +60,7 @@ impl Period<'_> {
     {
         let mut prices = Vec::new(alloc);
         for (name, kept) in held {
-            if let Some(Share::Counted) = self.share(posted, name, kept) {
+            if self.counts(posted, name, kept) {
                 prices.push(kept.priced)?;
             }
         }

@@ -1,9 +1,10 @@
 -- What the class of a usage record tells of it: it passes every test of the ladders.
 use Rattle.std.proofs.Common.{◌≡◌, ◌≢◌, ◌≤◌, ◌<◌, ◌==◌, ◌⊎◌, inl, inr, ℕ, List, length, nat_lt}
 use Rattle.std.proofs.Common.{Bool, true, false, not, ◌||◌, cond, Option, Some, None, is_none}
-use Rattle.std.proofs.Common.{is_some, is_err, refl, sym, ap}
+use Rattle.std.proofs.Common.{if◌then◌else◌, is_some, is_err, IsTrue, refl, sym, ap, ◌∙◌, arith}
 use Rattle.std.proofs.lemmas.Bool.{ltb-true, ltb-false, eqb-true, eqb-false, not-false, or_cases}
-use Rattle.std.proofs.lemmas.Bool.{and_from, not_from_false, cond-false, ne_eqb}
+use Rattle.std.proofs.lemmas.Bool.{and_from, and_parts, not_from_false, not_from_true, not-true}
+use Rattle.std.proofs.lemmas.Bool.{cond-false, le-ltb, ne_eqb}
 use Rattle.std.specs.Option.{option_or}
 use Rattle.smf_text.specs.PackedDate.{packed_day_of}
 use Rattle.smf_frames.specs.Header.{header_len}
@@ -12,14 +13,16 @@ use Rattle.smf_frames.specs.Header.{header_of}
 use Rattle.smf_type30.specs.Layout.{dump_header, dump_trailer, data_lost, work, step_end, job_end}
 use Rattle.smf_type30.specs.Layout.{subtype_end, triplets_end, hundredths_per_day, identification}
 use Rattle.smf_type30.specs.Layout.{processor, io_activity, completion}
-use Rattle.smf_type30.specs.declared.classes.Class.TheVariants.{Usage, Damaged}
+use Rattle.smf_type30.specs.declared.classes.Class.{Class}
+use Rattle.smf_type30.specs.declared.classes.Class.TheVariants.{DumpHeader, DumpTrailer, DataLost}
+use Rattle.smf_type30.specs.declared.classes.Class.TheVariants.{Other, Usage, Damaged}
 use Rattle.smf_type30.specs.declared.damage.Damage.{Damage}
 use Rattle.smf_type30.specs.declared.damage.Damage.TheVariants.{Accounting}
 use Rattle.smf_type30.specs.Accounts.{HasNoAccounts}
 use Rattle.smf_type30.specs.Section.{fits, count_of}
 use Rattle.smf_type30.specs.Usage.{subtype_of, accounts_of}
 use Rattle.smf_type30.specs.Class.{class_of, damage_of, usage_unless, type_of, header_damage}
-use Rattle.smf_type30.specs.Class.{section_damage, IsUsage, measures_work}
+use Rattle.smf_type30.specs.Class.{section_damage, class_of_work, IsUsage, measures_work}
 use Rattle.smf_type30.proofs.AccountLemmas.{accounts_found}
 
 -- the date, the time and each section are as they should be
@@ -39,6 +42,7 @@ pub record UsageFacts (bytes : List ℕ) : Type 0 where
   pub subtype : (subtype_of bytes ≡ step_end) ⊎ (subtype_of bytes ≡ job_end)
   pub processing : count_of bytes processor ≢ 0
   pub work : measures_work bytes ≡ true
+  pub none : damage_of bytes ≡ None
   pub parts : Undamaged bytes
 
 -- where the first test of a ladder would have given another answer, it failed, and the tests below
@@ -83,7 +87,7 @@ neither_second (Some x) second e = cc
 
 -- the ladders of damages
 undamaged : (bytes : List ℕ) → damage_of bytes ≡ None → Undamaged bytes
-unfolding damage_of
+unfolding damage_of header_damage section_damage
 undamaged bytes none =
     let header = header_of bytes in
     let whole = neither_first (header_damage header) (section_damage bytes) none in
@@ -123,7 +127,7 @@ step_or_job bytes e = elim (or_cases _ _ e) [
 
 -- the ladder of classes
 pub usage_facts : (bytes : List ℕ) → IsUsage bytes → UsageFacts bytes
-unfolding class_of measures_work
+unfolding class_of class_of_work measures_work
 usage_facts bytes usage =
     let header = passed (nat_lt (length bytes) header_len) _ _ _ (λ e. cc) usage in
     let dump_header = passed (type_of bytes == dump_header) _ _ _ (λ e. cc) header.below in
@@ -136,16 +140,61 @@ usage_facts bytes usage =
     let long = passed (nat_lt (length bytes) triplets_end) _ _ _ (λ e. cc) subtype.below in
     let processor = passed (count_of bytes processor == 0) _ _ _ (λ e. cc) long.below in
     let ends = and_from _ _ type.holds (not-false _ subtype.failed) in
+    let none = no_damage _ processor.below in
     record {
       long = ltb-false _ _ long.failed;
       subtype = step_or_job bytes (not-false _ subtype.failed);
       processing = eqb-false _ _ processor.failed;
       work = and_from _ _ ends (not_from_false _ processor.failed);
-      parts = undamaged bytes (no_damage _ processor.below);
+      none = none;
+      parts = undamaged bytes none;
     }
+
+-- the class of a record that has a header, by its type
+abbrev pub class_by : ℕ → List ℕ → Class
+class_by kind bytes =
+    if kind == dump_header then DumpHeader
+    else if kind == dump_trailer then DumpTrailer
+    else if kind == data_lost then DataLost
+    else if kind == work then class_of_work bytes
+    else Other
+
+pub class_of-by : (bytes : List ℕ) (kind : ℕ) → header_len ≤ length bytes
+    → (header_of bytes).kind ≡ kind → class_of bytes ≡ class_by kind bytes
+unfolding class_of
+class_of-by bytes kind long is =
+    cond-false (nat_lt (length bytes) header_len) _ _ (le-ltb _ _ long)
+    ∙ ap (λ kind. class_by kind bytes) is
+
+-- the same, of a header that was read
+pub class_of-read : (bytes : List ℕ) (header : Header) (kind : ℕ) → header_len ≤ length bytes
+    → header ≡ header_of bytes → header.kind ≡ kind → class_of bytes ≡ class_by kind bytes
+class_of-read bytes header kind long is is_kind =
+    class_of-by bytes kind long (sym (ap (λ (header : Header). header.kind) is) ∙ is_kind)
+
+-- a record of the class Usage has no damage
+pub usage_undamaged : (bytes : List ℕ) → IsUsage bytes → damage_of bytes ≡ None
+usage_undamaged bytes usage = (usage_facts bytes usage).none
+
+-- and a record that measures work and has none is of that class
+pub undamaged_usage : (bytes : List ℕ) → IsTrue (measures_work bytes)
+    → triplets_end ≤ length bytes → damage_of bytes ≡ None → IsUsage bytes
+unfolding class_of_work measures_work
+undamaged_usage bytes measured long none =
+    let parts = and_parts _ _ measured in
+    let ends = and_parts _ _ parts.0 in
+    let kind = eqb-true (type_of bytes) work ends.0 in
+    class_of-by bytes work (omega arith) kind
+    ∙ cond-false (nat_lt (length bytes) subtype_end) _ _ (le-ltb _ _ (omega arith))
+    ∙ cond-false (not (subtype_of bytes == step_end || subtype_of bytes == job_end)) _ _
+    (not_from_true _ ends.1)
+    ∙ cond-false (nat_lt (length bytes) triplets_end) _ _ (le-ltb _ _ long)
+    ∙ cond-false (count_of bytes processor == 0) _ _ (not-true _ parts.1)
+    ∙ ap usage_unless none
 
 -- no header has the damage of accounting fields
 not_of_header : (header : Header) → header_damage header ≡ Some Accounting → ⊥
+unfolding header_damage
 not_of_header header e =
     let date = passed (is_err (packed_day_of header.date)) _ _ _ (λ e. cc) e in
     let time = passed (not (nat_lt header.time hundredths_per_day)) _ _ _ (λ e. cc) date.below in
@@ -161,6 +210,7 @@ other (Some damage) second not_first e = absurd (not_first e)
 -- the ladder of the sections' damages, where it ends at the accounting fields
 accounts_missing : (bytes : List ℕ) → section_damage bytes ≡ Some Accounting
     → is_none (accounts_of bytes) ≡ true
+unfolding section_damage
 accounts_missing bytes e =
     let there = passed (count_of bytes identification == 0) _ _ _ (λ e. cc) e in
     let identified = passed (not (fits bytes identification)) _ _ _ (λ e. cc) there.below in
@@ -178,7 +228,7 @@ of_damage (Some other) damage e = cc
 -- the ladder of classes, where it ends at the accounting fields
 accounting_damage : (bytes : List ℕ) → class_of bytes ≡ Damaged Accounting
     → damage_of bytes ≡ Some Accounting
-unfolding class_of
+unfolding class_of class_of_work
 accounting_damage bytes e =
     let header = passed (nat_lt (length bytes) header_len) _ _ _ (λ e. cc) e in
     let dump_header = passed (type_of bytes == dump_header) _ _ _ (λ e. cc) header.below in
@@ -258,6 +308,9 @@ pub ruleset usage = (
   usage_completion,
   usage_accounts,
 )
+
+-- what reading wants of them
+pub ruleset reading = (usage_long, usage_undamaged, undamaged_usage)
 
 -- where a section is there, what it says is told
 pub present : {A : Type 0} (count : ℕ) (absent told : A) → count ≢ 0

@@ -24,7 +24,7 @@ abbrev pub type_of : List ℕ → ℕ
 type_of bytes = (header_of bytes).kind
 
 -- the first damage of a header: its date is no day, or its time no time of day
-abbrev pub header_damage : Header → Option Damage
+unfoldable pub header_damage : Header → Option Damage
 header_damage header =
     if is_err (packed_day_of header.date) then Some Date
     else if not (nat_lt header.time hundredths_per_day) then Some Time
@@ -32,7 +32,7 @@ header_damage header =
 
 -- the first damage of the sections: the record has to have an identification section, and any other
 -- section that is there fits
-abbrev pub section_damage : List ℕ → Option Damage
+unfoldable pub section_damage : List ℕ → Option Damage
 section_damage bytes =
     if count_of bytes identification == 0 then Some NoIdentification
     else if not (fits bytes identification) then Some Identification
@@ -53,7 +53,7 @@ usage_unless (Some damage) = Damaged damage
 
 -- the class of a record of type 30. One that measures no CPU time, as the number of its processor
 -- sections is 0, is a continuation: a word of this project, which does not ask what it goes on with
-abbrev pub class_of_work : List ℕ → Class
+unfoldable pub class_of_work : List ℕ → Class
 class_of_work bytes =
     if nat_lt (length bytes) subtype_end then Damaged Short
     else if not (subtype_of bytes == step_end || subtype_of bytes == job_end) then Other

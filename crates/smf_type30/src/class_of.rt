@@ -1,4 +1,6 @@
-ghost use Rattle.std.specs.Prelude.{◌≡◌, ◌≤◌, length, IsTrue};
+ghost use Rattle.std.specs.Prelude.{◌≡◌, ◌≤◌, length, IsTrue, IfOk, IfErr, None, Ok, Some};
+ghost use Rattle.smf_text.specs.Day.{IsDay};
+ghost use Rattle.smf_text.specs.PackedDate.{packed_day_of};
 ghost use Rattle.smf_frames.specs.Header.{header_len};
 ghost use Rattle.smf_frames.specs.Header.{header_of};
 ghost use Rattle.smf_type30.specs.declared.classes.Class.TheVariants.{Usage, Damaged};
@@ -14,12 +16,13 @@ use crate::layout::{
     COMPLETION, DATA_LOST, DUMP_HEADER, DUMP_TRAILER, IDENTIFICATION, IO_ACTIVITY, JOB_END,
     PROCESSOR, STEP_END, SUBTYPE, SUBTYPE_END, TRIPLETS_END, WORK,
 };
-use crate::moment::moment_in;
+use crate::moment::{Moment, moment_in};
 use crate::number::number2;
 use crate::section::{count, fits};
 use smf_frames::Header;
 
 /// The first damage of the sections of a work record.
+#[tactic(auto, unfolding(crate::specs::Class::section_damage))]
 pub fn section_damage(bytes: &[u8]) -> Option<Damage>
     requires { triplets_end ≤ length bytes.now }
     ensures { result ≡ spec.section_damage bytes.now }
@@ -45,8 +48,27 @@ pub fn section_damage(bytes: &[u8]) -> Option<Damage>
     None
 }
 
+/// When an undamaged work record was moved into the SMF buffer, or else its first damage: of its
+/// header, or of its sections. The record is one that measures CPU time.
+#[tactic(auto, unfolding(crate::specs::Class::damage_of))]
+pub fn undamaged(bytes: &[u8], header: &Header) -> Result<Moment, Damage>
+    requires long { triplets_end ≤ length bytes.now }
+    requires header { header.now ≡ header_of bytes.now }
+    ensures day { IfOk result (λ moment. packed_day_of header.now.date ≡ Ok moment.day) }
+    ensures is_day { IfOk result (λ moment. IsDay moment.day) }
+    ensures time { IfOk result (λ moment. moment.time ≡ header.now.time) }
+    ensures none { IfOk result (λ moment. spec.damage_of bytes.now ≡ None) }
+    ensures damage { IfErr result (λ damage. spec.damage_of bytes.now ≡ Some damage) }
+{
+    let moment = moment_in(header)?;
+    match section_damage(bytes) {
+        None => Ok(moment),
+        Some(damage) => Err(damage),
+    }
+}
+
 /// The class of a work record.
-#[tactic(auto, unfolding(crate::specs::Usage::subtype_of, crate::specs::Class::damage_of))]
+#[tactic(auto, unfolding(crate::specs::Usage::subtype_of, crate::specs::Class::class_of_work))]
 fn class_of_work(bytes: &[u8], header: &Header) -> Class
     requires long { header_len ≤ length bytes.now }
     requires header { header.now ≡ header_of bytes.now }
@@ -65,17 +87,14 @@ fn class_of_work(bytes: &[u8], header: &Header) -> Class
     if count(bytes, PROCESSOR) == 0 {
         return Class::Continuation;
     }
-    if let Err(damage) = moment_in(header) {
-        return Class::Damaged(damage);
-    }
-    match section_damage(bytes) {
-        None => Class::Usage,
-        Some(damage) => Class::Damaged(damage),
+    match undamaged(bytes, header) {
+        Ok(_) => Class::Usage,
+        Err(damage) => Class::Damaged(damage),
     }
 }
 
 /// The class of a record, its descriptor included.
-#[tactic(auto, using(crate::proofs::UsageFacts::usage_measures_work), unfolding(crate::specs::Class::class_of))]
+#[tactic(auto, unfolding(crate::specs::Class::class_of))]
 pub fn class(bytes: &[u8]) -> Class
     ensures class { result ≡ spec.class_of bytes.now }
     ensures work { result ≡ Usage → IsTrue (spec.measures_work bytes.now) }

@@ -1,4 +1,4 @@
-ghost use Rattle.std.specs.Prelude.{◌≡◌, ◌<◌, Ok, Some, IfOk, IfErr};
+ghost use Rattle.std.specs.Prelude.{◌≡◌, ◌<◌, None, Ok, Some, IfOk, IfErr};
 ghost use Rattle.smf_text.specs.Day.{IsDay};
 ghost use Rattle.smf_text.specs.PackedDate.{packed_day_of};
 ghost use Rattle.smf_type30.specs.Layout.{hundredths_per_day};
@@ -19,11 +19,13 @@ pub struct Moment {
 }
 
 /// The day and the time of a header, or the first damage of the two.
+#[tactic(auto, unfolding(crate::specs::Class::header_damage))]
 pub fn moment_in(header: &Header) -> Result<Moment, Damage>
     ensures day { IfOk result (λ moment. packed_day_of header.now.date ≡ Ok moment.day) }
     ensures is_day { IfOk result (λ moment. IsDay moment.day) }
     ensures time { IfOk result (λ moment. moment.time ≡ header.now.time) }
     ensures is_time { IfOk result (λ moment. moment.time < hundredths_per_day) }
+    ensures none { IfOk result (λ moment. header_damage header.now ≡ None) }
     ensures damage { IfErr result (λ damage. header_damage header.now ≡ Some damage) }
 {
     let Ok(day) = packed_day(&header.date) else {

@@ -7,7 +7,7 @@ ghost use Rattle.smf_type30.specs.Usage as spec;
 ghost use Rattle.smf_type30.specs.Class.{IsUsage, measures_work, read_fault};
 
 use crate::accounts;
-use crate::class_of::section_damage;
+use crate::class_of::undamaged;
 use crate::damage::Damage;
 use crate::layout::{
     BLOCKS, COMPLETION, Field, IDENTIFICATION, IO_ACTIVITY, JOB_END, JOB_ID, JOB_NAME, PROCESSOR,
@@ -43,7 +43,7 @@ impl<'a> Type30<'a> {
     /// Reads a record, its descriptor included, that measures work if it is long enough to tell.
     /// One that is no usage record is answered with its damage: with `Short` where it ends before
     /// its triplets do, whatever its type.
-    #[tactic(auto, unfolding(crate::specs::Class::class_of, crate::specs::Class::measures_work, crate::specs::Class::damage_of))]
+    #[tactic(auto, using(crate::proofs::UsageFacts::reading))]
     pub fn read(bytes: &'a [u8]) -> Result<Type30<'a>, Damage>
         requires { triplets_end ≤ length bytes.now → IsTrue (measures_work bytes.now) }
         ensures usage { IsOk result ↔ IsUsage bytes.now }
@@ -54,10 +54,7 @@ impl<'a> Type30<'a> {
             return Err(Damage::Short);
         }
         let header = Header::read(bytes).unwrap();
-        let moment = moment_in(&header)?;
-        if let Some(damage) = section_damage(bytes) {
-            return Err(damage);
-        }
+        let moment = undamaged(bytes, &header)?;
         Ok(Type30 {
             bytes,
             system: header.system,
@@ -66,7 +63,7 @@ impl<'a> Type30<'a> {
     }
 
     /// The fields of a record of class Usage, which is not tested again.
-    #[tactic(auto, using(crate::proofs::UsageFacts::usage))]
+    #[tactic(auto, using(crate::proofs::UsageFacts::usage), unfolding(crate::specs::Class::header_damage))]
     pub fn of_usage(bytes: &'a [u8]) -> Type30<'a>
         requires { IsUsage bytes.now }
         ensures { result ≡ bytes.now }

@@ -36,9 +36,9 @@ fn is_closed(closed: &[ClosedPeriod], period: u16, through: i32) -> bool
 }
 
 impl<N: Naming + Drop> PlainLedger<N> {
-    ghost use Rattle.std.specs.Prelude.{◌≡◌, ◌+◌, ◌<◌, OnErr, OnOk, length};
+    ghost use Rattle.std.specs.Prelude.{◌≡◌, ◌+◌, ◌<◌, Ok, OnErr, OnOk, Some, length};
     ghost use Rattle.smf_text.specs.Day.{IsDay};
-    ghost use Rattle.book_model.specs.Events.{close};
+    ghost use Rattle.book_model.specs.Events.{close, put_in_force};
     ghost use Rattle.book_model.specs.Limits.{last_period};
     ghost use Rattle.book_model.specs.Outcomes.{close_outcome, tariff_outcome};
     ghost use Rattle.book_core.specs.PlainBook.{IsPlainCall, book_in, naming_in};
@@ -48,23 +48,46 @@ impl<N: Naming + Drop> PlainLedger<N> {
         ensures { IsPlainCall (λ ruled. ruled) self.old self.new result
             (tariff_outcome text.now) }
     {
-        let alloc = self.alloc;
-        let tariff = Tariff::parse(alloc, text)?;
+        let tariff = Tariff::parse(self.alloc, text)?;
+        match self.answer_to_tariff(text, &tariff)? {
+            Ruled::Already => Ok(Ruled::Already),
+            Ruled::Done => {
+                self.keep_tariff(text, tariff)?;
+                Ok(Ruled::Done)
+            }
+        }
+    }
+
+    /// What is answered to a tariff that was read from a text.
+    fn answer_to_tariff(&self, text: &str, tariff: &Tariff) -> Result<Ruled, LedgerFault>
+        ensures { result ≡ spec.terms_answer (book_in self.now) text.now tariff.now }
+    {
         if has_text(&self.tariffs, text) {
             return Ok(Ruled::Already);
         }
-        if has_day_of(&self.tariffs, &tariff) {
+        if has_day_of(&self.tariffs, tariff) {
             return Err(LedgerFault::TariffExists);
         }
-        if !is_later(&self.tariffs, &self.closed, &tariff) {
+        if !is_later(&self.tariffs, &self.closed, tariff) {
             return Err(LedgerFault::TariffDate);
         }
-        if has_dated(&self.held, &tariff) {
+        if has_dated(&self.held, tariff) {
             return Err(LedgerFault::RecordsDated);
         }
-        let text = Some(String::from_str(alloc, text)?);
-        self.tariffs.push(AcceptedTariff { text, tariff })?;
         Ok(Ruled::Done)
+    }
+
+    /// Keeps a tariff, with its text. Want of memory leaves the books as they were.
+    fn keep_tariff(&mut self, text: &str, tariff: Tariff) -> Result<(), AllocError>
+        requires { spec.terms_answer (book_in self.old) text.now tariff ≡ Ok Ruled.Done }
+        ensures book { OnOk result
+            (book_in self.new ≡ put_in_force (Some text.now) tariff (book_in self.old)) }
+        ensures refused { OnErr result (book_in self.new ≡ book_in self.old) }
+        ensures naming { naming_in self.new ≡ naming_in self.old }
+    {
+        let text = Some(String::from_str(self.alloc, text)?);
+        self.tariffs.push(AcceptedTariff { text, tariff })?;
+        Ok(())
     }
 
     /// Closes the open period.

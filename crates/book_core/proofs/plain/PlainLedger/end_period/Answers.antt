@@ -1,8 +1,12 @@
-use Rattle.std.proofs.Common.{sym, subst, refl, w32, to_z, of_z}
+use Rattle.std.proofs.Common.{◌<◌, length, sym, subst, refl, w32, to_z, of_z}
 use Rattle.std.proofs.lemmas.Int.{to_z-of_z}
+use Rattle.std.proofs.lemmas.List.{length-append}
 use Rattle.smf_text.specs.Day.{IsDay}
-use Rattle.book_core.proofs.BookLemmas.{book-closed}
+use Rattle.book_model.specs.Limits.{last_period}
+use Rattle.book_core.specs.Shares.{charges, is_named, share_at}
+use Rattle.book_core.proofs.BookLemmas.{book-closed, kept-closed}
 use Rattle.book_core.proofs.DayLemmas.{day_fits}
+use Rattle.book_core.proofs.NameLemmas.{named-closed}
 use Rattle.book_core.proofs.plain.PlainLedger.end_period.Goals as goal
 
 pub invariant_of-push : goal.invariant_of-push
@@ -21,3 +25,32 @@ returns-clause-book g c =
     c.args.through c.in_ok-push.ensures.items
     (to_z-of_z w32 c.args.through (day_fits c.args.through c.requires.day))
     c.in_ok-ending.ensures c.in_ok-posted.ensures c.in_ok-shares.ensures refl
+
+-- want of memory for the period leaves the books as they were
+pub invariant_of-self : goal.invariant_of-self
+invariant_of-self g c =
+    let ledger = c.args.self.now in
+    record {
+      rising = ledger.rising;
+      kept = ledger.kept;
+      recalls = ledger.recalls;
+      named = ledger.named;
+      few = ledger.few;
+    }
+
+pub invariant_of-self-2 : goal.invariant_of-self-2
+invariant_of-self-2 g c =
+    let ledger = c.args.self.now in
+    let pushed = c.in_ok-push.ensures in
+    let ending = c.in_ok-ending.ending in
+    record {
+      rising = ledger.rising;
+      kept = kept-closed ledger.closed.items c.push.new.self.items ledger.kept;
+      recalls = ledger.recalls;
+      named = named-closed (λ entry. charges ending entry.1)
+          (λ entry. share_at ending (is_named ledger.posted entry) entry.1) ledger.held.entries
+          ledger.posted c.in_ok-posted.posted ledger.closed.items _ c.push.new.self.items
+          pushed.items ledger.named c.in_ok-posted.ensures c.in_ok-shares.ensures;
+      few = subst (λ closed. length closed < last_period) (sym pushed.items)
+          (simp length-append c.requires.few);
+    }

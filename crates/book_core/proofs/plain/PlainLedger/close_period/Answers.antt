@@ -1,0 +1,108 @@
+use Rattle.std.proofs.Common.{◌≡◌, ◌∙◌, ◌+◌, length, true, false, ap, sym, refl}
+use Rattle.std.specs.Option.{option_map_or}
+use Rattle.std.specs.Prelude.{int_lt}
+use Rattle.std.proofs.lemmas.Bool.{eq-eqb, ne_eqb}
+use Rattle.book_model.specs.Events.{close}
+use Rattle.book_model.specs.Limits.{last_period}
+use Rattle.book_model.specs.RulingAnswers.{is_closed}
+use Rattle.book_model.specs.Rulings.{last_close}
+use Rattle.book_core.specs.Plain.{ruled_by}
+use Rattle.book_core.specs.PlainBook.{book_in}
+use Rattle.book_core.proofs.BookLemmas.{close_calls-by}
+use Rattle.book_core.proofs.DayLemmas.{day_kept}
+use Rattle.book_core.proofs.plain.PlainLedger.close_period.Given.{Over}
+use Rattle.book_core.proofs.plain.PlainLedger.close_period.Goals as goal
+use Rattle.book_core.proofs.plain.PlainLedger.close_period.Goals.{After-is_closed, After-len}
+use Rattle.book_core.proofs.plain.PlainLedger.close_period.Goals.{After-is_after}
+
+-- the tests, on the rulings
+closed_is : (g : Over) (c : After-is_closed g)
+    → c.is_closed.result ≡ is_closed c.args.period c.args.through (book_in c.args.self.now).rulings
+closed_is g c =
+    c.is_closed.ensures
+    ∙ (λ i. is_closed c.args.period (day_kept c.args.through c.requires i)
+    (ruled_by c.args.self.now.tariffs.items (c.deref.ensures.value i)))
+
+next_is : (g : Over) (c : After-len g)
+    → c.len.result + 1 ≡ length c.args.self.now.closed.items + 1
+next_is g c = ap (λ n. n + 1)
+    (c.len.ensures ∙ sym c.deref.ensures.len ∙ ap length c.deref.ensures.value)
+
+late_is : (g : Over) (c : After-is_after g)
+    → c.is_after.result ≡ option_map_or (λ close. int_lt close c.args.through)
+    (last_close (book_in c.args.self.now).rulings) true
+late_is g c =
+    c.is_after.ensures
+    ∙ (λ i. option_map_or (λ close. int_lt close (day_kept c.args.through c.requires i)) (c.last_close.ensures i) true)
+    ∙ (λ i. option_map_or (λ close. int_lt close c.args.through)
+    (last_close (ruled_by c.args.self.now.tariffs.items (c.deref-2.ensures.value i))) true)
+
+pub returns-then-is_closed : goal.returns-then-is_closed
+returns-then-is_closed g c =
+    let at = goal.at.returns-then-is_closed g c in
+    let ledger = c.args.self.now in
+    record {
+      call = close_calls-by ledger.tariffs.items ledger.held.entries ledger.posted
+          ledger.closed.items c.args.period c.args.through _ _ true _ _ _ refl
+          (sym c.if-is_closed.true ∙ closed_is g at.After-is_closed) refl refl refl refl;
+      naming = refl;
+    }
+
+pub returns-then-period-number : goal.returns-then-period-number
+returns-then-period-number g c =
+    let at = goal.at.returns-then-period-number g c in
+    let ledger = c.args.self.now in
+    record {
+      call = close_calls-by ledger.tariffs.items ledger.held.entries ledger.posted
+          ledger.closed.items c.args.period c.args.through _ _ false false _ _
+          (next_is g at.After-len)
+          (sym c.if-is_closed.false ∙ closed_is g at.After-is_closed)
+          (sym (ne_eqb _ _ c.if-period-number.true)) refl refl refl;
+      naming = refl;
+    }
+
+pub returns-then-not-is_after : goal.returns-then-not-is_after
+returns-then-not-is_after g c =
+    let at = goal.at.returns-then-not-is_after g c in
+    let ledger = c.args.self.now in
+    record {
+      call = close_calls-by ledger.tariffs.items ledger.held.entries ledger.posted
+          ledger.closed.items c.args.period c.args.through _ _ false true false _
+          (next_is g at.After-len)
+          (sym c.if-is_closed.false ∙ closed_is g at.After-is_closed)
+          (sym (eq-eqb _ _ c.if-period-number.false))
+          (sym c.if-not-is_after.true ∙ late_is g at.After-is_after) refl refl;
+      naming = refl;
+    }
+
+pub returns-then-period-eq-LAST_PERIOD : goal.returns-then-period-eq-LAST_PERIOD
+returns-then-period-eq-LAST_PERIOD g c =
+    let at = goal.at.returns-then-period-eq-LAST_PERIOD g c in
+    let ledger = c.args.self.now in
+    record {
+      call = close_calls-by ledger.tariffs.items ledger.held.entries ledger.posted
+          ledger.closed.items c.args.period c.args.through _ _ false true true true
+          (next_is g at.After-len)
+          (sym c.if-is_closed.false ∙ closed_is g at.After-is_closed)
+          (sym (eq-eqb _ _ c.if-period-number.false))
+          (sym c.if-not-is_after.false ∙ late_is g at.After-is_after)
+          (sym (eq-eqb c.args.period last_period c.if-period-eq-LAST_PERIOD.true)) refl;
+      naming = refl;
+    }
+
+pub returns : goal.returns
+returns g c =
+    let at = goal.at.returns g c in
+    let ledger = c.args.self.now in
+    record {
+      call = close_calls-by ledger.tariffs.items ledger.held.entries ledger.posted
+          ledger.closed.items c.args.period c.args.through _ _ false true true false
+          (next_is g at.After-len)
+          (sym c.if-is_closed.false ∙ closed_is g at.After-is_closed)
+          (sym (eq-eqb _ _ c.if-period-number.false))
+          (sym c.if-not-is_after.false ∙ late_is g at.After-is_after)
+          (sym (ne_eqb c.args.period last_period c.if-period-eq-LAST_PERIOD.false))
+          (c.in_ok-end_period.ensures.book
+          ∙ (λ i. close (day_kept c.args.through c.requires i) (book_in ledger)));
+      naming = c.end_period.ensures.naming;
+    }
