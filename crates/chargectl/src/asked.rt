@@ -1,12 +1,11 @@
-//! What the commands ask of books. The books of a file have a long type: what is asked is written
-//! over any ledger, so that the prover meets that type only where a file is opened and closed.
+//! What the commands ask of books, over any ledger.
 
 ghost use Rattle.smf_text.specs.Day.{IsDay};
 
-use crate::progress::Watched;
 use book_core::{Ledger, LedgerFault, Ruled, Sink, Source};
 use book_import::{MAX_READS, Receipt, import};
 use book_reports::{ReportFault, adjustment_list, dispute_list, statement, statement_csv};
+use command_words::Report;
 use smf_frames::Layout;
 use std::alloc::Global;
 use std::io::{Read, Write};
@@ -18,6 +17,16 @@ pub(crate) trait Asked {
 
     /// Asks the books.
     fn ask<L: Ledger>(self, books: &mut L) -> Self::Answer;
+}
+
+/// Nothing: the books are made or opened, and that is all.
+#[derive(Clone, Copy)]
+pub(crate) struct Nothing;
+
+impl Asked for Nothing {
+    type Answer = ();
+
+    fn ask<L: Ledger>(self, _books: &mut L) {}
 }
 
 /// The text of a tariff file, handed in.
@@ -50,36 +59,23 @@ impl Asked for PeriodEnd {
     }
 }
 
-/// A dump that is read into the books. What shows how far it is is taken away at its end.
+/// A dump that is read into the books.
 #[derive(Drop)]
-pub(crate) struct Dump<'a, R: Read + Drop> {
+pub(crate) struct Dump<R: Read + Drop> {
     pub(crate) alloc: Global,
-    pub(crate) input: Watched<'a, R>,
+    pub(crate) input: R,
     pub(crate) layout: Layout,
 }
 
-impl<'a, R: Read + Drop> Asked for Dump<'a, R> {
-    type Answer = Receipt;
+impl<R: Read + Drop> Asked for Dump<R> {
+    /// The input comes back, read as far as the receipt says.
+    type Answer = (Receipt, R);
 
-    fn ask<L: Ledger>(self, books: &mut L) -> Receipt {
+    fn ask<L: Ledger>(self, books: &mut L) -> (Receipt, R) {
         let mut source = Source::new(self.input);
         let receipt = import(self.alloc, &mut source, self.layout, MAX_READS, books);
-        source.into_inner().end();
-        receipt
+        (receipt, source.into_inner())
     }
-}
-
-/// A report of the books.
-#[derive(Clone, Copy)]
-pub(crate) enum Report {
-    /// The statement of a period.
-    Statement(u16),
-    /// The same as comma-separated values.
-    StatementTable(u16),
-    /// The adjustment lines of a period.
-    Adjustments(u16),
-    /// The records in dispute.
-    Disputes,
 }
 
 /// A report that is written.

@@ -1,23 +1,21 @@
 //! The commands on books in a file. Faults are found in the order of the words: a date, the books,
 //! the file, and then what the books say.
 
-use crate::asked::{Dump, PeriodEnd, Report, TariffText, Written};
-use crate::file_books::{ask_books, close_books, expect_books, make_books};
+use crate::asked::{Dump, PeriodEnd, TariffText, Written};
+use crate::file_books::{ask_books, expect_books};
 use crate::progress::Watched;
 use crate::trouble::{Trouble, ended};
 use book_core::{LedgerFault, Ruled, Sink};
+use book_import::Receipt;
 use book_reports::receipt_line;
+use command_words::{DumpFile, Report};
 use smf_frames::Layout;
 use smf_text::day_of_text;
-use std::fs;
+use std::alloc::Global;
+use std::fs::File;
 use std::io::{IsTerminal, Read, Write};
+use std::{fs, io};
 use tariff_rules::{MAX_TEXT, TariffFault};
-
-/// Makes new books in a file.
-pub(crate) fn init(rt: &HostRuntime, book: &str) -> Result<(), Trouble> {
-    close_books(make_books(rt, book)?);
-    Ok(())
-}
 
 /// Hands in a tariff.
 pub(crate) fn tariff<O: Write + Drop>(
@@ -77,22 +75,34 @@ fn say_ruled<O: Write + Drop>(ruled: Ruled, mut output: O) -> Result<(), Trouble
 pub(crate) fn import_dump<O: Write + Drop>(
     rt: &HostRuntime,
     book: &str,
-    file: &str,
-    layout: Layout,
-    quiet: bool,
+    dump: DumpFile<'_>,
     output: O,
 ) -> Result<(), Trouble> {
     expect_books(rt, book)?;
-    let input = fs::open(rt, file)?;
-    let is_shown = !quiet && rt.stderr().is_terminal();
     let asked = Dump {
         alloc: rt.alloc(),
-        input: Watched::new(rt, input, layout, is_shown),
-        layout,
+        input: watched(rt, dump)?,
+        layout: dump.layout,
     };
-    let receipt = ask_books(rt, book, asked)?;
+    let (receipt, input) = ask_books(rt, book, asked)?;
+    input.end();
+    say_receipt(rt.alloc(), &receipt, output)
+}
+
+/// The file of a dump, which shows how far it is read.
+fn watched<'a>(rt: &'a HostRuntime, dump: DumpFile<'_>) -> io::Result<Watched<'a, File>> {
+    let input = fs::open(rt, dump.file)?;
+    let is_shown = !dump.quiet && rt.stderr().is_terminal();
+    Ok(Watched::new(rt, input, dump.layout, is_shown))
+}
+
+fn say_receipt<O: Write + Drop>(
+    alloc: Global,
+    receipt: &Receipt,
+    output: O,
+) -> Result<(), Trouble> {
     let mut sink = Sink::new(output);
-    receipt_line(rt.alloc(), &receipt, &mut sink)?;
+    receipt_line(alloc, receipt, &mut sink)?;
     ended(receipt.stop)
 }
 

@@ -1,14 +1,14 @@
 //! What the program does with its words and streams.
 
-use crate::asked::Report;
-use crate::book_commands::{close, import_dump, init, report, tariff};
+use crate::book_commands::{close, import_dump, report, tariff};
 use crate::explained::explained;
+use crate::file_books::make_books;
 use crate::progress::Watched;
 use crate::serve::serve;
 use crate::trouble::{Trouble, ended};
 use book_core::{Sink, Source};
 use book_import::MAX_READS;
-use command_words::{NumberKind, Request, WordFault, requested_by};
+use command_words::{BookRequest, DumpFile, NumberKind, Request, WordFault, requested_by};
 use program_answers::{PROGRAM, Status, check_list, io_failed, out_of_memory, trial};
 use smf_frames::Layout;
 use std::alloc::Global;
@@ -25,11 +25,15 @@ pub fn command<I: Read + Drop, O: Write + Drop, E: Write>(
     errors: &mut E,
 ) -> Status {
     match requested_by(rt.alloc(), PROGRAM, words, MAX_RATE as u32) {
-        Ok(request) => match run(rt, request, input, output) {
-            Ok(()) => Status::Done,
-            Err(trouble) => trouble.tell(errors),
-        },
+        Ok(request) => status_of(run(rt, request, input, output), errors),
         Err(fault) => refuse(&fault, output, errors),
+    }
+}
+
+fn status_of<E: Write>(ended: Result<(), Trouble>, errors: &mut E) -> Status {
+    match ended {
+        Ok(()) => Status::Done,
+        Err(trouble) => trouble.tell(errors),
     }
 }
 
@@ -47,46 +51,29 @@ fn run<I: Read + Drop, O: Write + Drop>(
             excp,
             record,
         } => {
-            match Tariff::flat(rt.alloc(), cpu, excp, record) {
-                Some(tariff) => run_trial(rt.alloc(), layout, tariff, input, output),
-                None => Err(Trouble::Usage),
-            }
+            let tariff = Tariff::flat(rt.alloc(), cpu, excp, record);
+            run_trial(rt.alloc(), layout, tariff, input, output)
         }
-        Request::Check {
-            file,
-            layout,
-            quiet,
-        } => check(rt, file, layout, quiet, output),
-        Request::Init { book } => init(rt, book),
-        Request::Tariff { book, file } => tariff(rt, book, file, output),
-        Request::Import {
-            book,
-            file,
-            layout,
-            quiet,
-        } => { import_dump(rt, book, file, layout, quiet, output) }
-        Request::Close { book, period, date } => close(rt, book, period, date, output),
-        Request::Statement { book, period, csv } => {
-            let asked = if csv {
-                Report::StatementTable(period)
-            } else {
-                Report::Statement(period)
-            };
-            report(rt, book, asked, output)
-        }
-        Request::Adjustments { book, period } => report(
-            rt,
-            book,
-            Report::Adjustments(period),
-            output,
-        ),
-        Request::Disputes { book } => report(rt, book, Report::Disputes, output),
+        Request::Check(dump) => check(rt, dump, output),
         Request::Explain { kind, number } => explain(kind, number, output),
-        Request::Serve {
-            book,
-            port,
-            requests,
-        } => serve(rt, book, port, requests, output),
+        Request::OfBooks { book, asked } => run_on_books(rt, book, asked, output),
+    }
+}
+
+/// Does what is asked of books.
+fn run_on_books<O: Write + Drop>(
+    rt: &HostRuntime,
+    book: &str,
+    asked: BookRequest<'_>,
+    output: O,
+) -> Result<(), Trouble> {
+    match asked {
+        BookRequest::Init => make_books(rt, book),
+        BookRequest::Tariff { file } => tariff(rt, book, file, output),
+        BookRequest::Import(dump) => import_dump(rt, book, dump, output),
+        BookRequest::Close { period, date } => close(rt, book, period, date, output),
+        BookRequest::Print(asked) => report(rt, book, asked, output),
+        BookRequest::Serve { port, requests } => serve(rt, book, port, requests, output),
     }
 }
 
@@ -112,14 +99,15 @@ fn explain<O: Write + Drop>(kind: NumberKind, number: u16, mut output: O) -> Res
     Ok(output.flush()?)
 }
 
-/// Prices the records of the input under one tariff.
+/// Prices the records of the input under one tariff. None stands for a rate outside its limits.
 fn run_trial<I: Read + Drop, O: Write + Drop>(
     alloc: Global,
     layout: Layout,
-    tariff: Tariff,
+    tariff: Option<Tariff>,
     input: I,
     output: O,
 ) -> Result<(), Trouble> {
+    let tariff = tariff.ok_or(Trouble::Usage)?;
     let mut source = Source::new(input);
     let mut sink = Sink::new(output);
     let receipt = trial(alloc, &mut source, layout, MAX_READS, tariff, &mut sink)?;
@@ -128,15 +116,11 @@ fn run_trial<I: Read + Drop, O: Write + Drop>(
 
 /// Says what each record of a file is. Where the list goes to a terminal, it shows itself how far it
 /// is.
-fn check<O: Write + Drop>(
-    rt: &HostRuntime,
-    file: &str,
-    layout: Layout,
-    quiet: bool,
-    output: O,
-) -> Result<(), Trouble> {
-    let is_shown = !quiet && rt.stderr().is_terminal() && !rt.stdout().is_terminal();
-    let mut source = Source::new(Watched::new(rt, fs::open(rt, file)?, layout, is_shown));
+fn check<O: Write + Drop>(rt: &HostRuntime, dump: DumpFile<'_>, output: O) -> Result<(), Trouble> {
+    let layout = dump.layout;
+    let is_shown = !dump.quiet && rt.stderr().is_terminal() && !rt.stdout().is_terminal();
+    let input = fs::open(rt, dump.file)?;
+    let mut source = Source::new(Watched::new(rt, input, layout, is_shown));
     let mut sink = Sink::new(output);
     let listed = check_list(rt.alloc(), &mut source, layout, MAX_READS, &mut sink);
     source.into_inner().end();

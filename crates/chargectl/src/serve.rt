@@ -1,7 +1,8 @@
 //! Answers for the books over HTTP, on this machine alone.
 
+use crate::asked::Asked;
 use crate::connection::Client;
-use crate::file_books::{close_books, expect_books, open_books};
+use crate::file_books::{ask_books, expect_books};
 use crate::trouble::Trouble;
 use book_core::{Ledger, Sink, Source};
 use book_http::{Served, serve_one};
@@ -12,7 +13,8 @@ use std::net::{TcpListener, TcpStream};
 /// The status of an answer that the books could not give.
 const UNAVAILABLE: u16 = 503;
 
-/// Answers so many connections, one after the other, and says of each what became of it.
+/// Answers so many connections, one after the other, and says of each what became of it. After an
+/// answer that the books could not give, their file is closed and opened again.
 pub(crate) fn serve<O: Write + Drop>(
     rt: &HostRuntime,
     book: &str,
@@ -21,21 +23,104 @@ pub(crate) fn serve<O: Write + Drop>(
     mut output: O,
 ) -> Result<(), Trouble> {
     expect_books(rt, book)?;
-    let mut books = open_books(rt, book)?;
+    let first = FirstSession {
+        rt,
+        port,
+        requests,
+        output: &mut output,
+    };
+    let (listener, mut left) = ask_books(rt, book, first)??;
+    // Each session but the last answers one connection at least.
+    for _ in 0..requests {
+        let Some(requests) = left else {
+            return Ok(());
+        };
+        let next = Session {
+            rt,
+            listener: &listener,
+            requests,
+            output: &mut output,
+        };
+        left = ask_books(rt, book, next)??;
+    }
+    Ok(())
+}
+
+/// The first time that the books are open: then the port is taken too.
+#[derive(Drop)]
+struct FirstSession<'a, O: Write> {
+    rt: &'a HostRuntime,
+    port: u16,
+    requests: u32,
+    output: &'a mut O,
+}
+
+impl<'a, O: Write> Asked for FirstSession<'a, O> {
+    /// The port, and how many connections are left where the books are to be opened again.
+    type Answer = io::Result<(TcpListener, Option<u32>)>;
+
+    fn ask<L: Ledger>(self, books: &mut L) -> io::Result<(TcpListener, Option<u32>)> {
+        let listener = listen(self.rt, self.port, self.output)?;
+        let left = serve_while_open(self.rt, &listener, self.requests, books, self.output)?;
+        Ok((listener, left))
+    }
+}
+
+/// A further time that the books are open.
+#[derive(Drop)]
+struct Session<'a, O: Write> {
+    rt: &'a HostRuntime,
+    listener: &'a TcpListener,
+    requests: u32,
+    output: &'a mut O,
+}
+
+impl<'a, O: Write> Asked for Session<'a, O> {
+    /// How many connections are left where the books are to be opened again.
+    type Answer = io::Result<Option<u32>>;
+
+    fn ask<L: Ledger>(self, books: &mut L) -> io::Result<Option<u32>> {
+        serve_while_open(self.rt, self.listener, self.requests, books, self.output)
+    }
+}
+
+/// Takes the port, and says that connections are answered from now on.
+fn listen<O: Write>(rt: &HostRuntime, port: u16, output: &mut O) -> io::Result<TcpListener> {
     let listener = TcpListener::bind(rt, ("127.0.0.1", port))?;
     writeln!(output, "READY")?;
     output.flush()?;
-    for _ in 0..requests {
-        let (stream, _) = listener.accept()?;
-        let served = answer(rt, &stream, &mut books);
-        say_served(&mut output, served)?;
+    Ok(listener)
+}
+
+/// Answers so many connections, or up to the first answer that the books could not give: then it says
+/// how many are left.
+fn serve_while_open<L: Ledger, O: Write>(
+    rt: &HostRuntime,
+    listener: &TcpListener,
+    requests: u32,
+    books: &mut L,
+    output: &mut O,
+) -> io::Result<Option<u32>> {
+    for before in 0..requests {
+        let served = serve_next(rt, listener, books, output)?;
         if served == Served::Answered(UNAVAILABLE) {
-            close_books(books);
-            books = open_books(rt, book)?;
+            return Ok(Some(requests - before - 1));
         }
     }
-    close_books(books);
-    Ok(())
+    Ok(None)
+}
+
+/// Answers the next connection, and says what became of it.
+fn serve_next<L: Ledger, O: Write>(
+    rt: &HostRuntime,
+    listener: &TcpListener,
+    books: &mut L,
+    output: &mut O,
+) -> io::Result<Served> {
+    let (stream, _) = listener.accept()?;
+    let served = answer(rt, &stream, books);
+    say_served(output, served)?;
+    Ok(served)
 }
 
 /// Answers one connection. Where the clock fails there is no bound on it, so nothing is read.

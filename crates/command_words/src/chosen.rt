@@ -1,18 +1,18 @@
 //! The command that `clap` found in the words.
 
-use crate::request::{NumberKind, Request};
+use crate::request::{BookRequest, DumpFile, NumberKind, Report, Request};
 use clap::ArgMatches;
 use smf_frames::Layout;
 
 /// The command with its words. None stands for a subcommand or a missing word that the command line
 /// does not let pass.
 pub(crate) fn chosen<'a>(matches: &ArgMatches<'a>) -> Option<Request<'a>> {
-    match matches.subcommand() {
-        Some(("trial", found)) => Some(trial_in(found)),
-        Some(("check", found)) => check_in(found),
-        Some(("explain", found)) => explain_in(found),
-        Some((name, found)) => book_in(name, found),
-        None => None,
+    let (name, found) = matches.subcommand()?;
+    match name {
+        "trial" => Some(trial_in(found)),
+        "check" => Some(Request::Check(dump_in(found)?)),
+        "explain" => explain_in(found),
+        _ => of_books_in(name, found),
     }
 }
 
@@ -36,69 +36,81 @@ fn trial_in<'a>(found: &ArgMatches<'_>) -> Request<'a> {
     }
 }
 
-fn check_in<'a>(found: &ArgMatches<'a>) -> Option<Request<'a>> {
-    let (layout, quiet) = (layout_in(found), found.get_flag("quiet"));
-    found.get_str("file").map(|file| Request::Check {
-        file,
-        layout,
-        quiet,
+fn dump_in<'a>(found: &ArgMatches<'a>) -> Option<DumpFile<'a>> {
+    Some(DumpFile {
+        file: found.get_str("file")?,
+        layout: layout_in(found),
+        quiet: found.get_flag("quiet"),
     })
 }
 
-fn book_in<'a>(name: &str, found: &ArgMatches<'a>) -> Option<Request<'a>> {
+fn of_books_in<'a>(name: &str, found: &ArgMatches<'a>) -> Option<Request<'a>> {
     let book = found.get_str("book")?;
+    let asked = asked_in(name, found)?;
+    Some(Request::OfBooks { book, asked })
+}
+
+fn asked_in<'a>(name: &str, found: &ArgMatches<'a>) -> Option<BookRequest<'a>> {
     match name {
-        "init" => Some(Request::Init { book }),
-        "disputes" => Some(Request::Disputes { book }),
-        "tariff" => found
-            .get_str("file")
-            .map(|file| Request::Tariff { book, file }),
-        "import" => {
-            let (layout, quiet) = (layout_in(found), found.get_flag("quiet"));
-            found.get_str("file").map(|file| Request::Import {
-                book,
-                file,
-                layout,
-                quiet,
-            })
-        }
-        "serve" => serve_in(book, found),
-        _ => period_in(name, book, found),
+        "init" => Some(BookRequest::Init),
+        "tariff" => tariff_in(found),
+        "import" => Some(BookRequest::Import(dump_in(found)?)),
+        "close" => close_in(found),
+        "serve" => serve_in(found),
+        _ => Some(BookRequest::Print(report_in(name, found)?)),
     }
 }
 
-fn period_in<'a>(name: &str, book: &'a str, found: &ArgMatches<'a>) -> Option<Request<'a>> {
-    let period = found.get_one::<u16>("period")?;
+fn tariff_in<'a>(found: &ArgMatches<'a>) -> Option<BookRequest<'a>> {
+    let file = found.get_str("file")?;
+    Some(BookRequest::Tariff { file })
+}
+
+fn period_in(found: &ArgMatches<'_>) -> Option<u16> {
+    found.get_one::<u16>("period")
+}
+
+fn close_in<'a>(found: &ArgMatches<'a>) -> Option<BookRequest<'a>> {
+    let period = period_in(found)?;
+    let date = found.get_str("date")?;
+    Some(BookRequest::Close { period, date })
+}
+
+fn report_in(name: &str, found: &ArgMatches<'_>) -> Option<Report> {
     match name {
-        "close" => found
-            .get_str("date")
-            .map(|date| Request::Close { book, period, date }),
-        "statement" => {
-            let csv = found.get_flag("csv");
-            Some(Request::Statement { book, period, csv })
-        }
-        "adjustments" => Some(Request::Adjustments { book, period }),
+        "disputes" => Some(Report::Disputes),
+        "adjustments" => Some(Report::Adjustments(period_in(found)?)),
+        "statement" => statement_in(found),
         _ => None,
     }
 }
 
-fn serve_in<'a>(book: &'a str, found: &ArgMatches<'a>) -> Option<Request<'a>> {
-    let port = u16::try_from(found.get_one::<u32>("port")?).ok()?;
-    let requests = found.get_one::<u32>("requests")?;
-    Some(Request::Serve {
-        book,
-        port,
-        requests,
-    })
+fn statement_in(found: &ArgMatches<'_>) -> Option<Report> {
+    let period = period_in(found)?;
+    if found.get_flag("csv") {
+        Some(Report::StatementTable(period))
+    } else {
+        Some(Report::Statement(period))
+    }
 }
 
-fn explain_in<'a>(found: &ArgMatches<'a>) -> Option<Request<'a>> {
+fn serve_in<'a>(found: &ArgMatches<'_>) -> Option<BookRequest<'a>> {
+    let port = u16::try_from(found.get_one::<u32>("port")?).ok()?;
+    let requests = found.get_one::<u32>("requests")?;
+    Some(BookRequest::Serve { port, requests })
+}
+
+fn explain_in<'a>(found: &ArgMatches<'_>) -> Option<Request<'a>> {
     let number = found.get_one::<u16>("number")?;
-    let kind = match found.get_str("kind")? {
+    let kind = number_kind(found.get_str("kind")?);
+    Some(Request::Explain { kind, number })
+}
+
+fn number_kind(word: &str) -> NumberKind {
+    match word {
         "frame" => NumberKind::Frame,
         "ledger" => NumberKind::Ledger,
         "tariff" => NumberKind::Tariff,
         _ => NumberKind::Damaged,
-    };
-    Some(Request::Explain { kind, number })
+    }
 }

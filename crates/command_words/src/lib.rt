@@ -5,8 +5,9 @@
 mod chosen;
 mod command_line;
 mod fault;
+mod known;
 mod request;
 
 pub use command_line::requested_by;
 pub use fault::WordFault;
-pub use request::{NumberKind, Request};
+pub use request::{BookRequest, DumpFile, NumberKind, Report, Request};

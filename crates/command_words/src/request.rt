@@ -1,7 +1,7 @@
 use smf_frames::Layout;
 
 /// What a number is the number of.
-#[derive(Clone, Copy, Debug, PartialEq, Eq)]
+#[derive(Clone, Copy)]
 pub enum NumberKind {
     /// A fault of a dump's framing.
     Frame,
@@ -13,8 +13,61 @@ pub enum NumberKind {
     Damaged,
 }
 
+/// A dump in a file.
+#[derive(Clone, Copy)]
+pub struct DumpFile<'a> {
+    /// The file's path.
+    pub file: &'a str,
+    /// How its segments lie.
+    pub layout: Layout,
+    /// Nothing is shown of how far it is.
+    pub quiet: bool,
+}
+
+/// A report of the books.
+#[derive(Clone, Copy)]
+pub enum Report {
+    /// What a period charges.
+    Statement(u16),
+    /// The same as rows of comma-separated values.
+    StatementTable(u16),
+    /// What a period adds to closed ones, and takes back.
+    Adjustments(u16),
+    /// The identities that two or more records have.
+    Disputes,
+}
+
+/// What is asked of books in a file.
+#[derive(Clone, Copy)]
+pub enum BookRequest<'a> {
+    /// New books in a file that is not there yet.
+    Init,
+    /// A tariff file handed in.
+    Tariff {
+        /// The path of the tariff.
+        file: &'a str,
+    },
+    /// A dump read into the books.
+    Import(DumpFile<'a>),
+    /// The open period closed.
+    Close {
+        /// The number of the period.
+        period: u16,
+        /// Its last day, as `YYYY-MM-DD`.
+        date: &'a str,
+    },
+    /// A report printed.
+    Print(Report),
+    /// The books answered for over HTTP, to this machine alone.
+    Serve {
+        port: u16,
+        /// After how many connections to end.
+        requests: u32,
+    },
+}
+
 /// What the program is asked to do.
-#[derive(Clone, Copy, Debug, PartialEq, Eq)]
+#[derive(Clone, Copy)]
 pub enum Request<'a> {
     /// Standard input into new books, under one price for all records.
     Trial {
@@ -28,68 +81,16 @@ pub enum Request<'a> {
         record: u64,
     },
     /// What every record of a file is.
-    Check {
-        /// The file's path.
-        file: &'a str,
-        /// How its segments lie.
-        layout: Layout,
-        /// Nothing is shown of how far it is.
-        quiet: bool,
-    },
-    /// New books in a file that is not there yet.
-    Init {
-        /// The path of the books.
-        book: &'a str,
-    },
-    /// A tariff file handed in.
-    Tariff {
-        book: &'a str,
-        /// The path of the tariff.
-        file: &'a str,
-    },
-    /// A dump read into the books.
-    Import {
-        book: &'a str,
-        /// The path of the dump.
-        file: &'a str,
-        /// How its segments lie.
-        layout: Layout,
-        /// Nothing is shown of how far it is.
-        quiet: bool,
-    },
-    /// The open period closed.
-    Close {
-        book: &'a str,
-        /// The number of the period.
-        period: u16,
-        /// Its last day, as `YYYY-MM-DD`.
-        date: &'a str,
-    },
-    /// What a period charges, as a statement or as rows of comma-separated values.
-    Statement {
-        book: &'a str,
-        period: u16,
-        csv: bool,
-    },
-    /// What a period adds to closed ones, and takes back.
-    Adjustments {
-        book: &'a str,
-        period: u16,
-    },
-    /// The identities that two or more records have.
-    Disputes {
-        book: &'a str,
-    },
-    /// The books answered for over HTTP, to this machine alone.
-    Serve {
-        book: &'a str,
-        port: u16,
-        /// After how many connections to end.
-        requests: u32,
-    },
+    Check(DumpFile<'a>),
     /// What a number on standard error or in a list means.
     Explain {
         kind: NumberKind,
         number: u16,
+    },
+    /// Something of books in a file.
+    OfBooks {
+        /// The path of the books.
+        book: &'a str,
+        asked: BookRequest<'a>,
     },
 }
