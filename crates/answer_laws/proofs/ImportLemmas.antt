@@ -1,0 +1,27 @@
+-- Imports into an open ledger.
+use Rattle.std.proofs.Common.{false, sym, subst}
+use Rattle.smf_frames.specs.Front.{front}
+use Rattle.book_model.specs.Events.{after_all}
+use Rattle.book_core.specs.Ledgers.{Seen, IsOpenAt}
+use Rattle.book_core.specs.Work.{IsWork}
+use Rattle.book_import.specs.Dumps.{stop_behind}
+use Rattle.book_import.specs.Imports.{Imports}
+use Rattle.book_import.proofs.RepeatLemmas.{is_whole}
+use Rattle.answer_laws.specs.ImportLaws.{OneReceipt}
+use Rattle.answer_laws.proofs.OpenLemmas.{leads}
+
+pub one_receipt : {L : Type 0} (seen : L → Seen) → OneReceipt seen
+one_receipt seen naming start old new dump receipt come =
+    let work : IsWork (seen old) (seen new)
+    (Imports naming dump.layout dump.cut dump.bytes receipt) =
+    subst (λ naming. IsWork (seen old) (seen new)
+    (Imports naming dump.layout dump.cut dump.bytes receipt)) come.opened.naming come.work in
+    let gone = leads come.opened come.honest come.is_open work in
+    let found = front dump.layout dump.bytes in
+    let all = is_whole naming (stop_behind dump.cut found) found.records start receipt gone.events
+    false gone.made come.unhindered in
+    record {
+      receipt_is = sym all.told.receipt;
+      left = subst (λ events. IsOpenAt naming (after_all events start) (seen new))
+          (sym all.told.events) gone.left;
+    }

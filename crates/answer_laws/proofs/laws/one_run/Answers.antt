@@ -1,0 +1,5 @@
+use Rattle.answer_laws.proofs.CommandLemmas.{one_run}
+use Rattle.answer_laws.proofs.laws.one_run.Goals as goal
+
+pub returns : goal.returns
+returns g c = one_run g.L.Ledger.seen

@@ -1,0 +1,51 @@
+-- The law of imports: a dump has one receipt, and leaves one book.
+use Rattle.std.specs.Prelude.{◌≡◌, ℕ, false, List, Option}
+use Rattle.smf_frames.specs.declared.dump.Layout.{Layout}
+use Rattle.smf_frames.specs.Front.{front}
+use Rattle.book_model.specs.Records.{Naming}
+use Rattle.book_model.specs.Books.{Book}
+use Rattle.book_model.specs.Events.{after_all}
+use Rattle.book_core.specs.Ledgers.{Seen, IsOpenAt}
+use Rattle.book_core.specs.Work.{IsWork}
+use Rattle.book_import.specs.declared.receipt.Receipt.{Receipt}
+use Rattle.book_import.specs.declared.receipt.Stop.{Stop}
+use Rattle.book_import.specs.Dumps.{stop_behind}
+use Rattle.book_import.specs.Handled.{Imported}
+use Rattle.book_import.specs.Imports.{Imports}
+use Rattle.book_import.specs.Laws.{import_of_records}
+use Rattle.book_import.specs.Repeats.{IsUnhindered}
+
+-- the bytes of a dump, and what cut their reading short, if anything did
+pub record Dump : Type 0 where
+  pub layout : Layout
+  pub cut : Option Stop
+  pub bytes : List ℕ
+
+-- the import of a dump into a book, as the definitions have it
+abbrev pub imported_into : Naming → Dump → Book → Imported
+imported_into naming dump book =
+    let found = front dump.layout dump.bytes in
+    import_of_records naming book (stop_behind dump.cut found) found.records
+
+-- A dump was imported into a ledger that was open with this book, and is open now, on what is
+-- honest to the end. Neither want of memory nor the store stopped the import.
+pub record IsImported (naming : Naming) (start : Book) (old new : Seen) (dump : Dump)
+    (receipt : Receipt) : Type 0 where
+  pub opened : IsOpenAt naming start old
+  pub honest : new.is_honest
+  pub is_open : new.must_reopen ≡ false
+  pub work : IsWork old new (Imports old.naming dump.layout dump.cut dump.bytes receipt)
+  pub unhindered : IsUnhindered receipt
+
+-- the receipt is the definitions' one, and the ledger is open with the book behind the import
+pub record ImportsAsDefined (naming : Naming) (start : Book) (new : Seen) (dump : Dump)
+    (receipt : Receipt) : Type 0 where
+  pub receipt_is : receipt ≡ (imported_into naming dump start).receipt
+  pub left : IsOpenAt naming (after_all (imported_into naming dump start).events start) new
+
+-- So it is with every import.
+abbrev pub OneReceipt : {L : Type 0} → (L → Seen) → Type 0
+OneReceipt {L} seen =
+    (naming : Naming) (start : Book) (old new : L) (dump : Dump) (receipt : Receipt)
+    → IsImported naming start (seen old) (seen new) dump receipt
+    → ImportsAsDefined naming start (seen new) dump receipt

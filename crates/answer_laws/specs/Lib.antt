@@ -1,0 +1,5 @@
+-- Read in this order: the laws of calls, of reports, of imports, and of lists of commands.
+pub mod CallLaws
+pub mod ReportLaws
+pub mod ImportLaws
+pub mod CommandLaws

@@ -1,0 +1,54 @@
+//! Laws of single calls, which hold over the definitions alone. Each stands on a function that does
+//! nothing.
+
+ghost use Rattle.answer_laws.specs.CallLaws.{OneAnswer, OneBook, OneRefusal, RefusalChangesNothing};
+ghost use Rattle.answer_laws.specs.CommandLaws.{OneRun};
+ghost use Rattle.answer_laws.specs.ImportLaws.{OneReceipt};
+ghost use Rattle.answer_laws.specs.ReportLaws.{OneFront, OneRefusedReport, OneText};
+
+use book_core::Ledger;
+
+/// A value that an open ledger answers is the one that the definitions give.
+pub fn one_answer<L: Ledger, V, A>()
+    ensures { OneAnswer V A L.seen }
+{}
+
+/// So is a refusal, but for want of memory and a fault of the store.
+pub fn one_refusal<L: Ledger, V, A>()
+    ensures { OneRefusal V A L.seen }
+{}
+
+/// Where a value was answered, the book is the one behind the definitions' event, if there is one.
+pub fn one_book<L: Ledger, V, A>()
+    ensures { OneBook V A L.seen }
+{}
+
+/// A refusal leaves the ledger open with the book that it had, but for a fault of the store.
+pub fn refusal_changes_nothing<L: Ledger, V, A>()
+    ensures { RefusalChangesNothing V A L.seen }
+{}
+
+/// A report that was written whole is the definitions' text of the book.
+pub fn one_text<L: Ledger>()
+    ensures { OneText L.seen }
+{}
+
+/// What was written before a write failed is a front of that text, and not the whole.
+pub fn one_front<L: Ledger>()
+    ensures { OneFront L.seen }
+{}
+
+/// A refusal of the books that a report tells is the definitions' one, and nothing was written.
+pub fn one_refused_report<L: Ledger>()
+    ensures { OneRefusedReport L.seen }
+{}
+
+/// The receipt of an import is the definitions' one, and so is the book behind it.
+pub fn one_receipt<L: Ledger>()
+    ensures { OneReceipt L.seen }
+{}
+
+/// The replies to a list of commands are the definitions' ones, and so is the book behind them.
+pub fn one_run<L: Ledger>()
+    ensures { OneRun L.seen }
+{}
