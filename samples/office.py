@@ -1,14 +1,23 @@
-"""The office's rules once more, apart from the program: what its commands print of a month. Only what the samples need.
-
-`samples/make` writes by it what `crates/worked_commands` has to print."""
+"""The office's rules once more, apart from the program: what its commands print of a dump, of a tariff file, of a
+close, and as each report. `samples/make` writes by it what a month of commands has to print, and history.py the answers
+to a long history. Only what these need is here: no dump is torn, and five faults of a tariff file are known."""
 import collections
 import datetime
 import hashlib
+import re
 import struct
 import tomllib
 
-Record = collections.namedtuple("Record", "name identity day minute job centre shift cpu blocks amount code job_id program")
+Record = collections.namedtuple(
+    "Record", "name identity day minute job centre shift cpu blocks amount code job_id program")
 EPOCH = datetime.date(1970, 1, 1)
+RATES = ["%s_%s" % (kind, unit) for kind in ("step", "job") for unit in ("cpu", "excp", "record")]
+TARIFF_DATE, TARIFF_EXISTS, RECORDS_DATED, WRONG_PERIOD, NOT_LATER, NO_SUCH_PERIOD = range(6, 12)
+
+
+def refused(fault, *more):
+    """The line of a refusal by the books."""
+    return [" ".join(["chargectl: ledger"] + [str(number) for number in (fault,) + more])]
 
 
 def joined(dump):
@@ -36,6 +45,13 @@ def kind_of(data):
     return "USAGE" if fits else "DAMAGED"
 
 
+def receipt(kinds):
+    """The line of an import whose records were counted as these."""
+    counts = collections.Counter(kinds)
+    words = "KEPT KNOWN UNPRICED OTHER HEADERS TRAILERS LOST CONTINUED DAMAGED".split()
+    return " ".join("%s %d" % (word, counts[word]) for word in words) + " STOP END"
+
+
 def text(field):
     return field.decode("cp037").rstrip()
 
@@ -45,9 +61,37 @@ def day_of(packed):
         int(packed[2:].hex()[:3]) - 1)
 
 
+def fields_of(data):
+    """The accounting fields."""
+    offset, _, number = struct.unpack_from(">IHH", data, 60)
+    at = offset - 4
+    for _ in range(number):
+        yield text(data[at + 1:at + 1 + data[at]])
+        at += 1 + data[at]
+
+
+def fault_of(file):
+    """The number of what is wrong with a tariff file, and the key, if it is one of these: no TOML, a key of its front
+    that is not there, a price out of its range, a shift that has no name, shifts of one name with two percents."""
+    try:
+        terms = tomllib.loads(file.decode())
+    except tomllib.TOMLDecodeError:
+        return "1"
+    if "effective" not in terms or "rates" not in terms:
+        return "2 effective" if "effective" not in terms else "2 rates"
+    for key in RATES:
+        if not 0 <= terms["rates"].get(key, -1) <= 100000000:
+            return "%d %s" % (3 if key in terms["rates"] else 2, key)
+    shifts = [(shift["name"], shift["percent"]) for shift in terms.get("shift", ())]
+    if not all(re.fullmatch("[A-Z0-9-]{1,16}", name) for name, _ in shifts):
+        return "4"
+    return "5" if len(dict(shifts)) < len(set(shifts)) else None
+
+
 class Tariff:
     def __init__(self, file):
-        self.terms = tomllib.loads(file.decode())
+        self.file, self.terms = file, tomllib.loads(file.decode())
+        self.effective = datetime.date.fromisoformat(self.terms["effective"])
 
     def shift(self, weekday, minute):
         def of(clock):
@@ -57,10 +101,11 @@ class Tariff:
                 return shift["name"], shift["percent"]
         return "BASE", 100
 
-    def centre(self, job):
-        """No sample record has accounting fields."""
+    def centre(self, job, fields):
         for centre in self.terms.get("centre", ()):
-            if "account" not in centre and job.startswith(centre["job"]):
+            at = centre.get("account", 0)
+            shown = job if at == 0 else fields[at - 1] if at <= len(fields) else None
+            if shown is not None and shown.startswith(centre["prefix" if at else "job"]):
                 return centre["name"]
         return "UNASSIGNED"
 
@@ -77,8 +122,9 @@ class Tariff:
         base = 10 * cpu * rates[prefix + "_cpu"] + blocks * rates[prefix + "_excp"] + 1000 * rates[prefix + "_record"]
         identity = data[10:14] + work[:8] + work[64:72] + subtype + (step if subtype == b"\0\4" else b"\0\0")
         code = "%s/%s" % (completion[:2].hex().upper(), completion[2:4].hex().upper())
-        return Record(hashlib.sha256(data).hexdigest(), identity, day, minute, job, self.centre(job), shift, cpu, blocks,
-                      (base * percent + 50000) // 100000, code, text(work[32:40]), text(work[8:16]))
+        centre, amount = self.centre(job, list(fields_of(data))), (base * percent + 50000) // 100000
+        return Record(hashlib.sha256(data).hexdigest(), identity, day, minute, job, centre, shift, cpu, blocks, amount,
+                      code, text(work[32:40]), text(work[8:16]))
 
 
 def decimals(number, places):
@@ -88,29 +134,58 @@ def decimals(number, places):
 
 class Books:
     def __init__(self):
-        self.held, self.charged_at, self.closes = {}, [], []
+        self.tariffs, self.held, self.charged_at, self.closes = [], {}, [], []
+
+    @property
+    def open(self):
+        """The number of the open period."""
+        return len(self.closes) + 1
 
     def tariff(self, file):
-        self.prices = Tariff(file)
+        fault = fault_of(file)
+        if fault:
+            return ["chargectl: tariff " + fault]
+        new = Tariff(file)
+        if any(old.file == file for old in self.tariffs):
+            return ["ALREADY"]
+        if any(old.effective == new.effective for old in self.tariffs):
+            return refused(TARIFF_EXISTS)
+        if any(new.effective <= day for day in [old.effective for old in self.tariffs] + self.closes):
+            return refused(TARIFF_DATE)
+        if any(new.effective <= record.day for record in self.held.values()):
+            return refused(RECORDS_DATED)
+        self.tariffs.append(new)
         return ["DONE"]
 
+    def priced(self, data):
+        """A usage record, by the last tariff that has begun on its day, if one has."""
+        begun = [tariff for tariff in self.tariffs if tariff.effective <= day_of(data[6:10])]
+        return begun[-1].record(data) if begun else None
+
+    def take_one(self, data):
+        """What the receipt counts a record as. A new usage record is held."""
+        kind = kind_of(data)
+        if kind != "USAGE":
+            return kind
+        record = self.priced(data)
+        if record is None:
+            return "UNPRICED"
+        return "KNOWN" if self.held.setdefault(record.name, record) is not record else "KEPT"
+
     def take(self, dump):
-        counts = collections.Counter()
-        for data in joined(dump):
-            kind = kind_of(data)
-            if kind == "USAGE":
-                record = self.prices.record(data)
-                kind = "KNOWN" if record.name in self.held else "KEPT"
-                self.held[record.name] = record
-            counts[kind] += 1
-        words = "KEPT KNOWN UNPRICED OTHER HEADERS TRAILERS LOST CONTINUED DAMAGED".split()
-        return [" ".join("%s %d" % (word, counts[word]) for word in words) + " STOP END"]
+        return [receipt(self.take_one(data) for data in joined(dump))]
 
     def undisputed(self):
         count = collections.Counter(record.identity for record in self.held.values())
         return {name for name, record in self.held.items() if count[record.identity] == 1}
 
-    def close(self, through):
+    def close(self, period, through):
+        if 0 < period < self.open and self.closes[period - 1] == through:
+            return ["ALREADY"]
+        if period != self.open:
+            return refused(WRONG_PERIOD, self.open)
+        if any(through <= day for day in self.closes):
+            return refused(NOT_LATER)
         self.charged_at.append({name for name in self.undisputed() if self.held[name].day <= through})
         self.closes.append(through)
         return ["DONE"]
@@ -140,8 +215,9 @@ class Books:
             return "%-10s %-16s %-16s %8s %19s %18s %21s" % (key + (count, cpu, blocks, amount))
         yield "STATEMENT PERIOD %d %s" % (period, self.head(period))
         yield line(("DAY", "CENTRE", "SHIFT"), "COUNT", "CPU", "BLOCKS", "AMOUNT")
-        rows = self.rows(period) + [(("TOTAL", "", ""), [sum(column) for column in zip(*(r[1] for r in self.rows(period)))])]
-        for key, (count, cpu, blocks, amount) in rows:
+        rows = self.rows(period)
+        total = ("TOTAL", "", ""), [sum(sums[at] for _, sums in rows) for at in range(4)]
+        for key, (count, cpu, blocks, amount) in rows + [total]:
             yield line(key, count, decimals(cpu, 2), blocks, decimals(amount, 4))
 
     def table(self, period):
@@ -152,12 +228,22 @@ class Books:
     def adjustments(self, period):
         before = self.charged(period - 1) if period > 1 else set()
         added = {name for name in self.charged(period) - before if self.held[name].day <= self.before(period)}
-        lines = [(1, self.held[name]) for name in added] + [(-1, self.held[name]) for name in before - self.charged(period)]
+        removed = before - self.charged(period)
+        lines = [(1, self.held[name]) for name in added] + [(-1, self.held[name]) for name in removed]
         yield "ADJUSTMENTS PERIOD %d %s" % (period, self.head(period))
         for sign, one in sorted(lines, key=lambda line: (line[1].day, line[1].name)):
             yield "%-5s %s %-16s %-16s %21s %s %s" % ("PLUS" if sign > 0 else "MINUS", one.day, one.centre, one.shift,
                                                       decimals(sign * one.amount, 4), one.name, one.job)
         yield "TOTAL" + 46 * " " + "%21s" % decimals(sum(sign * one.amount for sign, one in lines), 4)
+
+    def periods(self):
+        yield "PERIODS %d" % self.open
+        for period in range(1, self.open + 1):
+            yield "%d %s" % (period, self.head(period))
+
+    def of_period(self, report, period):
+        """A report of a period, if there is such a period."""
+        return list(report(period)) if 0 < period <= self.open else refused(NO_SUCH_PERIOD)
 
     def disputes(self):
         groups = collections.defaultdict(list)
@@ -170,4 +256,5 @@ class Books:
             yield "%s %s READER %s %s SUBTYPE %d STEP %d" % (
                 (text(identity[:4]), text(identity[4:12]), read[:8], read[8:]) + struct.unpack(">HH", identity[20:]))
             for one in sorted(members):
-                yield "  %s %s %21s %s %s %s" % (one.name, one.day, decimals(one.amount, 4), one.code, one.job_id, one.program)
+                yield "  %s %s %21s %s %s %s" % (
+                    one.name, one.day, decimals(one.amount, 4), one.code, one.job_id, one.program)

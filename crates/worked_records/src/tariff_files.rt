@@ -1,140 +1,120 @@
 //! Tariff files: which are read, and the first fault of one that is not.
 
+use crate::lines::RecordLines;
+use crate::words::{split_words, text_of};
+use row_scripts::{Ask, Named, push_line};
+use smf_text::day_text;
 use std::alloc::{AllocError, Global};
-use std::process::Abort;
-use std::test::Fail;
-use tariff_rules::TariffFault::Missing;
-use tariff_rules::{Key, Tariff, TariffFault};
+use tariff_rules::{Tariff, TariffFault};
 
-mod keys;
-mod order;
-
-/// The first day and the rates.
-const RATES: &str = r#"
-effective = "2024-01-01"
-[rates]
-step_cpu = 0
-step_excp = 0
-step_record = 0
-job_cpu = 0
-job_excp = 0
-job_record = 0
-"#;
-
-/// A shift, and a centre rule of each kind.
-const RULES: &str = r#"
-[[shift]]
-name = "NIGHT"
-days = [1, 2, 3, 4, 5]
-from = "18:00"
-to = "24:00"
-percent = 50
-[[centre]]
-name = "ACCOUNTS"
-account = 1
-prefix = "A"
-[[centre]]
-name = "PAYROLL"
-job = "PAY"
-"#;
-
-/// What is read of a text that has a fault.
-fn fault_of(alloc: Global, text: &str) -> Option<TariffFault> {
-    Tariff::parse(alloc, text).err()
-}
-
-/// The file that has each key.
-fn whole_file(alloc: Global) -> Result<String, AllocError> {
-    format!(in alloc; "{RATES}{RULES}")
-}
-
-/// The same with one place changed.
-fn changed(alloc: Global, place: &str, by: &str) -> Result<String, Fail> {
-    let file = whole_file(alloc)?;
-    let (before, after) = file.as_str().split_once(place).ok_or("no such place")?;
-    Ok(format!(in alloc; "{before}{by}{after}")?)
-}
-
-/// Asserts of each case that the file, with one place changed, has the fault.
-fn assert_faults(
-    rt: &impl Abort,
+/// Adds the number of a fault, and what it says.
+pub(crate) fn push_tariff_fault(
     alloc: Global,
-    cases: &[(&str, &str, TariffFault)],
-) -> Result<(), Fail> {
-    for (place, by, want) in cases {
-        let text = changed(alloc, *place, *by)?;
-        assert_eq!(rt;
-            fault_of(alloc, text.as_str()),
-            Some(*want),
-            "{by} for {place}"
-        );
-    }
-    Ok(())
+    out: &mut Vec<u8>,
+    fault: TariffFault,
+) -> Result<(), AllocError> {
+    let line = format!(in alloc; "FAULT {}: {fault}", fault.number())?;
+    push_line(out, line.as_str())
 }
 
-/// A text of so many pieces.
-fn repeated(alloc: Global, piece: &str, count: usize) -> Result<String, AllocError> {
-    let mut text = String::new(alloc);
+/// Adds the first day of a tariff.
+pub(crate) fn push_terms(
+    alloc: Global,
+    out: &mut Vec<u8>,
+    tariff: &Tariff,
+) -> Result<(), AllocError> {
+    let day = day_text(alloc, tariff.effective())?;
+    push_line(out, format!(in alloc; "FROM {day}")?.as_str())
+}
+
+/// Adds what is read of a tariff file.
+fn push_file(alloc: Global, out: &mut Vec<u8>, text: &str) -> Result<(), AllocError> {
+    match Tariff::parse(alloc, text) {
+        Ok(tariff) => push_terms(alloc, out, &tariff),
+        Err(fault) => push_tariff_fault(alloc, out, fault),
+    }
+}
+
+/// A text that is named, with another text in the first place of one; none where it has no such
+/// place.
+fn changed(named: &Named, name: &str, words: &[&str]) -> Result<Option<String>, AllocError> {
+    let (Some(text), Some((old, new))) = (named.text(name), split_words(words, "->")) else {
+        return Ok(None);
+    };
+    let alloc = named.alloc();
+    let (old, new) = (text_of(alloc, old)?, text_of(alloc, new)?);
+    match text.split_once(old.as_str()) {
+        Some((before, after)) => {
+            let changed = format!(in alloc; "{before}{new}{after}")?;
+            Ok(Some(changed))
+        }
+        None => Ok(None),
+    }
+}
+
+/// The most copies of a piece.
+const MOST_PIECES: usize = 2_000_000;
+
+/// Texts that are named, and so many copies of a piece behind them.
+fn repeated(
+    named: &Named,
+    count: &str,
+    piece: &str,
+    names: &[&str],
+) -> Result<Option<String>, AllocError> {
+    let count = count.parse::<usize>().ok();
+    let Some(count) = count.filter(|count| *count <= MOST_PIECES) else {
+        return Ok(None);
+    };
+    let Some(mut text) = named.texts(names, "")? else {
+        return Ok(None);
+    };
+    let piece = text_of(named.alloc(), &[piece])?;
     for _ in 0..count {
-        text.push_str(piece)?;
+        text.push_str(piece.as_str())?;
     }
-    Ok(text)
+    Ok(Some(text))
 }
 
-#[test]
-fn a_file_is_read(rt: HostRuntime) -> Result<(), Fail> {
-    let text = whole_file(rt.alloc())?;
-    let tariff = Tariff::parse(rt.alloc(), text.as_str())?;
-    assert_eq!(rt; tariff.effective(), 19_723, "2024-01-01");
-    Ok(())
+/// The tariff file that a line spells, if it spells one.
+fn file_of(named: &Named, ask: Ask<'_>) -> Result<Option<String>, AllocError> {
+    match (ask.verb, ask.words) {
+        ("file", names) => named.texts(names, ask.body),
+        ("changed", [name, words @ ..]) => changed(named, name, words),
+        ("repeated", [count, piece, names @ ..]) => repeated(named, count, piece, names),
+        _ => Ok(None),
+    }
 }
 
-#[test]
-fn a_file_has_its_limits(rt: HostRuntime) -> Result<(), Fail> {
-    let alloc = rt.alloc();
-    let cases = [
-        (
-            "the most bytes",
-            "",
-            " ",
-            1_048_576,
-            Missing(Key::Effective),
-        ),
-        ("a byte more", "", " ", 1_048_577, TariffFault::TooMany),
-        ("that is no TOML", "", "=", 1_048_577, TariffFault::TooMany),
-        (
-            "the most shifts",
-            RATES,
-            "[[shift]]\n",
-            64,
-            Missing(Key::Name),
-        ),
-        (
-            "a shift more",
-            RATES,
-            "[[shift]]\n",
-            65,
-            TariffFault::TooMany,
-        ),
-        (
-            "the most centres",
-            RATES,
-            "[[centre]]\n",
-            2000,
-            Missing(Key::Name),
-        ),
-        (
-            "a centre more",
-            RATES,
-            "[[centre]]\n",
-            2001,
-            TariffFault::TooMany,
-        ),
-    ];
-    for (case, before, piece, count, want) in cases {
-        let pieces = repeated(alloc, piece, count)?;
-        let text = format!(in alloc; "{before}{pieces}")?;
-        assert_eq!(rt; fault_of(alloc, text.as_str()), Some(want), "{case}");
+/// Answers a line that spells a tariff file, or `say memory`.
+pub(crate) fn answer_file(
+    named: &Named,
+    ask: Ask<'_>,
+    out: &mut Vec<u8>,
+) -> Result<bool, AllocError> {
+    if let ("say", ["memory"]) = (ask.verb, ask.words) {
+        push_tariff_fault(named.alloc(), out, TariffFault::Memory)?;
+        return Ok(true);
     }
-    Ok(())
+    let Some(text) = file_of(named, ask)? else {
+        return Ok(false);
+    };
+    push_file(named.alloc(), out, text.as_str())?;
+    Ok(true)
+}
+
+impl RecordLines {
+    /// Answers `line TEXT`: what is read of the row's lines so far.
+    pub(crate) fn answer_line(
+        &mut self,
+        alloc: Global,
+        words: &[&str],
+        out: &mut Vec<u8>,
+    ) -> Result<bool, AllocError> {
+        let line = text_of(alloc, words)?;
+        self.file.push_str(line.as_str())?;
+        self.file.push('\n')?;
+        push_file(alloc, out, self.file.as_str())?;
+        Ok(true)
+    }
 }

@@ -1,70 +1,71 @@
 //! Code page 037, and the names that centres and shifts have.
 
-use smf_text::{Name, TextFault, encode, show};
-use std::test::Fail;
+use crate::words::{push, push_bytes, text_of};
+use row_scripts::{Ask, push_hex, push_line};
+use smf_text::{Name, encode, show};
+use std::alloc::{AllocError, Global};
 
-#[test]
-fn names_shown(rt: HostRuntime) -> Result<(), Fail> {
-    let cases = [
-        (
-            "a letter, a backslash, a byte of no character, a blank",
-            [0xC1, 0xE0, 0x00, 0x40],
-            "A\\E0\\00",
-        ),
-        ("blanks", [0x40, 0x40, 0x40, 0x40], ""),
-        ("a blank within", [0xD7, 0x40, 0xF1, 0x40], "P 1"),
-    ];
-    for (case, bytes, want) in cases {
-        let shown = show(rt.alloc(), &bytes)?;
-        assert_eq!(rt; shown.as_str(), want, "{case}");
+/// What a buffer holds before a text is written into it.
+const BEFORE: u8 = 9;
+
+/// Answers `show HEX`.
+fn answer_show(alloc: Global, hex: &str, out: &mut Vec<u8>) -> Result<bool, AllocError> {
+    let mut bytes = Vec::new(alloc);
+    if !push_hex(&mut bytes, hex)? {
+        return Ok(false);
     }
-    Ok(())
+    let shown = show(alloc, &bytes)?;
+    push_line(out, format!(in alloc; "\"{shown}\"")?.as_str())?;
+    Ok(true)
 }
 
-#[test]
-fn texts_are_encoded_at_the_front_or_refused(rt: HostRuntime) {
-    let written = [0xD7, 0xC1, 0xE8, 9, 9, 9, 9, 9];
-    let as_before = [9; 8];
-    let cases = [
-        ("a text with room", "PAY", Ok(3), written),
-        (
-            "nine characters",
-            "ABCDEFGHI",
-            Err(TextFault::TooLong),
-            as_before,
-        ),
-        ("past ASCII", "É", Err(TextFault::NotInPage), as_before),
-        (
-            "past ASCII and too long",
-            "ABCDEFGHÉ",
-            Err(TextFault::NotInPage),
-            as_before,
-        ),
-    ];
-    for (case, text, want, bytes) in cases {
-        let mut buffer = as_before;
-        assert_eq!(rt; encode(text, &mut buffer), want, "{case}");
-        assert_eq!(rt; buffer, bytes, "{case}");
-    }
+/// Adds how many bytes of a buffer a text takes, or its fault, and what the buffer holds then.
+fn push_encoded(alloc: Global, size: u8, text: &str, out: &mut Vec<u8>) -> Result<(), AllocError> {
+    let mut buffer = vec![in alloc; BEFORE; usize::from(size)]?;
+    let answer = match encode(text, &mut buffer) {
+        Ok(count) => format!(in alloc; "WROTE {count} ")?,
+        Err(fault) => format!(in alloc; "FAULT {} ", fault.number())?,
+    };
+    push(out, answer.as_str())?;
+    push_bytes(alloc, out, &buffer)
 }
 
-#[test]
-fn names_have_1_to_16_capitals_digits_and_hyphens(rt: HostRuntime) {
-    let cases = [
-        ("NIGHT", true),
-        ("A", true),
-        ("PAYROLL-2024-001", true),
-        ("PAYROLL-2024-0012", false),
-        ("", false),
-        ("night", false),
-        ("TWO WORDS", false),
-        ("CAFÉ", false),
-    ];
-    for (text, is_name) in cases {
-        let name = Name::of(text);
-        assert_eq!(rt; name.is_some(), is_name, "{text}");
-        if let Some(name) = name {
-            assert_eq!(rt; name.text(), text, "{text}");
+/// Answers `encode SIZE TEXT`.
+fn answer_encode(alloc: Global, words: &[&str], out: &mut Vec<u8>) -> Result<bool, AllocError> {
+    let Some((size, words)) = words.split_first() else {
+        return Ok(false);
+    };
+    let Ok(size) = size.parse::<u8>() else {
+        return Ok(false);
+    };
+    let text = text_of(alloc, words)?;
+    push_encoded(alloc, size, text.as_str(), out)?;
+    Ok(true)
+}
+
+/// Answers `name TEXT`.
+fn answer_name(alloc: Global, words: &[&str], out: &mut Vec<u8>) -> Result<bool, AllocError> {
+    let text = text_of(alloc, words)?;
+    match Name::of(text.as_str()) {
+        Some(name) => {
+            push(out, "NAME ")?;
+            push_line(out, name.text())?;
         }
+        None => push_line(out, "NO NAME")?,
+    }
+    Ok(true)
+}
+
+/// Answers a line on texts.
+pub(crate) fn answer_text(
+    alloc: Global,
+    ask: Ask<'_>,
+    out: &mut Vec<u8>,
+) -> Result<bool, AllocError> {
+    match (ask.verb, ask.words) {
+        ("show", [hex]) => answer_show(alloc, hex, out),
+        ("encode", words) => answer_encode(alloc, words, out),
+        ("name", words) => answer_name(alloc, words, out),
+        _ => Ok(false),
     }
 }

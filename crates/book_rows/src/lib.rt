@@ -1,0 +1,55 @@
+//! Lines of scripts on books, over any ledger, and lines that need none. `PARTS` are parts of a
+//! dump, `TEXT` is a text that is named, and a body stands behind its line.
+//!
+//! | A line on books | Is answered with |
+//! |---|---|
+//! | `tariff TEXT..`, with a body in front of the texts | `DONE`, `ALREADY` or the fault's line |
+//! | `close PERIOD DAY` | the same |
+//! | `closes FROM..END DAY`: a period a day | how many were done, behind the first other answer |
+//! | `import PARTS..` | the receipt |
+//! | `accept PARTS..` | `KEPT`, `KNOWN`, `UNPRICED` or the fault's line, of each usage record |
+//! | `list`, with a body of `tariff`, `import` and `close` | the reply to each |
+//! | `statement PERIOD`, `table PERIOD`, `adjustments PERIOD`, `disputes`, `periods` | the text |
+//! | `changes` | each text, but for tables, that is not as at the last `changes` of the row |
+//!
+//! | A line that needs no books | Is answered with |
+//! |---|---|
+//! | `split PARTS..` | how many records there are, the fault's number, and whether that stays |
+//! | `records PARTS..` | the same, and each record's descriptor and name |
+//! | `check PARTS..` | the check list |
+//! | `trial CPU EXCP RECORD PARTS..` | the texts of a trial under these rates |
+//! | `price TEXT PARTS..` | of each usage record the day, centre, shift, CPU time, blocks, amount |
+//! | `plan TEXT CLOSE HELD.. new NEW..` | what each new record changes in kept tables |
+//! | `receipt COUNT.. STOP`, nine counts | the receipt line |
+//! | `write`, with a body | the body |
+//! | `say report FAULT`, `say stop STOP`, `say words ..` | what the program says, and its status |
+//!
+//! From here on in the row dumps are read as `reader WORD..` says: `bdw`, at most `pieces:BYTES` a
+//! read, failing behind `fails:READS`, with `reads:READS` allowed, `endless` copies of the dump,
+//! and the reads `counted`. Texts are written as `writer SIZE WRITES` says: at most so many bytes
+//! in each of so many writes, or `all`; then how much was taken in how many writes is told. With
+//! `writer SIZE FROM..END` a text is written again and again, and that alone is told of each.
+#![tactic(auto)]
+
+mod alone;
+mod answers;
+mod books;
+mod changes;
+mod closing;
+mod commands;
+mod day;
+mod dumps;
+mod faults;
+mod lines;
+mod plans;
+mod prices;
+mod reading;
+mod receipts;
+mod sayings;
+mod texts;
+mod trials;
+mod writing;
+
+pub use alone::answer_alone;
+pub use books::answer;
+pub use lines::BookLines;

@@ -1,0 +1,39 @@
+//! What the lines of a row have set so far.
+
+use book_core::Ledger;
+use book_rows::{BookLines, answer};
+use request_rows::{RequestLines, answer_request};
+use row_scripts::{Ask, Named};
+use std::alloc::AllocError;
+
+/// How dumps are read, texts are written and requests come from here on in a row.
+#[derive(Drop)]
+pub(crate) struct Lines {
+    pub(crate) books: BookLines,
+    requests: RequestLines,
+}
+
+impl Lines {
+    /// As at the begin of a row.
+    pub(crate) fn new() -> Lines {
+        Lines {
+            books: BookLines::new(),
+            requests: RequestLines::new(),
+        }
+    }
+
+    /// Answers a line that is asked of books, by calls or by requests. False where it is none, or
+    /// can't be read.
+    pub(crate) fn ask<L: Ledger>(
+        &mut self,
+        named: &Named,
+        ledger: &mut L,
+        ask: Ask<'_>,
+        out: &mut Vec<u8>,
+    ) -> Result<bool, AllocError> {
+        if answer(&mut self.books, named, ledger, ask, out)? {
+            return Ok(true);
+        }
+        answer_request(&mut self.requests, named, ledger, ask, out)
+    }
+}

@@ -1,0 +1,107 @@
+//! Worked rows on books. A word that ends with a colon names a section, and each word behind it a
+//! script that lies where the program runs:
+//!
+//! | Section | Its rows are |
+//! |---|---|
+//! | `memory:` | on books in memory |
+//! | `tables:` | on books in the tables of a database, opened for each line and closed behind it |
+//! | `commands:` | sessions of the program's commands, over files |
+//! | `stops:` | as those of `tables:`; it stands apart because disks that stop take the longest |
+//!
+//! A row on books begins with
+//!
+//! | Words | Books |
+//! |---|---|
+//! | `new` | new ones |
+//! | `one-name` | new ones that give every record one name |
+//! | `flat CPU BLOCKS`, `one-name CPU BLOCKS` | the same in memory, under a tariff of two rates |
+//! | `empty` | none, in a database without tables |
+//!
+//! Its lines are those of `book_rows` and `request_rows`, and in tables also
+//!
+//! | A line | Is answered with |
+//! |---|---|
+//! | `rows`, `lines`, `marks`, `closed`, `tariffs`, `book` | the rows of a table, as SQL shows them |
+//! | `change STATEMENT` | how many rows SQL changed behind the books' back |
+//! | `stops log`, `stops database` | what was found when the disk stopped at each call of that file |
+//!
+//! The body of `stops` is a run of commands. The row goes on with the books behind it. Each word of
+//! an import names one record there.
+//!
+//! In a session every word that begins with `@` is a file of this row alone:
+//!
+//! | A line | Is answered with |
+//! |---|---|
+//! | `file @NAME PARTS..`, `text-file @NAME NAMES..` | nothing: the file is written |
+//! | `copy FILE FILE` | nothing: the first is written to the second |
+//! | `input PARTS..`, `broken-input PARTS..` | nothing: what standard input gives from here on |
+//! | `room SIZE` | nothing: how many bytes standard output takes from here on |
+//! | `chargectl WORDS..` | its output, `!` and each line on standard error, its status if not 0 |
+//! | `first SIZE chargectl WORDS..` | the same, but no more than so many bytes of each |
+//! | `count chargectl WORDS..` | the same, but how many lines there are in the place of each |
+//! | `same FILE FILE`, `missing FILE` | whether they are |
+#![tactic(auto)]
+
+mod came;
+mod ends;
+mod folder;
+mod left;
+mod lines;
+mod one_name;
+mod opened;
+mod plain_books;
+mod queries;
+mod restart;
+mod run;
+mod sessions;
+mod stops;
+mod sweep;
+mod table_books;
+mod unstopped;
+
+use folder::Folder;
+use plain_books::PlainBooks;
+use row_scripts::play_files;
+use sessions::Sessions;
+use std::env;
+use std::test::Fail;
+use table_books::TableBooks;
+
+/// Plays the scripts of a section.
+fn play_section(rt: &HostRuntime, section: &str, names: &[String]) -> Result<(), Fail> {
+    println!(rt; "{section}:")?;
+    match section {
+        "memory" => play_files(rt, PlainBooks::new(), names),
+        "tables" | "stops" => play_files(rt, TableBooks::new(), names),
+        "commands" => {
+            let folder = Folder::of_this_run(rt)?;
+            let played = play_files(rt, Sessions::new(rt, &folder), names);
+            folder.remove(rt);
+            played
+        }
+        _ => Err("no section has this name")?,
+    }
+}
+
+fn main(rt: HostRuntime) -> Result<(), Fail> {
+    let mut words = env::args(&rt)?;
+    words.next();
+    let mut section = None;
+    let mut names = Vec::new(rt.alloc());
+    for word in words {
+        match word.as_str().strip_suffix(':') {
+            None => names.push(word)?,
+            Some(next) => {
+                let next = String::from_str(rt.alloc(), next)?;
+                if let Some(section) = section.replace(next) {
+                    play_section(&rt, section.as_str(), &names)?;
+                }
+                names = Vec::new(rt.alloc());
+            }
+        }
+    }
+    match section {
+        Some(section) => play_section(&rt, section.as_str(), &names),
+        None => Err("no section is named")?,
+    }
+}

@@ -1,0 +1,275 @@
+"""A long history of books as a script of rows: each command, the answer to it, and the texts of the books that it
+changed, by the rules of office.py. The commands are made by arithmetic alone, so the history is the same each time.
+It fails where a kind of record or of answer did not come that a history may have."""
+import collections
+import datetime
+import re
+import struct
+
+import office
+
+TURNS = 300
+LAST_OF_2023 = datetime.date(2023, 12, 31)
+
+# The name of a job, the hour at which it runs, and its accounting fields.
+JOBS = (("PAYROLL1", 8, ()), ("PAYROLL2", 20, ()), ("LEDGER07", 8, ()), ("TESTRUN", 3, ("", "ABCD")))
+
+# Records that no books hold, by their parts.
+UNHELD = (("dump_header", "sample/0..18 0:0012 5:02"), ("dump_trailer", "sample/0..18 0:0012 5:03"),
+          ("data_lost", "sample/0..18 0:0012 5:07"), ("job_begins", "sample 22:0001"),
+          ("step_goes_on", "sample 62:0000"), ("cut_short", "sample/0..150 0:0096"))
+
+
+def table(kind, **terms):
+    """An entry of a tariff file."""
+    shown = ("%s = %s\n" % (key, '"%s"' % term if isinstance(term, str) else term) for key, term in terms.items())
+    return "[[%s]]\n" % kind + "".join(shown)
+
+
+WORKING_DAYS, ALL_DAYS = [1, 2, 3, 4, 5], [1, 2, 3, 4, 5, 6, 7]
+EVENING = {"from": "18:00", "to": "24:00", "percent": 50}
+
+# What stands behind the day of a tariff file and its price of CPU time.
+TEXTS = {
+    "free_jobs": "step_excp = 500\nstep_record = 0\njob_cpu = 0\njob_excp = 0\njob_record = 0\n",
+    "paid_jobs": "step_excp = 333\nstep_record = 100\njob_cpu = 0\njob_excp = 0\njob_record = 2500\n",
+    "evenings": table("shift", name="NIGHT", days=WORKING_DAYS, **EVENING),
+    "nights": table("shift", name="NIGHT", days=ALL_DAYS, **{"from": "00:00", "to": "06:00", "percent": 50}),
+    "weekends": table("shift", name="WEEKEND", days=[6, 7], **{"from": "06:00", "to": "24:00", "percent": 25}),
+    "by_job": table("centre", name="PAYROLL", job="PAY") + table("centre", name="ACCOUNTS", job="LEDGER"),
+    "by_field": table("centre", name="AUDIT", account=2, prefix="AB") + table("centre", name="PAYROLL", job="PAYROLL1"),
+    "no_fee": "step_excp = 500\njob_cpu = 0\n",
+    "below_zero": "step_excp = 500\nstep_record = 0\njob_cpu = -1\n",
+    "no_toml": "step_excp = 500 500\n",
+    "no_name": table("shift", name="by night", days=WORKING_DAYS, **EVENING),
+    "other_nights": table("shift", name="NIGHT", days=[6, 7], **{"from": "18:00", "to": "24:00", "percent": 60})}
+
+# Two that are rules, and five that no tariff has.
+RULES = ("free_jobs evenings by_job", "paid_jobs nights weekends by_field", "no_fee", "below_zero", "no_toml",
+         "free_jobs no_name", "free_jobs evenings other_nights by_job")
+
+# What has to come, each of it more than once.
+NEEDED = ["import " + kind for kind in (
+    "repeated", "unpriced", "in time", "late", "variant", "variant of a late record", "variant of a posted record",
+    "later variant of a posted record", "third variant", "other")]
+NEEDED += ["tariff " + answer for answer in (
+    "DONE", "ALREADY", "ledger 6", "ledger 7", "ledger 8", "tariff 1", "tariff 2 step_record", "tariff 3 job_cpu",
+    "tariff 4", "tariff 5")]
+NEEDED += ["close " + answer for answer in ("DONE", "ALREADY", "ledger 9", "ledger 10", "that moved rows")]
+
+
+class Numbers:
+    """Numbers in no order that can be seen: each follows from the one before."""
+    def __init__(self):
+        self.state = 2020
+
+    def below(self, limit):
+        self.state = (self.state * 1664525 + 1013904223) % 2**32
+        return (self.state >> 16) % limit
+
+
+def packed(day):
+    """A day of 2024 by its number, as a record has it."""
+    return "0124%03dF" % day
+
+
+def day_of(day):
+    return LAST_OF_2023 + datetime.timedelta(day)
+
+
+def dump_of(named, words):
+    """The dump of parts, as scripts name them."""
+    dump = bytearray()
+    for part in words.split():
+        if part.startswith("x:"):
+            dump += bytes.fromhex(part[2:])
+        elif ":" in part:
+            place, digits = part.split(":")
+            dump[int(place):int(place) + len(digits) // 2] = bytes.fromhex(digits)
+        else:
+            name, _, places = part.partition("/")
+            first, last = places.split("..") if places else (0, len(named[name]))
+            dump += named[name][int(first):int(last)]
+    return bytes(dump)
+
+
+def step_parts(numbers, today):
+    """The parts of a record of about a day, whose number is that of the step; now and then it is dated later."""
+    name, hour, fields = JOBS[numbers.below(len(JOBS))]
+    step = max(1, today - numbers.below(40 if numbers.below(8) == 0 else 7))
+    dated = step + (9 + numbers.below(12) if numbers.below(10) == 0 else 0)
+    tcb, blocks = 1200 + step * 37 % 500, step * 613 % 9001
+    parts = ["sample", "72:" + name.ljust(8).encode("cp037").hex().upper(), "6:%08X" % (hour * 360000),
+             "10:" + packed(dated), "160:%08X 148:%08X" % (tcb, blocks),
+             "22:0005 140:" + packed(step) if numbers.below(12) == 0 else "112:%04X" % step]
+    if fields:
+        texts = b"".join(struct.pack("B", len(field)) + field.encode("cp037") for field in fields)
+        parts.append("0:%04X 64:000000A8 70:%04X x:%s" % (168 + len(texts), len(fields), texts.hex().upper()))
+    return " ".join(parts)
+
+
+class History:
+    def __init__(self, sample):
+        self.books, self.numbers = office.Books(), Numbers()
+        self.dumps, self.steps, self.texts, self.fronts = {"sample": sample}, [], dict(TEXTS), []
+        self.lines, self.shown, self.came = [], {}, collections.Counter()
+
+    def ask(self, words, answer, body=()):
+        self.lines += ["> " + words] + ["| " + line for line in body] + list(answer)
+
+    def name_dump(self, name, words):
+        self.ask("dump %s %s" % (name, words), ())
+        self.dumps[name] = dump_of(self.dumps, words)
+
+    def name_text(self, name, text):
+        self.ask("text " + name, (), text.splitlines())
+        self.texts[name] = text
+
+    def earlier(self, names):
+        """One of the last few."""
+        return names[-1 - self.numbers.below(min(12, len(names)))]
+
+    def variant_parts(self, today):
+        """A step that was handed in before: measured otherwise, or dated today."""
+        change = "10:" + packed(today) if self.numbers.below(4) == 0 else "160:%08X" % (1101 + self.numbers.below(3))
+        return "%s %s" % (self.earlier(self.steps), change)
+
+    def step(self, today):
+        """The name of a step that was handed in before, or of a new one, or of a variant of one."""
+        kind = self.numbers.below(10) if self.steps else 9
+        if kind < 2:
+            return self.earlier(self.steps)
+        name = "r%d" % len(self.steps)
+        self.name_dump(name, self.variant_parts(today) if kind == 2 else step_parts(self.numbers, today))
+        self.steps.append(name)
+        return name
+
+    def import_words(self, today):
+        """A dump of one step or two, and now and then of a record that no books hold."""
+        names = [self.step(today) for _ in range(1 + self.numbers.below(2))]
+        if self.numbers.below(6) == 0:
+            names.append(UNHELD[self.numbers.below(len(UNHELD))][0])
+        return "import " + " ".join(names)
+
+    def tariff_words(self, today):
+        """A tariff from a day on whose number ends in 0, or one that came before; now and then a file that is none."""
+        if self.fronts and self.numbers.below(5) == 0:
+            return self.earlier(self.fronts)
+        first = (today + self.numbers.below(30)) // 10 * 10
+        rules = RULES[self.numbers.below(2) if self.numbers.below(3) else 2 + self.numbers.below(5)]
+        front = "t%d" % len(self.fronts)
+        self.name_text(front, 'effective = "%s"\n[rates]\nstep_cpu = %d\n'
+                       % (day_of(first), 20000 + 5000 * self.numbers.below(2)))
+        self.fronts.append("tariff %s %s" % (front, rules))
+        return self.fronts[-1]
+
+    def close_words(self, today):
+        """A close of the open period, or one that is out of turn."""
+        closes, kind = self.books.closes, self.numbers.below(7)
+        last = closes[-1] if closes else LAST_OF_2023
+        period, through = self.books.open, day_of(today - self.numbers.below(6))
+        if kind == 0:
+            period, through = len(closes), last
+        elif kind == 1:
+            period, through = len(closes), last + datetime.timedelta(1)
+        elif kind == 2:
+            through = last - datetime.timedelta(self.numbers.below(2))
+        return "close %d %s" % (period, through)
+
+    def words(self, turn):
+        """The command of a turn. A day has two turns; the first command is a tariff."""
+        today, kind = 8 + turn // 2, self.numbers.below(14)
+        if turn == 0:
+            self.name_text("t0", 'effective = "2024-01-05"\n[rates]\nstep_cpu = 20000\n')
+            self.fronts.append("tariff t0 " + RULES[0])
+            return self.fronts[0]
+        if kind < 2:
+            return self.tariff_words(today)
+        return self.close_words(today) if kind < 4 else self.import_words(today)
+
+    def kind_of(self, data):
+        """What a record is to the books before they take it."""
+        if office.kind_of(data) != "USAGE":
+            return "other"
+        books, record = self.books, self.books.priced(data)
+        if record is None or record.name in books.held:
+            return "unpriced" if record is None else "repeated"
+        others = [held for held in books.held.values() if held.identity == record.identity]
+        is_late, posted = record.day <= books.before(books.open), books.charged(books.open - 1) if books.closes else ()
+        if len(others) != 1:
+            return "third variant" if others else "late" if is_late else "in time"
+        if others[0].name in posted:
+            return "variant of a posted record" if is_late else "later variant of a posted record"
+        return "variant of a late record" if others[0].day <= books.before(books.open) else "variant"
+
+    def take_one(self, data):
+        self.came["import " + self.kind_of(data)] += 1
+        return self.books.take_one(data)
+
+    def close(self, period, through):
+        charged = [self.books.held[name].day for name in self.books.undisputed()]
+        answer = self.books.close(int(period), datetime.date.fromisoformat(through))
+        if answer == ["DONE"] and any(day > self.books.closes[-1] for day in charged):
+            self.came["close that moved rows"] += 1
+        return answer
+
+    def answer(self, words):
+        """The answer to a command."""
+        verb, *rest = words.split()
+        if verb == "import":
+            dump = dump_of(self.dumps, " ".join(rest))
+            return [office.receipt(self.take_one(data) for data in office.joined(dump))]
+        if verb == "close":
+            answer = self.close(*rest)
+        else:
+            answer = self.books.tariff("".join(self.texts[name] for name in rest).encode())
+        self.came["%s %s" % (verb, re.sub("chargectl: |(?<=ledger 9) .*", "", answer[0]))] += 1
+        return answer
+
+    def changes(self):
+        """Each text of the books that is not as it was shown last."""
+        texts = {}
+        for period in range(1, self.books.open + 1):
+            texts["statement", period] = list(self.books.statement(period))
+            texts["adjustments", period] = list(self.books.adjustments(period))
+        texts["disputes"], texts["periods"] = list(self.books.disputes()), list(self.books.periods())
+        changed = [line for text, lines in texts.items() if self.shown.get(text) != lines for line in lines]
+        self.shown = texts
+        return changed
+
+    def ask_more(self):
+        """Asks for a table, and of periods that are not there."""
+        books, behind = self.books, self.books.open + 1
+        for period in (max(1, books.open - 1), 0, behind):
+            self.ask("table %d" % period, books.of_period(books.table, period))
+        self.ask("statement %d" % behind, books.of_period(books.statement, behind))
+        self.ask("adjustments 0", books.of_period(books.adjustments, 0))
+
+    def play(self, turn):
+        """One command, or now and then a list of some, and what changed."""
+        if turn % 9 == 8:
+            commands = [self.words(turn) for _ in range(2 + self.numbers.below(3))]
+            self.ask("list", [line for words in commands for line in self.answer(words)], commands)
+        else:
+            words = self.words(turn)
+            self.ask(words, self.answer(words))
+        self.ask("changes", self.changes())
+        if turn % 10 == 9:
+            self.ask_more()
+
+
+def history(sample):
+    """The lines of the script. The record of the worked rows is named there already."""
+    made = History(sample)
+    made.lines += ["# A long history, made by samples/make: commands, the answers to them, and the texts that changed."]
+    for name, words in UNHELD:
+        made.name_dump(name, words)
+    for name, text in TEXTS.items():
+        made.name_text(name, text)
+    made.lines += ["", "> row long_history new"]
+    for turn in range(TURNS):
+        made.play(turn)
+    missing = [kind for kind in NEEDED if made.came[kind] < 2]
+    if missing:
+        raise ValueError("what did not come twice: " + ", ".join(missing))
+    return made.lines
