@@ -7,10 +7,12 @@ use std::alloc::{AllocError, Global};
 #[derive(Clone, Copy)]
 pub(crate) enum Showing {
     Whole,
-    /// So many bytes of a stream at most, and two dots for more.
+    /// So many bytes of each stream at most, and two dots for more.
     First(usize),
-    /// How many lines there are.
-    Count,
+    /// How many lines its output has.
+    Lines,
+    /// How many bytes its output has.
+    Bytes,
 }
 
 /// What a command left.
@@ -33,40 +35,50 @@ fn push_lines(out: &mut Vec<u8>, mark: &str, text: &str) -> Result<(), AllocErro
     Ok(())
 }
 
-/// Adds how many lines a text has, if it has one.
-fn push_count(alloc: Global, out: &mut Vec<u8>, mark: &str, text: &str) -> Result<(), AllocError> {
-    match text.lines().count() {
-        0 => Ok(()),
-        count => push_line(out, format!(in alloc; "{mark}LINES {count}")?.as_str()),
-    }
-}
-
-/// The first bytes, and two dots where there are more.
-fn shortened(bytes: Vec<u8>, size: usize) -> Result<Vec<u8>, AllocError> {
+/// The bytes of a stream that are shown.
+fn shown(bytes: Vec<u8>, showing: Showing) -> Result<Vec<u8>, AllocError> {
     let mut bytes = bytes;
-    if bytes.len() > size {
-        bytes.truncate(size);
-        bytes.extend_from_slice(b"..\n")?;
+    if let Showing::First(size) = showing {
+        if bytes.len() > size {
+            bytes.truncate(size);
+            bytes.extend_from_slice(b"..\n")?;
+        }
     }
     Ok(bytes)
 }
 
 /// Adds what went through a stream.
-fn push_stream(
+fn push_stream(out: &mut Vec<u8>, mark: &str, bytes: Vec<u8>) -> Result<(), AllocError> {
+    match String::from_utf8(bytes) {
+        Ok(text) => push_lines(out, mark, text.as_str()),
+        Err(_) => push_line(out, "NO TEXT"),
+    }
+}
+
+/// Adds how many of a unit an output has.
+fn push_count(
     alloc: Global,
     out: &mut Vec<u8>,
-    mark: &str,
-    bytes: Vec<u8>,
+    unit: &str,
+    count: usize,
+) -> Result<(), AllocError> {
+    push_line(out, format!(in alloc; "{unit} {count}")?.as_str())
+}
+
+/// Adds an output, or how much it is.
+fn push_output(
+    alloc: Global,
+    out: &mut Vec<u8>,
+    output: Vec<u8>,
     showing: Showing,
 ) -> Result<(), AllocError> {
-    let bytes = match showing {
-        Showing::First(size) => shortened(bytes, size)?,
-        _ => bytes,
-    };
-    match (String::from_utf8(bytes), showing) {
-        (Ok(text), Showing::Count) => push_count(alloc, out, mark, text.as_str()),
-        (Ok(text), _) => push_lines(out, mark, text.as_str()),
-        (Err(_), _) => push_line(out, "NO TEXT"),
+    match showing {
+        Showing::Lines => {
+            let lines = output.iter().filter(|byte| **byte == b'\n').count();
+            push_count(alloc, out, "LINES", lines)
+        }
+        Showing::Bytes => push_count(alloc, out, "BYTES", output.len()),
+        _ => push_stream(out, "", shown(output, showing)?),
     }
 }
 
@@ -82,8 +94,8 @@ pub(crate) fn push_left(
         errors,
         status,
     } = left;
-    push_stream(alloc, out, "", output, showing)?;
-    push_stream(alloc, out, "! ", errors, showing)?;
+    push_output(alloc, out, output, showing)?;
+    push_stream(out, "! ", shown(errors, showing)?)?;
     if status == 0 {
         return Ok(());
     }

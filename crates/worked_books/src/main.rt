@@ -21,9 +21,9 @@
 //!
 //! | A line | Is answered with |
 //! |---|---|
-//! | `rows`, `lines`, `marks`, `closed`, `tariffs`, `book` | the rows of a table, as SQL shows them |
+//! | `rows`, `lines`, `marks`, `closed`, `tariffs`, `book` | the rows of a table, as SQL shows it |
 //! | `change STATEMENT` | how many rows SQL changed behind the books' back |
-//! | `stops log`, `stops database` | what was found when the disk stopped at each call of that file |
+//! | `stops log`, `stops database` | what was found when the disk stopped at each call of it |
 //!
 //! The body of `stops` is a run of commands. The row goes on with the books behind it. Each word of
 //! an import names one record there.
@@ -38,7 +38,7 @@
 //! | `room SIZE` | nothing: how many bytes standard output takes from here on |
 //! | `chargectl WORDS..` | its output, `!` and each line on standard error, its status if not 0 |
 //! | `first SIZE chargectl WORDS..` | the same, but no more than so many bytes of each |
-//! | `count chargectl WORDS..` | the same, but how many lines there are in the place of each |
+//! | `count-lines chargectl WORDS..`, or `count-bytes` | the same, but how many its output has |
 //! | `same FILE FILE`, `missing FILE` | whether they are |
 #![tactic(auto)]
 

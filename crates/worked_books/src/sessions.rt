@@ -173,12 +173,17 @@ impl<'a> Sessions<'a> {
         }
     }
 
-    /// Gives a command, if the words are one, and counts the lines that it left.
-    fn answer_count(&self, words: &[&str], out: &mut Vec<u8>) -> Result<bool, AllocError> {
-        match words {
-            ["chargectl", words @ ..] => self.answer_command(words, Showing::Count, out),
-            _ => Ok(false),
-        }
+    /// Gives a command, if the words are one, and counts what it put out.
+    fn answer_count(&self, ask: Ask<'_>, out: &mut Vec<u8>) -> Result<bool, AllocError> {
+        let ["chargectl", words @ ..] = ask.words else {
+            return Ok(false);
+        };
+        let showing = if ask.verb == "count-lines" {
+            Showing::Lines
+        } else {
+            Showing::Bytes
+        };
+        self.answer_command(words, showing, out)
     }
 }
 
@@ -205,7 +210,7 @@ impl Answers for Sessions<'_> {
             "room" => Ok(self.set_room(ask.words)),
             "chargectl" => self.answer_command(ask.words, Showing::Whole, out),
             "first" => self.answer_first(ask.words, out),
-            "count" => self.answer_count(ask.words, out),
+            "count-lines" | "count-bytes" => self.answer_count(ask, out),
             _ => Ok(false),
         }
     }

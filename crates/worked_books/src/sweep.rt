@@ -1,5 +1,5 @@
-//! A run over files that may fail: what is found when the machine is back, and how the same commands
-//! then end.
+//! A run over files that may fail: what is found when the machine is back, and how the same
+//! commands then end.
 
 use crate::came::{Came, NOT_BEGUN};
 use crate::queries::all_rows;
@@ -151,8 +151,8 @@ fn end<S: Restart>(run: Run<'_>, whole: &Unstopped, files: S::Disks) -> Result<S
     Ok(files_of(books))
 }
 
-/// Makes a run on books in files that may fail, and answers whether it was stopped, if what is found
-/// and how it ends are as they have to be.
+/// Makes a run on books in files that may fail, and answers whether it was stopped, if what is
+/// found and how it ends are as they have to be.
 pub(crate) fn meets_stop<S: Restart>(
     run: Run<'_>,
     whole: &Unstopped,
