@@ -4,10 +4,7 @@ use Rattle.std.proofs.Common.{refl, ap, subst, Result, Err}
 use Rattle.std.specs.Prelude.{◌||◌}
 use Rattle.book_model.specs.declared.fault.LedgerFault.{LedgerFault}
 use Rattle.book_model.specs.declared.fault.LedgerFault.TheVariants.{Memory, Store, Reopen}
-use Rattle.book_model.specs.Books.{Book}
-use Rattle.book_model.specs.Events.{Event, after_all}
-use Rattle.book_model.specs.Outcomes.{Outcome}
-use Rattle.book_model.specs.Records.{Naming}
+use Rattle.book_model.specs.Words.{Book, Event, after_all, Outcome, Naming}
 use Rattle.book_core.specs.Calls.{Makes, Calls, is_store, is_reopen}
 use Rattle.book_core.specs.Ledgers.{Seen, IsOpenAt}
 use Rattle.answer_laws.specs.CallLaws.{IsCalled, OneAnswer, OneRefusal, OneBook}

@@ -3,17 +3,11 @@ use Rattle.std.proofs.Common.{◌≡◌, ◌∙◌, Bool, false, List, [], ◌�
 use Rattle.std.proofs.Common.{subst, None, Result, Ok, Err}
 use Rattle.std.specs.Prelude.{ℤ, ℕ, All, string_bytes}
 use Rattle.std.proofs.lemmas.List.Elements.{All-head, All-tail}
-use Rattle.smf_frames.specs.Front.{front}
-use Rattle.tariff_rules.specs.Terms.{Terms}
-use Rattle.tariff_rules.specs.TariffFile.{terms_in}
+use Rattle.book_model.specs.Words.{front, Terms, terms_in, Book, Event, after_all, Outcome}
+use Rattle.book_model.specs.Words.{tariff_outcome, close_outcome, tariff_event, close_event, Naming}
 use Rattle.tariff_rules.specs.declared.fault.TariffFault.{TariffFault}
 use Rattle.book_model.specs.declared.answer.Ruled as answer
 use Rattle.book_model.specs.declared.fault.LedgerFault.{LedgerFault}
-use Rattle.book_model.specs.Books.{Book}
-use Rattle.book_model.specs.Events.{Event, after_all}
-use Rattle.book_model.specs.Outcomes.{Outcome, tariff_outcome, close_outcome}
-use Rattle.book_model.specs.Outcomes.{tariff_event, close_event}
-use Rattle.book_model.specs.Records.{Naming}
 use Rattle.book_core.specs.Calls.{listed}
 use Rattle.book_core.specs.Ledgers.{Seen, IsOpenAt}
 use Rattle.book_core.specs.Work.{IsWork}

@@ -1,7 +1,6 @@
 -- Imports into an open ledger.
 use Rattle.std.proofs.Common.{false, sym, subst}
-use Rattle.smf_frames.specs.Front.{front}
-use Rattle.book_model.specs.Events.{after_all}
+use Rattle.book_model.specs.Words.{front, after_all}
 use Rattle.book_core.specs.Ledgers.{Seen, IsOpenAt}
 use Rattle.book_core.specs.Work.{IsWork}
 use Rattle.book_import.specs.Dumps.{stop_behind}

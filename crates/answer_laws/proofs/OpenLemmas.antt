@@ -1,8 +1,6 @@
 -- Work on an open ledger, where it is still open and honest to the end.
 use Rattle.std.proofs.Common.{◌≡◌, ◌∙◌, false, List, refl, sym, ap, subst}
-use Rattle.book_model.specs.Books.{Book}
-use Rattle.book_model.specs.Events.{Event, after_all}
-use Rattle.book_model.specs.Records.{Naming}
+use Rattle.book_model.specs.Words.{Book, Event, after_all, Naming}
 use Rattle.book_core.specs.Ledgers.{Seen, IsOpenAt, stands_by}
 use Rattle.book_core.specs.Work.{Work, IsWork}
 

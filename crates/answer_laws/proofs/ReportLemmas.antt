@@ -3,9 +3,7 @@ use Rattle.std.proofs.Common.{◌≡◌, ◌≢◌, List, refl, sym, ap, subst, 
 use Rattle.std.specs.Prelude.{ℕ}
 use Rattle.book_model.specs.declared.fault.LedgerFault.{LedgerFault}
 use Rattle.book_model.specs.declared.fault.LedgerFault.TheVariants as ledger
-use Rattle.book_model.specs.Books.{Book}
-use Rattle.book_model.specs.Outcomes.{Outcome}
-use Rattle.book_model.specs.Records.{Naming}
+use Rattle.book_model.specs.Words.{Book, Outcome, Naming}
 use Rattle.book_core.specs.Calls.{IsCall}
 use Rattle.book_core.specs.Ledgers.{Seen}
 use Rattle.book_reports.specs.declared.fault.ReportFault.{ReportFault}

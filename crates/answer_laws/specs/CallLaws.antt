@@ -2,10 +2,7 @@
 use Rattle.std.specs.Prelude.{◌≡◌, ◌≢◌, Result, Ok, Err}
 use Rattle.book_model.specs.declared.fault.LedgerFault.{LedgerFault}
 use Rattle.book_model.specs.declared.fault.LedgerFault.TheVariants.{Memory, Store}
-use Rattle.book_model.specs.Records.{Naming}
-use Rattle.book_model.specs.Books.{Book}
-use Rattle.book_model.specs.Events.{after_all}
-use Rattle.book_model.specs.Outcomes.{Outcome}
+use Rattle.book_model.specs.Words.{Naming, Book, after_all, Outcome}
 use Rattle.book_core.specs.Ledgers.{Seen, IsOpenAt}
 use Rattle.book_core.specs.Calls.{IsCall, listed}
 

@@ -3,10 +3,8 @@ use Rattle.std.specs.Prelude.{◌≡◌, ◌≢◌, false, All, List, [], ◌∷
 use Rattle.book_model.specs.declared.answer.Ruled as answer
 use Rattle.book_model.specs.declared.fault.LedgerFault.{LedgerFault}
 use Rattle.book_model.specs.declared.fault.LedgerFault.TheVariants.{Memory, Store}
-use Rattle.book_model.specs.Records.{Naming}
-use Rattle.book_model.specs.Books.{Book}
-use Rattle.book_model.specs.Events.{Event, after_all}
-use Rattle.book_model.specs.Outcomes.{Outcome, tariff_outcome, close_outcome}
+use Rattle.book_model.specs.Words.{Naming, Book, Event, after_all, Outcome, tariff_outcome}
+use Rattle.book_model.specs.Words.{close_outcome}
 use Rattle.book_core.specs.Calls.{listed}
 use Rattle.book_core.specs.Ledgers.{Seen, IsOpenAt}
 use Rattle.book_core.specs.Work.{IsWork}

@@ -1,10 +1,7 @@
 -- The law of imports: a dump has one receipt, and leaves one book.
 use Rattle.std.specs.Prelude.{◌≡◌, ℕ, false, List, Option}
 use Rattle.smf_frames.specs.declared.dump.Layout.{Layout}
-use Rattle.smf_frames.specs.Front.{front}
-use Rattle.book_model.specs.Records.{Naming}
-use Rattle.book_model.specs.Books.{Book}
-use Rattle.book_model.specs.Events.{after_all}
+use Rattle.book_model.specs.Words.{front, Naming, Book, after_all}
 use Rattle.book_core.specs.Ledgers.{Seen, IsOpenAt}
 use Rattle.book_core.specs.Work.{IsWork}
 use Rattle.book_import.specs.declared.receipt.Receipt.{Receipt}

@@ -1,8 +1,7 @@
 -- The book of a plain ledger: a period of it by its number, and what a close and a record change.
 use Rattle.std.proofs.Common.{◌≡◌, ◌∙◌, ℕ, ◌+◌, ◌-◌, ◌≤◌, List, [], ◌∷◌, ◌++◌, length, map, refl}
 use Rattle.std.proofs.Common.{sym, ap, Bool, true, false, Option, Some, None, slice_get, arith, inl}
-use Rattle.std.proofs.Common.{inr, zero, suc, ◌<◌, take, get_or, add-one}
-use Rattle.std.proofs.Common.{Result, Ok, Err}
+use Rattle.std.proofs.Common.{inr, zero, suc, ◌<◌, take, get_or, add-one, Result, Ok, Err}
 use Rattle.std.specs.Prelude.{◌==◌, ℤ, int_lt, not, if◌then◌else◌, ok_or}
 use Rattle.std.specs.BTreeMap.{insert_entry}
 use Rattle.std.specs.List.{last_or}
@@ -14,18 +13,13 @@ use Rattle.std.proofs.lemmas.List.{length-map, map-append}
 use Rattle.std.proofs.lemmas.Option.{slice_get-map, slice_get_past, slice_get_cases}
 use Rattle.book_model.specs.declared.fault.LedgerFault.{LedgerFault}
 use Rattle.book_model.specs.declared.fault.LedgerFault.TheVariants.{NoSuchPeriod}
-use Rattle.book_model.specs.Books.{Book, open_number, open_period, period_of}
+use Rattle.book_model.specs.Words.{Book, open_number, open_period, period_of, IsBookCall}
+use Rattle.book_model.specs.Words.{close_event, close_outcome, last_period, close_answer, is_closed}
+use Rattle.book_model.specs.Words.{after_any, keep, close, Period, Naming, by_bytes, Tariffed}
+use Rattle.book_model.specs.Words.{last_close}
 use Rattle.book_model.specs.declared.answer.Ruled.{Ruled}
-use Rattle.book_model.specs.Answers.{IsBookCall}
-use Rattle.book_model.specs.Outcomes.{close_event, close_outcome}
-use Rattle.book_model.specs.Limits.{last_period}
-use Rattle.book_model.specs.RulingAnswers.{close_answer, is_closed}
 use Rattle.book_model.proofs.CallLemmas.{close_by}
 use Rattle.book_model.proofs.AnswerLemmas.{answers_itself, calls}
-use Rattle.book_model.specs.Events.{after_any, keep, close}
-use Rattle.book_model.specs.Periods.{Period}
-use Rattle.book_model.specs.Records.{Naming, by_bytes}
-use Rattle.book_model.specs.Rulings.{Tariffed, last_close}
 use Rattle.book_model.proofs.ListLemmas.{last_or-is}
 use Rattle.book_core.specs.declared.closed.ClosedPeriod.{ClosedPeriod}
 use Rattle.book_core.specs.declared.ending.Ending.{Ending}
@@ -34,11 +28,9 @@ use Rattle.book_core.specs.declared.share.Share.{Share}
 use Rattle.book_core.specs.Plain.{Entry, held_in, record_of, ruled_by, AreBooked}
 use Rattle.book_core.specs.PlainBook.{book_with}
 use Rattle.book_core.specs.Shares.{Names, NamesOf, SharesOf, AreNamed, IsEnding, under_name}
-use Rattle.book_core.specs.Shares.{charges, is_named, period_with, share_at}
-use Rattle.book_core.specs.Shares.{share_closed}
+use Rattle.book_core.specs.Shares.{charges, is_named, period_with, share_at, share_closed}
 use Rattle.book_core.proofs.HeldLemmas.{held_in-more}
-use Rattle.book_core.proofs.NameLemmas.{each_named_by, each_shared_by}
-use Rattle.book_core.proofs.NameLemmas.{posted-kept, past-kept}
+use Rattle.book_core.proofs.NameLemmas.{each_named_by, each_shared_by, posted-kept, past-kept}
 use Rattle.book_core.proofs.ShareLemmas.{where-agree, with-agree, charged-ends, period-ends}
 
 -- what is read of a period, where there is one

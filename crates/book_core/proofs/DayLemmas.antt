@@ -2,7 +2,7 @@
 use Rattle.std.proofs.Common.{◌≡◌, FitsSigned, arith, w32, to_z, of_z}
 use Rattle.std.proofs.lemmas.Int.{ints, to_z-of_z}
 use Rattle.std.specs.Prelude.{ℤ, pos, negsuc}
-use Rattle.smf_text.specs.Day.{IsDay}
+use Rattle.book_model.specs.Words.{IsDay}
 
 -- a day fits the code's numbers
 pub day_fits : (day : ℤ) → IsDay day → FitsSigned w32 day

@@ -3,8 +3,11 @@ use Rattle.std.proofs.Common.{◌≡◌, ◌∙◌, ℕ, Bool, true, false, List
 use Rattle.std.proofs.Common.{Result, Ok, Err, ◌⊎◌, inl, inr, append_assoc, not}
 use Rattle.std.proofs.lemmas.Bool.{eqb-true}
 use Rattle.std.specs.Prelude.{ℤ, ◌==◌, if◌then◌else◌}
-use Rattle.tariff_rules.specs.Terms.{Terms}
-use Rattle.tariff_rules.specs.TariffFile.{terms_in}
+use Rattle.book_model.specs.Words.{Terms, terms_in, Naming, Book, new_book, open_number, Event}
+use Rattle.book_model.specs.Words.{after_all, accept_answer, tariff_answer, terms_answer}
+use Rattle.book_model.specs.Words.{close_answer, is_closed, is_early, last_period, Outcome}
+use Rattle.book_model.specs.Words.{accept_event, tariff_event, close_event, tariff_outcome}
+use Rattle.book_model.specs.Words.{close_outcome, book_after, book_of, IsAnswered}
 use Rattle.tariff_rules.specs.declared.fault.TariffFault.{TariffFault}
 use Rattle.book_model.specs.declared.fault.LedgerFault.{LedgerFault}
 use Rattle.book_model.specs.declared.fault.LedgerFault.TheVariants.{Memory, Store, Reopen}
@@ -13,17 +16,6 @@ use Rattle.book_model.specs.declared.answer.Accepted.{Accepted}
 use Rattle.book_model.specs.declared.answer.Accepted.TheVariants.{Kept, Known, Unpriced}
 use Rattle.book_model.specs.declared.answer.Ruled.{Ruled}
 use Rattle.book_model.specs.declared.answer.Ruled.TheVariants.{Done, Already}
-use Rattle.book_model.specs.Records.{Naming}
-use Rattle.book_model.specs.Books.{Book, new_book, open_number}
-use Rattle.book_model.specs.Events.{Event, after_all}
-use Rattle.book_model.specs.Accept.{accept_answer}
-use Rattle.book_model.specs.RulingAnswers.{tariff_answer, terms_answer, close_answer, is_closed}
-use Rattle.book_model.specs.RulingAnswers.{is_early}
-use Rattle.book_model.specs.Limits.{last_period}
-use Rattle.book_model.specs.Outcomes.{Outcome, accept_event, tariff_event, close_event}
-use Rattle.book_model.specs.Outcomes.{tariff_outcome, close_outcome}
-use Rattle.book_model.specs.History.{book_after, book_of}
-use Rattle.book_model.specs.Answered.{IsAnswered}
 use Rattle.book_model.proofs.StepLemmas.{books_follow_history}
 use Rattle.book_core.specs.Ledgers.{Seen}
 use Rattle.book_core.specs.Work.{Work, Then, IsWork}

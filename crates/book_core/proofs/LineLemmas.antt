@@ -14,12 +14,9 @@ use Rattle.std.proofs.lemmas.List.Sorted.{IsPermutation-append, All-permutation}
 use Rattle.std.proofs.lemmas.List.Sorted.{sum_by-IsPermutation}
 use Rattle.std.proofs.lemmas.List.Sums.{sum_by-cons}
 use Rattle.std.proofs.lemmas.Map.Keys.{IsDistinct-from_sorted}
-use Rattle.smf_text.specs.Day.{IsDay}
+use Rattle.book_model.specs.Words.{IsDay, by_line, lines_for, lines_of, AreLines, Naming, by_bytes}
+use Rattle.book_model.specs.Words.{same_bytes, Rulings, set_of, members}
 use Rattle.book_model.specs.declared.line.Line.{Line}
-use Rattle.book_model.specs.Lines.{by_line, lines_for, lines_of, AreLines}
-use Rattle.book_model.specs.Records.{Naming, by_bytes, same_bytes}
-use Rattle.book_model.specs.Rulings.{Rulings}
-use Rattle.book_model.specs.Sets.{set_of, members}
 use Rattle.book_model.proofs.ListLemmas.{filter_map-map, filter_map-defined}
 use Rattle.book_model.proofs.LineOrder.{by_line_total, distinct_lines, line_by}
 use Rattle.book_model.proofs.LineOrder.{line_of as line_of_record}

@@ -1,10 +1,13 @@
 -- Calls of a ledger that keeps its books in memory: no store fails, and nothing is left to open.
 use Rattle.std.proofs.Common.{◌≡◌, ◌∙◌, ℕ, List, refl, sym, ap, subst, Bool, true, false}
-use Rattle.std.proofs.Common.{true≢false}
-use Rattle.std.proofs.Common.{Option, None, Some, Result, Ok, Err}
+use Rattle.std.proofs.Common.{true≢false, Option, None, Some, Result, Ok, Err}
 use Rattle.std.specs.Prelude.{ℤ, ◌==◌, if◌then◌else◌, ok_or}
 use Rattle.std.specs.List.{list_any}
-use Rattle.tariff_rules.specs.Terms.{Terms}
+use Rattle.book_model.specs.Words.{Terms, is_full, clashes, accept_priced, accept_answer, Answers}
+use Rattle.book_model.specs.Words.{event_of, Book, open_number, Event, after_any, after_all}
+use Rattle.book_model.specs.Words.{last_period, Outcome, Naming, price_in, has_text, is_effective}
+use Rattle.book_model.specs.Words.{is_later, has_dated, tariff_answer, is_closed, is_early}
+use Rattle.book_model.specs.Words.{close_answer, has}
 use Rattle.tariff_rules.specs.declared.priced.Priced.{Priced}
 use Rattle.tariff_rules.specs.declared.fault.TariffFault.{TariffFault}
 use Rattle.book_model.specs.declared.answer.Accepted.{Accepted}
@@ -12,17 +15,6 @@ use Rattle.book_model.specs.declared.answer.Accepted.TheVariants.{Kept, Known}
 use Rattle.book_model.specs.declared.fault.LedgerFault.{LedgerFault}
 use Rattle.book_model.specs.declared.fault.LedgerFault.TheVariants.{Memory, Store, Reopen, Full}
 use Rattle.book_model.specs.declared.fault.LedgerFault.TheVariants.{DigestClash, NoSuchPeriod}
-use Rattle.book_model.specs.Accept.{is_full, clashes, accept_priced, accept_answer}
-use Rattle.book_model.specs.Answers.{Answers, event_of}
-use Rattle.book_model.specs.Books.{Book, open_number}
-use Rattle.book_model.specs.Events.{Event, after_any, after_all}
-use Rattle.book_model.specs.Limits.{last_period}
-use Rattle.book_model.specs.Outcomes.{Outcome}
-use Rattle.book_model.specs.Records.{Naming}
-use Rattle.book_model.specs.Rulings.{price_in}
-use Rattle.book_model.specs.RulingAnswers.{has_text, is_effective, is_later, has_dated}
-use Rattle.book_model.specs.RulingAnswers.{tariff_answer, is_closed, is_early, close_answer}
-use Rattle.book_model.specs.Sets.{has}
 use Rattle.book_model.proofs.CallLemmas.{by_tests, close_by}
 use Rattle.book_model.specs.declared.naming.Naming.{Ghosts}
 use Rattle.book_core.specs.declared.plain.PlainLedger.{PlainLedger}

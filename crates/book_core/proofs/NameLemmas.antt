@@ -1,7 +1,6 @@
 -- Names: what stands under each, and what sets and maps by name say of the entries.
-use Rattle.std.proofs.Common.{◌≡◌, ◌∙◌, ℕ, List, [], ◌∷◌, ◌++◌, refl, sym, ap, subst, Bool}
-use Rattle.std.proofs.Common.{true, false, cond, Option, Some, None, get_or}
-use Rattle.std.proofs.Common.{map}
+use Rattle.std.proofs.Common.{◌≡◌, ◌∙◌, ℕ, List, [], ◌∷◌, ◌++◌, refl, sym, ap, subst, Bool, true}
+use Rattle.std.proofs.Common.{false, cond, Option, Some, None, get_or, map}
 use Rattle.std.proofs.lemmas.List.Elements.{All-push}
 use Rattle.std.proofs.lemmas.Option.{slice_get-get_or}
 use Rattle.book_model.proofs.ListLemmas.{map-agree}
@@ -19,8 +18,7 @@ use Rattle.std.proofs.lemmas.Map.Entries.{lookup_from_place}
 use Rattle.std.proofs.lemmas.Map.Keys.{IsDistinct-from_sorted, IsDistinct-head, IsDistinct-tail}
 use Rattle.std.proofs.lemmas.Map.Lookups.{exact_bytes}
 use Rattle.std.proofs.lemmas.Map.Views.{tells_apart}
-use Rattle.book_model.specs.Records.{by_bytes}
-use Rattle.book_model.specs.Sets.{set_of}
+use Rattle.book_model.specs.Words.{by_bytes, set_of}
 use Rattle.book_model.proofs.SetLemmas.{set_of-alike}
 use Rattle.book_model.proofs.SumsAlike.{filter-alike, map-alike}
 use Rattle.book_core.specs.declared.closed.ClosedPeriod.{ClosedPeriod}
@@ -28,8 +26,8 @@ use Rattle.book_core.specs.declared.held.HeldRecord.{HeldRecord}
 use Rattle.book_core.specs.declared.share.Share.{Share}
 use Rattle.book_core.specs.Plain.{Entry, entry_records}
 use Rattle.book_core.specs.Shares.{Names, NamesOf, SharesOf, AreNamed, under_name, is_named}
-use Rattle.book_core.specs.Shares.{records_where, period_with, share_closed}
-use Rattle.book_core.specs.Shares.{is_counted, is_added, is_taken}
+use Rattle.book_core.specs.Shares.{records_where, period_with, share_closed, is_counted, is_added}
+use Rattle.book_core.specs.Shares.{is_taken}
 use Rattle.book_core.proofs.EntryLemmas.{insert_entry-alike}
 use Rattle.book_core.proofs.HeldLemmas.{bytes_of}
 

@@ -13,8 +13,7 @@ use Rattle.std.specs.declared.rc.RcSlice.{RcSlice}
 use Rattle.std.proofs.lemmas.Bool.{or_right}
 use Rattle.std.proofs.lemmas.List.Elements.{All-cons, All-weaker}
 use Rattle.std.proofs.lemmas.Map.Views.{All-map-IsPermutation, All-values-set_value}
-use Rattle.book_model.specs.Records.{by_bytes}
-use Rattle.book_model.specs.Sets.{has}
+use Rattle.book_model.specs.Words.{by_bytes, has}
 use Rattle.book_model.proofs.RecordSets.{has_with, is_itself}
 use Rattle.book_core.specs.declared.held.HeldRecord.{HeldRecord}
 use Rattle.book_core.specs.declared.recalled.Recalled.{Recalled}

@@ -12,12 +12,9 @@ use Rattle.std.proofs.lemmas.Cmp.{nat_list_cmp_total, nat_list_eq_equiv}
 use Rattle.std.proofs.lemmas.List.Elements.{All-filter}
 use Rattle.std.proofs.lemmas.Map.Lookups.{exact_bytes}
 use Rattle.tariff_rules.specs.declared.priced.Priced.{Priced}
-use Rattle.book_model.specs.Charged.{is_undisputed, is_dated_by, is_dated_after, charged_by}
-use Rattle.book_model.specs.Periods.{period_by}
-use Rattle.book_model.specs.Records.{Records, Naming, by_bytes, same_bytes}
-use Rattle.book_model.specs.Rows.{rows_for, rows_of}
-use Rattle.book_model.specs.Rulings.{Rulings, price_in}
-use Rattle.book_model.specs.Sets.{set_of, members, has, those, without}
+use Rattle.book_model.specs.Words.{is_undisputed, is_dated_by, is_dated_after, charged_by}
+use Rattle.book_model.specs.Words.{period_by, Records, Naming, by_bytes, same_bytes, rows_for}
+use Rattle.book_model.specs.Words.{rows_of, Rulings, price_in, set_of, members, has, those, without}
 use Rattle.book_model.proofs.ListLemmas.{filter-agree, filter-map, filter-filter, list_any-map}
 use Rattle.book_model.proofs.ListLemmas.{filter_map-map, filter_map-defined}
 use Rattle.book_model.proofs.RowLemmas.{rows_of-alike}

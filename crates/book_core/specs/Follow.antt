@@ -1,9 +1,6 @@
 -- Work on a ledger whose books are those of a history.
 use Rattle.std.specs.Prelude.{◌≡◌, List, ◌++◌}
-use Rattle.book_model.specs.Books.{Book}
-use Rattle.book_model.specs.Events.{Event}
-use Rattle.book_model.specs.History.{book_of}
-use Rattle.book_model.specs.Answered.{IsAnswered}
+use Rattle.book_model.specs.Words.{Book, Event, book_of, IsAnswered}
 use Rattle.book_core.specs.Ledgers.{Seen, StandsAt}
 use Rattle.book_core.specs.Work.{Work}
 

@@ -1,7 +1,6 @@
 -- What is seen of a ledger, however it is kept.
 use Rattle.std.specs.Prelude.{◌≡◌, Bool, true, false}
-use Rattle.book_model.specs.Records.{Naming}
-use Rattle.book_model.specs.Books.{Book}
+use Rattle.book_model.specs.Words.{Naming, Book}
 
 -- What is seen of a ledger: its book; how it names records; the books that the next open may find,
 -- if the program stops now; that it is to be reopened, since a store failed; that what it is kept

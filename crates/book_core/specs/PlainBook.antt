@@ -2,11 +2,7 @@
 use Rattle.std.specs.Prelude.{◌≡◌, List, map, Result}
 use Rattle.book_model.specs.declared.fault.LedgerFault.{LedgerFault}
 use Rattle.book_model.specs.declared.naming.Naming.{Ghosts}
-use Rattle.book_model.specs.Rulings.{Tariffed}
-use Rattle.book_model.specs.Periods.{Period}
-use Rattle.book_model.specs.Books.{Book}
-use Rattle.book_model.specs.Outcomes.{Outcome}
-use Rattle.book_model.specs.Answers.{IsBookCall}
+use Rattle.book_model.specs.Words.{Tariffed, Period, Book, Outcome, IsBookCall}
 use Rattle.book_core.specs.declared.closed.ClosedPeriod.{ClosedPeriod}
 use Rattle.book_core.specs.declared.period.Period.{Period as ReadPeriod}
 use Rattle.book_core.specs.declared.plain.PlainLedger.{PlainLedger}

@@ -6,11 +6,8 @@ use Rattle.std.specs.BTreeMap as map
 use Rattle.std.specs.BTreeSet as set
 use Rattle.std.specs.Map.{lookup}
 use Rattle.std.specs.Option.{option_map_or, option_and_then}
-use Rattle.smf_type30.specs.Usage.{job_of}
+use Rattle.book_model.specs.Words.{job_of, set_of, Records, by_bytes, same_bytes, Period}
 use Rattle.book_model.specs.declared.line.Line.{Line}
-use Rattle.book_model.specs.Sets.{set_of}
-use Rattle.book_model.specs.Records.{Records, by_bytes, same_bytes}
-use Rattle.book_model.specs.Periods.{Period}
 use Rattle.book_core.specs.declared.closed.ClosedPeriod.{ClosedPeriod}
 use Rattle.book_core.specs.declared.ending.Ending.{Ending}
 use Rattle.book_core.specs.declared.held.HeldRecord.{HeldRecord}

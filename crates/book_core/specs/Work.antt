@@ -1,7 +1,6 @@
 -- Work on a ledger, by one call or by many.
 use Rattle.std.specs.Prelude.{◌≡◌, Bool, true, List, [], ◌++◌}
-use Rattle.book_model.specs.Books.{Book}
-use Rattle.book_model.specs.Events.{Event, after_all}
+use Rattle.book_model.specs.Words.{Book, Event, after_all}
 use Rattle.book_core.specs.Ledgers.{Seen, StandsAt}
 
 -- What work does to books: whether they were to be reopened before it, the book before it, the

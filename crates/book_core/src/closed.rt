@@ -1,4 +1,4 @@
-ghost use Rattle.smf_text.specs.Day.{IsDay};
+ghost use Rattle.book_model.specs.Words.{IsDay};
 
 use crate::share::Share;
 use std::collections::BTreeMap;

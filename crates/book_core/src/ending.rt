@@ -4,7 +4,7 @@ ghost use Rattle.std.specs.Prelude.{◌≡◌, IfOk};
 ghost use Rattle.std.specs.BTreeSet.{contains};
 ghost use Rattle.std.specs.Option.{option_map_or};
 ghost use Rattle.std.specs.Prelude.{int_lt, not, true};
-ghost use Rattle.book_model.specs.Records.{by_bytes};
+ghost use Rattle.book_model.specs.Words.{by_bytes};
 ghost use Rattle.book_core.specs.Shares as spec;
 ghost use Rattle.book_core.specs.Shares.{NamesOf, SharesOf};
 

@@ -1,12 +1,8 @@
 ghost use Rattle.std.specs.Prelude.{All, IfOk, map};
-ghost use Rattle.smf_text.specs.Day.{IsDay};
-ghost use Rattle.book_model.specs.Records.{IsUsageRecord};
-ghost use Rattle.book_model.specs.Rows.{AreRows};
-ghost use Rattle.book_model.specs.Lines.{AreLines};
-ghost use Rattle.book_model.specs.Disputes.{AreDisputes, dispute_shown};
-ghost use Rattle.book_model.specs.Outcomes.{accept_outcome, close_outcome, tariff_outcome};
-ghost use Rattle.book_model.specs.Outcomes.{adjustments_outcome, charges_outcome};
-ghost use Rattle.book_model.specs.Outcomes.{disputes_outcome, periods_outcome};
+ghost use Rattle.book_model.specs.Words.{IsDay, IsUsageRecord, AreRows, AreLines, AreDisputes};
+ghost use Rattle.book_model.specs.Words.{dispute_shown, accept_outcome, close_outcome};
+ghost use Rattle.book_model.specs.Words.{tariff_outcome, adjustments_outcome, charges_outcome};
+ghost use Rattle.book_model.specs.Words.{disputes_outcome, periods_outcome};
 ghost use Rattle.book_core.specs.Ledgers.{IsSettled, Seen};
 ghost use Rattle.book_core.specs.Calls.{IsCall};
 

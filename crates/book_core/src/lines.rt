@@ -2,9 +2,7 @@
 
 ghost use Rattle.std.specs.Prelude.{◌≡◌, length, map};
 ghost use Rattle.std.specs.List.{IsDistinct};
-ghost use Rattle.book_model.specs.Lines.{by_line};
-ghost use Rattle.book_model.specs.Records.{same_bytes};
-ghost use Rattle.book_model.specs.Sets.{members, set_of};
+ghost use Rattle.book_model.specs.Words.{by_line, same_bytes, members, set_of};
 ghost use Rattle.book_core.specs.Shares.{line_at, line_of};
 
 use crate::held::HeldRecord;

@@ -2,9 +2,7 @@ ghost use Rattle.std.specs.Prelude.{◌<◌, length, true};
 ghost use Rattle.std.specs.List.Sorted.{IsStrictlySortedBy};
 ghost use Rattle.std.specs.Map.{keys_of};
 ghost use Rattle.std.proofs.Props.{props};
-ghost use Rattle.book_model.specs.Limits.{last_period};
-ghost use Rattle.book_model.specs.Records.{by_bytes};
-ghost use Rattle.book_model.specs.Rulings.{are_rising};
+ghost use Rattle.book_model.specs.Words.{last_period, by_bytes, are_rising};
 ghost use Rattle.book_core.specs.Plain.{AreBooked, AreHeld, ruled_by};
 ghost use Rattle.book_core.specs.Shares.{AreNamed};
 
@@ -45,7 +43,7 @@ pub struct PlainLedger<N: Naming + Drop> {
 
 impl<N: Naming + Drop> PlainLedger<N> {
     ghost use Rattle.std.specs.Prelude.{◌≡◌, [], IfOk};
-    ghost use Rattle.book_model.specs.Books.{flat_book, new_book};
+    ghost use Rattle.book_model.specs.Words.{flat_book, new_book};
     ghost use Rattle.book_core.specs.Ledgers.{IsOpenAt};
 
     /// New books, under no tariff yet.

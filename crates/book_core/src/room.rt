@@ -1,8 +1,7 @@
 //! What every ledger asks of a new record: its name, and whether there is room for it.
 
 ghost use Rattle.std.specs.Prelude.{◌≡◌, ◌≤◌, ◌+◌, ◌||◌, length, nat_le, nat_lt};
-ghost use Rattle.tariff_rules.specs.Price.{most_amount};
-ghost use Rattle.book_model.specs.Limits.{most_cost, most_held};
+ghost use Rattle.book_model.specs.Words.{most_amount, most_cost, most_held};
 ghost use Rattle.book_model.specs.Records as spec;
 
 use crate::limits::{MAX_COST, MAX_HELD};

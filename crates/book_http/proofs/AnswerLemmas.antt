@@ -1,15 +1,12 @@
 -- What is answered, by what the books did.
-use Rattle.std.proofs.Common.{ℕ, ◌+◌, ◌<◌, Bool, List, ◌++◌, length}
-use Rattle.std.proofs.Common.{take, Option, Result, Ok, Err, Vec, Global}
-use Rattle.std.proofs.Common.{arith, length-append}
+use Rattle.std.proofs.Common.{ℕ, ◌+◌, ◌<◌, Bool, List, ◌++◌, length, take, Option, Result, Ok, Err}
+use Rattle.std.proofs.Common.{Vec, Global, arith, length-append}
 use Rattle.std.proofs.Math.Seq.{take-append-add}
 use Rattle.std.proofs.KnownBytes.{Appends-trans}
 use Rattle.std.specs.Io.KnownBytes.{Appends}
 use Rattle.book_model.specs.declared.fault.LedgerFault.{LedgerFault}
 use Rattle.book_model.specs.declared.fault.LedgerFault.TheVariants.{Memory}
-use Rattle.book_model.specs.Books.{Book}
-use Rattle.book_model.specs.Events.{Event}
-use Rattle.book_model.specs.Outcomes.{Outcome}
+use Rattle.book_model.specs.Words.{Book, Event, Outcome}
 use Rattle.book_core.specs.Calls.{Calls}
 use Rattle.book_reports.specs.BookTexts.{shown_by}
 

@@ -1,9 +1,8 @@
 -- What is answered to what a head asks, whatever comes behind the bytes that were taken.
-use Rattle.std.proofs.Common.{◌≡◌, ◌∙◌, ℕ, ◌<◌, ◌≤◌, Bool, true, List, ◌++◌, length}
-use Rattle.std.proofs.Common.{take, refl, sym, ap, subst, arith, length-append, append-nil}
+use Rattle.std.proofs.Common.{◌≡◌, ◌∙◌, ℕ, ◌<◌, ◌≤◌, Bool, true, List, ◌++◌, length, take, refl}
+use Rattle.std.proofs.Common.{sym, ap, subst, arith, length-append, append-nil, Option}
 use Rattle.std.proofs.lemmas.Bool.{le-ltb, lt-ltb}
 use Rattle.std.proofs.lemmas.List.{take-append-le}
-use Rattle.std.proofs.Common.{Option}
 use Rattle.httparse.specs.Grammar.{RequestHead}
 use Rattle.smf_frames.specs.declared.dump.Layout.{Layout}
 use Rattle.book_core.specs.Ledgers.{Seen}

@@ -1,20 +1,15 @@
 -- What requests do to the books, one after another.
-use Rattle.std.proofs.Common.{◌≡◌, ◌∙◌, ℕ, Bool, true, false, List, [], ◌++◌, length, take}
-use Rattle.std.proofs.Common.{None, ltb, refl, sym, ap, subst, inl, inr}
+use Rattle.std.proofs.Common.{◌≡◌, ◌∙◌, ℕ, Bool, true, false, List, [], ◌++◌, length, take, None}
+use Rattle.std.proofs.Common.{ltb, refl, sym, ap, subst, inl, inr}
 use Rattle.httparse.specs.Grammar.{RequestHead}
 use Rattle.smf_frames.specs.declared.dump.Layout.{Layout}
-use Rattle.smf_frames.specs.Front.{front}
+use Rattle.book_model.specs.Words.{front, Book, Event, after_all, book_after, Naming}
 use Rattle.book_model.specs.Answered as history
-use Rattle.book_model.specs.Books.{Book}
-use Rattle.book_model.specs.Events.{Event, after_all}
-use Rattle.book_model.specs.History.{book_after}
 use Rattle.book_model.proofs.StepLemmas.{books_follow_history}
-use Rattle.book_model.specs.Records.{Naming}
 use Rattle.book_core.specs.Calls.{listed}
 use Rattle.book_core.specs.Ledgers.{Seen}
 use Rattle.book_core.specs.Work.{IsWork}
-use Rattle.book_core.proofs.FollowLemmas.{MakesAnswered, called_events, follows}
-use Rattle.book_core.proofs.FollowLemmas.{after_all-book_of}
+use Rattle.book_core.proofs.FollowLemmas.{MakesAnswered, called_events, follows, after_all-book_of}
 use Rattle.book_import.specs.Dumps.{stop_behind}
 use Rattle.book_import.proofs.ReplyLemmas.{import_answered}
 use Rattle.book_import.proofs.RepeatLemmas.{twice_is_once}
@@ -23,9 +18,8 @@ use Rattle.book_http.specs.declared.asked.Asked.TheVariants as asks
 use Rattle.book_http.specs.declared.route.Report.{Report}
 use Rattle.book_http.specs.declared.route.Report.TheVariants as report
 use Rattle.book_http.specs.Asked.{asked}
-use Rattle.book_http.specs.Answer.{report_outcome, AnswersReport, AnswersBody}
-use Rattle.book_http.specs.Answer.{AnswersAsked, Answers}
-use Rattle.book_http.specs.Answer.{done, no_memory, no_head, a_head}
+use Rattle.book_http.specs.Answer.{report_outcome, AnswersReport, AnswersBody, AnswersAsked}
+use Rattle.book_http.specs.Answer.{Answers, done, no_memory, no_head, a_head}
 use Rattle.book_http.specs.Head.{HasHead}
 use Rattle.book_http.specs.Laws.{IsUnhindered, RequestTwiceIsOnce, RequestsMakeHistory}
 use Rattle.book_http.specs.Replies.{Reply}

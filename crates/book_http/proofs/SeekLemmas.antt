@@ -1,18 +1,17 @@
 -- What a lookup in the rows of the router finds: a path without a parameter is found by its text.
 use Rattle.std.proofs.Common.{◌≡◌, ℕ, suc, zero, ◌-◌, ◌≤◌, ◌⊎◌, inl, inr, Bool, true, false, cond}
-use Rattle.std.proofs.Common.{List, [], ◌∷◌, ◌++◌, length, Option, Some, None, IfSome}
-use Rattle.std.proofs.Common.{refl, sym, ◌∙◌, append_assoc, arith}
+use Rattle.std.proofs.Common.{List, [], ◌∷◌, ◌++◌, length, Option, Some, None, IfSome, refl, sym}
+use Rattle.std.proofs.Common.{◌∙◌, append_assoc, arith}
 use Rattle.std.proofs.Math.Bool.{or-true}
 use Rattle.std.proofs.lemmas.Bool.{le-leb, true≢false}
 use Rattle.std.proofs.lemmas.Bool.Decides.{nat_tests}
-use Rattle.std.specs.Prelude.{leb}
-use Rattle.std.specs.Prelude.{◌==◌, ltb, codes, option_map, ⊤}
+use Rattle.std.specs.Prelude.{leb, ◌==◌, ltb, codes, option_map, ⊤}
 use Rattle.matchit.proofs.OnLiterals.{matchit_on_literals}
 use Rattle.matchit.specs.Route.{has_wild}
 use Rattle.matchit.specs.Router.{RouteOf}
 use Rattle.matchit.specs.Rows.{RowsOf, param_token, catch_all_token}
-use Rattle.matchit.specs.Seek.{own, step, or_else, seek, first, param_step, longest_suffix}
-use Rattle.matchit.specs.Seek.{segment, with_suffix, same_text, has_slash}
+use Rattle.matchit.specs.Seek.{own, step, or_else, seek, first, param_step, longest_suffix, segment}
+use Rattle.matchit.specs.Seek.{with_suffix, same_text, has_slash}
 use Rattle.book_http.specs.declared.route.Page.{Page}
 use Rattle.book_http.specs.declared.route.Page.TheVariants as page
 use Rattle.book_http.specs.Routes.{page_of, route_rows}

@@ -6,10 +6,7 @@ use Rattle.httparse.specs.Grammar.{RequestHead}
 use Rattle.smf_frames.specs.declared.dump.Layout.{Layout}
 use Rattle.book_model.specs.declared.fault.LedgerFault.{LedgerFault}
 use Rattle.book_model.specs.declared.fault.LedgerFault.TheVariants.{NoSuchPeriod}
-use Rattle.book_model.specs.Records.{Naming}
-use Rattle.book_model.specs.Books.{Book}
-use Rattle.book_model.specs.Events.{Event}
-use Rattle.book_model.specs.Outcomes.{Outcome}
+use Rattle.book_model.specs.Words.{Naming, Book, Event, Outcome}
 use Rattle.book_core.specs.Work.{Work, NoEvent}
 use Rattle.book_core.specs.Calls.{Calls}
 use Rattle.book_import.specs.declared.receipt.Receipt.{Receipt}

@@ -1,6 +1,5 @@
 -- The body of a request.
-use Rattle.std.specs.Prelude.{◌≡◌, ℕ, ◌≤◌, Bool, false, true, List, length, take}
-use Rattle.std.specs.Prelude.{Result, Ok, Err}
+use Rattle.std.specs.Prelude.{◌≡◌, ℕ, ◌≤◌, Bool, false, true, List, length, take, Result, Ok, Err}
 use Rattle.book_http.specs.declared.body.BodyFault.{BodyFault}
 use Rattle.book_http.specs.declared.body.BodyFault.TheVariants.{Short, Read, Memory}
 

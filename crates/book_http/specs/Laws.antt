@@ -1,10 +1,6 @@
 -- Laws of requests, over the definition of their answers alone.
 use Rattle.std.specs.Prelude.{◌≡◌, ◌≢◌, ℕ, Bool, false, List, ◌++◌}
-use Rattle.book_model.specs.Records.{Naming}
-use Rattle.book_model.specs.Books.{Book}
-use Rattle.book_model.specs.Events.{Event, after_all}
-use Rattle.book_model.specs.History.{book_after, book_of}
-use Rattle.book_model.specs.Answered.{IsAnswered}
+use Rattle.book_model.specs.Words.{Naming, Book, Event, after_all, book_after, book_of, IsAnswered}
 use Rattle.book_import.specs.declared.receipt.Receipt.{Receipt}
 use Rattle.book_import.specs.Repeats as imports
 use Rattle.book_http.specs.declared.status.Status.TheVariants.{Unavailable}

@@ -3,13 +3,10 @@ use Rattle.std.proofs.Common.{◌≡◌, ◌∙◌, ℕ, List, [], ◌∷◌, re
 use Rattle.std.specs.Prelude.{IfOk}
 use Rattle.smf_type30.specs.declared.classes.Class.{Class}
 use Rattle.smf_type30.specs.declared.classes.Class.TheVariants.{Usage}
-use Rattle.smf_type30.specs.Class.{class_of}
+use Rattle.book_model.specs.Words.{class_of, Book, Event, after_any, after_all, accept_outcome}
+use Rattle.book_model.specs.Words.{Naming}
 use Rattle.book_model.specs.declared.answer.Accepted.{Accepted}
 use Rattle.book_model.specs.declared.fault.LedgerFault.{LedgerFault}
-use Rattle.book_model.specs.Books.{Book}
-use Rattle.book_model.specs.Events.{Event, after_any, after_all}
-use Rattle.book_model.specs.Outcomes.{accept_outcome}
-use Rattle.book_model.specs.Records.{Naming}
 use Rattle.book_import.specs.declared.receipt.Stop.{Stop}
 use Rattle.book_import.specs.Handled.{Imported, Answering, after_answer, handle_by, handle, go_on}
 use Rattle.book_import.specs.Handled.{handle_all, start_of}

@@ -7,11 +7,9 @@ use Rattle.std.specs.Option.{option_to_list}
 use Rattle.std.proofs.lemmas.List.{take-append-drop, length-take-le}
 use Rattle.smf_frames.specs.declared.fault.FrameFault.{FrameFault}
 use Rattle.smf_frames.specs.declared.dump.Layout.{Layout}
-use Rattle.smf_frames.specs.Front.{Front, front, front_from, behind}
-use Rattle.smf_frames.specs.Joining.{Joining, StandsAfter, broken_by, let_go}
-use Rattle.smf_frames.specs.Feeding.{Feeds}
+use Rattle.book_model.specs.Words.{Front, front, front_from, behind, Joining, StandsAfter}
+use Rattle.book_model.specs.Words.{broken_by, let_go, Feeds, Naming}
 use Rattle.book_model.specs.declared.fault.LedgerFault.{LedgerFault}
-use Rattle.book_model.specs.Records.{Naming}
 use Rattle.book_core.specs.Ledgers.{Seen}
 use Rattle.book_core.specs.Work.{Work, IsWork}
 use Rattle.book_core.proofs.WorkLemmas.{no_work, work_then, work_as}

@@ -1,9 +1,7 @@
 -- Commands that are run one after another.
 use Rattle.std.proofs.Common.{◌≡◌, ◌∙◌, Bool, List, [], ◌∷◌, ◌++◌, refl, sym, ap}
 use Rattle.std.proofs.Common.{subst, append_assoc, append-nil}
-use Rattle.book_model.specs.Records.{Naming}
-use Rattle.book_model.specs.Books.{Book}
-use Rattle.book_model.specs.Events.{Event, after_all}
+use Rattle.book_model.specs.Words.{Naming, Book, Event, after_all}
 use Rattle.book_core.specs.Work.{Work, NoEvent, Then}
 use Rattle.book_core.proofs.WorkLemmas.{after_all-append}
 use Rattle.book_import.specs.declared.command.Command.{Command}

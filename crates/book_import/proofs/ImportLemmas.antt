@@ -5,14 +5,11 @@ use Rattle.std.proofs.Common.{Option, None, Some, append_assoc, append-nil}
 use Rattle.std.proofs.lemmas.List.{take_more}
 use Rattle.smf_type30.specs.declared.classes.Class.{Class}
 use Rattle.smf_type30.specs.declared.classes.Class.TheVariants.{Usage}
-use Rattle.smf_type30.specs.Class.{class_of}
+use Rattle.book_model.specs.Words.{class_of, Naming, Book, Event, after_any, after_all, Outcome}
+use Rattle.book_model.specs.Words.{accept_outcome}
 use Rattle.book_model.specs.declared.answer.Accepted.{Accepted}
 use Rattle.book_model.specs.declared.fault.LedgerFault.{LedgerFault}
 use Rattle.book_model.specs.declared.fault.LedgerFault.TheVariants.{Memory}
-use Rattle.book_model.specs.Records.{Naming}
-use Rattle.book_model.specs.Books.{Book}
-use Rattle.book_model.specs.Events.{Event, after_any, after_all}
-use Rattle.book_model.specs.Outcomes.{Outcome, accept_outcome}
 use Rattle.book_core.specs.Work.{NoEvent, Then}
 use Rattle.book_core.specs.Calls.{Calls, listed}
 use Rattle.book_import.specs.declared.receipt.Receipt.{Receipt}

@@ -3,8 +3,8 @@ use Rattle.std.proofs.Common.{◌≡◌, ◌∙◌, ℕ, false, cond, List, [], 
 use Rattle.std.proofs.Common.{sym, ap, subst, Option, Some, None}
 use Rattle.std.specs.Prelude.{unwrap_or}
 use Rattle.smf_frames.specs.declared.dump.Layout.{Layout}
-use Rattle.smf_frames.specs.Front.{Front, front}
-use Rattle.smf_frames.specs.Joining.{Joining, StandsAfter, nothing_joined, nothing_found}
+use Rattle.book_model.specs.Words.{Front, front, Joining, StandsAfter, nothing_joined}
+use Rattle.book_model.specs.Words.{nothing_found}
 use Rattle.book_core.specs.Ledgers.{Seen}
 use Rattle.book_core.specs.Work.{IsWork}
 use Rattle.book_core.proofs.WorkLemmas.{no_work, work_then, work_as}

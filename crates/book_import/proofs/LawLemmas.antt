@@ -12,18 +12,13 @@ use Rattle.std.proofs.lemmas.Map.Views.{tells_apart}
 use Rattle.tariff_rules.specs.declared.priced.Priced.{Priced}
 use Rattle.smf_type30.specs.declared.classes.Class.{Class}
 use Rattle.smf_type30.specs.declared.classes.Class.TheVariants.{Usage}
-use Rattle.smf_type30.specs.Class.{class_of}
+use Rattle.book_model.specs.Words.{class_of, Book, Records, Naming, by_bytes, Rulings, price_in}
+use Rattle.book_model.specs.Words.{set_of, has, those, clashes, is_full, accept_priced, keep}
+use Rattle.book_model.specs.Words.{accept_event, accept_outcome}
 use Rattle.book_model.specs.declared.answer.Accepted.{Accepted}
 use Rattle.book_model.specs.declared.answer.Accepted.TheVariants.{Kept, Known}
 use Rattle.book_model.specs.declared.fault.LedgerFault.{LedgerFault}
 use Rattle.book_model.specs.declared.fault.LedgerFault.TheVariants.{Full, DigestClash}
-use Rattle.book_model.specs.Books.{Book}
-use Rattle.book_model.specs.Records.{Records, Naming, by_bytes}
-use Rattle.book_model.specs.Rulings.{Rulings, price_in}
-use Rattle.book_model.specs.Sets.{set_of, has, those}
-use Rattle.book_model.specs.Accept.{clashes, is_full, accept_priced}
-use Rattle.book_model.specs.Events.{keep}
-use Rattle.book_model.specs.Outcomes.{accept_event, accept_outcome}
 use Rattle.book_model.proofs.SetLemmas.{has-with, same_set, those-set_of}
 use Rattle.book_import.specs.declared.receipt.Stop.{Stop}
 use Rattle.book_import.specs.Handled.{Imported, after_answer, handle_by, handle, go_on, handle_all}

@@ -9,15 +9,10 @@ use Rattle.std.proofs.lemmas.Map.Lookups.{exact_bytes}
 use Rattle.std.proofs.lemmas.Map.Views.{tells_apart}
 use Rattle.smf_type30.specs.declared.classes.Class.{Class}
 use Rattle.smf_type30.specs.declared.classes.Class.TheVariants.{Usage}
-use Rattle.smf_type30.specs.Class.{class_of}
+use Rattle.book_model.specs.Words.{class_of, Book, Naming, has, accept_answer, Event, accept_event}
+use Rattle.book_model.specs.Words.{accept_outcome}
 use Rattle.book_model.specs.declared.answer.Accepted.{Accepted}
 use Rattle.book_model.specs.declared.fault.LedgerFault.{LedgerFault}
-use Rattle.book_model.specs.Books.{Book}
-use Rattle.book_model.specs.Records.{Naming}
-use Rattle.book_model.specs.Sets.{has}
-use Rattle.book_model.specs.Accept.{accept_answer}
-use Rattle.book_model.specs.Events.{Event}
-use Rattle.book_model.specs.Outcomes.{accept_event, accept_outcome}
 use Rattle.book_model.proofs.SetLemmas.{same_set}
 use Rattle.book_import.specs.declared.receipt.Stop.{Stop}
 use Rattle.book_import.specs.Handled.{Imported, after_answer, after_accept, handle_by, handle}

@@ -1,14 +1,11 @@
 -- Records that are handed to the books as the pieces of a dump complete them.
 use Rattle.std.proofs.Common.{◌≡◌, ◌∙◌, ℕ, ◌+◌, ◌<◌, Bool, List, [], ◌∷◌, ◌++◌, length, take}
-use Rattle.std.proofs.Common.{get_or}
-use Rattle.std.proofs.Common.{take_all, refl, sym, ap, subst, arith, Ok, Err, append_assoc}
+use Rattle.std.proofs.Common.{get_or, take_all, refl, sym, ap, subst, arith, Ok, Err, append_assoc}
 use Rattle.std.proofs.Common.{length-append}
 use Rattle.std.proofs.lemmas.List.{take_at}
 use Rattle.std.proofs.Math.Seq.{get_or-append_seam}
 use Rattle.book_model.specs.declared.fault.LedgerFault.{LedgerFault}
-use Rattle.book_model.specs.Records.{Naming}
-use Rattle.book_model.specs.Books.{Book}
-use Rattle.book_model.specs.Events.{Event, after_all}
+use Rattle.book_model.specs.Words.{Naming, Book, Event, after_all}
 use Rattle.book_core.specs.Work.{Work, NoEvent, Then}
 use Rattle.book_core.proofs.WorkLemmas.{after_all-append}
 use Rattle.book_import.specs.declared.receipt.Receipt.{Receipt}

@@ -2,12 +2,8 @@
 use Rattle.std.proofs.Common.{◌≡◌, ◌∙◌, ℕ, zero, suc, List, [], ◌∷◌, length, take, take_all, refl}
 use Rattle.std.proofs.Common.{sym, ap, subst, Bool, false, ◌⊎◌, inl, inr, Ok, Err, arith, None}
 use Rattle.std.proofs.Common.{◌++◌}
-use Rattle.smf_frames.specs.Front.{front}
+use Rattle.book_model.specs.Words.{front, Book, Naming, Event, after_all, accept_outcome}
 use Rattle.book_model.specs.declared.fault.LedgerFault.TheVariants.{Memory, Store}
-use Rattle.book_model.specs.Books.{Book}
-use Rattle.book_model.specs.Records.{Naming}
-use Rattle.book_model.specs.Events.{Event, after_all}
-use Rattle.book_model.specs.Outcomes.{accept_outcome}
 use Rattle.book_core.proofs.WorkLemmas.{after_all-append}
 use Rattle.book_import.specs.declared.receipt.Receipt.{Receipt}
 use Rattle.book_import.specs.declared.receipt.Stop.{Stop}

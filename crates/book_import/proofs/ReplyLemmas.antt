@@ -2,21 +2,15 @@
 use Rattle.std.proofs.Common.{◌≡◌, ◌∙◌, ℕ, Bool, true, false, List, [], ◌∷◌, ◌++◌, refl, sym, ap}
 use Rattle.std.proofs.Common.{subst, Result, Ok, Err, Option, None, Some, take, append_assoc}
 use Rattle.std.specs.Prelude.{string_bytes}
-use Rattle.smf_frames.specs.Front.{front}
+use Rattle.book_model.specs.Words.{front, class_of, Naming, Book, accept_answer, Event, after_any}
+use Rattle.book_model.specs.Words.{Outcome, accept_event, tariff_outcome, close_outcome, book_after}
+use Rattle.book_model.specs.Words.{IsAnswered}
 use Rattle.smf_type30.specs.declared.classes.Class.{Class}
 use Rattle.smf_type30.specs.declared.classes.Class.TheVariants.{Usage}
-use Rattle.smf_type30.specs.Class.{class_of}
 use Rattle.book_model.specs.declared.answer.Accepted.{Accepted}
 use Rattle.book_model.specs.declared.answer.Ruled as answer
 use Rattle.book_model.specs.declared.fault.LedgerFault.{LedgerFault}
 use Rattle.book_model.specs.declared.fault.LedgerFault.TheVariants.{Memory, Store}
-use Rattle.book_model.specs.Records.{Naming}
-use Rattle.book_model.specs.Books.{Book}
-use Rattle.book_model.specs.Accept.{accept_answer}
-use Rattle.book_model.specs.Events.{Event, after_any}
-use Rattle.book_model.specs.Outcomes.{Outcome, accept_event, tariff_outcome, close_outcome}
-use Rattle.book_model.specs.History.{book_after}
-use Rattle.book_model.specs.Answered.{IsAnswered}
 use Rattle.book_core.specs.Calls.{Calls, listed}
 use Rattle.book_core.proofs.FollowLemmas.{MakesAnswered, then_answered, tariff_answered}
 use Rattle.book_core.proofs.FollowLemmas.{close_answered, accept_event-answered}

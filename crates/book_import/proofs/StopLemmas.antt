@@ -5,15 +5,11 @@ use Rattle.std.proofs.Common.{Err, inl, inr, Option, append-nil}
 use Rattle.std.proofs.lemmas.List.{take-append-drop}
 use Rattle.smf_type30.specs.declared.classes.Class.{Class}
 use Rattle.smf_type30.specs.declared.classes.Class.TheVariants.{Usage}
-use Rattle.smf_type30.specs.Class.{class_of}
+use Rattle.book_model.specs.Words.{class_of, Naming, Book, accept_answer, Event, after_all}
+use Rattle.book_model.specs.Words.{accept_event, accept_outcome}
 use Rattle.book_model.specs.declared.answer.Accepted.{Accepted}
 use Rattle.book_model.specs.declared.fault.LedgerFault.{LedgerFault}
 use Rattle.book_model.specs.declared.fault.LedgerFault.TheVariants.{Memory, Store}
-use Rattle.book_model.specs.Records.{Naming}
-use Rattle.book_model.specs.Books.{Book}
-use Rattle.book_model.specs.Accept.{accept_answer}
-use Rattle.book_model.specs.Events.{Event, after_all}
-use Rattle.book_model.specs.Outcomes.{accept_event, accept_outcome}
 use Rattle.book_core.specs.Work.{Then}
 use Rattle.book_core.specs.Calls.{Calls, listed}
 use Rattle.book_core.proofs.WorkLemmas.{Fails, wanting, failed, to_reopen, refused, fails}

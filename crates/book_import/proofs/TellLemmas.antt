@@ -6,19 +6,13 @@ use Rattle.std.specs.Prelude.{if◌then◌else◌}
 use Rattle.tariff_rules.specs.declared.priced.Priced.{Priced}
 use Rattle.smf_type30.specs.declared.classes.Class.{Class}
 use Rattle.smf_type30.specs.declared.classes.Class.TheVariants.{Usage}
-use Rattle.smf_type30.specs.Class.{class_of}
+use Rattle.book_model.specs.Words.{class_of, Naming, Book, has, clashes, is_full, accept_priced}
+use Rattle.book_model.specs.Words.{accept_answer, price_in, Event, Outcome, accept_outcome}
 use Rattle.book_model.specs.declared.answer.Accepted.{Accepted}
 use Rattle.book_model.specs.declared.answer.Accepted.TheVariants.{Kept, Known}
 use Rattle.book_model.specs.declared.fault.LedgerFault.{LedgerFault}
 use Rattle.book_model.specs.declared.fault.LedgerFault.TheVariants.{Memory, Store, Reopen, Full}
 use Rattle.book_model.specs.declared.fault.LedgerFault.TheVariants.{DigestClash}
-use Rattle.book_model.specs.Records.{Naming}
-use Rattle.book_model.specs.Books.{Book}
-use Rattle.book_model.specs.Sets.{has}
-use Rattle.book_model.specs.Accept.{clashes, is_full, accept_priced, accept_answer}
-use Rattle.book_model.specs.Rulings.{price_in}
-use Rattle.book_model.specs.Events.{Event}
-use Rattle.book_model.specs.Outcomes.{Outcome, accept_outcome}
 use Rattle.book_import.specs.declared.receipt.Receipt.{Receipt}
 use Rattle.book_import.specs.declared.receipt.Stop.{Stop}
 use Rattle.book_import.specs.declared.receipt.Stop.TheVariants.{Ledger}

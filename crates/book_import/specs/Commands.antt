@@ -1,11 +1,8 @@
 -- What is replied to commands, and what they do to the books.
 use Rattle.std.specs.Prelude.{List, [], ◌∷◌, None, Result, Ok, Err, string_bytes}
-use Rattle.smf_text.specs.Day.{IsDay}
+use Rattle.book_model.specs.Words.{IsDay, Naming, Book, Outcome, tariff_outcome, close_outcome}
 use Rattle.book_model.specs.declared.answer.Ruled as answer
 use Rattle.book_model.specs.declared.fault.LedgerFault.{LedgerFault}
-use Rattle.book_model.specs.Records.{Naming}
-use Rattle.book_model.specs.Books.{Book}
-use Rattle.book_model.specs.Outcomes.{Outcome, tariff_outcome, close_outcome}
 use Rattle.book_core.specs.Work.{Work, NoEvent, Then}
 use Rattle.book_core.specs.Calls.{Calls}
 use Rattle.book_import.specs.declared.command.Command.{Command}

@@ -2,17 +2,12 @@
 use Rattle.std.specs.Prelude.{◌≡◌, ◌⊎◌, ℕ, ◌+◌, ◌<◌, Bool, true, false, List, length, Option}
 use Rattle.std.specs.Prelude.{Result, Ok, Err}
 use Rattle.smf_frames.specs.declared.dump.Layout.{Layout}
-use Rattle.smf_frames.specs.Front.{front}
+use Rattle.book_model.specs.Words.{front, class_of, Naming, Book, Event, accept_outcome}
 use Rattle.smf_type30.specs.declared.classes.Class.{Class}
 use Rattle.smf_type30.specs.declared.classes.Class.TheVariants.{Usage}
-use Rattle.smf_type30.specs.Class.{class_of}
 use Rattle.book_model.specs.declared.answer.Accepted.{Accepted}
 use Rattle.book_model.specs.declared.fault.LedgerFault.{LedgerFault}
 use Rattle.book_model.specs.declared.fault.LedgerFault.TheVariants.{Memory, Store}
-use Rattle.book_model.specs.Records.{Naming}
-use Rattle.book_model.specs.Books.{Book}
-use Rattle.book_model.specs.Events.{Event}
-use Rattle.book_model.specs.Outcomes.{accept_outcome}
 use Rattle.book_core.specs.Work.{Work, NoEvent}
 use Rattle.book_core.specs.Calls.{Calls}
 use Rattle.book_import.specs.declared.receipt.Receipt.{Receipt}

@@ -1,6 +1,5 @@
 ghost use Rattle.std.specs.Prelude.{◌≡◌, ℕ, List, unwrap_or};
-ghost use Rattle.smf_frames.specs.Front.{front};
-ghost use Rattle.smf_frames.specs.Joining.{StandsAfter};
+ghost use Rattle.book_model.specs.Words.{front, StandsAfter};
 ghost use Rattle.book_import.specs.Dumps.{frame_stop};
 ghost use Rattle.book_import.specs.Reading.{cut_of};
 

@@ -1,5 +1,5 @@
 ghost use Rattle.std.specs.Prelude.{◌≡◌, ◌+◌, ◌<◌, ◌≤◌, ◌^◌, ℕ, List, None, length};
-ghost use Rattle.smf_frames.specs.Joining.{StandsAfter};
+ghost use Rattle.book_model.specs.Words.{StandsAfter};
 ghost use Rattle.book_core.specs.Work.{IsWork};
 ghost use Rattle.book_import.specs.Receipts.{counted};
 ghost use Rattle.book_import.specs.Pieces.{HandlesPiece, TakesAll};

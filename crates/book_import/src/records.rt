@@ -1,5 +1,5 @@
 ghost use Rattle.std.specs.Prelude.{◌≡◌, ◌+◌, ◌≤◌, ◌<◌, ◌^◌, OnErr};
-ghost use Rattle.smf_frames.specs.Framed.{IsFramed};
+ghost use Rattle.book_model.specs.Words.{IsFramed};
 ghost use Rattle.book_core.specs.Work.{IsWork};
 ghost use Rattle.book_import.specs.Imports.{Counts};
 ghost use Rattle.book_import.specs.Receipts as spec;

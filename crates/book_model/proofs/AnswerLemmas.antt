@@ -1,6 +1,5 @@
 -- Answers of a ledger, where memory may run out.
-use Rattle.std.proofs.Common.{◌≡◌, ℕ, List, Result, Ok, Err, Option, None, ◌⊎◌, inl, inr, refl, sym}
-use Rattle.std.proofs.Common.{ap, ◌∙◌}
+use Rattle.std.proofs.Common.{◌≡◌, ℕ, List, Result, Ok, Err, Option, None, refl, sym, ap, ◌∙◌}
 use Rattle.book_model.specs.declared.fault.LedgerFault.{LedgerFault}
 use Rattle.book_model.specs.declared.fault.LedgerFault.TheVariants.{Memory}
 use Rattle.tariff_rules.specs.Terms.{Terms}
@@ -23,13 +22,6 @@ pub answers_itself : {A : Type 0} (result answer : Result A LedgerFault) → ans
 answers_itself (Ok value) answer is = is
 answers_itself (Err Memory) answer is = tt
 answers_itself (Err fault) answer is = is
-
--- an error is the answer itself, unless it is want of memory
-pub error_answers : {V A : Type 0} (view : V → A) (fault : LedgerFault)
-    (answer : Result A LedgerFault)
-    → Answers view (Err fault) answer → (fault ≡ Memory) ⊎ (answer ≡ Err fault)
-error_answers view Memory answer given = inl refl
-error_answers view fault answer given = inr given
 
 -- a call on a book, by what it answered and by the event of that answer
 pub calls : {A : Type 0} (old new : Book) (result : Result A LedgerFault)

@@ -17,8 +17,7 @@ use Rattle.book_model.specs.Books.{Book, open_number}
 use Rattle.book_model.specs.Laws.{IsAfterLastClose, CallsGoForward}
 use Rattle.book_model.specs.Rulings.{last_close}
 use Rattle.book_model.specs.RulingAnswers.{has_text, is_effective, is_later, has_dated}
-use Rattle.book_model.specs.RulingAnswers.{terms_answer}
-use Rattle.book_model.specs.RulingAnswers.{is_closed, is_early, close_answer}
+use Rattle.book_model.specs.RulingAnswers.{terms_answer, is_closed, is_early, close_answer}
 
 -- the answer by what each test gives, in their order
 abbrev pub by_tests : Bool → Bool → Bool → Bool → Result Ruled LedgerFault

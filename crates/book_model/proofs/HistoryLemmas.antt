@@ -21,8 +21,7 @@ use Rattle.book_model.specs.History.{held_before, charged_in}
 use Rattle.book_model.specs.Records.{Records, by_bytes}
 use Rattle.book_model.specs.Rulings.{Rulings, Tariffed, rulings_before, last_close}
 use Rattle.book_model.specs.Sets.{set_of, has}
-use Rattle.book_model.proofs.ListLemmas.{slice_get-front, slice_get-behind}
-use Rattle.book_model.proofs.ListLemmas.{last_or-is}
+use Rattle.book_model.proofs.ListLemmas.{slice_get-front, slice_get-behind, last_or-is}
 use Rattle.book_model.proofs.SetLemmas.{has-those}
 
 -- all records that are held at the end of a history

@@ -25,3 +25,4 @@ pub mod Sound
 pub mod Laws
 pub mod Answers
 pub mod Faults
+pub mod Words

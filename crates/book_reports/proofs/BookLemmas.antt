@@ -1,7 +1,7 @@
 -- The statement of books that were never closed.
 use Rattle.std.proofs.Common.{◌≡◌, List, [], refl, sym, subst, Ok}
 use Rattle.std.specs.Prelude.{ℤ}
-use Rattle.book_model.specs.Books.{Book}
+use Rattle.book_model.specs.Words.{Book}
 use Rattle.book_reports.specs.BookTexts.{open_statement, statement_outcome}
 
 -- the statement of their period 1 is the open one's

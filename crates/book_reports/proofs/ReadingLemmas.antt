@@ -3,9 +3,7 @@ use Rattle.std.proofs.Common.{◌≡◌, ◌∙◌, Bool, false, List, [], ◌++
 use Rattle.std.proofs.Common.{◌||◌, inl, inr, None, Result, Ok, Err}
 use Rattle.book_model.specs.declared.fault.LedgerFault.{LedgerFault}
 use Rattle.book_model.specs.declared.fault.LedgerFault.TheVariants.{Memory, Store, Reopen}
-use Rattle.book_model.specs.Books.{Book}
-use Rattle.book_model.specs.Events.{Event, after_all}
-use Rattle.book_model.specs.Outcomes.{Outcome}
+use Rattle.book_model.specs.Words.{Book, Event, after_all, Outcome}
 use Rattle.book_core.specs.Ledgers.{Seen}
 use Rattle.book_core.specs.Work.{Then}
 use Rattle.book_core.specs.Calls.{Calls, IsCall, Makes, Reopens, listed, is_store, is_reopen}

@@ -1,15 +1,11 @@
 -- Answers that are passed on to a writer; and reports of ledgers in memory.
-use Rattle.std.proofs.Common.{◌≡◌, ◌∙◌, ℕ, ◌<◌, true, List, [], ◌∷◌, length, take}
-use Rattle.std.proofs.Common.{Option, None, Result, Ok, Err, Vec, Global, refl, sym, subst}
-use Rattle.std.proofs.Common.{append-nil}
+use Rattle.std.proofs.Common.{◌≡◌, ◌∙◌, ℕ, ◌<◌, true, List, [], ◌∷◌, length, take, Option, None}
+use Rattle.std.proofs.Common.{Result, Ok, Err, Vec, Global, refl, sym, subst, append-nil}
 use Rattle.std.specs.Prelude.{IfErr}
 use Rattle.std.specs.Io.KnownBytes.{Appends}
 use Rattle.book_model.specs.declared.fault.LedgerFault.{LedgerFault}
 use Rattle.book_model.specs.declared.fault.LedgerFault.TheVariants.{Memory}
-use Rattle.book_model.specs.Answers.{Answers}
-use Rattle.book_model.specs.Books.{Book}
-use Rattle.book_model.specs.Outcomes.{Outcome}
-use Rattle.book_model.specs.Records.{Naming}
+use Rattle.book_model.specs.Words.{Answers, Book, Outcome, Naming}
 use Rattle.book_core.specs.Calls.{IsCall}
 use Rattle.book_core.specs.Ledgers.{Seen, in_memory}
 use Rattle.book_core.proofs.MemoryLemmas.{answers_in_memory, stays_in_memory}

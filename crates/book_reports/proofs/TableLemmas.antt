@@ -11,8 +11,8 @@ use Rattle.std.proofs.lemmas.Fmt.{decimal_by_steps}
 use Rattle.std.proofs.lemmas.List.Folds.{list_any-append}
 use Rattle.csv.specs.Writing.{default_writer, field_text, fields_text, is_blank, needs_byte}
 use Rattle.csv.specs.Writing.{row_text}
-use Rattle.smf_text.specs.Day.{day_text_of, date_of}
-use Rattle.smf_text.specs.Names.{IsName, is_name_character}
+use Rattle.smf_text.specs.Day.{day_text_of}
+use Rattle.book_model.specs.Words.{date_of, IsName, is_name_character}
 use Rattle.book_reports.specs.Columns.{digits_in, seconds_text, amount_text}
 use Rattle.book_reports.specs.StatementTables.{comma_line}
 

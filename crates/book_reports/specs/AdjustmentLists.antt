@@ -3,8 +3,7 @@
 use Rattle.std.specs.Prelude.{ℕ, ◌-◌, nat_lt, if◌then◌else◌, Bool, true, false, List, [], ◌++◌}
 use Rattle.std.specs.Prelude.{codes, flat_map, sum_by, Option, ℤ}
 use Rattle.hex.specs.Hex.{encode_lower}
-use Rattle.smf_text.specs.CodePage.{show_text}
-use Rattle.smf_text.specs.Day.{day_text_of}
+use Rattle.book_model.specs.Words.{show_text, day_text_of}
 use Rattle.book_model.specs.declared.line.Line.{Line}
 use Rattle.book_reports.specs.Columns.{line_end, left, right, amount_text}
 use Rattle.book_reports.specs.Periods.{title_line}

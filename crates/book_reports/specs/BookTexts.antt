@@ -2,12 +2,9 @@
 use Rattle.std.specs.Prelude.{ℕ, ◌-◌, ℤ, List, slice_get, Option, None, Result, Ok, Err}
 use Rattle.sha2.specs.Sha256.{sha256}
 use Rattle.book_model.specs.declared.fault.LedgerFault.{LedgerFault}
-use Rattle.book_model.specs.Books.{Book, open_period}
-use Rattle.book_model.specs.Disputes.{disputes_in}
-use Rattle.book_model.specs.Outcomes.{Outcome, reading, charges_outcome, adjustments_outcome}
-use Rattle.book_model.specs.Outcomes.{disputes_outcome, periods_outcome}
-use Rattle.book_model.specs.Records.{Naming}
-use Rattle.book_model.specs.Rows.{rows_for}
+use Rattle.book_model.specs.Words.{Book, open_period, disputes_in, Outcome, reading}
+use Rattle.book_model.specs.Words.{charges_outcome, adjustments_outcome, disputes_outcome}
+use Rattle.book_model.specs.Words.{periods_outcome, Naming, rows_for}
 use Rattle.book_reports.specs.Statements.{statement_text}
 use Rattle.book_reports.specs.StatementTables.{statement_table}
 use Rattle.book_reports.specs.AdjustmentLists.{adjustment_list_text}

@@ -4,8 +4,7 @@ use Rattle.std.specs.Fmt.{decimal}
 use Rattle.smf_type30.specs.declared.classes.Class.{Class}
 use Rattle.smf_type30.specs.declared.classes.Class.TheVariants.{DumpHeader, DumpTrailer, DataLost}
 use Rattle.smf_type30.specs.declared.classes.Class.TheVariants.{Other, Continuation, Usage, Damaged}
-use Rattle.smf_type30.specs.Class.{type_of, class_of}
-use Rattle.smf_type30.specs.Damage.{damage_number}
+use Rattle.book_model.specs.Words.{type_of, class_of, damage_number}
 use Rattle.book_import.specs.declared.receipt.Stop.{Stop}
 use Rattle.book_reports.specs.Columns.{line_end}
 use Rattle.book_reports.specs.ReceiptLines.{fault_text, stop_text}

@@ -2,11 +2,8 @@
 use Rattle.std.specs.Prelude.{ℕ, List, ◌++◌, length, flat_map, codes, Option, Some, None}
 use Rattle.std.specs.Fmt.{decimal}
 use Rattle.hex.specs.Hex.{encode_lower, encode_upper}
-use Rattle.smf_text.specs.CodePage.{show_text}
-use Rattle.smf_text.specs.Day.{day_text_of}
-use Rattle.smf_frames.specs.Number.{number, part}
+use Rattle.book_model.specs.Words.{show_text, day_text_of, number, part, Disputed}
 use Rattle.book_model.specs.declared.dispute.Variant.{Variant}
-use Rattle.book_model.specs.Disputes.{Disputed}
 use Rattle.book_reports.specs.Columns.{line_end, right, amount_text}
 
 -- of an identity the system, its first 4 bytes, and the job, the next 8

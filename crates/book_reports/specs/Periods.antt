@@ -1,7 +1,7 @@
 -- How reports name a period.
 use Rattle.std.specs.Prelude.{ℕ, List, ◌++◌, codes, Option, Some, None, ℤ}
 use Rattle.std.specs.Fmt.{decimal}
-use Rattle.smf_text.specs.Day.{day_text_of}
+use Rattle.book_model.specs.Words.{day_text_of}
 use Rattle.book_reports.specs.Columns.{line_end}
 
 -- a period is open, or was closed through a day

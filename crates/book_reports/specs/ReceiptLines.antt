@@ -1,8 +1,7 @@
 -- The line that tells what became of a dump.
 use Rattle.std.specs.Prelude.{ℕ, List, ◌++◌, codes}
 use Rattle.std.specs.Fmt.{decimal}
-use Rattle.smf_frames.specs.Faults.{frame_number}
-use Rattle.book_model.specs.Faults.{ledger_number}
+use Rattle.book_model.specs.Words.{frame_number, ledger_number}
 use Rattle.book_import.specs.declared.receipt.Receipt.{Receipt}
 use Rattle.book_import.specs.declared.receipt.Stop.{Stop}
 use Rattle.book_import.specs.declared.receipt.Stop.TheVariants.{End, Frame, Read, ReadLimit, Ledger}

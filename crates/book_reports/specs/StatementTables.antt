@@ -1,7 +1,7 @@
 -- Statements as tables of comma-separated values: a heading, and a line for each charge row.
 use Rattle.std.specs.Prelude.{ℕ, List, [], ◌∷◌, ◌++◌, codes, flat_map}
 use Rattle.std.specs.Fmt.{decimal}
-use Rattle.smf_text.specs.Day.{day_text_of}
+use Rattle.book_model.specs.Words.{day_text_of}
 use Rattle.book_model.specs.declared.row.ChargeRow.{ChargeRow}
 use Rattle.book_reports.specs.Columns.{line_end, seconds_text, amount_text}
 

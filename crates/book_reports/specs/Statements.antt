@@ -1,7 +1,7 @@
 -- Statements: what a period is charged, a line for each charge row and one for their sums.
 use Rattle.std.specs.Prelude.{ℕ, List, [], ◌++◌, codes, flat_map, sum_by, Option, ℤ}
 use Rattle.std.specs.Fmt.{decimal}
-use Rattle.smf_text.specs.Day.{day_text_of}
+use Rattle.book_model.specs.Words.{day_text_of}
 use Rattle.book_model.specs.declared.row.ChargeRow.{ChargeRow}
 use Rattle.book_reports.specs.Columns.{line_end, left, right, seconds_text, amount_text}
 use Rattle.book_reports.specs.Periods.{title_line}

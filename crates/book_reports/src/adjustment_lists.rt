@@ -2,8 +2,7 @@
 
 ghost use Rattle.std.specs.Prelude.{◌≡◌, ◌++◌, IfOk, OnOk, flat_map, string_bytes, sum_by};
 ghost use Rattle.std.specs.Option.{ForSome};
-ghost use Rattle.smf_text.specs.Day.{IsDay};
-ghost use Rattle.book_model.specs.Lines.{AreLines};
+ghost use Rattle.book_model.specs.Words.{IsDay, AreLines};
 ghost use Rattle.book_reports.specs.AdjustmentLists as spec;
 
 use crate::columns::{amount_text, push_left, push_right};

@@ -2,9 +2,8 @@
 
 ghost use Rattle.std.specs.Prelude.{◌≡◌, ◌+◌, ◌≤◌, ◌++◌, All, IfOk, OnOk};
 ghost use Rattle.std.specs.Prelude.{flat_map, length, map, string_bytes};
-ghost use Rattle.smf_text.specs.Day.{IsDay};
+ghost use Rattle.book_model.specs.Words.{IsDay, AreDisputes, IsDispute, dispute_shown};
 ghost use Rattle.smf_frames.specs.Number as numbers;
-ghost use Rattle.book_model.specs.Disputes.{AreDisputes, IsDispute, dispute_shown};
 ghost use Rattle.book_reports.specs.DisputeLists as spec;
 
 use crate::columns::{amount_text, push_number, push_right};

@@ -2,7 +2,7 @@
 
 ghost use Rattle.std.specs.Prelude.{◌≡◌, ◌++◌, All, IfOk, OnOk, string_bytes};
 ghost use Rattle.std.specs.Option.{ForSome};
-ghost use Rattle.smf_text.specs.Day.{IsDay};
+ghost use Rattle.book_model.specs.Words.{IsDay};
 ghost use Rattle.book_reports.specs.PeriodLists as spec;
 
 use crate::columns::push_number;

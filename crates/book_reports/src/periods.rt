@@ -2,7 +2,7 @@
 
 ghost use Rattle.std.specs.Prelude.{◌≡◌, ◌++◌, OnOk, string_bytes};
 ghost use Rattle.std.specs.Option.{ForSome};
-ghost use Rattle.smf_text.specs.Day.{IsDay};
+ghost use Rattle.book_model.specs.Words.{IsDay};
 ghost use Rattle.book_reports.specs.Periods.{head_text, title_line};
 
 use crate::columns::push_number;

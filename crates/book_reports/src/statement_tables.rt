@@ -1,8 +1,7 @@
 //! Statements as tables of comma-separated values.
 
 ghost use Rattle.std.specs.Prelude.{◌≡◌, ◌++◌, ℕ, List, [], All, IfOk, OnOk, map};
-ghost use Rattle.book_model.specs.Rows.{AreRows};
-ghost use Rattle.smf_text.specs.Day.{IsDay};
+ghost use Rattle.book_model.specs.Words.{AreRows, IsDay};
 ghost use Rattle.csv.specs.Writing.{row_text, default_writer};
 ghost use Rattle.book_reports.specs.StatementTables as spec;
 ghost use Rattle.book_reports.specs.Tables.{IsBetweenRows};

@@ -2,8 +2,7 @@
 
 ghost use Rattle.std.specs.Prelude.{◌≡◌, ◌++◌, IfOk, OnOk, flat_map, string_bytes};
 ghost use Rattle.std.specs.Option.{ForSome};
-ghost use Rattle.smf_text.specs.Day.{IsDay};
-ghost use Rattle.book_model.specs.Rows.{AreRows};
+ghost use Rattle.book_model.specs.Words.{IsDay, AreRows};
 ghost use Rattle.book_reports.specs.Statements as spec;
 
 use crate::columns::{amount_text, push_left, push_right, seconds_text};

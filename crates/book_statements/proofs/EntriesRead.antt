@@ -1,6 +1,5 @@
 -- What is read of the rows of entries, by what each row says.
 use Rattle.std.proofs.Common.{◌≡◌, List, [], ◌∷◌, map, take, refl, sym, ap, ◌∙◌, Option, Some, None}
-use Rattle.std.proofs.Common.{slice_get}
 use Rattle.std.specs.List.{AllZip}
 use Rattle.std.specs.Option.{option_map, option_to_list}
 use Rattle.sqlite.specs.Order.{Row}
@@ -70,11 +69,3 @@ first_read columns told of rows first key found says are =
     ∙ all_read columns told of (take 1 rows) (option_to_list first) (entry_at key found) says
     (ap (take 1) are ∙ one_row columns key found)
     ∙ one_entry of key found)
-
--- what the first row says, in a list of no more than one
-pub first_says : {T : Type 0} (Told : Row → T → Type 0) (rows : List Row) (row : Row) (one : T)
-    → slice_get rows 0 ≡ Some row → Told row one → AllZip Told (take 1 rows) (one ∷ [])
-first_says Told [] row one first told = absurd (let e = first in cc)
-first_says Told (other ∷ rows) row one first told =
-    let same : other ≡ row = (let e = first in cc) in
-    (rw same told, tt)

@@ -1,6 +1,5 @@
 -- A close moves the charge rows that are dated after its day to the next period.
-use Rattle.std.proofs.Common.{◌≡◌, ℕ, ℤ, suc, pos, ◌∷◌, Bool, true, false, Ok, refl, ap₂}
-use Rattle.std.proofs.Common.{◌∙◌}
+use Rattle.std.proofs.Common.{◌≡◌, ℕ, ℤ, suc, pos, ◌∷◌, Bool, true, false, Ok, refl, ap₂, ◌∙◌}
 use Rattle.std.specs.Prelude.{◌&&◌, ◌==◌, if◌then◌else◌, int_lt}
 use Rattle.std.proofs.lemmas.Bool.{and_parts, eqb-true}
 use Rattle.sqlite.specs.Cast.{cast_row}

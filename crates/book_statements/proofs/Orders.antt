@@ -5,8 +5,7 @@ use Rattle.std.specs.Ordering.{int_cmp, nat_cmp}
 use Rattle.std.proofs.lemmas.Cmp.{nat_list_cmp_total}
 use Rattle.std.proofs.lemmas.Map.Lookups.{exact_bytes}
 use Rattle.book_model.proofs.RowLemmas.{by_key_exact, by_key_total}
-use Rattle.book_model.specs.Records.{by_bytes}
-use Rattle.book_model.specs.Rows.{by_key}
+use Rattle.book_model.specs.Words.{by_bytes, by_key}
 use Rattle.kept_tables.proofs.NumberedLemmas.{by_period_exact, by_period_total}
 use Rattle.kept_tables.specs.Numbered.{by_period}
 

@@ -1,7 +1,6 @@
 -- A close posts records: the UPDATE of those whose marks differ, as a change of all records.
 use Rattle.std.proofs.Common.{◌≡◌, ℕ, ℤ, pos, List, [], ◌∷◌, Bool, true, false, not, Ok, refl, sym}
-use Rattle.std.proofs.Common.{ap}
-use Rattle.std.proofs.Common.{ap₂, ◌∙◌, arith}
+use Rattle.std.proofs.Common.{ap, ap₂, ◌∙◌, arith}
 use Rattle.std.specs.Prelude.{◌&&◌, if◌then◌else◌, int_le, int_lt}
 use Rattle.std.proofs.lemmas.Int.{ints}
 use Rattle.std.specs.Ordering.{int_cmp, is_ne}

@@ -14,13 +14,12 @@ use Rattle.sql_rows.proofs.Reading.{first_in, found_at, some_of, sorted_by}
 use Rattle.sql_rows.proofs.Sorting.{some_passes}
 use Rattle.sql_rows.proofs.Values.{alone_is, blobs_equal, int_at_least, ints_equal}
 use Rattle.sql_rows.specs.Queries.{equals}
-use Rattle.book_model.specs.Records.{by_bytes, same_bytes}
+use Rattle.book_model.specs.Words.{by_bytes, same_bytes}
 use Rattle.kept_tables.specs.Tables.{Tables}
 use Rattle.book_statements.proofs.PostRecords.{no_later}
-use Rattle.book_statements.proofs.RecordMeaning.{dated_terms, eleven, find_dated_is}
-use Rattle.book_statements.proofs.RecordMeaning.{find_record_is, find_sharing_is}
-use Rattle.book_statements.proofs.RecordMeaning.{list_uncharged_is, names, uncharged_order}
-use Rattle.book_statements.proofs.RecordMeaning.{uncharged_terms}
+use Rattle.book_statements.proofs.RecordMeaning.{dated_terms, eleven, find_dated_is, find_record_is}
+use Rattle.book_statements.proofs.RecordMeaning.{find_sharing_is, list_uncharged_is, names}
+use Rattle.book_statements.proofs.RecordMeaning.{uncharged_order, uncharged_terms}
 use Rattle.book_statements.proofs.RowLayouts.{Entry, record_layout}
 use Rattle.book_statements.specs.Columns.{flag, record_columns}
 use Rattle.book_statements.specs.Keeps.{Keeps}

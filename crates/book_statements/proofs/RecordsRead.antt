@@ -1,7 +1,6 @@
 -- What is read of the rows of records.
 use Rattle.std.proofs.Common.{◌≡◌, ℕ, zero, suc, List, [], ◌∷◌, map, take, true, false, true≢false}
-use Rattle.std.proofs.Common.{refl}
-use Rattle.std.proofs.Common.{sym, ap, subst, ◌∙◌, cond, Bool, Option, Some, None}
+use Rattle.std.proofs.Common.{refl, sym, ap, subst, ◌∙◌, cond, Bool, Option, Some, None}
 use Rattle.std.specs.Prelude.{filter}
 use Rattle.std.specs.FinMap.{entries, entries_sorted, find, get}
 use Rattle.std.specs.List.{AllZip}
@@ -17,7 +16,7 @@ use Rattle.sqlite_rules.proofs.ListLemmas.{all_from, all_has, has_filtered}
 use Rattle.sqlite_rules.specs.Lists.{Has}
 use Rattle.sql_rows.proofs.Entries.{AreApart, apart_permuted, found_has, has_found, some_none}
 use Rattle.sql_rows.proofs.Entries.{sorted_apart}
-use Rattle.book_model.specs.Records.{by_bytes}
+use Rattle.book_model.specs.Words.{by_bytes}
 use Rattle.kept_tables.specs.Tables.{Tables}
 use Rattle.kept_tables.specs.Views.{rows_with}
 use Rattle.book_statements.proofs.Orders.{names_exact, names_total}

@@ -7,8 +7,7 @@ use Rattle.sqlite_catalog.specs.Listing.{automatic}
 use Rattle.sqlite_schema.specs.declared.schema.Index.{Index}
 use Rattle.sql_rows.proofs.KeyValues.{blob_last, int_then, number_then, text_last, text_then}
 use Rattle.sql_rows.specs.Layouts.{IsKeyIndex, Layout}
-use Rattle.book_model.specs.Records.{by_bytes}
-use Rattle.book_model.specs.Rows.{by_key}
+use Rattle.book_model.specs.Words.{by_bytes, by_key}
 use Rattle.book_model.specs.declared.row.ChargeRow.{ChargeRow}
 use Rattle.book_model.specs.declared.row.RowKey.{RowKey}
 use Rattle.kept_tables.specs.Numbered.{by_period}

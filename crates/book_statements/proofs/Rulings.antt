@@ -17,10 +17,9 @@ use Rattle.book_statements.specs.Texts.{insert_close, insert_tariff, list_closes
 use Rattle.book_statements.proofs.KeptParts.{closes_kept, closes_simple, tariffs_kept}
 use Rattle.book_statements.proofs.KeptParts.{tariffs_simple}
 use Rattle.book_statements.proofs.Layouts.{closed_key, closed_layout, tariff_key, tariff_layout}
-use Rattle.book_statements.proofs.RulingMeaning.{insert_close_is, insert_tariff_is}
-use Rattle.book_statements.proofs.RulingMeaning.{list_closes_is, list_tariffs_is}
-use Rattle.book_statements.proofs.RulingMeaning.{close_names, tariff_names, two_columns}
-use Rattle.book_statements.proofs.RulingMeaning.{two_values}
+use Rattle.book_statements.proofs.RulingMeaning.{insert_close_is, insert_tariff_is, list_closes_is}
+use Rattle.book_statements.proofs.RulingMeaning.{list_tariffs_is, close_names, tariff_names}
+use Rattle.book_statements.proofs.RulingMeaning.{two_columns, two_values}
 
 -- nothing is left out where all pass
 all_pass : {X : Type 0} (xs : List X) → filter (λ x. true) xs ≡ xs

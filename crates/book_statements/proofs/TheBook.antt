@@ -1,6 +1,6 @@
 -- What the statements on the row of the book do to the tables.
-use Rattle.std.proofs.Common.{◌≡◌, ℕ, pos, List, [], ◌∷◌, Ok, refl, sym, ap, subst, ◌∙◌, arith}
-use Rattle.std.proofs.Common.{map, true, Some, slice_get}
+use Rattle.std.proofs.Common.{◌≡◌, ℕ, pos, List, [], ◌∷◌, Ok, refl, sym, ap, subst, ◌∙◌, arith, map}
+use Rattle.std.proofs.Common.{true, Some, slice_get}
 use Rattle.std.specs.Cmp.{IsTotalOrder}
 use Rattle.std.specs.List.Sorted.{IsPermutation}
 use Rattle.std.specs.Option.{option_map}
@@ -8,8 +8,7 @@ use Rattle.std.specs.Prelude.{filter}
 use Rattle.std.specs.FinMap.{IsAntisymmetric, empty}
 use Rattle.std.specs.declared.cmp.Ordering.{Ordering}
 use Rattle.sqlite.specs.Edit.{edit_of, edited}
-use Rattle.sqlite.specs.Order.{Row}
-use Rattle.sqlite.specs.Order.{column}
+use Rattle.sqlite.specs.Order.{Row, column}
 use Rattle.sqlite.specs.Rowids.TheVariants.{Chosen, Given}
 use Rattle.sqlite.specs.State.{Executes, Shown, State}
 use Rattle.sqlite.specs.Collation.TheVariants.{Binary}
@@ -40,8 +39,8 @@ use Rattle.book_statements.specs.Columns.{tariff_entry}
 use Rattle.book_statements.specs.Making.{HasEmpty, IsNew}
 use Rattle.book_statements.specs.Schema.{book_table, books_schema}
 use Rattle.book_statements.specs.Texts.{find_book, insert_book, set_book}
-use Rattle.book_statements.proofs.BookMeaning.{find_book_is, first_values, four}
-use Rattle.book_statements.proofs.BookMeaning.{insert_book_is, is_first, renewed, set_book_is}
+use Rattle.book_statements.proofs.BookMeaning.{find_book_is, first_values, four, insert_book_is}
+use Rattle.book_statements.proofs.BookMeaning.{is_first, renewed, set_book_is}
 use Rattle.book_statements.proofs.KeptParts.{same_held}
 use Rattle.book_statements.proofs.Orders.{days_total, days_exact, periods_total, periods_exact}
 use Rattle.book_statements.proofs.Orders.{names_total, names_exact, places_total, places_exact}

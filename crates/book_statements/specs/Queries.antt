@@ -10,14 +10,13 @@ use Rattle.sqlite.specs.Values.{or_null}
 use Rattle.sqlite.specs.declared.types.Value.TheVariants.{Int, Text}
 use Rattle.sql_rows.specs.Layouts.{AreListed}
 use Rattle.sql_rows.specs.RowMaps.{entry_at}
-use Rattle.book_model.specs.Records.{by_bytes}
+use Rattle.book_model.specs.Words.{by_bytes}
 use Rattle.book_model.specs.declared.row.ChargeRow.{ChargeRow}
 use Rattle.book_model.specs.declared.row.RowKey.{RowKey}
 use Rattle.kept_tables.specs.Numbered.{rows_under}
 use Rattle.kept_tables.specs.Tables.{BookRow, RecordRow, Tables}
 use Rattle.kept_tables.specs.Views.{rows_with}
-use Rattle.book_statements.specs.Columns.{record_columns, closed_columns, day_columns}
-use Rattle.book_statements.specs.Columns.{line_columns}
+use Rattle.book_statements.specs.Columns.{record_columns, closed_columns, day_columns, line_columns}
 
 -- the columns that are shown of the row of the book: all but its number
 abbrev pub book_shown : BookRow → Row

@@ -6,7 +6,7 @@ use Rattle.sqlite.specs.State.{State}
 use Rattle.sqlite.specs.declared.error.Error.{Error}
 use Rattle.sql_rows.specs.Steps as rows
 use Rattle.kept_tables.specs.Tables.{Tables}
-use Rattle.book_statements.specs.Keeps.{Keeps, Holds}
+use Rattle.book_statements.specs.Keeps.{Keeps}
 
 -- inside a transaction: what the tables were, they are now changed so
 abbrev pub Steps : State → State → (Tables → Tables) → Type 0
@@ -38,10 +38,6 @@ Committed old new change = rows.Committed old new (rows.Changes Keeps old new ch
 -- nothing is changed, and what the transaction saw is forgotten
 abbrev pub IsUndone : State → State → Type 0
 IsUndone = rows.IsUndone
-
--- what the commit may have put on the disk: the changed tables, whole
-abbrev pub MayHold : State → (Tables → Tables) → Trees → Type 0
-MayHold = rows.MayHold Keeps Holds
 
 -- after a refusal the last commit stands, and what is seen is as it was or is the last commit
 abbrev pub Stays : State → State → Type 0

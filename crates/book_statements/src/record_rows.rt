@@ -12,7 +12,7 @@ ghost use Rattle.book_statements.specs.RecordAnswers.{FindsDated, FindsRecord, F
 ghost use Rattle.book_statements.specs.RecordAnswers.{ListsUncharged};
 ghost use Rattle.book_statements.specs.Steps.{DoesInside, LooksUp};
 ghost use Rattle.book_statements.specs.Stored.{new_entry};
-ghost use Rattle.tariff_rules.specs.Price.{IsPriced};
+ghost use Rattle.book_model.specs.Words.{IsPriced};
 
 use crate::reading::{read_all, read_first};
 use crate::stored_record::StoredRecord;

@@ -6,34 +6,26 @@ use Rattle.std.specs.FinMap.{get}
 use Rattle.std.specs.Option.{option_map, option_map_or}
 use Rattle.sqlite.specs.State.{State}
 use Rattle.sqlite.specs.declared.error.Error.{Error}
-use Rattle.smf_frames.specs.Framed.{data_of}
-use Rattle.tariff_rules.specs.Price.{IsPriced}
+use Rattle.book_model.specs.Words.{data_of, IsPriced, accept_answer, Book, RecordKept, keep}
+use Rattle.book_model.specs.Words.{most_held, most_cost, accept_outcome, accept_event, Naming}
+use Rattle.book_model.specs.Words.{IsUsageRecord, name_of, same_bytes, price_in, price_under}
+use Rattle.book_model.specs.Words.{identity_of}
 use Rattle.tariff_rules.specs.declared.priced.Priced.{Priced}
 use Rattle.book_model.specs.declared.answer.Accepted.{Accepted}
 use Rattle.book_model.specs.declared.answer.Accepted.TheVariants.{Kept, Known, Unpriced}
 use Rattle.book_model.specs.declared.fault.LedgerFault.{LedgerFault}
 use Rattle.book_model.specs.declared.fault.LedgerFault.TheVariants.{Full, DigestClash}
-use Rattle.book_model.specs.Accept.{accept_answer, total_of}
-use Rattle.book_model.specs.Books.{Book}
-use Rattle.book_model.specs.Events.{Event, RecordKept, keep}
-use Rattle.book_model.specs.Limits.{most_held, most_cost}
-use Rattle.book_model.specs.Outcomes.{accept_outcome, accept_event}
-use Rattle.book_model.specs.Records.{Naming, IsUsageRecord, name_of, same_bytes}
-use Rattle.book_model.specs.Rulings.{Rulings, price_in, price_under}
-use Rattle.book_model.specs.Sets.{members}
 use Rattle.book_core.specs.Calls.{Makes}
 use Rattle.book_core.specs.Effects.{effects_of}
 use Rattle.kept_tables.specs.TableChanges.{put_new}
 use Rattle.kept_tables.specs.Tables.{BookRow, RecordRow, Tables}
 use Rattle.kept_tables.specs.TablesOf.{tables_of}
 use Rattle.kept_tables.specs.Views.{view_in}
-use Rattle.table_readings.specs.AcceptRead.{accept_read, row_answer, new_answer, keep_read}
-use Rattle.table_readings.specs.FromCalls.{IsHandedIn}
+use Rattle.table_readings.specs.AcceptRead.{row_answer, new_answer, keep_read}
 use Rattle.table_readings.proofs.AcceptLemmas.{accept_follows}
 use Rattle.table_readings.proofs.CallsLemmas.{calls_stay}
 use Rattle.table_readings.proofs.ReadableLemmas.{calls_read}
 use Rattle.table_readings.proofs.RulingsReading.{closes_back}
-use Rattle.smf_type30.specs.Usage.{identity_of}
 use Rattle.book_statements.specs.RecordAnswers.{FindsRecord}
 use Rattle.book_statements.specs.Stored.{stored_entry}
 use Rattle.book_statements.specs.declared.stored_record.StoredRecord.{StoredRecord}

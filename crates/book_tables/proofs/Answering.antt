@@ -1,15 +1,9 @@
 -- Answers that are no event.
-use Rattle.std.proofs.Common.{◌≡◌, ◌∙◌, ◌⊎◌, inl, Bool, true, false, Result, Ok, Err, List, [], None, refl, sym}
-use Rattle.std.proofs.Common.{ap, ℕ, not}
-use Rattle.std.specs.Prelude.{ℤ, if◌then◌else◌}
-use Rattle.book_model.specs.declared.answer.Ruled.{Ruled}
-use Rattle.book_model.specs.declared.answer.Ruled.TheVariants.{Done, Already}
+use Rattle.std.proofs.Common.{◌≡◌, inl, Ok, Err, [], None, refl, sym, ap}
 use Rattle.book_model.specs.declared.fault.LedgerFault.{LedgerFault}
 use Rattle.book_model.specs.declared.fault.LedgerFault.TheVariants.{Memory, Store, Reopen}
-use Rattle.book_model.specs.Events.{Event}
-use Rattle.book_model.specs.Outcomes.{Outcome}
+use Rattle.book_model.specs.Words.{Outcome}
 use Rattle.book_core.specs.Calls.{Makes, listed}
-use Rattle.book_tables.specs.Tries.{IsPlain}
 
 -- a refusal is answered, and makes no event
 pub makes_refused : {V A : Type 0} (view : V → A) (outcome : Outcome A) (fault : LedgerFault)

@@ -1,34 +1,26 @@
 -- A close that is tried: what it answers, and what it writes.
-use Rattle.std.proofs.Common.{◌≡◌, ◌≢◌, ◌∙◌, ℕ, suc, ◌+◌, ◌≤◌, List, [], ◌∷◌, length, refl, sym, ap, Bool}
-use Rattle.std.proofs.Common.{true, false, not, ◌&&◌, ◌||◌, Result, Ok, Err, Some, None, arith, cond, is_some, map, ◌++◌, ◌<◌, true≢false}
+use Rattle.std.proofs.Common.{◌≡◌, ◌≢◌, ◌∙◌, ℕ, suc, ◌+◌, ◌≤◌, List, [], ◌∷◌, length, refl, sym, ap}
+use Rattle.std.proofs.Common.{Bool, true, false, not, ◌&&◌, ◌||◌, Result, Ok, Err, None, arith}
+use Rattle.std.proofs.Common.{cond, is_some, map, ◌++◌, ◌<◌, true≢false}
 use Rattle.std.proofs.lemmas.Bool.{ltb-true, ltb-false}
 use Rattle.std.specs.Prelude.{nat_lt, ℤ, int_lt, if◌then◌else◌, ◌==◌}
-use Rattle.std.specs.FinMap.{contains_key, find, get, get-from_entries}
+use Rattle.std.specs.FinMap.{find, get-from_entries}
 use Rattle.std.specs.declared.cmp.Ordering.{Ordering}
 use Rattle.std.proofs.lemmas.List.{length-append, length-map}
-use Rattle.smf_text.specs.Day.{IsDay}
+use Rattle.book_model.specs.Words.{IsDay, Book, all_periods, open_number, open_period, PeriodClosed}
+use Rattle.book_model.specs.Words.{close, last_period, close_outcome, close_event, Naming, by_key}
+use Rattle.book_model.specs.Words.{close_answer, is_closed, is_early, IsSound}
 use Rattle.book_model.specs.declared.answer.Ruled.{Ruled}
 use Rattle.book_model.specs.declared.answer.Ruled.TheVariants.{Done, Already}
 use Rattle.book_model.specs.declared.fault.LedgerFault.{LedgerFault}
 use Rattle.book_model.specs.declared.fault.LedgerFault.TheVariants.{Full, NotLater, WrongPeriod}
-use Rattle.book_model.specs.declared.row.ChargeRow.{ChargeRow}
-use Rattle.book_model.specs.declared.row.RowKey.{RowKey}
-use Rattle.book_model.specs.Books.{Book, all_periods, open_number, open_period}
-use Rattle.book_model.specs.Events.{Event, PeriodClosed, close}
-use Rattle.book_model.specs.Limits.{last_period}
-use Rattle.book_model.specs.Outcomes.{close_outcome, close_event}
-use Rattle.book_model.specs.Records.{Naming}
-use Rattle.book_model.specs.Rows.{by_key}
-use Rattle.book_model.specs.RulingAnswers.{close_answer, is_closed, is_early}
-use Rattle.book_model.specs.Rulings.{last_close}
-use Rattle.book_model.specs.Sound.{IsSound}
 use Rattle.book_model.proofs.MapLemmas.{else_find, find-both}
 use Rattle.book_model.proofs.RowLemmas.{by_key_total}
 use Rattle.book_core.specs.Calls.{Makes}
 use Rattle.kept_tables.specs.MapChanges.{updated}
 use Rattle.kept_tables.specs.Numbered.{by_period, under, numbered}
-use Rattle.kept_tables.specs.TableChanges.{post, close_tables}
-use Rattle.kept_tables.specs.Tables.{RecordRow, Tables}
+use Rattle.kept_tables.specs.TableChanges.{close_tables}
+use Rattle.kept_tables.specs.Tables.{RecordRow}
 use Rattle.kept_tables.specs.TablesOf.{tables_of, day_entries}
 use Rattle.kept_tables.proofs.CloseDays.{closed_open}
 use Rattle.kept_tables.proofs.MoveLemmas.{not_number}

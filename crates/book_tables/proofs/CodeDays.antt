@@ -1,7 +1,7 @@
 -- Days, as the code hands them over.
 use Rattle.std.proofs.Common.{◌≡◌, ℤ, w32, to_z, of_z}
 use Rattle.std.proofs.lemmas.Int.{to_z-of_z}
-use Rattle.smf_text.specs.Day.{IsDay}
+use Rattle.book_model.specs.Words.{IsDay}
 use Rattle.book_core.proofs.DayLemmas.{day_fits}
 
 -- a day that the code holds is that day

@@ -1,6 +1,6 @@
 -- What a change of the charge rows writes, by the row that is at its place.
-use Rattle.std.proofs.Common.{◌≡◌, ◌∙◌, ℕ, Bool, true, false, Option, Some, None, refl, sym, ap, subst}
-use Rattle.std.proofs.Common.{Result, Ok}
+use Rattle.std.proofs.Common.{◌≡◌, ◌∙◌, ℕ, Bool, true, false, Option, Some, None, refl, sym, ap}
+use Rattle.std.proofs.Common.{subst, Result, Ok}
 use Rattle.std.specs.Option.{ok_or}
 use Rattle.sqlite.specs.State.{State}
 use Rattle.sqlite.specs.declared.error.Error.{Error}
@@ -9,17 +9,17 @@ use Rattle.std.specs.FinMap.{get, insert, remove}
 use Rattle.tariff_rules.specs.declared.priced.Priced.{Priced}
 use Rattle.book_model.specs.declared.row.ChargeRow.{ChargeRow}
 use Rattle.book_model.specs.declared.row.RowKey.{RowKey}
-use Rattle.book_model.specs.Rows.{key_of, row_at}
+use Rattle.book_model.specs.Words.{key_of, row_at}
 use Rattle.book_core.specs.declared.effect_table.DayChange.{DayChange}
 use Rattle.book_core.specs.declared.effect_table.DayChange.TheVariants.{Add, Take}
 use Rattle.kept_tables.specs.RowChanges.{with_price, less_price, take_at}
-use Rattle.kept_tables.specs.Tables.{DayTable, Tables}
+use Rattle.kept_tables.specs.Tables.{Tables}
 use Rattle.kept_tables.specs.TablesOf.{place_of}
 use Rattle.book_tables.specs.Commits.{Looks, Sees}
-use Rattle.book_tables.specs.DayRows.{IsAdded, IsTaken, taken_from}
+use Rattle.book_tables.specs.DayRows.{IsAdded, IsTaken}
 use Rattle.book_tables.specs.DayWrites.{day_written, CanWrite, Writes}
 use Rattle.book_tables.specs.declared.day_write.DayWrite.{DayWrite}
-use Rattle.book_tables.specs.declared.day_write.DayWrite.TheVariants.{Leave, Insert, Set, Delete}
+use Rattle.book_tables.specs.declared.day_write.DayWrite.TheVariants.{Leave, Set, Delete}
 use Rattle.book_tables.proofs.Refusals.{looks_told}
 use Rattle.book_tables.proofs.TryLemmas.{sees_found, sees_none, sees_so}
 

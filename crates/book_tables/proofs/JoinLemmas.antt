@@ -4,11 +4,10 @@ use Rattle.std.proofs.lemmas.List.{map-append}
 use Rattle.std.specs.Prelude.{All, if◌then◌else◌}
 use Rattle.std.specs.List.{AllByRecursion}
 use Rattle.std.proofs.lemmas.List.Elements.{All-cons, All-from_recursion, recursion_from_All}
-use Rattle.smf_text.specs.Day.{IsDay}
+use Rattle.book_model.specs.Words.{IsDay, Disputed, IsDispute, AreDisputes, dispute_shown}
+use Rattle.book_model.specs.Words.{same_bytes}
 use Rattle.book_model.specs.declared.dispute.Dispute.{Dispute}
 use Rattle.book_model.specs.declared.dispute.Variant.{Variant}
-use Rattle.book_model.specs.Disputes.{Disputed, IsDispute, AreDisputes, dispute_shown}
-use Rattle.book_model.specs.Records.{same_bytes}
 use Rattle.table_readings.specs.DisputesRead.{NamedRow, grouped, join_first, join_last, of_one}
 use Rattle.table_readings.specs.DisputesRead.{variant_read}
 use Rattle.book_tables.specs.DisputeReads.{IsShownRow}

@@ -8,11 +8,8 @@ use Rattle.std.proofs.lemmas.List.{take_more}
 use Rattle.std.proofs.lemmas.List.Elements.{filter_map-append}
 use Rattle.sqlite.specs.State.{State}
 use Rattle.sqlite.specs.declared.error.Error.{Error}
-use Rattle.smf_frames.specs.Framed.{record_with}
-use Rattle.smf_type30.specs.Usage.{job_of}
+use Rattle.book_model.specs.Words.{record_with, job_of, by_line, members, set_of}
 use Rattle.book_model.specs.declared.line.Line.{Line}
-use Rattle.book_model.specs.Lines.{by_line}
-use Rattle.book_model.specs.Sets.{members, set_of}
 use Rattle.kept_tables.specs.Numbered.{rows_under}
 use Rattle.kept_tables.specs.Reading.{line_read, lines_read}
 use Rattle.kept_tables.specs.Tables.{RecordRow, RecordTable, Tables}

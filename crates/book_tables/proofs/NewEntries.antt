@@ -1,19 +1,17 @@
 -- A new record that is written makes the tables that it is to make.
-use Rattle.std.proofs.Common.{◌≡◌, ◌∙◌, ℕ, ◌+◌, List, false, length, refl, sym, ap, subst, Result}
+use Rattle.std.proofs.Common.{◌≡◌, ◌∙◌, ℕ, ◌+◌, List, false, length, sym, ap, subst, Result}
 use Rattle.std.specs.List.{last_or}
 use Rattle.std.specs.Prelude.{None}
 use Rattle.std.specs.FinMap.{insert}
 use Rattle.sqlite.specs.State.{State}
 use Rattle.sqlite.specs.declared.error.Error.{Error}
-use Rattle.smf_frames.specs.Framed.{data_of}
-use Rattle.smf_type30.specs.Usage.{identity_of}
+use Rattle.book_model.specs.Words.{data_of, identity_of, last_close}
 use Rattle.tariff_rules.specs.declared.priced.Priced.{Priced}
-use Rattle.book_model.specs.Rulings.{last_close}
 use Rattle.book_core.specs.Effects.{effects_of}
 use Rattle.book_core.specs.declared.effect_table.Effects.{Effects}
 use Rattle.kept_tables.specs.RowChanges.{change_day, change_line, change_mark}
 use Rattle.kept_tables.specs.Tables.{RecordRow, Tables}
-use Rattle.kept_tables.specs.Views.{rows_with, view_in}
+use Rattle.kept_tables.specs.Views.{rows_with}
 use Rattle.table_readings.specs.AcceptRead.{view_with}
 use Rattle.book_statements.specs.Changes.{put_record_row, set_sums}
 use Rattle.book_statements.specs.Keeps.{Holds}

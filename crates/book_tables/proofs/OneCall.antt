@@ -1,25 +1,16 @@
 -- A call that is served is a call of a ledger.
-use Rattle.std.proofs.Common.{◌≡◌, ◌∙◌, ◌⊎◌, inl, inr, Bool, true, false, true≢false, IsTrue, List}
-use Rattle.std.proofs.Common.{[], ◌∷◌, Option, None, Some, Result, Ok, Err, refl, sym, ap, subst, arith, ◌||◌}
-use Rattle.sqlite.specs.Tree.{Trees}
-use Rattle.sqlite.specs.Effect.{Database}
+use Rattle.std.proofs.Common.{◌≡◌, ◌∙◌, ◌⊎◌, inl, inr, Bool, true, false, true≢false, [], Option}
+use Rattle.std.proofs.Common.{None, Some, Result, Ok, Err, refl, sym, ap, subst, ◌||◌}
 use Rattle.sqlite.specs.State.{State, HasCleanDisk, Survives}
 use Rattle.book_model.specs.declared.fault.LedgerFault.{LedgerFault}
-use Rattle.book_model.specs.declared.fault.LedgerFault.TheVariants.{Memory, Store, Reopen}
-use Rattle.book_model.specs.Books.{Book}
-use Rattle.book_model.specs.Events.{Event, after_any, after_all}
-use Rattle.book_model.specs.Outcomes.{Outcome}
-use Rattle.book_model.specs.Records.{Naming}
-use Rattle.book_core.specs.Ledgers.{Seen, StandsAt, stands_by, IsSettled}
-use Rattle.book_core.specs.Work.{ComesFrom, IsLeftAlone}
-use Rattle.book_core.specs.Calls.{Makes, Calls, IsCall, Reopens, is_store, is_reopen, listed}
-use Rattle.kept_tables.specs.TablesOf.{tables_of}
-use Rattle.table_readings.specs.BookIn.{book_in}
-use Rattle.book_statements.specs.Keeps.{Holds}
-use Rattle.book_tables.specs.TablesIn.{tables_in}
-use Rattle.book_tables.specs.Ready.{IsReadyAt, IsReady, IsKeptIn}
+use Rattle.book_model.specs.declared.fault.LedgerFault.TheVariants.{Store, Reopen}
+use Rattle.book_model.specs.Words.{Book, Event, after_any, after_all, Outcome, Naming}
+use Rattle.book_core.specs.Ledgers.{StandsAt, stands_by}
+use Rattle.book_core.specs.Work.{ComesFrom}
+use Rattle.book_core.specs.Calls.{Makes, Calls, IsCall, Reopens, is_store, listed}
+use Rattle.book_tables.specs.Ready.{IsReadyAt, IsReady}
 use Rattle.book_tables.specs.Shelf.{Shelf, told_by, LeftIn, AreBooks, seen_on}
-use Rattle.book_tables.specs.Tries.{MayKeep, Answered, Serves}
+use Rattle.book_tables.specs.Tries.{MayKeep, Serves}
 use Rattle.book_tables.specs.declared.summary.Summary.{Summary}
 use Rattle.book_tables.proofs.SurvivalLemmas.{clean_before}
 use Rattle.book_tables.specs.Told.{told_kept, told_ready, told_left, LeavesTheLast}

@@ -1,9 +1,7 @@
 -- A connection that keeps the tables of a book, with its summary, is an open ledger.
 use Rattle.std.proofs.Common.{◌≡◌, ◌∙◌, [], ap, false, refl, subst, sym}
-use Rattle.sqlite.specs.Effect.{Database}
 use Rattle.sqlite.specs.State.{State, HasCleanDisk}
-use Rattle.book_model.specs.Books.{Book, new_book}
-use Rattle.book_model.specs.Records.{Naming}
+use Rattle.book_model.specs.Words.{Book, new_book, Naming, no_rulings}
 use Rattle.book_core.specs.Ledgers.{IsOpenAt}
 use Rattle.kept_tables.specs.Keeping.{new_tables}
 use Rattle.kept_tables.specs.Tables.{Tables}
@@ -17,7 +15,6 @@ use Rattle.book_tables.specs.Shelf.{seen_on}
 use Rattle.book_tables.specs.Summaries.{ruled_in}
 use Rattle.book_tables.specs.Told.{told_ready}
 use Rattle.book_tables.specs.declared.summary.Summary.{Summary}
-use Rattle.book_model.specs.Rulings.{no_rulings}
 
 -- the ledger is open at the book
 pub opened : (naming : Naming) (state : State) (summary : Summary) (book : Book)

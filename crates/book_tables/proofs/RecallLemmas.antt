@@ -1,7 +1,7 @@
 -- The summary that is read is that of the tables, and so of their book.
-use Rattle.std.proofs.Common.{◌≡◌, ◌∙◌, ℕ, ℤ, zero, suc, List, [], ◌∷◌, ◌++◌, ap, arith, map, refl, subst, sym}
-use Rattle.std.proofs.Common.{None, Option, Some, slice_index_or, take, ◌<◌, ◌⊎◌, inl, inr}
-use Rattle.std.proofs.Common.{Bool, Err, IsTrue, Ok, Result, false, length, true, true≢false}
+use Rattle.std.proofs.Common.{◌≡◌, ◌∙◌, ℕ, ℤ, zero, suc, List, [], ◌∷◌, ◌++◌, ap, arith, map, refl}
+use Rattle.std.proofs.Common.{subst, sym, None, Option, Some, slice_index_or, take, ◌<◌, inl, inr}
+use Rattle.std.proofs.Common.{Err, Ok, Result, false, length}
 use Rattle.std.specs.Prelude.{All, IfErr, IfOk, IsErrAnd}
 use Rattle.std.specs.FinMap.{entries}
 use Rattle.std.specs.List.{AllZip, cons_option, filter_map}
@@ -10,35 +10,31 @@ use Rattle.std.proofs.lemmas.List.Elements.{All-cons}
 use Rattle.std.proofs.lemmas.Result.{err_from_is_err_and}
 use Rattle.sqlite.specs.State.{State, HasCleanDisk, Survives}
 use Rattle.sqlite.specs.declared.error.Error.{Error}
-use Rattle.smf_text.specs.Day.{IsDay}
-use Rattle.book_model.specs.Books.{Book}
-use Rattle.book_model.specs.Records.{Naming}
-use Rattle.book_model.specs.Rulings.{Rulings, Tariffed}
+use Rattle.book_model.specs.Words.{IsDay, Book, Naming, Rulings, Tariffed}
 use Rattle.book_model.specs.declared.fault.LedgerFault.{LedgerFault}
 use Rattle.book_model.specs.declared.fault.LedgerFault.TheVariants.{NotBooks}
 use Rattle.book_core.specs.Ledgers.{IsOpenAt}
 use Rattle.kept_tables.specs.Tables.{BookRow, Tables}
 use Rattle.kept_tables.specs.TablesOf.{tables_of}
-use Rattle.table_readings.specs.BookIn.{rulings_in, tariff_read}
+use Rattle.table_readings.specs.BookIn.{tariff_read}
 use Rattle.table_readings.specs.FromCalls.{IsFromCalls}
 use Rattle.table_readings.proofs.BookLemmas.{book_follows}
 use Rattle.table_readings.proofs.ReadableLemmas.{calls_read}
 use Rattle.book_statements.specs.BookAnswers.{book_of}
 use Rattle.book_statements.proofs.ReadRows.{zip_next}
-use Rattle.book_statements.specs.Keeps.{Keeps}
 use Rattle.book_statements.specs.Steps.{LooksUp}
 use Rattle.book_statements.specs.RulingAnswers.{close_of, tariff_of}
 use Rattle.book_statements.specs.declared.book_row.BookRow.{BookRow as Stored}
 use Rattle.book_statements.specs.declared.closed_rows.Close.{Close}
 use Rattle.book_statements.specs.declared.tariff_rows.StoredTariff.{StoredTariff}
-use Rattle.book_tables.specs.Commits.{IsSame, Keeping, Looked, Looks, Sees}
+use Rattle.book_tables.specs.Commits.{Keeping, Looked, Looks, Sees}
 use Rattle.book_tables.specs.Ready.{Remembers}
 use Rattle.book_tables.specs.Recalled.{HasDay, IsRead, IsRecalled, IsStoreFault, Reads, Recalls}
-use Rattle.book_tables.specs.Recalled.{SaysTariff, Shows, has_book_table}
+use Rattle.book_tables.specs.Recalled.{SaysTariff, Shows}
 use Rattle.book_tables.specs.Shelf.{seen_on}
 use Rattle.book_tables.specs.declared.summary.Summary.{Summary}
 use Rattle.book_tables.proofs.OpenLemmas.{opened}
-use Rattle.book_tables.proofs.SurvivalLemmas.{survives_none, survives_then}
+use Rattle.book_tables.proofs.SurvivalLemmas.{survives_then}
 use Rattle.book_tables.proofs.TryLemmas.{keeps_on, looks_refused, looks_up}
 
 -- a place within a list has its element, whatever stands for none
@@ -125,20 +121,6 @@ remembered naming book summary calls recalls =
       held = recalls.held;
       total = recalls.total;
     }
-
--- a database of books has a table of the book
-pub never_none : (state : State) → has_book_table state.now.schema ≡ false
-    → (tables : Tables) → Keeps state.now tables → ⊥
-never_none state none tables keeps =
-    true≢false (sym (ap has_book_table keeps.schema) ∙ none)
-
--- no such table: there are no books
-pub reads_none : (state : State) → has_book_table state.now.schema ≡ false
-    → Reads (Err NotBooks) state state
-reads_none state none = record {
-  survives = survives_none;
-  read = λ clean tables keeps. absurd (never_none state none tables keeps);
-}
 
 -- an answer of looks
 pub reads_answer : (old new : State) (answer : Result Summary LedgerFault)

@@ -10,7 +10,7 @@ use Rattle.std.proofs.lemmas.Cmp.{nat_list_cmp_total}
 use Rattle.std.proofs.lemmas.List.{get_or-map, length-map}
 use Rattle.std.proofs.lemmas.Map.Keys.{IsDistinct-from_sorted, sorted_from_all_adjacent}
 use Rattle.book_model.specs.declared.line.Line.{Line}
-use Rattle.book_model.specs.Records.{by_bytes, same_bytes}
+use Rattle.book_model.specs.Words.{by_bytes, same_bytes}
 use Rattle.book_model.proofs.SetLemmas.{same_bytes-by_cmp}
 
 -- each name below a place stands before the next one

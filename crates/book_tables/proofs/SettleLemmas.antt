@@ -1,24 +1,20 @@
 -- A call that was tried and settled is served.
-use Rattle.std.proofs.Common.{◌≡◌, ◌∙◌, ◌⊎◌, inl, inr, Bool, true, false, true≢false, IsTrue, Result, Ok}
-use Rattle.std.proofs.Common.{Err, refl, sym, ap, subst, arith, [], rules}
+use Rattle.std.proofs.Common.{◌≡◌, ◌∙◌, inl, inr, Bool, false, true≢false, Result, Ok, Err, refl}
+use Rattle.std.proofs.Common.{sym, ap, subst, [], rules}
 use Rattle.sqlite.specs.Held.{Held, state}
 use Rattle.sqlite.specs.Store.{Ghosts}
-use Rattle.sqlite.specs.Tree.{Trees}
 use Rattle.sqlite.specs.Effect.{Database}
 use Rattle.sqlite.specs.State.{State, HasCleanDisk, IsUnchanged, Survives}
 use Rattle.sqlite.specs.declared.error.Error.{Error}
 use Rattle.book_model.specs.declared.fault.LedgerFault.{LedgerFault}
-use Rattle.book_model.specs.declared.fault.LedgerFault.TheVariants.{Memory, Store}
-use Rattle.book_model.specs.Books.{Book}
-use Rattle.book_model.specs.Outcomes.{Outcome}
-use Rattle.book_model.specs.Records.{Naming}
+use Rattle.book_model.specs.Words.{Book, Outcome, Naming}
 use Rattle.book_core.specs.Calls.{IsCall, is_store, is_reopen}
 use Rattle.kept_tables.specs.TablesOf.{tables_of}
 use Rattle.book_statements.specs.Keeps.{Keeps}
 use Rattle.book_tables.specs.Ready.{IsReadyAt}
 use Rattle.book_tables.specs.Shelf.{Shelf, seen_on}
 use Rattle.book_tables.specs.Told.{LeavesTheLast}
-use Rattle.book_tables.specs.Tries.{MayKeep, Answered, Found, Tries, Ends, Settles, Serves, IsPlain}
+use Rattle.book_tables.specs.Tries.{Answered, Tries, Ends, Settles, Serves}
 use Rattle.book_tables.specs.declared.summary.Summary.{Summary}
 use Rattle.book_tables.proofs.OneCall.{call_served}
 use Rattle.book_tables.proofs.SurvivalLemmas.{clean_before, survives_then}

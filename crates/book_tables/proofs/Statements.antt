@@ -7,16 +7,6 @@ use Rattle.sql_rows.specs.Steps as rows
 use Rattle.book_tables.specs.Entries.{uncounted}
 use Rattle.book_tables.proofs.SurvivalLemmas.{clean_before, survives_then, survives_none}
 
--- a statement that was refused
-pub does_refused : {T U : Type 0} {old new : State} {Made Other : Type 0} {error : Error}
-    → rows.DoesInside {T = T} (Err error) old new Made
-    → rows.DoesInside {T = U} (Err error) old new Other
-does_refused does = record {
-  done = λ clean inside. tt;
-  kept = does.kept;
-  survives = does.survives;
-}
-
 -- a statement, and then others
 pub does_then : {T U : Type 0} {first middle last : State} {One Other Both : Type 0} {done : T}
     (result : Result U Error) → rows.DoesInside (Ok done) first middle One
@@ -46,18 +36,6 @@ does_then {U = U} {first} {middle} {last} {One} {Other} {Both} result one other 
       inside = late.inside;
     }
     both (Err error) early late = tt
-
--- a statement that was made, told with another answer
-pub does_so : {T U : Type 0} {old new : State} {One Other : Type 0} {done : T} {told : U}
-    → rows.DoesInside (Ok done) old new One → (One → Other)
-    → rows.DoesInside (Ok told) old new Other
-does_so does so = record {
-  done = λ clean inside.
-      let step = does.done clean inside in
-      record { made = so step.made; committed = step.committed; inside = step.inside };
-  kept = does.kept;
-  survives = does.survives;
-}
 
 -- a statement, whatever it counted, told in other words
 pub does_uncounted : {first last : State} {One Other : Type 0} (made : Result ℕ Error)

@@ -1,5 +1,5 @@
 -- What survives two calls.
-use Rattle.std.proofs.Common.{◌≡◌, ◌∙◌, ◌⊎◌, inl, inr, IsTrue, arith, rules, refl}
+use Rattle.std.proofs.Common.{◌∙◌, inl, inr, arith, rules, refl}
 use Rattle.sqlite.specs.Tree.{Trees}
 use Rattle.sqlite.specs.State.{State, HasCleanDisk, Survives}
 

@@ -1,24 +1,16 @@
 -- A tariff that is tried: what it answers, and what it writes.
-use Rattle.std.proofs.Common.{◌≡◌, ◌≢◌, ◌∙◌, ◌⊎◌, inl, inr, ℕ, List, [], ◌∷◌, ◌++◌, refl, sym, ap, subst}
-use Rattle.std.proofs.Common.{Bool, true, false, not, Result, Ok, Err, Some, None}
-use Rattle.std.specs.Prelude.{if◌then◌else◌, int_lt}
-use Rattle.std.specs.FinMap.{values}
-use Rattle.std.specs.List.{list_any, list_all}
+use Rattle.std.proofs.Common.{◌≡◌, ◌≢◌, ◌∙◌, inl, inr, ℕ, List, [], ◌∷◌, ◌++◌, refl, sym, ap, subst}
+use Rattle.std.proofs.Common.{Bool, true, false, Result, Ok, Err, Some}
+use Rattle.std.specs.Prelude.{if◌then◌else◌}
+use Rattle.std.specs.List.{list_any}
 use Rattle.sqlite.specs.State.{State}
-use Rattle.smf_text.specs.Day.{IsDay}
-use Rattle.tariff_rules.specs.Terms.{Terms}
-use Rattle.tariff_rules.specs.TariffFile.{terms_in}
-use Rattle.tariff_rules.specs.declared.fault.TariffFault.{TariffFault}
+use Rattle.book_model.specs.Words.{IsDay, Terms, terms_in, Book, TariffAccepted, put_in_force}
+use Rattle.book_model.specs.Words.{tariff_outcome, tariff_event, Naming, has_text, is_effective}
+use Rattle.book_model.specs.Words.{is_later, terms_answer, tariff_answer, Rulings, are_rising}
 use Rattle.book_model.specs.declared.answer.Ruled.{Ruled}
 use Rattle.book_model.specs.declared.answer.Ruled.TheVariants.{Done, Already}
 use Rattle.book_model.specs.declared.fault.LedgerFault.{LedgerFault}
-use Rattle.book_model.specs.declared.fault.LedgerFault.TheVariants.{Memory, RecordsDated, TariffRefused}
-use Rattle.book_model.specs.Books.{Book}
-use Rattle.book_model.specs.Events.{TariffAccepted, put_in_force}
-use Rattle.book_model.specs.Outcomes.{tariff_outcome, tariff_event}
-use Rattle.book_model.specs.Records.{Naming}
-use Rattle.book_model.specs.RulingAnswers.{has_text, is_effective, is_later, terms_answer, tariff_answer}
-use Rattle.book_model.specs.Rulings.{Rulings, Tariffed, are_rising}
+use Rattle.book_model.specs.declared.fault.LedgerFault.TheVariants.{RecordsDated}
 use Rattle.book_model.proofs.CallLemmas.{by_tests}
 use Rattle.book_model.proofs.LatestLemmas.{rising-behind}
 use Rattle.book_core.specs.Calls.{Makes}

@@ -1,6 +1,6 @@
 -- A whole transaction is one commit.
-use Rattle.std.proofs.Common.{◌≡◌, ◌∙◌, ◌⊎◌, inl, inr, Bool, true, false, IsTrue, Result, Ok, Err, refl}
-use Rattle.std.proofs.Common.{sym, ap, subst, true≢false}
+use Rattle.std.proofs.Common.{◌≡◌, ◌∙◌, true, false, IsTrue, Result, Ok, Err, refl, sym, subst}
+use Rattle.std.proofs.Common.{true≢false}
 use Rattle.std.specs.Prelude.{OnOk, OnErr, IsOk}
 use Rattle.sqlite.specs.Effect.{Database}
 use Rattle.sqlite.specs.Tree.{Trees}
@@ -12,8 +12,8 @@ use Rattle.kept_tables.specs.Tables.{Tables}
 use Rattle.book_statements.specs.Keeps.{Keeps, Holds}
 use Rattle.sql_rows.specs.Steps.{StepsInside, Changes, ChangesWhere}
 use Rattle.book_statements.specs.Steps.{DoesInside, DoesWhere}
-use Rattle.book_tables.specs.Commits.{IsAtRest, IsSame, MayWrite, Keeping, IsDone, CommitsOne}
-use Rattle.book_tables.proofs.SurvivalLemmas.{clean_before, survives_both, survives_none}
+use Rattle.book_tables.specs.Commits.{IsAtRest, MayWrite, IsDone, CommitsOne}
+use Rattle.book_tables.proofs.SurvivalLemmas.{clean_before, survives_both}
 
 module _ {S T : Type 0} (ghosts : Ghosts S) (first begun last end : Held S)
     (When : Tables → Type 0) (change : Tables → Tables)

@@ -1,27 +1,26 @@
 -- A call that is tried: looks at the tables, and then an answer, a refusal or a commit.
-use Rattle.std.proofs.Common.{◌≡◌, ◌∙◌, ◌⊎◌, inl, inr, IsTrue, Result, Ok, Err, Some, Option, List, []}
-use Rattle.std.proofs.Common.{◌∷◌, refl, sym, ap, subst, true≢false}
+use Rattle.std.proofs.Common.{◌≡◌, ◌∙◌, inl, inr, IsTrue, Result, Ok, Err, Some, [], ◌∷◌, refl, sym}
+use Rattle.std.proofs.Common.{ap, subst, true≢false}
 use Rattle.std.specs.Prelude.{IfOk, OnErr, IsErr}
 use Rattle.sqlite.specs.Effect.{Database}
 use Rattle.sqlite.specs.Tree.{Trees}
 use Rattle.sqlite.specs.State.{State, HasCleanDisk, Survives, IsUnchanged}
 use Rattle.sqlite.specs.declared.error.Error.{Error}
 use Rattle.book_model.specs.declared.fault.LedgerFault.{LedgerFault}
-use Rattle.book_model.specs.Books.{Book}
-use Rattle.book_model.specs.Events.{Event, after, after_any}
-use Rattle.book_model.specs.Outcomes.{Outcome}
-use Rattle.book_model.specs.Records.{Naming}
+use Rattle.book_model.specs.Words.{Book, Event, after, after_any, Outcome, Naming}
 use Rattle.book_core.specs.Calls.{Makes, listed}
 use Rattle.kept_tables.specs.Tables.{Tables}
 use Rattle.kept_tables.specs.TablesOf.{tables_of}
 use Rattle.table_readings.specs.FromCalls.{IsFromCalls}
 use Rattle.book_statements.specs.Keeps.{Keeps, Holds}
 use Rattle.book_statements.specs.Steps.{LooksUp, Stays, CommitsNothing}
-use Rattle.book_tables.specs.Commits.{IsAtRest, IsSame, Sees, Looked, Looks, MayWrite, Keeping, IsDone, CommitsOne}
+use Rattle.book_tables.specs.Commits.{IsAtRest, IsSame, Sees, Looked, Looks, MayWrite, IsDone}
+use Rattle.book_tables.specs.Commits.{CommitsOne}
 use Rattle.book_tables.specs.Ready.{IsReadyAt, IsKeptIn, Remembers}
-use Rattle.book_tables.specs.Tries.{MayKeep, IsPlain, Answered, Found, Tries}
+use Rattle.book_tables.specs.Tries.{MayKeep, IsPlain, Found, Tries}
 use Rattle.book_tables.specs.declared.summary.Summary.{Summary}
-use Rattle.book_tables.proofs.SurvivalLemmas.{clean_before, survives_both, survives_none, survives_so}
+use Rattle.book_tables.proofs.SurvivalLemmas.{clean_before, survives_both, survives_none}
+use Rattle.book_tables.proofs.SurvivalLemmas.{survives_so}
 
 -- ---- looks
 
@@ -189,16 +188,6 @@ commit_refused {old = old} {middle = middle} {new = new} sees looks = record {
       let seen = sees.seen (clean_before looks.survives clean) tables keeps in
       same_then seen.2 (looks.looked clean tables (keeps_on seen.2 keeps)
       (rest_on rest (seen.1 rest.is_open) seen.2) is_open);
-}
-
--- looks, behind which no commit was tried
-pub commit_stopped : {T : Type 0} {old new : State} {Known When : Tables → Type 0}
-    {change : Tables → Tables} {error : Error} → Sees old new Known
-    → CommitsOne {T = T} (Err error) old new When change
-commit_stopped sees = record {
-  survives = survives_so sees.survives
-      (λ clean trees none tables keeps when. absurd (none tables keeps));
-  done = λ clean rest tables keeps when is_open. (sees.seen clean tables keeps).2;
 }
 
 -- ---- calls

@@ -1,6 +1,5 @@
 -- Looks at the tables, and a change of them that is one commit.
 use Rattle.std.specs.Prelude.{◌≡◌, IsTrue, Result, Ok, Err}
-use Rattle.sqlite.specs.Effect.{Database}
 use Rattle.sqlite.specs.Tree.{Trees}
 use Rattle.sqlite.specs.State.{State, HasCleanDisk, Survives}
 use Rattle.sqlite.specs.declared.error.Error.{Error}

@@ -2,7 +2,7 @@
 use Rattle.std.specs.Prelude.{◌≡◌, ◌==◌, if◌then◌else◌, Option, Some, None, []}
 use Rattle.tariff_rules.specs.declared.priced.Priced.{Priced}
 use Rattle.book_model.specs.declared.row.ChargeRow.{ChargeRow}
-use Rattle.book_model.specs.Rows.{key_of, row_at}
+use Rattle.book_model.specs.Words.{key_of, row_at}
 use Rattle.kept_tables.specs.RowChanges.{with_price, less_price}
 use Rattle.book_tables.specs.declared.day_write.DayWrite.{DayWrite}
 use Rattle.book_tables.specs.declared.day_write.DayWrite.TheVariants.{Leave, Insert, Set, Delete}

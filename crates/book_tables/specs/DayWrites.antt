@@ -1,7 +1,6 @@
 -- What is written to the charge rows of the open period.
 use Rattle.std.specs.Prelude.{◌≡◌, ℕ, Option}
 use Rattle.std.specs.FinMap.{insert, remove}
-use Rattle.book_model.specs.declared.row.ChargeRow.{ChargeRow}
 use Rattle.book_core.specs.declared.effect_table.DayChange.{DayChange}
 use Rattle.kept_tables.specs.RowChanges.{change_day}
 use Rattle.kept_tables.specs.Tables.{DayTable, Tables}

@@ -1,7 +1,6 @@
 -- Records that are not charged, as disputes are made of them.
 use Rattle.std.specs.Prelude.{◌≡◌, length}
-use Rattle.smf_text.specs.Day.{IsDay}
-use Rattle.smf_type30.specs.Usage.{identity_length}
+use Rattle.book_model.specs.Words.{IsDay, identity_length}
 use Rattle.table_readings.specs.DisputesRead.{NamedRow}
 
 -- a row that a dispute can show: the identity has the length that its parts need, and the record is

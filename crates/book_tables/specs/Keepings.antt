@@ -1,7 +1,6 @@
 -- How the tables change by a new record, by what a ledger remembers.
 use Rattle.std.specs.Prelude.{ℕ, ◌+◌, List, length}
-use Rattle.std.specs.List.{last_or}
-use Rattle.smf_type30.specs.Usage.{identity_of}
+use Rattle.book_model.specs.Words.{identity_of}
 use Rattle.tariff_rules.specs.declared.priced.Priced.{Priced}
 use Rattle.book_core.specs.Effects.{effects_of}
 use Rattle.book_core.specs.declared.effect_table.Effects.{Effects}

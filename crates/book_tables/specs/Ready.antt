@@ -3,10 +3,7 @@
 use Rattle.std.specs.Prelude.{◌≡◌, IsTrue, length}
 use Rattle.sqlite.specs.Tree.{Trees}
 use Rattle.sqlite.specs.State.{State}
-use Rattle.book_model.specs.Accept.{total_of}
-use Rattle.book_model.specs.Books.{Book}
-use Rattle.book_model.specs.Records.{Naming}
-use Rattle.book_model.specs.Sets.{members}
+use Rattle.book_model.specs.Words.{total_of, Book, Naming, members}
 use Rattle.kept_tables.specs.TablesOf.{tables_of}
 use Rattle.table_readings.specs.FromCalls.{IsFromCalls}
 use Rattle.book_statements.specs.Keeps.{Keeps, Holds}

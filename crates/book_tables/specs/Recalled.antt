@@ -1,12 +1,10 @@
 -- What is read of a database when its books are opened.
-use Rattle.std.specs.Prelude.{◌≡◌, ◌⊎◌, Bool, codes, IsTrue, List, Option, Some, Result, Ok, Err, ℤ}
+use Rattle.std.specs.Prelude.{◌≡◌, ◌⊎◌, Bool, codes, IsTrue, List, Some, Result, Ok, Err, ℤ}
 use Rattle.std.specs.List.{AllZip, list_any}
 use Rattle.sqlite.specs.Schema.{Schema}
 use Rattle.sqlite.specs.Table.{Table}
 use Rattle.sqlite.specs.State.{State, HasCleanDisk, Survives}
-use Rattle.smf_text.specs.Day.{IsDay}
-use Rattle.book_model.specs.Records.{same_bytes}
-use Rattle.book_model.specs.Rulings.{Tariffed}
+use Rattle.book_model.specs.Words.{IsDay, same_bytes, Tariffed}
 use Rattle.book_model.specs.declared.fault.LedgerFault.{LedgerFault}
 use Rattle.book_model.specs.declared.fault.LedgerFault.TheVariants.{Memory, Store, NotBooks}
 use Rattle.kept_tables.specs.Tables.{Tables}

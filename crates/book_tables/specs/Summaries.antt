@@ -1,14 +1,11 @@
 -- The rulings that a summary has.
 use Rattle.std.specs.Prelude.{ℕ, not, if◌then◌else◌, List, Result, Ok, Err}
 use Rattle.std.specs.List.{list_any}
-use Rattle.tariff_rules.specs.Terms.{Terms}
+use Rattle.book_model.specs.Words.{Terms, Book, new_book, has_text, is_effective, is_later, Rulings}
 use Rattle.book_model.specs.declared.answer.Ruled.{Ruled}
 use Rattle.book_model.specs.declared.answer.Ruled.TheVariants.{Done, Already}
 use Rattle.book_model.specs.declared.fault.LedgerFault.{LedgerFault}
 use Rattle.book_model.specs.declared.fault.LedgerFault.TheVariants.{TariffDate, TariffExists}
-use Rattle.book_model.specs.Books.{Book, new_book}
-use Rattle.book_model.specs.RulingAnswers.{has_text, is_effective, is_later}
-use Rattle.book_model.specs.Rulings.{Rulings}
 use Rattle.book_tables.specs.declared.summary.Summary.{Summary}
 
 -- the tariffs and the closes that a ledger remembers

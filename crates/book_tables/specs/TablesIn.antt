@@ -1,11 +1,10 @@
 -- The tables that trees tell, whatever they hold.
-use Rattle.std.specs.Prelude.{ℕ, ℤ, pos, negsuc, Bool, false, true, List, [], ◌∷◌, map, ◌==◌, not, Option, Some}
+use Rattle.std.specs.Prelude.{ℕ, ℤ, pos, negsuc, Bool, List, [], ◌∷◌, map, ◌==◌, not}
 use Rattle.std.specs.FinMap.{from_entries}
 use Rattle.sqlite.specs.Order.{Row, column, bytes}
 use Rattle.sqlite.specs.Tree.{Trees}
 use Rattle.sqlite_rules.specs.Edit.{id_in}
 use Rattle.book_model.specs.declared.row.ChargeRow.{ChargeRow}
-use Rattle.book_model.specs.declared.row.RowKey.{RowKey}
 use Rattle.kept_tables.specs.Tables.{BookRow, RecordRow, Tables}
 use Rattle.book_statements.specs.Columns.{tariff_entry, day_entry, itself}
 

@@ -1,23 +1,20 @@
 -- Trees that hold tables tell them.
-use Rattle.std.proofs.Common.{◌≡◌, ◌∙◌, ap, refl, sym, Bool, true, false, ℤ, ℕ, List, [], ◌∷◌, not}
+use Rattle.std.proofs.Common.{◌≡◌, ap, refl, sym, Bool, true, false, ℤ, ℕ, List, ◌∷◌, not}
 use Rattle.std.specs.Prelude.{◌==◌}
 use Rattle.std.specs.Cmp.{nat_cmp_total}
 use Rattle.std.specs.FinMap.{int_cmp-IsAntisymmetric, nat_cmp-IsAntisymmetric}
 use Rattle.std.proofs.lemmas.Cmp.{nat_list_cmp_total, int_cmp_total}
 use Rattle.std.proofs.lemmas.Map.Lookups.{exact_bytes}
-use Rattle.sqlite.specs.Order.{Row}
 use Rattle.sqlite.specs.Tree.{Trees}
 use Rattle.sqlite.specs.declared.types.Value.TheVariants.{Int}
-use Rattle.book_model.specs.declared.row.ChargeRow.{ChargeRow}
-use Rattle.book_model.specs.Records.{by_bytes}
-use Rattle.book_model.specs.Rows.{by_key}
+use Rattle.book_model.specs.Words.{by_bytes, by_key}
 use Rattle.book_model.proofs.RowLemmas.{by_key_total, by_key_exact}
-use Rattle.kept_tables.specs.Tables.{BookRow, RecordRow, Tables}
+use Rattle.kept_tables.specs.Tables.{RecordRow, Tables}
 use Rattle.kept_tables.proofs.NumberedLemmas.{by_period_total, by_period_exact}
 use Rattle.sql_rows.proofs.Holding.{holds_read}
-use Rattle.book_statements.specs.Columns.{book_columns, tariff_columns, tariff_entry}
-use Rattle.book_statements.specs.Columns.{closed_columns, record_columns, day_columns, day_entry}
-use Rattle.book_statements.specs.Columns.{line_columns, itself, flag}
+use Rattle.book_statements.specs.Columns.{tariff_columns, tariff_entry, closed_columns}
+use Rattle.book_statements.specs.Columns.{record_columns, day_columns, day_entry, line_columns}
+use Rattle.book_statements.specs.Columns.{itself, flag}
 use Rattle.book_statements.specs.Keeps.{Holds}
 use Rattle.book_tables.specs.TablesIn.{tables_in, tariff_in, closed_in, record_in, day_in, line_in}
 use Rattle.book_tables.specs.TablesIn.{book_row_in, count_of}

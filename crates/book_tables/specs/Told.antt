@@ -3,15 +3,14 @@ use Rattle.std.proofs.Common.{◌≡◌, ◌∙◌, IsTrue, sym, ap}
 use Rattle.sqlite.specs.Tree.{Trees}
 use Rattle.sqlite.specs.Effect.{Database}
 use Rattle.sqlite.specs.State.{State, HasCleanDisk}
-use Rattle.book_model.specs.Books.{Book}
-use Rattle.book_model.specs.Records.{Naming}
+use Rattle.book_model.specs.Words.{Book, Naming}
 use Rattle.book_core.specs.Ledgers.{IsSettled}
 use Rattle.kept_tables.specs.TablesOf.{tables_of}
 use Rattle.table_readings.specs.BookIn.{book_in}
 use Rattle.table_readings.proofs.BookLemmas.{book_follows}
 use Rattle.table_readings.proofs.ReadableLemmas.{calls_read}
 use Rattle.book_tables.specs.Ready.{IsReadyAt, IsKeptIn}
-use Rattle.book_tables.specs.Shelf.{Shelf, told_by, LeftIn, AreBooks, seen_on}
+use Rattle.book_tables.specs.Shelf.{Shelf, told_by, AreBooks, seen_on}
 use Rattle.book_tables.specs.TablesRead.{tables_read}
 use Rattle.book_tables.specs.declared.summary.Summary.{Summary}
 

@@ -7,10 +7,7 @@ use Rattle.sqlite.specs.State.{State, HasCleanDisk, IsUnchanged, Survives}
 use Rattle.sqlite.specs.declared.error.Error.{Error}
 use Rattle.book_model.specs.declared.fault.LedgerFault.{LedgerFault}
 use Rattle.book_model.specs.declared.fault.LedgerFault.TheVariants.{Memory, Store}
-use Rattle.book_model.specs.Books.{Book}
-use Rattle.book_model.specs.Events.{Event, after_any, after_all}
-use Rattle.book_model.specs.Outcomes.{Outcome}
-use Rattle.book_model.specs.Records.{Naming}
+use Rattle.book_model.specs.Words.{Book, Event, after_any, after_all, Outcome, Naming}
 use Rattle.book_core.specs.Calls.{Makes, is_store, is_reopen}
 use Rattle.book_tables.specs.Ready.{IsReadyAt, IsKeptIn}
 use Rattle.book_tables.specs.Shelf.{Shelf}

@@ -2,10 +2,8 @@
 
 ghost use Rattle.std.specs.Prelude.{◌≡◌, Ok, Err, false, if◌then◌else◌};
 ghost use Rattle.sqlite.specs.Held.{state};
-ghost use Rattle.smf_frames.specs.Framed.{data_of};
-ghost use Rattle.tariff_rules.specs.Price.{IsPriced};
-ghost use Rattle.book_model.specs.Outcomes.{accept_outcome};
-ghost use Rattle.book_model.specs.Records.{IsUsageRecord, same_bytes};
+ghost use Rattle.book_model.specs.Words.{data_of, IsPriced, accept_outcome, IsUsageRecord};
+ghost use Rattle.book_model.specs.Words.{same_bytes};
 ghost use Rattle.book_tables.specs.Commits.{CommitsOne};
 ghost use Rattle.book_tables.specs.Entries.{AreRemembered};
 ghost use Rattle.book_tables.specs.Keepings.{keep_as};

@@ -4,11 +4,8 @@ ghost use Rattle.std.specs.Prelude.{◌≡◌, IfOk, IfSome, IsTrue, false, map,
 ghost use Rattle.std.specs.List.{IsDistinct};
 ghost use Rattle.std.specs.Ordering.{is_lt};
 ghost use Rattle.sqlite.specs.Held.{state};
-ghost use Rattle.smf_text.specs.Day.{IsDay};
-ghost use Rattle.book_model.specs.Lines.{AreLines, by_line};
-ghost use Rattle.book_model.specs.Outcomes.{adjustments_outcome};
-ghost use Rattle.book_model.specs.Records.{Naming, by_bytes, same_bytes};
-ghost use Rattle.book_model.specs.Sets.{members, set_of};
+ghost use Rattle.book_model.specs.Words.{IsDay, AreLines, by_line, adjustments_outcome, Naming};
+ghost use Rattle.book_model.specs.Words.{by_bytes, same_bytes, members, set_of};
 ghost use Rattle.book_tables.specs.Commits.{Looks};
 ghost use Rattle.book_tables.specs.LineReads.{line_stored, lines_stored};
 ghost use Rattle.book_tables.specs.Tries.{Tries};

@@ -2,10 +2,7 @@
 
 ghost use Rattle.std.specs.Prelude.{◌≡◌, ◌+◌, IfOk, IfSome, IsTrue, false};
 ghost use Rattle.sqlite.specs.Held.{state};
-ghost use Rattle.smf_text.specs.Day.{IsDay};
-ghost use Rattle.book_model.specs.Outcomes.{charges_outcome};
-ghost use Rattle.book_model.specs.Records.{Naming};
-ghost use Rattle.book_model.specs.Rows.{AreRows};
+ghost use Rattle.book_model.specs.Words.{IsDay, charges_outcome, Naming, AreRows};
 ghost use Rattle.book_tables.specs.Tries.{Tries};
 
 use crate::days::is_day;

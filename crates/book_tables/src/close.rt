@@ -2,9 +2,7 @@
 
 ghost use Rattle.std.specs.Prelude.{◌≡◌, false};
 ghost use Rattle.sqlite.specs.Held.{state};
-ghost use Rattle.smf_text.specs.Day.{IsDay};
-ghost use Rattle.book_model.specs.Outcomes.{close_outcome};
-ghost use Rattle.book_model.specs.Records.{Naming};
+ghost use Rattle.book_model.specs.Words.{IsDay, close_outcome, Naming};
 ghost use Rattle.book_statements.specs.Days.{NoneNext};
 ghost use Rattle.book_statements.specs.Steps.{DoesWhere};
 ghost use Rattle.book_tables.specs.Closings.{close_written};

@@ -2,7 +2,7 @@
 
 ghost use Rattle.std.specs.Prelude.{◌≡◌, ◌<◌, ◌^◌, false};
 ghost use Rattle.sqlite.specs.Held.{state};
-ghost use Rattle.tariff_rules.specs.Price.{IsPriced};
+ghost use Rattle.book_model.specs.Words.{IsPriced};
 ghost use Rattle.book_statements.specs.Steps.{DoesInside, DoesWhere};
 ghost use Rattle.book_tables.specs.Commits.{CommitsOne};
 ghost use Rattle.book_tables.specs.DayWrites.{CanWrite, WriteFits};

@@ -1,7 +1,7 @@
 //! Days that a report can show.
 
 ghost use Rattle.std.specs.Prelude.{IsTrue};
-ghost use Rattle.smf_text.specs.Day.{IsDay};
+ghost use Rattle.book_model.specs.Words.{IsDay};
 
 use smf_text::{FIRST_DAY, LAST_DAY};
 

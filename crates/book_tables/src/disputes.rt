@@ -2,9 +2,7 @@
 
 ghost use Rattle.std.specs.Prelude.{◌≡◌, All, IfOk, IsTrue, false, map};
 ghost use Rattle.sqlite.specs.Held.{state};
-ghost use Rattle.book_model.specs.Disputes.{AreDisputes, dispute_shown};
-ghost use Rattle.book_model.specs.Outcomes.{disputes_outcome};
-ghost use Rattle.book_model.specs.Records.{Naming};
+ghost use Rattle.book_model.specs.Words.{AreDisputes, dispute_shown, disputes_outcome, Naming};
 ghost use Rattle.book_statements.specs.Stored.{stored_entry};
 ghost use Rattle.table_readings.specs.DisputesRead as reading;
 ghost use Rattle.table_readings.specs.DisputesRead.{join_last, of_one, variant_read};

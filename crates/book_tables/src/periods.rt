@@ -2,9 +2,7 @@
 
 ghost use Rattle.std.specs.Prelude.{◌≡◌, All, IfOk};
 ghost use Rattle.sqlite.specs.Held.{state};
-ghost use Rattle.smf_text.specs.Day.{IsDay};
-ghost use Rattle.book_model.specs.Outcomes.{periods_outcome};
-ghost use Rattle.book_model.specs.Records.{Naming};
+ghost use Rattle.book_model.specs.Words.{IsDay, periods_outcome, Naming};
 ghost use Rattle.book_tables.specs.Tries.{Tries};
 
 use crate::summary::Summary;

@@ -3,8 +3,7 @@
 ghost use Rattle.std.specs.Prelude.{◌≡◌, ◌≤◌, Err, IfErr, IfOk, IsTrue, false, true};
 ghost use Rattle.std.specs.List.{AllZip};
 ghost use Rattle.sqlite.specs.Held.{state};
-ghost use Rattle.book_model.specs.Limits.{most_cost, most_held};
-ghost use Rattle.book_model.specs.Rulings.{are_rising};
+ghost use Rattle.book_model.specs.Words.{most_cost, most_held, are_rising};
 ghost use Rattle.book_tables.specs.Commits.{Looks};
 ghost use Rattle.book_tables.specs.Recalled.{HasDay, IsOpenFault, IsRecalled, IsStoreFault};
 ghost use Rattle.book_tables.specs.Recalled.{Reads, SaysTariff, Shows};

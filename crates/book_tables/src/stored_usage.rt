@@ -2,7 +2,7 @@
 
 ghost use Rattle.std.specs.Prelude.{◌≡◌, ◌≤◌, IfOk, length};
 ghost use Rattle.smf_frames.specs.Framed as framed;
-ghost use Rattle.smf_type30.specs.Class.{IsUsage};
+ghost use Rattle.book_model.specs.Words.{IsUsage};
 
 use smf_frames::MAX_DATA;
 use smf_type30::{Class, class};

@@ -1,9 +1,7 @@
 //! What a ledger in tables remembers of its book, so that it looks up no more than it has to.
 
 ghost use Rattle.std.specs.Prelude.{◌≡◌, ◌≢◌, ◌≤◌, ◌<◌, All, Ok, false, length, true};
-ghost use Rattle.smf_text.specs.Day.{IsDay};
-ghost use Rattle.book_model.specs.Limits.{last_period, most_cost, most_held};
-ghost use Rattle.book_model.specs.Rulings.{are_rising};
+ghost use Rattle.book_model.specs.Words.{IsDay, last_period, most_cost, most_held, are_rising};
 
 use book_core::{
     AcceptedTariff, LAST_PERIOD, LedgerFault, Ruled, are_before, has_day_of, has_text, is_after,
@@ -41,7 +39,7 @@ pub(crate) fn is_done(answer: &Result<Ruled, LedgerFault>) -> bool
 
 impl Summary {
     ghost use Rattle.std.specs.Prelude.{◌≡◌, ◌+◌, ◌≤◌, length};
-    ghost use Rattle.smf_text.specs.Day.{IsDay};
+    ghost use Rattle.book_model.specs.Words.{IsDay};
     ghost use Rattle.book_model.specs.RulingAnswers as answer;
     ghost use Rattle.book_model.specs.Rulings as ruling;
     ghost use Rattle.table_readings.specs.ListsRead.{is_period};

@@ -2,9 +2,7 @@
 
 ghost use Rattle.std.specs.Prelude.{◌≡◌, IfErr, IfOk, Ok, false};
 ghost use Rattle.sqlite.specs.Held.{state};
-ghost use Rattle.tariff_rules.specs.TariffFile.{terms_in};
-ghost use Rattle.book_model.specs.Outcomes.{tariff_outcome};
-ghost use Rattle.book_model.specs.Records.{Naming};
+ghost use Rattle.book_model.specs.Words.{terms_in, tariff_outcome, Naming};
 ghost use Rattle.book_statements.specs.Changes.{put_tariff_row};
 ghost use Rattle.book_statements.specs.Steps.{DoesInside};
 ghost use Rattle.book_tables.specs.Commits.{CommitsOne};

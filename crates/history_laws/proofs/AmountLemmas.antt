@@ -3,18 +3,11 @@ use Rattle.std.proofs.Common.{◌≡◌, ℕ, ◌+◌, List, ap, ◌∙◌, Opti
 use Rattle.std.specs.Prelude.{sum_by, ℤ}
 use Rattle.std.specs.FinMap as map
 use Rattle.std.specs.Option.{option_map_or}
-use Rattle.book_model.specs.Periods.{Period, period_by}
-use Rattle.book_model.specs.Events.{Event}
-use Rattle.book_model.specs.History.{book_after}
-use Rattle.book_model.specs.Records.{Records, by_bytes}
-use Rattle.book_model.specs.Rows.{rows_for}
-use Rattle.book_model.specs.Rulings.{Rulings, prices, price_in}
-use Rattle.book_model.specs.Sets.{members}
-use Rattle.book_model.specs.Accept.{total_of}
+use Rattle.book_model.specs.Words.{Period, period_by, Event, book_after, Records, by_bytes}
+use Rattle.book_model.specs.Words.{rows_for, Rulings, prices, price_in, members, total_of}
+use Rattle.book_model.specs.Words.{all_periods, charged_of, AreDatedBy}
 use Rattle.book_model.proofs.SetLemmas.{members-empty}
-use Rattle.book_model.specs.Books.{all_periods, charged_of}
 use Rattle.history_laws.specs.Amounts.{rows_amount, added_amount, taken_amount}
-use Rattle.book_model.specs.Sound.{AreDatedBy}
 use Rattle.history_laws.specs.Laws.{ConservedInSets}
 use Rattle.history_laws.proofs.PeriodLemmas.{all_nets}
 use Rattle.history_laws.proofs.RowSums.{sum_by-rows_of}

@@ -7,24 +7,13 @@ use Rattle.std.specs.Option.{ok_or, option_map}
 use Rattle.std.proofs.lemmas.Bool.{eqb-true}
 use Rattle.std.proofs.lemmas.List.{length-append}
 use Rattle.std.proofs.lemmas.Option.{slice_get-get_or}
-use Rattle.tariff_rules.specs.Terms.{Terms}
+use Rattle.book_model.specs.Words.{Terms, IsAnswered, Book, open_number, open_period, period_of}
+use Rattle.book_model.specs.Words.{charged_through, Event, RecordKept, TariffAccepted, PeriodClosed}
+use Rattle.book_model.specs.Words.{keep, close, put_in_force, book_after, lines_of, reading, Period}
+use Rattle.book_model.specs.Words.{period_by, Naming, has_text, is_effective, is_later, has_dated}
+use Rattle.book_model.specs.Words.{terms_answer, rows_for, Rulings, last_close, IsSound, AreHeld}
 use Rattle.book_model.specs.declared.answer.Ruled.TheVariants.{Done}
 use Rattle.book_model.specs.declared.fault.LedgerFault.TheVariants.{NoSuchPeriod}
-use Rattle.book_model.specs.Answered.{IsAnswered}
-use Rattle.book_model.specs.Books.{Book, open_number, open_period, period_of}
-use Rattle.book_model.specs.Charged.{charged_through}
-use Rattle.book_model.specs.Events.{Event, RecordKept, TariffAccepted, PeriodClosed, keep, close}
-use Rattle.book_model.specs.Events.{put_in_force}
-use Rattle.book_model.specs.History.{book_after}
-use Rattle.book_model.specs.Lines.{lines_of}
-use Rattle.book_model.specs.Outcomes.{reading}
-use Rattle.book_model.specs.Periods.{Period, period_by}
-use Rattle.book_model.specs.Records.{Naming}
-use Rattle.book_model.specs.RulingAnswers.{has_text, is_effective, is_later, has_dated}
-use Rattle.book_model.specs.RulingAnswers.{terms_answer}
-use Rattle.book_model.specs.Rows.{rows_for}
-use Rattle.book_model.specs.Rulings.{Rulings, last_close}
-use Rattle.book_model.specs.Sound.{IsSound, AreHeld}
 use Rattle.book_model.proofs.AnsweredLemmas.{sound_after}
 use Rattle.book_model.proofs.ListLemmas.{slice_get-front}
 use Rattle.book_model.proofs.PricingLemmas.{held_prices_stay}

@@ -5,14 +5,10 @@ use Rattle.std.specs.Prelude.{slice_get, nat_lt, ℤ}
 use Rattle.std.proofs.lemmas.Bool.{ltb-true, ltb-false}
 use Rattle.std.proofs.lemmas.List.{length-append}
 use Rattle.std.proofs.lemmas.Option.{slice_get_within}
-use Rattle.book_model.specs.Periods.{Period, period_by}
-use Rattle.book_model.specs.Books.{open_period, all_periods}
-use Rattle.book_model.specs.Charged.{charged_now, is_dated_after}
-use Rattle.book_model.specs.Events.{Event}
-use Rattle.book_model.specs.History.{closes, rulings, day_of_close, held_before, charged_in}
-use Rattle.book_model.specs.History.{period_after, periods, book_after, book_of}
-use Rattle.book_model.specs.Records.{Records}
-use Rattle.book_model.specs.Sets.{without}
+use Rattle.book_model.specs.Words.{Period, period_by, open_period, all_periods, charged_now}
+use Rattle.book_model.specs.Words.{is_dated_after, Event, closes, rulings, day_of_close}
+use Rattle.book_model.specs.Words.{held_before, charged_in, period_after, periods, book_after}
+use Rattle.book_model.specs.Words.{book_of, Records, without}
 use Rattle.book_model.proofs.HistoryLemmas.{charged_open, held_all, last_close-is}
 use Rattle.book_model.proofs.ListLemmas.{slice_get-front, slice_get-behind}
 use Rattle.book_model.proofs.StepLemmas.{books_follow_history}

@@ -19,12 +19,9 @@ use Rattle.std.proofs.lemmas.Map.Keys.{IsDistinct-from_sorted}
 use Rattle.std.proofs.lemmas.Map.Lookups.{exact_bytes}
 use Rattle.tariff_rules.specs.declared.priced.Priced.{Priced}
 use Rattle.book_model.specs.declared.line.Line.{Line}
-use Rattle.book_model.specs.Lines.{plus_first, by_line, lines_for, lines_of}
-use Rattle.book_model.specs.Periods.{Period}
-use Rattle.book_model.specs.Records.{Records, Naming, name_of, by_bytes}
-use Rattle.book_model.specs.Rulings.{Rulings, price_in}
-use Rattle.book_model.specs.Sets.{members, has}
-use Rattle.book_model.specs.Accept.{total_of}
+use Rattle.book_model.specs.Words.{plus_first, by_line, lines_for, lines_of, Period, Records}
+use Rattle.book_model.specs.Words.{Naming, name_of, by_bytes, Rulings, price_in, members, has}
+use Rattle.book_model.specs.Words.{total_of}
 use Rattle.book_model.proofs.SetLemmas.{members_rise}
 use Rattle.book_model.proofs.PermutedSets.{Apart, apart_from_distinct, members_permuted}
 use Rattle.book_model.proofs.LineOrder.{by_line_total, name_ties, line_by, line_of}

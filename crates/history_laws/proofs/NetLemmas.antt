@@ -3,16 +3,10 @@ use Rattle.std.proofs.Common.{◌≡◌, ℕ, ◌+◌, ◌≤◌, List, refl, ap
 use Rattle.std.proofs.Common.{is_some, not, ◌&&◌, arith}
 use Rattle.std.specs.Prelude.{ℤ, Option}
 use Rattle.std.specs.FinMap as map
-use Rattle.book_model.specs.Periods.{Period, period_by}
-use Rattle.book_model.specs.Charged.{is_dated_after}
-use Rattle.book_model.specs.Events.{Event}
-use Rattle.book_model.specs.History.{book_after}
-use Rattle.book_model.specs.Records.{Records, by_bytes}
-use Rattle.book_model.specs.Sets.{has, without}
-use Rattle.book_model.specs.Books.{all_periods, charged_of}
+use Rattle.book_model.specs.Words.{Period, period_by, is_dated_after, Event, book_after, Records}
+use Rattle.book_model.specs.Words.{by_bytes, has, without, all_periods, charged_of, AreDatedBy}
 use Rattle.book_model.proofs.RecordSets.{has_those}
 use Rattle.history_laws.specs.Net.{one_if, times_counted, times_added, times_taken, NamesOnce}
-use Rattle.book_model.specs.Sound.{AreDatedBy}
 use Rattle.history_laws.specs.Laws.{ChargedOnce, PostedOnce, NamedOnce}
 use Rattle.history_laws.proofs.PeriodLemmas.{past_nets, all_nets, all_hold}
 use Rattle.history_laws.proofs.SumLemmas.{net, sum_by-plus}

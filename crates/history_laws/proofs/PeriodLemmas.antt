@@ -5,15 +5,10 @@ use Rattle.std.specs.Prelude.{All, sum_by, ℤ}
 use Rattle.std.specs.FinMap as map
 use Rattle.std.proofs.lemmas.List.Elements.{All-nil, All-cons, All-append}
 use Rattle.std.proofs.lemmas.List.Sums.{sum_by_push}
-use Rattle.book_model.specs.Periods.{Period, period_by}
-use Rattle.book_model.specs.Books.{Book, all_periods, charged_of}
-use Rattle.book_model.specs.Charged.{is_dated_after, charged_through}
-use Rattle.book_model.specs.Events.{Event, RecordKept, TariffAccepted, PeriodClosed}
-use Rattle.book_model.specs.History.{book_after}
-use Rattle.book_model.specs.Records.{Records, by_bytes}
-use Rattle.book_model.specs.Rulings.{last_close}
+use Rattle.book_model.specs.Words.{Period, period_by, Book, all_periods, charged_of, is_dated_after}
+use Rattle.book_model.specs.Words.{charged_through, Event, RecordKept, TariffAccepted, PeriodClosed}
+use Rattle.book_model.specs.Words.{book_after, Records, by_bytes, last_close, AreDatedBy}
 use Rattle.book_model.proofs.ListLemmas.{last_or-behind}
-use Rattle.book_model.specs.Sound.{AreDatedBy}
 use Rattle.book_model.proofs.SoundLemmas.{through_dated}
 
 -- what was charged at the last close is not dated after it

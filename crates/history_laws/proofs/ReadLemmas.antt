@@ -9,16 +9,9 @@ use Rattle.std.proofs.lemmas.List.{length-append}
 use Rattle.std.proofs.lemmas.List.Elements.{All-nil, All-cons, All-head, All-tail, All-append}
 use Rattle.std.proofs.lemmas.List.Sorted.{length_permutation}
 use Rattle.std.proofs.lemmas.List.Sums.{sum_by-cons}
-use Rattle.book_model.specs.Periods.{Period}
-use Rattle.book_model.specs.Books.{Book, open_period, all_periods, charged_of}
-use Rattle.book_model.specs.Charged.{is_undisputed}
-use Rattle.book_model.specs.History.{book_after}
-use Rattle.book_model.specs.Lines.{lines_of}
-use Rattle.book_model.specs.Records.{Records, Naming, name_of}
-use Rattle.book_model.specs.Rulings.{price_in, last_close}
-use Rattle.book_model.specs.Sets.{members, has}
-use Rattle.book_model.specs.Accept.{total_of}
-use Rattle.book_model.specs.Sound.{IsSound, AreHeld}
+use Rattle.book_model.specs.Words.{Period, Book, open_period, all_periods, charged_of}
+use Rattle.book_model.specs.Words.{is_undisputed, book_after, lines_of, Records, Naming, name_of}
+use Rattle.book_model.specs.Words.{price_in, last_close, members, has, total_of, IsSound, AreHeld}
 use Rattle.book_model.proofs.RecordSets.{is, is_itself, in_those}
 use Rattle.book_model.proofs.SoundLemmas.{period_held}
 use Rattle.history_laws.specs.Amounts.{rows_amount, plus_of, minus_of, plus_amount, minus_amount}

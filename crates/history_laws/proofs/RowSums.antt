@@ -11,8 +11,7 @@ use Rattle.std.proofs.lemmas.List.Folds.{fold-map}
 use Rattle.std.proofs.lemmas.List.Sums.{sum_by-cons, length-filter}
 use Rattle.std.proofs.lemmas.Map.Keys.{IsDistinct-from_sorted}
 use Rattle.tariff_rules.specs.declared.priced.Priced.{Priced}
-use Rattle.book_model.specs.Rows.{key_of, by_key, same_key, row_at, keys_of, rows_of}
-use Rattle.book_model.specs.Sets.{set_of}
+use Rattle.book_model.specs.Words.{key_of, by_key, same_key, row_at, keys_of, rows_of, set_of}
 use Rattle.book_model.proofs.RowLemmas.{same_key_ties, by_key_total}
 use Rattle.book_model.proofs.ListLemmas.{count_by-distinct}
 use Rattle.book_model.proofs.SetLemmas.{any_tied-members, members_rise}

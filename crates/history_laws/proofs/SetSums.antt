@@ -5,13 +5,10 @@ use Rattle.std.specs.Prelude.{sum_by, ℤ}
 use Rattle.std.proofs.lemmas.Cmp.{nat_list_cmp_total}
 use Rattle.std.proofs.lemmas.List.Filters.{sum_by-filter_both}
 use Rattle.std.proofs.lemmas.Map.Lookups.{exact_bytes}
-use Rattle.book_model.specs.Charged.{is_dated_after}
-use Rattle.book_model.specs.Records.{Records}
-use Rattle.book_model.specs.Sets.{members, has, those}
+use Rattle.book_model.specs.Words.{is_dated_after, Records, members, has, those, period_by}
+use Rattle.book_model.specs.Words.{AreDatedBy}
 use Rattle.book_model.proofs.SetLemmas.{members-those}
 use Rattle.book_model.proofs.RecordSets.{same_records, has_those, those-those}
-use Rattle.book_model.specs.Periods.{period_by}
-use Rattle.book_model.specs.Sound.{AreDatedBy}
 
 module _ (f : List ℕ → ℕ) where
   -- the sum over a set

@@ -9,16 +9,10 @@ use Rattle.std.proofs.lemmas.Int.{ints}
 use Rattle.std.proofs.lemmas.Map.Lookups.{exact_bytes}
 use Rattle.smf_text.specs.PackedDate as packed
 use Rattle.smf_type30.specs.Usage as usage
-use Rattle.smf_type30.specs.Usage.{day_of}
-use Rattle.book_model.specs.Periods.{Period, period_by}
-use Rattle.book_model.specs.Books.{Book}
-use Rattle.book_model.specs.Charged.{conflict, is_undisputed, is_dated_by, is_dated_after}
-use Rattle.book_model.specs.Charged.{charged_now, charged_through}
-use Rattle.book_model.specs.Events.{Event, RecordKept, TariffAccepted, PeriodClosed}
-use Rattle.book_model.specs.History.{book_after}
-use Rattle.book_model.specs.Records.{Records, by_bytes}
-use Rattle.book_model.specs.Rulings.{Rulings, last_close}
-use Rattle.book_model.specs.Sets.{set_of, has, without}
+use Rattle.book_model.specs.Words.{day_of, Period, period_by, Book, conflict, is_undisputed}
+use Rattle.book_model.specs.Words.{is_dated_by, is_dated_after, charged_now, charged_through, Event}
+use Rattle.book_model.specs.Words.{RecordKept, TariffAccepted, PeriodClosed, book_after, Records}
+use Rattle.book_model.specs.Words.{by_bytes, Rulings, last_close, set_of, has, without}
 use Rattle.book_model.proofs.SetLemmas.{has-set_of, any-members}
 use Rattle.book_model.proofs.RecordSets.{is, has_those}
 use Rattle.history_laws.specs.Net.{one_if, net_count}

@@ -1,12 +1,7 @@
 -- What the rows and lines of periods amount to, at the prices of some rulings.
 use Rattle.std.specs.Prelude.{ℕ, not, List, filter, sum_by}
-use Rattle.book_model.specs.Periods.{Period}
-use Rattle.book_model.specs.Lines.{lines_of}
+use Rattle.book_model.specs.Words.{Period, lines_of, Naming, rows_for, Rulings, total_of}
 use Rattle.book_model.specs.declared.line.Line.{Line}
-use Rattle.book_model.specs.Records.{Naming}
-use Rattle.book_model.specs.Rows.{rows_for}
-use Rattle.book_model.specs.Rulings.{Rulings}
-use Rattle.book_model.specs.Accept.{total_of}
 
 -- the charge rows of all the periods
 abbrev pub rows_amount : Rulings → List Period → ℕ

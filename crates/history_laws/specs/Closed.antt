@@ -1,8 +1,7 @@
 -- Closed periods, and what is read of one in two books.
 use Rattle.std.specs.Prelude.{◌≡◌, ◌-◌, ◌<◌, ℕ, slice_get}
-use Rattle.book_model.specs.Books.{Book, open_number, period_of}
-use Rattle.book_model.specs.Outcomes.{charges_outcome, adjustments_outcome}
-use Rattle.book_model.specs.Records.{Naming}
+use Rattle.book_model.specs.Words.{Book, open_number, period_of, charges_outcome}
+use Rattle.book_model.specs.Words.{adjustments_outcome, Naming}
 
 -- a period of the book that comes before the open one
 pub record IsClosed (number : ℕ) (book : Book) : Type 0 where

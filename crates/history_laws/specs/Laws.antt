@@ -1,17 +1,9 @@
 -- The laws of whole histories.
 use Rattle.std.specs.Prelude.{◌≡◌, ℕ, ◌+◌, true, false, All, List, Option, Some, slice_get, ℤ, pos}
 use Rattle.std.specs.Prelude.{◌-ℤ◌, ◌++◌}
-use Rattle.book_model.specs.Periods.{Period}
-use Rattle.book_model.specs.Books.{Book, charged_of, all_periods}
-use Rattle.book_model.specs.Charged.{is_dated_after}
-use Rattle.book_model.specs.Events.{Event}
-use Rattle.book_model.specs.History.{book_after, day_of_close}
-use Rattle.book_model.specs.Records.{Naming}
-use Rattle.book_model.specs.Rulings.{Rulings}
-use Rattle.book_model.specs.Sets.{has}
-use Rattle.book_model.specs.Accept.{total_of}
-use Rattle.book_model.specs.Answered.{IsAnswered}
-use Rattle.book_model.specs.Sound.{IsSound}
+use Rattle.book_model.specs.Words.{Period, Book, charged_of, all_periods, is_dated_after, Event}
+use Rattle.book_model.specs.Words.{book_after, day_of_close, Naming, Rulings, has, total_of}
+use Rattle.book_model.specs.Words.{IsAnswered, IsSound}
 use Rattle.history_laws.specs.Net.{net_count, one_if, NamesOnce}
 use Rattle.history_laws.specs.Lines.{AreReadOnce}
 use Rattle.history_laws.specs.Closed.{IsClosed, IsReadAlike}

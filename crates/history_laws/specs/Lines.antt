@@ -2,11 +2,7 @@
 use Rattle.std.specs.Prelude.{◌≡◌, ◌+◌, true, false, List, ◌++◌, length}
 use Rattle.std.specs.List.Sorted.{IsPermutation}
 use Rattle.book_model.specs.declared.line.Line.{Line}
-use Rattle.book_model.specs.Lines.{lines_for, lines_of}
-use Rattle.book_model.specs.Periods.{Period}
-use Rattle.book_model.specs.Records.{Naming}
-use Rattle.book_model.specs.Rulings.{Rulings}
-use Rattle.book_model.specs.Sets.{members}
+use Rattle.book_model.specs.Words.{lines_for, lines_of, Period, Naming, Rulings, members}
 
 -- a line for each record that has a price, before they are put in the order of reading
 abbrev pub both_lines : Naming → Rulings → Period → List Line

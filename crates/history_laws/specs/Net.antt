@@ -1,7 +1,6 @@
 -- How often periods charge a record: by the three sets of each.
 use Rattle.std.specs.Prelude.{ℕ, ◌+◌, ◌≤◌, Bool, if◌then◌else◌, List, count_by, ℤ, pos, ◌-ℤ◌}
-use Rattle.book_model.specs.Periods.{Period}
-use Rattle.book_model.specs.Sets.{has}
+use Rattle.book_model.specs.Words.{Period, has}
 
 -- how many of the periods count the record in their rows
 abbrev pub times_counted : List Period → List ℕ → ℕ

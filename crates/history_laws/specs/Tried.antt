@@ -1,14 +1,9 @@
 -- Other definitions of a period, which are wrong: with each of them the law of the net count is
 -- false.
 use Rattle.std.specs.Prelude.{◌≡◌, ℕ, List, [], ◌∷◌, ◌++◌, Option, ℤ, pos}
-use Rattle.book_model.specs.Periods.{Period, period_by}
-use Rattle.book_model.specs.Books.{Book}
-use Rattle.book_model.specs.Charged.{charged_now, charged_through}
-use Rattle.book_model.specs.Events.{Event, RecordKept, TariffAccepted, PeriodClosed}
-use Rattle.book_model.specs.History.{book_after}
-use Rattle.book_model.specs.Records.{Records, by_bytes}
-use Rattle.book_model.specs.Rulings.{last_close}
-use Rattle.book_model.specs.Sets.{set_of, has, without}
+use Rattle.book_model.specs.Words.{Period, period_by, Book, charged_now, charged_through, Event}
+use Rattle.book_model.specs.Words.{RecordKept, TariffAccepted, PeriodClosed, book_after, Records}
+use Rattle.book_model.specs.Words.{by_bytes, last_close, set_of, has, without}
 use Rattle.history_laws.specs.Net.{net_count, one_if}
 
 -- how a period is made: of the close before it, what that close charged, and what is charged at its

@@ -12,11 +12,8 @@ use Rattle.book_model.specs.declared.answer.Ruled.{Ruled}
 use Rattle.book_model.specs.declared.answer.Ruled.TheVariants.{Done, Already}
 use Rattle.book_model.specs.declared.fault.LedgerFault.{LedgerFault}
 use Rattle.book_model.specs.declared.fault.LedgerFault.TheVariants.{WrongPeriod, NotLater, Full}
-use Rattle.book_model.specs.Books.{Book, open_number}
-use Rattle.book_model.specs.Events.{close}
-use Rattle.book_model.specs.Limits.{last_period}
-use Rattle.book_model.specs.RulingAnswers.{is_closed, close_answer}
-use Rattle.book_model.specs.Rulings.{last_close}
+use Rattle.book_model.specs.Words.{Book, open_number, close, last_period, is_closed, close_answer}
+use Rattle.book_model.specs.Words.{last_close}
 use Rattle.book_model.proofs.RecordSets.{is}
 use Rattle.book_core.specs.Effects.{is_after}
 use Rattle.kept_tables.specs.TablesOf.{close_entries}

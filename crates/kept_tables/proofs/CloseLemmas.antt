@@ -10,14 +10,9 @@ use Rattle.std.proofs.Math.Bool.{and_comm}
 use Rattle.std.proofs.lemmas.Cmp.{nat_list_cmp_total}
 use Rattle.std.proofs.lemmas.Map.Lookups.{exact_bytes}
 use Rattle.tariff_rules.specs.declared.priced.Priced.{Priced}
-use Rattle.book_model.specs.Books.{Book, open_number, charged_of}
-use Rattle.book_model.specs.Charged.{is_dated_by, charged_through}
-use Rattle.book_model.specs.Events.{close}
-use Rattle.book_model.specs.Laws.{IsAfterLastClose}
-use Rattle.book_model.specs.Records.{Records, Naming, name_of, by_bytes}
-use Rattle.book_model.specs.Rulings.{Rulings, price_in, last_close, with_close}
-use Rattle.book_model.specs.Sets.{members, has}
-use Rattle.book_model.specs.Sound.{IsSound}
+use Rattle.book_model.specs.Words.{Book, open_number, charged_of, is_dated_by, charged_through}
+use Rattle.book_model.specs.Words.{close, IsAfterLastClose, Records, Naming, name_of, by_bytes}
+use Rattle.book_model.specs.Words.{Rulings, price_in, last_close, with_close, members, has, IsSound}
 use Rattle.book_model.proofs.CallLemmas.{calls_go_forward}
 use Rattle.book_model.proofs.GivenLemmas.{map-filter_map}
 use Rattle.book_model.proofs.SetChanges.{pick-agree}

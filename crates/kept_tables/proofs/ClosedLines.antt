@@ -5,16 +5,10 @@ use Rattle.std.specs.Prelude.{ℤ, int_lt}
 use Rattle.std.specs.FinMap.{from_entries}
 use Rattle.std.specs.FinMap as fin
 use Rattle.std.proofs.lemmas.List.{map-append}
-use Rattle.smf_type30.specs.Usage.{day_of}
-use Rattle.book_model.specs.Books.{Book, charged_of}
-use Rattle.book_model.specs.Charged.{is_dated_by, is_dated_after, charged_through}
-use Rattle.book_model.specs.Events.{close}
-use Rattle.book_model.specs.Laws.{IsAfterLastClose}
-use Rattle.book_model.specs.Periods.{Period, period_by}
-use Rattle.book_model.specs.Records.{Records, Naming, name_of, by_bytes}
-use Rattle.book_model.specs.Rulings.{Rulings, last_close, with_close}
-use Rattle.book_model.specs.Sets.{set_of, members, has, those}
-use Rattle.book_model.specs.Sound.{IsSound}
+use Rattle.book_model.specs.Words.{day_of, Book, charged_of, is_dated_by, is_dated_after}
+use Rattle.book_model.specs.Words.{charged_through, close, IsAfterLastClose, Period, period_by}
+use Rattle.book_model.specs.Words.{Records, Naming, name_of, by_bytes, Rulings, last_close}
+use Rattle.book_model.specs.Words.{with_close, set_of, members, has, those, IsSound}
 use Rattle.book_model.proofs.ListLemmas.{last_or-behind}
 use Rattle.book_model.proofs.RecordSets.{same_records, has_those}
 use Rattle.book_model.proofs.SetChanges.{those-agree}

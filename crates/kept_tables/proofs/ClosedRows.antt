@@ -5,18 +5,12 @@ use Rattle.std.specs.Prelude.{ℤ, int_lt}
 use Rattle.std.specs.FinMap.{find, from_entries}
 use Rattle.std.proofs.Math.Bool.{and-false, and-true}
 use Rattle.std.proofs.lemmas.List.{map-append}
-use Rattle.smf_type30.specs.Usage.{day_of}
+use Rattle.book_model.specs.Words.{day_of, Book, open_number, charged_of, is_dated_by}
+use Rattle.book_model.specs.Words.{is_dated_after, charged_through, IsAfterLastClose, Period}
+use Rattle.book_model.specs.Words.{period_by, Records, Naming, by_key, Rulings, prices, last_close}
+use Rattle.book_model.specs.Words.{with_close, those, IsSound}
 use Rattle.book_model.specs.declared.row.ChargeRow.{ChargeRow}
 use Rattle.book_model.specs.declared.row.RowKey.{RowKey}
-use Rattle.book_model.specs.Books.{Book, open_number, charged_of}
-use Rattle.book_model.specs.Charged.{is_dated_by, is_dated_after, charged_through}
-use Rattle.book_model.specs.Laws.{IsAfterLastClose}
-use Rattle.book_model.specs.Periods.{Period, period_by}
-use Rattle.book_model.specs.Records.{Records, Naming}
-use Rattle.book_model.specs.Rows.{by_key}
-use Rattle.book_model.specs.Rulings.{Rulings, prices, last_close, with_close}
-use Rattle.book_model.specs.Sets.{those}
-use Rattle.book_model.specs.Sound.{IsSound}
 use Rattle.book_model.proofs.ListLemmas.{last_or-behind}
 use Rattle.book_model.proofs.RecordSets.{same_records, has_those}
 use Rattle.kept_tables.specs.MapChanges.{moved}

@@ -1,10 +1,8 @@
 -- What a record costs says its day.
 use Rattle.std.proofs.Common.{◌≡◌, ℕ, List, Option, Some, None, refl}
 use Rattle.std.specs.Prelude.{ℤ}
-use Rattle.smf_type30.specs.Usage.{day_of}
+use Rattle.book_model.specs.Words.{day_of, is_dated_after, Rulings, price_in, in_force}
 use Rattle.tariff_rules.specs.declared.priced.Priced.{Priced}
-use Rattle.book_model.specs.Charged.{is_dated_after}
-use Rattle.book_model.specs.Rulings.{Rulings, price_in, in_force}
 use Rattle.book_model.proofs.PricingLemmas.{priced_day}
 use Rattle.book_core.specs.Effects.{is_after}
 

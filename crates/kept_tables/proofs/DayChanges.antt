@@ -15,11 +15,9 @@ use Rattle.std.proofs.lemmas.Simd.{map-map}
 use Rattle.tariff_rules.specs.declared.priced.Priced.{Priced}
 use Rattle.book_model.specs.declared.row.ChargeRow.{ChargeRow}
 use Rattle.book_model.specs.declared.row.RowKey.{RowKey}
-use Rattle.book_model.specs.Charged.{is_dated_after}
-use Rattle.book_model.specs.Records.{Records}
-use Rattle.book_model.specs.Rows.{key_of, by_key, same_key, charged_at, row_at, keys_of, rows_of}
-use Rattle.book_model.specs.Rulings.{Rulings, price_in, prices}
-use Rattle.book_model.specs.Sets.{has, with, those, set_of}
+use Rattle.book_model.specs.Words.{is_dated_after, Records, key_of, by_key, same_key, charged_at}
+use Rattle.book_model.specs.Words.{row_at, keys_of, rows_of, Rulings, price_in, prices, has, with}
+use Rattle.book_model.specs.Words.{those, set_of}
 use Rattle.book_model.proofs.ListLemmas.{list_any-map}
 use Rattle.book_model.proofs.MapLemmas.{remove-insert, insert-insert, insert-same, get-inserted}
 use Rattle.book_model.proofs.MapLemmas.{by_tie}

@@ -11,9 +11,7 @@ use Rattle.std.proofs.lemmas.Map.Lookups.{exact_bytes}
 use Rattle.tariff_rules.specs.declared.priced.Priced.{Priced}
 use Rattle.book_model.specs.declared.row.ChargeRow.{ChargeRow}
 use Rattle.book_model.specs.declared.row.RowKey.{RowKey}
-use Rattle.book_model.specs.Books.{open_number}
-use Rattle.book_model.specs.Records.{name_of, by_bytes}
-use Rattle.book_model.specs.Rows.{key_of, by_key}
+use Rattle.book_model.specs.Words.{open_number, name_of, by_bytes, key_of, by_key}
 use Rattle.book_model.proofs.MapLemmas.{not_tied}
 use Rattle.book_model.proofs.RowLemmas.{by_key_total, by_key_exact}
 use Rattle.book_core.specs.declared.effect_table.DayChange.{DayChange}

@@ -5,13 +5,9 @@ use Rattle.std.proofs.Common.{not, Option, Some, get_or}
 use Rattle.std.specs.Prelude.{ℤ, All, slice_get}
 use Rattle.std.proofs.lemmas.List.Elements.{All-append, All-cons, All-nil}
 use Rattle.std.proofs.lemmas.Option.{slice_get_within, slice_get-get_or}
-use Rattle.book_model.specs.Books.{Book, open_period, all_periods, charged_of}
-use Rattle.book_model.specs.Charged.{is_dated_after, is_undisputed}
-use Rattle.book_model.specs.Periods.{Period, period_by}
-use Rattle.book_model.specs.Records.{Records, Naming}
-use Rattle.book_model.specs.Rulings.{last_close}
-use Rattle.book_model.specs.Sets.{has, without}
-use Rattle.book_model.specs.Sound.{IsSound, AreHeld}
+use Rattle.book_model.specs.Words.{Book, open_period, all_periods, charged_of, is_dated_after}
+use Rattle.book_model.specs.Words.{is_undisputed, Period, period_by, Records, Naming, last_close}
+use Rattle.book_model.specs.Words.{has, without, IsSound, AreHeld}
 use Rattle.book_model.proofs.RecordSets.{in_those, passes_those, not_true}
 use Rattle.book_model.proofs.SoundLemmas.{period_held}
 use Rattle.kept_tables.specs.Reading.{IsApart, HasLines}

@@ -8,17 +8,11 @@ use Rattle.std.specs.List.{filter_map}
 use Rattle.tariff_rules.specs.declared.priced.Priced.{Priced}
 use Rattle.book_model.specs.declared.row.ChargeRow.{ChargeRow}
 use Rattle.book_model.specs.declared.row.RowKey.{RowKey}
-use Rattle.book_model.specs.Answered.{IsAnswered}
-use Rattle.book_model.specs.Books.{Book, open_number, new_book}
-use Rattle.book_model.specs.Charged.{is_undisputed, is_dated_after}
-use Rattle.book_model.specs.Events.{Event, TariffAccepted, PeriodClosed, RecordKept, keep}
-use Rattle.book_model.specs.Events.{put_in_force}
-use Rattle.book_model.specs.History.{book_after}
-use Rattle.book_model.specs.Records.{Records, Naming, name_of, by_bytes}
-use Rattle.book_model.specs.Rows.{by_key, row_at}
-use Rattle.book_model.specs.Rulings.{no_rulings, Rulings, price_in, Tariffed}
-use Rattle.book_model.specs.Sets.{members, has, those}
-use Rattle.book_model.specs.Sound.{IsSound}
+use Rattle.book_model.specs.Words.{IsAnswered, Book, open_number, new_book, is_undisputed}
+use Rattle.book_model.specs.Words.{is_dated_after, Event, TariffAccepted, PeriodClosed, RecordKept}
+use Rattle.book_model.specs.Words.{keep, put_in_force, book_after, Records, Naming, name_of}
+use Rattle.book_model.specs.Words.{by_bytes, by_key, row_at, no_rulings, Rulings, price_in}
+use Rattle.book_model.specs.Words.{Tariffed, members, has, those, IsSound}
 use Rattle.book_model.proofs.AnsweredLemmas.{rulings_are, sound_after}
 use Rattle.book_model.proofs.SetChanges.{not_those}
 use Rattle.book_model.proofs.SetLemmas.{members-empty}

@@ -3,15 +3,10 @@ use Rattle.std.proofs.Common.{◌≡◌, ℕ, List, refl, sym, ap, ◌∙◌, tr
 use Rattle.std.proofs.Common.{◌&&◌, ◌||◌, Option, Some, None}
 use Rattle.std.specs.Prelude.{ℤ}
 use Rattle.std.specs.FinMap.{insert}
-use Rattle.smf_frames.specs.Framed.{data_of}
+use Rattle.book_model.specs.Words.{data_of, Book, open_number, charged_of, is_dated_after}
+use Rattle.book_model.specs.Words.{charged_now, keep, Records, Naming, name_of, price_in}
+use Rattle.book_model.specs.Words.{last_close, identity_by, has, with, those, IsSound}
 use Rattle.tariff_rules.specs.declared.priced.Priced.{Priced}
-use Rattle.book_model.specs.Books.{Book, open_number, charged_of}
-use Rattle.book_model.specs.Charged.{is_dated_after, charged_now}
-use Rattle.book_model.specs.Events.{keep}
-use Rattle.book_model.specs.Records.{Records, Naming, name_of}
-use Rattle.book_model.specs.Rulings.{price_in, last_close, identity_by}
-use Rattle.book_model.specs.Sets.{has, with, those}
-use Rattle.book_model.specs.Sound.{IsSound}
 use Rattle.book_model.proofs.RecordSets.{is, has_with, has_those, is_itself, in_those, passes_those}
 use Rattle.book_model.proofs.RecordSets.{not_true}
 use Rattle.book_model.proofs.SetChanges.{except, not_new, IsUnnamed, is_back, not_those}

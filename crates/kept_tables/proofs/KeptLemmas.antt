@@ -17,14 +17,9 @@ use Rattle.book_model.specs.declared.answer.Accepted.{Accepted}
 use Rattle.book_model.specs.declared.answer.Accepted.TheVariants.{Kept, Known}
 use Rattle.book_model.specs.declared.fault.LedgerFault.{LedgerFault}
 use Rattle.book_model.specs.declared.fault.LedgerFault.TheVariants.{DigestClash}
-use Rattle.book_model.specs.Accept.{clashes, accept_priced}
-use Rattle.book_model.specs.Books.{Book, charged_of}
-use Rattle.book_model.specs.Charged.{share_identity, charged_now}
-use Rattle.book_model.specs.Events.{keep}
-use Rattle.book_model.specs.Records.{Records, Naming, name_of, by_bytes, same_bytes}
-use Rattle.book_model.specs.Rulings.{price_in, last_close}
-use Rattle.book_model.specs.Sets.{has, with, those}
-use Rattle.book_model.specs.Sound.{IsSound}
+use Rattle.book_model.specs.Words.{clashes, accept_priced, Book, charged_of, share_identity}
+use Rattle.book_model.specs.Words.{charged_now, keep, Records, Naming, name_of, by_bytes}
+use Rattle.book_model.specs.Words.{same_bytes, price_in, last_close, has, with, those, IsSound}
 use Rattle.book_model.proofs.ChargedChanges.{charged-new, charged-alone, charged-only}
 use Rattle.book_model.proofs.ChargedChanges.{charged-stays}
 use Rattle.book_model.proofs.RecordSets.{is, has_those, is_itself, first_of, second_of}

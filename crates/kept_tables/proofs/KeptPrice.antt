@@ -2,12 +2,7 @@
 use Rattle.std.proofs.Common.{◌≡◌, ℕ, List, ap, ◌∙◌, ◌||◌, Some, Ok}
 use Rattle.tariff_rules.specs.declared.priced.Priced.{Priced}
 use Rattle.book_model.specs.declared.answer.Accepted.TheVariants.{Kept}
-use Rattle.book_model.specs.Accept.{accept_answer}
-use Rattle.book_model.specs.Books.{Book}
-use Rattle.book_model.specs.Records.{Naming}
-use Rattle.book_model.specs.Rulings.{price_in}
-use Rattle.book_model.specs.Sets.{has}
-use Rattle.book_model.specs.Sound.{IsSound}
+use Rattle.book_model.specs.Words.{accept_answer, Book, Naming, price_in, has, IsSound}
 use Rattle.book_model.proofs.RecordSets.{has_with, is_itself}
 use Rattle.book_model.proofs.SoundLemmas.{steps_stay_sound}
 use Rattle.kept_tables.proofs.TableParts.{what_is}

@@ -7,9 +7,8 @@ use Rattle.std.specs.FinMap as fin
 use Rattle.std.specs.List.{filter_map}
 use Rattle.std.proofs.lemmas.Cmp.{nat_list_cmp_total}
 use Rattle.std.proofs.lemmas.Map.Lookups.{exact_bytes}
-use Rattle.book_model.specs.Charged.{is_dated_after}
-use Rattle.book_model.specs.Records.{Records, Naming, name_of, by_bytes}
-use Rattle.book_model.specs.Sets.{members, has, with, those, without}
+use Rattle.book_model.specs.Words.{is_dated_after, Records, Naming, name_of, by_bytes, members, has}
+use Rattle.book_model.specs.Words.{with, those, without}
 use Rattle.book_model.proofs.GivenLemmas.{find-insert_key, find-none}
 use Rattle.book_model.proofs.RecordSets.{is, same_records, has_with, has_those, those-those}
 use Rattle.book_model.proofs.SetChanges.{except, by_record, not_new, those-with, those-with_out}

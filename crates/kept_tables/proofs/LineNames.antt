@@ -9,11 +9,8 @@ use Rattle.std.proofs.Math.Bool.{or-true}
 use Rattle.std.proofs.lemmas.Cmp.{nat_list_cmp_total}
 use Rattle.std.proofs.lemmas.Map.Keys.{sorted_tail}
 use Rattle.std.proofs.lemmas.Map.Lookups.{exact_bytes}
-use Rattle.book_model.specs.Books.{Book}
-use Rattle.book_model.specs.Periods.{Period}
-use Rattle.book_model.specs.Records.{Naming, name_of, by_bytes}
-use Rattle.book_model.specs.Sets.{members, has}
-use Rattle.book_model.specs.Sound.{IsSound, AreHeld}
+use Rattle.book_model.specs.Words.{Book, Period, Naming, name_of, by_bytes, members, has, IsSound}
+use Rattle.book_model.specs.Words.{AreHeld}
 use Rattle.book_model.proofs.FilterLemmas.{Apart}
 use Rattle.book_model.proofs.GivenLemmas.{find-none}
 use Rattle.book_model.proofs.MapLemmas.{else_find, find-both}

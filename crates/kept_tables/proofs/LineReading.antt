@@ -8,17 +8,11 @@ use Rattle.std.specs.Ordering.{eq_by_cmp, int_cmp}
 use Rattle.std.proofs.lemmas.Cmp.{nat_list_cmp_total}
 use Rattle.std.proofs.lemmas.List.Elements.{filter_map-append}
 use Rattle.std.proofs.lemmas.Map.Lookups.{exact_bytes}
-use Rattle.smf_frames.specs.Framed.{record_with}
-use Rattle.smf_type30.specs.Usage.{job_of}
+use Rattle.book_model.specs.Words.{record_with, job_of, Book, all_periods, charged_of, lines_for}
+use Rattle.book_model.specs.Words.{by_line, plus_first, Period, Records, Naming, name_of, by_bytes}
+use Rattle.book_model.specs.Words.{price_in, set_of, members, has, IsSound, AreHeld, AreAmong}
 use Rattle.tariff_rules.specs.declared.priced.Priced.{Priced}
 use Rattle.book_model.specs.declared.line.Line.{Line}
-use Rattle.book_model.specs.Books.{Book, all_periods, charged_of}
-use Rattle.book_model.specs.Lines.{lines_for, by_line, plus_first}
-use Rattle.book_model.specs.Periods.{Period}
-use Rattle.book_model.specs.Records.{Records, Naming, name_of, by_bytes}
-use Rattle.book_model.specs.Rulings.{price_in}
-use Rattle.book_model.specs.Sets.{set_of, members, has}
-use Rattle.book_model.specs.Sound.{IsSound, AreHeld, AreAmong}
 use Rattle.book_model.proofs.EntryReading.{read-entries}
 use Rattle.book_model.proofs.ListLemmas.{filter_map-map}
 use Rattle.book_model.proofs.MapLemmas.{get-inserted}

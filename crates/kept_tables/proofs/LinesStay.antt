@@ -2,14 +2,8 @@
 use Rattle.std.proofs.Common.{ℕ, List, [], ◌∷◌, sym, ◌∙◌, subst, true≢false}
 use Rattle.std.specs.Prelude.{ℤ}
 use Rattle.std.proofs.lemmas.List.Elements.{All-append, All-cons, All-nil}
-use Rattle.smf_frames.specs.Framed.{IsFramed}
-use Rattle.tariff_rules.specs.Terms.{Terms}
-use Rattle.book_model.specs.Books.{Book, new_book, flat_book}
-use Rattle.book_model.specs.Charged.{charged_through}
-use Rattle.book_model.specs.Events.{keep, close}
-use Rattle.book_model.specs.Periods.{Period, period_by}
-use Rattle.book_model.specs.Records.{Records}
-use Rattle.book_model.specs.Rulings.{last_close}
+use Rattle.book_model.specs.Words.{IsFramed, Terms, Book, new_book, flat_book, charged_through}
+use Rattle.book_model.specs.Words.{keep, close, Period, period_by, Records, last_close}
 use Rattle.book_model.proofs.RecordSets.{one_or}
 use Rattle.book_model.proofs.SoundLemmas.{none_in}
 use Rattle.kept_tables.specs.Reading.{IsApart, HasLines}

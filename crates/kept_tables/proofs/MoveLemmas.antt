@@ -3,14 +3,14 @@ use Rattle.std.proofs.Common.{◌≡◌, ℕ, suc, ◌+◌, ◌≤◌, List, [],
 use Rattle.std.proofs.Common.{◌∙◌, true, false, true≢false, Bool, cond, ◌&&◌, None, arith, is_some}
 use Rattle.std.specs.Prelude.{ℤ, int_lt, ◌==◌, if◌then◌else◌}
 use Rattle.std.specs.Cmp.{tied_itself, nat_cmp_total}
-use Rattle.std.specs.FinMap.{FinMap, find, get, from_entries, same_map, get-from_entries}
-use Rattle.std.specs.FinMap.{contains_key, nat_cmp-IsAntisymmetric}
+use Rattle.std.specs.FinMap.{find, get, from_entries, same_map, get-from_entries, contains_key}
+use Rattle.std.specs.FinMap.{nat_cmp-IsAntisymmetric}
 use Rattle.std.specs.Ordering.{eq_by_cmp, is_eq, nat_cmp, ordering_then}
 use Rattle.std.proofs.lemmas.Bool.{eqb-true, eq-eqb}
 use Rattle.std.proofs.lemmas.List.{length-append}
 use Rattle.book_model.specs.declared.row.ChargeRow.{ChargeRow}
 use Rattle.book_model.specs.declared.row.RowKey.{RowKey}
-use Rattle.book_model.specs.Rows.{by_key}
+use Rattle.book_model.specs.Words.{by_key}
 use Rattle.book_model.proofs.MapLemmas.{by_tie, not_tied, else_find, find-both}
 use Rattle.book_model.proofs.RecordSets.{first_of, second_of}
 use Rattle.book_model.proofs.RowLemmas.{by_key_total, by_key_exact}

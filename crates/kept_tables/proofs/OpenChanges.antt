@@ -9,13 +9,9 @@ use Rattle.std.proofs.lemmas.Map.Lookups.{exact_bytes}
 use Rattle.tariff_rules.specs.declared.priced.Priced.{Priced}
 use Rattle.book_model.specs.declared.row.ChargeRow.{ChargeRow}
 use Rattle.book_model.specs.declared.row.RowKey.{RowKey}
-use Rattle.book_model.specs.Books.{Book, open_number}
-use Rattle.book_model.specs.Charged.{is_dated_after}
-use Rattle.book_model.specs.Periods.{Period, period_by}
-use Rattle.book_model.specs.Records.{Records, Naming, name_of, by_bytes}
-use Rattle.book_model.specs.Rows.{key_of, by_key, row_at}
-use Rattle.book_model.specs.Rulings.{price_in, prices, last_close}
-use Rattle.book_model.specs.Sets.{has, with, those}
+use Rattle.book_model.specs.Words.{Book, open_number, is_dated_after, Period, period_by, Records}
+use Rattle.book_model.specs.Words.{Naming, name_of, by_bytes, key_of, by_key, row_at, price_in}
+use Rattle.book_model.specs.Words.{prices, last_close, has, with, those}
 use Rattle.book_model.proofs.MapLemmas.{find-more_first, find-more_last, find-less_first}
 use Rattle.book_model.proofs.RowLemmas.{by_key_total, by_key_exact}
 use Rattle.book_model.proofs.SetChanges.{except, with-except, has-except, IsUnnamed}

@@ -4,11 +4,8 @@ use Rattle.std.proofs.Common.{Option}
 use Rattle.std.specs.Prelude.{ℤ}
 use Rattle.std.proofs.lemmas.Map.Lookups.{exact_bytes}
 use Rattle.std.proofs.lemmas.Map.Views.{tells_apart}
-use Rattle.book_model.specs.Books.{Book, charged_of}
-use Rattle.book_model.specs.Records.{Records, Naming, name_of}
-use Rattle.book_model.specs.Rulings.{last_close}
-use Rattle.book_model.specs.Sets.{has, those}
-use Rattle.book_model.specs.Sound.{IsSound}
+use Rattle.book_model.specs.Words.{Book, charged_of, Records, Naming, name_of, last_close, has}
+use Rattle.book_model.specs.Words.{those, IsSound}
 use Rattle.book_model.proofs.RecordSets.{is, is_itself, in_those, passes_those, not_true}
 use Rattle.book_model.proofs.SetChanges.{IsUnnamed}
 use Rattle.kept_tables.proofs.LineChanges.{added, taken}

@@ -1,20 +1,12 @@
 -- No tariff changes the rows and lines of a closed period.
 use Rattle.std.proofs.Common.{◌≡◌, ℕ, List, ◌++◌, ap, true, false, Bool, Option, Some, Ok}
 use Rattle.std.specs.Option.{option_map}
-use Rattle.smf_type30.specs.Usage.{job_of}
-use Rattle.tariff_rules.specs.Terms.{Terms}
+use Rattle.book_model.specs.Words.{job_of, Terms, Book, lines_for, by_line, Period, Records, Naming}
+use Rattle.book_model.specs.Words.{name_of, rows_of, terms_answer, Rulings, price_in, with_tariff}
+use Rattle.book_model.specs.Words.{members, has, set_of, IsSound, AreHeld}
 use Rattle.tariff_rules.specs.declared.priced.Priced.{Priced}
 use Rattle.book_model.specs.declared.answer.Ruled.TheVariants.{Done}
 use Rattle.book_model.specs.declared.line.Line.{Line}
-use Rattle.book_model.specs.Books.{Book}
-use Rattle.book_model.specs.Lines.{lines_for, by_line}
-use Rattle.book_model.specs.Periods.{Period}
-use Rattle.book_model.specs.Records.{Records, Naming, name_of}
-use Rattle.book_model.specs.Rows.{rows_of}
-use Rattle.book_model.specs.RulingAnswers.{terms_answer}
-use Rattle.book_model.specs.Rulings.{Rulings, price_in, with_tariff}
-use Rattle.book_model.specs.Sets.{members, has, set_of}
-use Rattle.book_model.specs.Sound.{IsSound, AreHeld}
 use Rattle.book_model.proofs.SetChanges.{pick-agree}
 use Rattle.kept_tables.specs.ReadingLaws.{PastStays, ReadsAlike}
 use Rattle.kept_tables.proofs.HeldPeriods.{one_of}

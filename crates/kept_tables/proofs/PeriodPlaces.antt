@@ -5,10 +5,8 @@ use Rattle.std.proofs.Common.{◌≢◌}
 use Rattle.std.specs.Prelude.{slice_get, ◌==◌, if◌then◌else◌}
 use Rattle.std.proofs.lemmas.Bool.{eqb-true, eq-eqb}
 use Rattle.std.proofs.lemmas.Option.{slice_get_within}
-use Rattle.book_model.specs.Books.{Book, open_number, open_period, all_periods, period_of}
-use Rattle.book_model.specs.Periods.{Period}
-use Rattle.book_model.specs.Records.{Naming}
-use Rattle.book_model.specs.Sound.{IsSound}
+use Rattle.book_model.specs.Words.{Book, open_number, open_period, all_periods, period_of, Period}
+use Rattle.book_model.specs.Words.{Naming, IsSound}
 use Rattle.book_model.proofs.ListLemmas.{slice_get-front, slice_get-behind}
 
 -- numbers that are not one by their test

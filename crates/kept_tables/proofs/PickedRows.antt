@@ -7,13 +7,10 @@ use Rattle.std.specs.List.{filter_map, cons_option}
 use Rattle.std.proofs.lemmas.Cmp.{nat_list_cmp_total}
 use Rattle.std.proofs.lemmas.Map.Lookups.{exact_bytes}
 use Rattle.std.proofs.lemmas.Map.Views.{tells_apart}
-use Rattle.smf_type30.specs.Usage.{day_of}
+use Rattle.book_model.specs.Words.{day_of, Records, key_of, by_key, same_key, Rulings, price_in}
+use Rattle.book_model.specs.Words.{prices, members, those}
 use Rattle.tariff_rules.specs.declared.priced.Priced.{Priced}
 use Rattle.book_model.specs.declared.row.RowKey.{RowKey}
-use Rattle.book_model.specs.Records.{Records}
-use Rattle.book_model.specs.Rows.{key_of, by_key, same_key}
-use Rattle.book_model.specs.Rulings.{Rulings, price_in, prices}
-use Rattle.book_model.specs.Sets.{members, those}
 use Rattle.book_model.proofs.RowLemmas.{same_key_ties, by_key_exact}
 use Rattle.book_model.proofs.SetLemmas.{members-those}
 use Rattle.kept_tables.proofs.CostLemmas.{day-price}

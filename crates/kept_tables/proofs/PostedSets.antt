@@ -1,10 +1,8 @@
 -- What a close posts: what is charged, and dated no later than its day.
 use Rattle.std.proofs.Common.{◌≡◌, ℕ, List, refl, sym, ap, ◌∙◌, true, false, Bool, ◌&&◌}
 use Rattle.std.specs.Prelude.{ℤ}
-use Rattle.book_model.specs.Charged.{is_undisputed, is_dated_by, charged_now, charged_through}
-use Rattle.book_model.specs.Records.{Records}
-use Rattle.book_model.specs.Rulings.{Rulings}
-use Rattle.book_model.specs.Sets.{has}
+use Rattle.book_model.specs.Words.{is_undisputed, is_dated_by, charged_now, charged_through}
+use Rattle.book_model.specs.Words.{Records, Rulings, has}
 use Rattle.book_model.proofs.RecordSets.{has_those}
 
 module _ (rulings : Rulings) (held : Records) (day : ℤ) where

@@ -9,10 +9,8 @@ use Rattle.std.proofs.lemmas.Cmp.{nat_list_cmp_total}
 use Rattle.std.proofs.lemmas.List.Sums.{sum_by-cons}
 use Rattle.std.proofs.lemmas.Map.Lookups.{exact_bytes}
 use Rattle.tariff_rules.specs.declared.priced.Priced.{Priced}
-use Rattle.book_model.specs.Accept.{total_of}
-use Rattle.book_model.specs.Records.{Records, Naming, name_of, by_bytes}
-use Rattle.book_model.specs.Rulings.{Rulings, price_in, prices}
-use Rattle.book_model.specs.Sets.{members, has, with}
+use Rattle.book_model.specs.Words.{total_of, Records, Naming, name_of, by_bytes, Rulings, price_in}
+use Rattle.book_model.specs.Words.{prices, members, has, with}
 use Rattle.book_model.proofs.GivenLemmas.{find-insert_key, find-none}
 use Rattle.book_model.proofs.MapLemmas.{from_entries-insert, insert-insert, get-inserted}
 use Rattle.book_model.proofs.RecordSets.{is, has_those}

@@ -2,9 +2,7 @@
 use Rattle.std.proofs.Common.{◌≡◌, ℕ, List, [], ◌∷◌, map, refl, ap, ◌∙◌}
 use Rattle.book_model.specs.declared.row.ChargeRow.{ChargeRow}
 use Rattle.book_model.specs.declared.row.RowKey.{RowKey}
-use Rattle.book_model.specs.Books.{all_periods}
-use Rattle.book_model.specs.Rows.{by_key, rows_for}
-use Rattle.book_model.specs.Rulings.{prices}
+use Rattle.book_model.specs.Words.{all_periods, by_key, rows_for, prices}
 use Rattle.book_model.proofs.FilterLemmas.{entries-sorted}
 use Rattle.book_model.proofs.RowLemmas.{by_key_total, by_key_exact}
 use Rattle.kept_tables.specs.Numbered.{under}

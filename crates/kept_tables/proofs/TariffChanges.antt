@@ -8,16 +8,11 @@ use Rattle.std.specs.List.{list_any}
 use Rattle.std.specs.Option.{option_map}
 use Rattle.std.specs.Ordering.{int_cmp}
 use Rattle.std.proofs.lemmas.List.{map-append}
-use Rattle.tariff_rules.specs.Terms.{Terms}
+use Rattle.book_model.specs.Words.{Terms, Book, all_periods, charged_now, put_in_force, Records}
+use Rattle.book_model.specs.Words.{Naming, name_of, is_effective, terms_answer, Rulings, Tariffed}
+use Rattle.book_model.specs.Words.{price_in, with_tariff, IsSound}
 use Rattle.tariff_rules.specs.declared.priced.Priced.{Priced}
 use Rattle.book_model.specs.declared.answer.Ruled.TheVariants.{Done}
-use Rattle.book_model.specs.Books.{Book, all_periods}
-use Rattle.book_model.specs.Charged.{charged_now}
-use Rattle.book_model.specs.Events.{put_in_force}
-use Rattle.book_model.specs.Records.{Records, Naming, name_of}
-use Rattle.book_model.specs.RulingAnswers.{is_effective, terms_answer}
-use Rattle.book_model.specs.Rulings.{Rulings, Tariffed, price_in, with_tariff}
-use Rattle.book_model.specs.Sound.{IsSound}
 use Rattle.book_model.proofs.ListLemmas.{map-agree}
 use Rattle.book_model.proofs.SetChanges.{pick-agree}
 use Rattle.kept_tables.specs.Laws.{TariffFollows}

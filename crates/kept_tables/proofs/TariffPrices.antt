@@ -1,19 +1,12 @@
 -- A tariff that comes into force changes no price of a record that is held.
 use Rattle.std.proofs.Common.{◌≡◌, ℕ, List, map, refl, ap, true, false, Bool, Some, Ok}
 use Rattle.std.specs.List.{list_any}
-use Rattle.tariff_rules.specs.Terms.{Terms}
+use Rattle.book_model.specs.Words.{Terms, Book, Period, Records, Naming, rows_of, has_text}
+use Rattle.book_model.specs.Words.{is_effective, is_later, has_dated, terms_answer, Rulings}
+use Rattle.book_model.specs.Words.{price_in, with_tariff, prices, has, IsSound, AreHeld}
 use Rattle.book_model.specs.declared.answer.Ruled.TheVariants.{Done}
 use Rattle.book_model.specs.declared.row.ChargeRow.{ChargeRow}
 use Rattle.book_model.specs.declared.row.RowKey.{RowKey}
-use Rattle.book_model.specs.Books.{Book}
-use Rattle.book_model.specs.Periods.{Period}
-use Rattle.book_model.specs.Records.{Records, Naming}
-use Rattle.book_model.specs.Rows.{rows_of}
-use Rattle.book_model.specs.RulingAnswers.{has_text, is_effective, is_later, has_dated}
-use Rattle.book_model.specs.RulingAnswers.{terms_answer}
-use Rattle.book_model.specs.Rulings.{Rulings, price_in, with_tariff, prices}
-use Rattle.book_model.specs.Sets.{has}
-use Rattle.book_model.specs.Sound.{IsSound, AreHeld}
 use Rattle.book_model.proofs.CallLemmas.{by_tests}
 use Rattle.book_model.proofs.PricingLemmas.{held_prices_stay}
 use Rattle.book_model.proofs.SetChanges.{pick-agree}

@@ -17,12 +17,8 @@ use Rattle.std.proofs.lemmas.List.Sorted.{length_permutation}
 use Rattle.std.proofs.lemmas.Map.Keys.{sorted_tail}
 use Rattle.std.proofs.lemmas.Map.Lookups.{exact_bytes}
 use Rattle.tariff_rules.specs.declared.priced.Priced.{Priced}
-use Rattle.book_model.specs.Books.{Book}
-use Rattle.book_model.specs.Charged.{share_identity, charged_now}
-use Rattle.book_model.specs.Records.{Naming, name_of, by_bytes, same_bytes}
-use Rattle.book_model.specs.Rulings.{price_in, identity_by}
-use Rattle.book_model.specs.Sets.{members, has, those}
-use Rattle.book_model.specs.Sound.{IsSound}
+use Rattle.book_model.specs.Words.{Book, share_identity, charged_now, Naming, name_of, by_bytes}
+use Rattle.book_model.specs.Words.{same_bytes, price_in, identity_by, members, has, those, IsSound}
 use Rattle.book_model.proofs.FilterLemmas.{no_length, Apart, permuted_one, filter-filter_map}
 use Rattle.book_model.proofs.FilterLemmas.{entries-sorted, filter-from_entries}
 use Rattle.book_model.proofs.GivenLemmas.{find-none}

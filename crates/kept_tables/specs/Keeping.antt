@@ -2,10 +2,8 @@
 use Rattle.std.specs.Prelude.{ℕ, ◌+◌, List, [], ◌∷◌, length, Option, Some, None}
 use Rattle.std.specs.FinMap.{empty}
 use Rattle.tariff_rules.specs.declared.priced.Priced.{Priced}
-use Rattle.book_model.specs.Events.{Event, RecordKept, TariffAccepted, PeriodClosed}
-use Rattle.book_model.specs.History.{rulings}
-use Rattle.book_model.specs.Records.{Naming, name_of}
-use Rattle.book_model.specs.Rulings.{Rulings, price_in, identity_by}
+use Rattle.book_model.specs.Words.{Event, RecordKept, TariffAccepted, PeriodClosed, rulings, Naming}
+use Rattle.book_model.specs.Words.{name_of, Rulings, price_in, identity_by}
 use Rattle.book_core.specs.Effects.{effects_of}
 use Rattle.kept_tables.specs.TableChanges.{put_new, close_tables, put_tariff}
 use Rattle.kept_tables.specs.Tables.{Tables, first_rule, never_adopted}

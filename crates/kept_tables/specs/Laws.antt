@@ -1,18 +1,11 @@
 -- The laws of the kept tables: after each event they are the tables of the book.
 use Rattle.std.specs.Prelude.{◌≡◌, ℕ, List, Some, Ok, ℤ}
-use Rattle.tariff_rules.specs.Terms.{Terms}
+use Rattle.book_model.specs.Words.{Terms, accept_answer, IsAnswered, Book, open_number, Event, keep}
+use Rattle.book_model.specs.Words.{put_in_force, close, book_after, Naming, name_of, terms_answer}
+use Rattle.book_model.specs.Words.{close_answer, price_in, identity_by, IsSound}
 use Rattle.tariff_rules.specs.declared.priced.Priced.{Priced}
 use Rattle.book_model.specs.declared.answer.Accepted.TheVariants.{Kept}
 use Rattle.book_model.specs.declared.answer.Ruled.TheVariants.{Done}
-use Rattle.book_model.specs.Accept.{accept_answer}
-use Rattle.book_model.specs.Answered.{IsAnswered}
-use Rattle.book_model.specs.Books.{Book, open_number}
-use Rattle.book_model.specs.Events.{Event, keep, put_in_force, close}
-use Rattle.book_model.specs.History.{book_after}
-use Rattle.book_model.specs.Records.{Naming, name_of}
-use Rattle.book_model.specs.RulingAnswers.{terms_answer, close_answer}
-use Rattle.book_model.specs.Rulings.{price_in, identity_by}
-use Rattle.book_model.specs.Sound.{IsSound}
 use Rattle.book_core.specs.Effects.{HasOnly, effects_of}
 use Rattle.kept_tables.specs.Differing.{DifferInAtMost}
 use Rattle.kept_tables.specs.Keeping.{tables_after}

@@ -3,15 +3,10 @@ use Rattle.std.specs.Prelude.{◌≡◌, ℕ, true, false, Bool, List, map, All,
 use Rattle.std.specs.FinMap.{get}
 use Rattle.std.specs.List.{filter_map}
 use Rattle.std.specs.Option.{option_map}
-use Rattle.smf_frames.specs.Framed.{record_with, IsFramed}
-use Rattle.smf_type30.specs.Usage.{job_of}
+use Rattle.book_model.specs.Words.{record_with, IsFramed, job_of, Book, by_line, Period, Records}
+use Rattle.book_model.specs.Words.{set_of, members, has}
 use Rattle.book_model.specs.declared.line.Line.{Line}
 use Rattle.book_model.specs.declared.row.ChargeRow.{ChargeRow}
-use Rattle.book_model.specs.Books.{Book}
-use Rattle.book_model.specs.Lines.{by_line}
-use Rattle.book_model.specs.Periods.{Period}
-use Rattle.book_model.specs.Records.{Records}
-use Rattle.book_model.specs.Sets.{set_of, members, has}
 use Rattle.kept_tables.specs.Numbered.{rows_under}
 use Rattle.kept_tables.specs.Tables.{RecordTable, DayTable, Tables}
 

@@ -1,17 +1,9 @@
 -- The laws of what is read: charge rows and lines are read back, and what is past stays.
 use Rattle.std.specs.Prelude.{◌≡◌, ℕ, List, Some, Ok, ℤ, slice_get}
-use Rattle.smf_frames.specs.Framed.{IsFramed}
-use Rattle.tariff_rules.specs.Terms.{Terms}
+use Rattle.book_model.specs.Words.{IsFramed, Terms, Book, new_book, flat_book, period_of, keep}
+use Rattle.book_model.specs.Words.{put_in_force, close, lines_of, Period, Naming, rows_for}
+use Rattle.book_model.specs.Words.{terms_answer, Rulings, with_tariff, IsSound}
 use Rattle.book_model.specs.declared.answer.Ruled.TheVariants.{Done}
-use Rattle.book_model.specs.Books.{Book, new_book, flat_book, period_of}
-use Rattle.book_model.specs.Events.{keep, put_in_force, close}
-use Rattle.book_model.specs.Lines.{lines_of}
-use Rattle.book_model.specs.Periods.{Period}
-use Rattle.book_model.specs.Records.{Naming}
-use Rattle.book_model.specs.Rows.{rows_for}
-use Rattle.book_model.specs.RulingAnswers.{terms_answer}
-use Rattle.book_model.specs.Rulings.{Rulings, with_tariff}
-use Rattle.book_model.specs.Sound.{IsSound}
 use Rattle.kept_tables.specs.Reading.{rows_read, lines_read, HasLines}
 use Rattle.kept_tables.specs.TablesOf.{tables_of}
 

@@ -5,7 +5,7 @@ use Rattle.std.specs.FinMap.{get, insert, remove}
 use Rattle.tariff_rules.specs.declared.priced.Priced.{Priced}
 use Rattle.book_model.specs.declared.row.ChargeRow.{ChargeRow}
 use Rattle.book_model.specs.declared.row.RowKey.{RowKey}
-use Rattle.book_model.specs.Rows.{key_of, row_at}
+use Rattle.book_model.specs.Words.{key_of, row_at}
 use Rattle.book_core.specs.declared.effect_table.DayChange.{DayChange}
 use Rattle.book_core.specs.declared.effect_table.DayChange.TheVariants.{Add, Take}
 use Rattle.book_core.specs.declared.effect_table.LineChange.{LineChange}

@@ -2,12 +2,9 @@
 use Rattle.std.specs.Prelude.{ℕ, suc, ◌+◌, ◌==◌, not, ◌&&◌, false, if◌then◌else◌, List, Option, ℤ}
 use Rattle.std.specs.Prelude.{int_lt}
 use Rattle.std.specs.FinMap.{insert}
-use Rattle.smf_frames.specs.Framed.{data_of}
-use Rattle.tariff_rules.specs.Terms.{Terms}
+use Rattle.book_model.specs.Words.{data_of, Terms, Naming, name_of, Rulings, identity_by}
 use Rattle.tariff_rules.specs.declared.priced.Priced.{Priced}
 use Rattle.book_model.specs.declared.row.RowKey.{RowKey}
-use Rattle.book_model.specs.Records.{Naming, name_of}
-use Rattle.book_model.specs.Rulings.{Rulings, identity_by}
 use Rattle.book_core.specs.declared.effect_table.Effects.{Effects}
 use Rattle.kept_tables.specs.MapChanges.{updated, moved}
 use Rattle.kept_tables.specs.RowChanges.{change_day, change_line, change_mark}

@@ -4,8 +4,7 @@ use Rattle.std.specs.FinMap.{FinMap}
 use Rattle.std.specs.Ordering.{nat_cmp, int_cmp}
 use Rattle.tariff_rules.specs.declared.priced.Priced.{Priced}
 use Rattle.book_model.specs.declared.row.ChargeRow.{ChargeRow}
-use Rattle.book_model.specs.Records.{by_bytes}
-use Rattle.book_model.specs.Rows.{by_key}
+use Rattle.book_model.specs.Words.{by_bytes, by_key}
 use Rattle.kept_tables.specs.Numbered.{by_period}
 
 -- The one row of the book: the rule of identity in force and the period in which it was adopted,

@@ -4,17 +4,12 @@ use Rattle.std.specs.Prelude.{ℤ}
 use Rattle.std.specs.FinMap.{from_entries}
 use Rattle.std.specs.List.{filter_map}
 use Rattle.std.specs.Option.{option_map}
-use Rattle.smf_frames.specs.Framed.{data_of}
+use Rattle.book_model.specs.Words.{data_of, total_of, Book, charged_of, all_periods, Period}
+use Rattle.book_model.specs.Words.{Records, Naming, name_of, rows_for, Rulings, Tariffed, price_in}
+use Rattle.book_model.specs.Words.{identity_by, members, has}
 use Rattle.tariff_rules.specs.declared.priced.Priced.{Priced}
 use Rattle.book_model.specs.declared.row.ChargeRow.{ChargeRow}
 use Rattle.book_model.specs.declared.row.RowKey.{RowKey}
-use Rattle.book_model.specs.Accept.{total_of}
-use Rattle.book_model.specs.Books.{Book, charged_of, all_periods}
-use Rattle.book_model.specs.Periods.{Period}
-use Rattle.book_model.specs.Records.{Records, Naming, name_of}
-use Rattle.book_model.specs.Rows.{rows_for}
-use Rattle.book_model.specs.Rulings.{Rulings, Tariffed, price_in, identity_by}
-use Rattle.book_model.specs.Sets.{members, has}
 use Rattle.kept_tables.specs.Numbered.{numbered}
 use Rattle.kept_tables.specs.Tables.{BookRow, RecordRow, Tables, first_rule, never_adopted}
 

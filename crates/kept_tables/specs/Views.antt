@@ -4,11 +4,8 @@ use Rattle.std.specs.FinMap.{entries, values}
 use Rattle.std.specs.List.{last_or}
 use Rattle.std.specs.Option.{option_map, option_map_or}
 use Rattle.tariff_rules.specs.declared.priced.Priced.{Priced}
-use Rattle.book_model.specs.Books.{Book, charged_of}
-use Rattle.book_model.specs.Charged.{share_identity}
-use Rattle.book_model.specs.Records.{Naming, name_of, same_bytes}
-use Rattle.book_model.specs.Rulings.{price_in, last_close}
-use Rattle.book_model.specs.Sets.{members, those, has}
+use Rattle.book_model.specs.Words.{Book, charged_of, share_identity, Naming, name_of, same_bytes}
+use Rattle.book_model.specs.Words.{price_in, last_close, members, those, has}
 use Rattle.book_core.specs.declared.effect_table.Member.{Member}
 use Rattle.book_core.specs.declared.effect_table.View.{View}
 use Rattle.kept_tables.specs.Tables.{RecordRow, RecordTable, Tables}

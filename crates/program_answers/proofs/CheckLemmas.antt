@@ -1,14 +1,12 @@
 -- What makes a check: a dump whose pieces were listed one after another.
-use Rattle.std.proofs.Common.{◌≡◌, ◌∙◌, ℕ, false, List, [], ◌++◌, length}
-use Rattle.std.proofs.Common.{sym, ap, subst, Option, None, Result, Err}
+use Rattle.std.proofs.Common.{◌≡◌, ◌∙◌, ℕ, false, List, [], ◌++◌, length, sym, ap, subst, Option}
+use Rattle.std.proofs.Common.{None, Result, Err}
 use Rattle.std.specs.Prelude.{IfOk, unwrap_or}
 use Rattle.std.specs.Io.KnownBytes.{Consumes}
 use Rattle.std.proofs.KnownBytes.{Appends-nil, Consumes-nil}
 use Rattle.smf_frames.specs.declared.dump.Layout.{Layout}
 use Rattle.smf_frames.specs.declared.fault.FrameFault.{FrameFault}
-use Rattle.smf_frames.specs.Front.{Front, front}
-use Rattle.smf_frames.specs.Joining.{Joining, StandsAfter, nothing_joined, nothing_found}
-use Rattle.smf_frames.specs.Joining.{broken_by}
+use Rattle.book_model.specs.Words.{Front, front, Joining, StandsAfter, broken_by}
 use Rattle.book_import.specs.declared.receipt.Stop.{Stop}
 use Rattle.book_import.specs.declared.receipt.Stop.TheVariants.{Frame}
 use Rattle.book_import.specs.Dumps.{stop_behind, frame_stop}
@@ -18,11 +16,9 @@ use Rattle.book_reports.specs.declared.fault.ReportFault.{ReportFault}
 use Rattle.program_answers.specs.declared.listing.Listing.{Listing}
 use Rattle.program_answers.specs.Checks.{IsCheck}
 use Rattle.book_reports.specs.CheckLists.{record_lines, last_line, check_list_text}
-use Rattle.program_answers.specs.Listings.{HasListed, WritesBut, WritesSome, Breaks}
-use Rattle.program_answers.specs.Listings.{waiting, count_of}
+use Rattle.program_answers.specs.Listings.{HasListed, WritesSome, Breaks, waiting, count_of}
 use Rattle.book_reports.specs.Writing.{WritesPrefix}
-use Rattle.program_answers.proofs.ListingLemmas.{none_written, written_of_more, is_prefix}
-use Rattle.program_answers.proofs.ListingLemmas.{listed_whole}
+use Rattle.program_answers.proofs.ListingLemmas.{written_of_more, is_prefix, listed_whole}
 use Rattle.program_answers.proofs.PieceLemmas.{ListsOver}
 
 -- These bytes were taken, and the lines of the records that they complete were written, or wait.
@@ -34,23 +30,6 @@ pub record Lists (layout : Layout) (bytes : List ℕ) (joiner : Joining) (listin
   pub stands : StandsAfter bytes joiner
   pub whole : (front layout bytes).is_broken ≡ false
   pub listed : HasListed (front layout bytes).records held holds listing
-
--- none yet
-pub lists_nothing : (layout : Layout) (joiner : Joining) (listing : Listing)
-    (held : Option (List ℕ)) → joiner ≡ nothing_joined layout → StandsAfter [] joiner
-    → front layout [] ≡ nothing_found → waiting listing ≡ [] → count_of listing ≡ 0
-    → Lists layout [] joiner listing held held
-lists_nothing layout joiner listing held is stands found waits count = record {
-  layout_is = ap (λ (j : Joining). j.layout) is;
-  none = ap (λ (j : Joining). j.standing) is;
-  stands = stands;
-  whole = ap (λ (f : Front). f.is_broken) found;
-  listed = subst (λ (f : Front). HasListed f.records held held listing) (sym found)
-      (record {
-        count = count;
-        lines = subst (λ rest. WritesBut [] rest held held) (sym waits) (none_written [] held);
-      });
-}
 
 -- where the lines of a piece were written or wait, so are those of all bytes so far
 lists_on : (layout : Layout) (bytes piece : List ℕ) (joiner : Joining) (began now : Listing)

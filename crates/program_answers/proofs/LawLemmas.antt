@@ -2,11 +2,7 @@
 use Rattle.std.proofs.Common.{◌≡◌, ◌∙◌, ℕ, List, [], ◌∷◌, take, refl, sym, ap, true, false, Bool}
 use Rattle.std.proofs.Common.{true≢false, Ok, Err}
 use Rattle.sha2.specs.Sha256.{sha256}
-use Rattle.smf_frames.specs.Front.{front}
-use Rattle.book_model.specs.Books.{Book, flat_book}
-use Rattle.book_model.specs.Events.{Event, after_all}
-use Rattle.book_model.specs.Outcomes.{accept_outcome}
-use Rattle.book_model.specs.Records.{Naming}
+use Rattle.book_model.specs.Words.{front, Book, flat_book, Event, after_all, accept_outcome, Naming}
 use Rattle.book_model.specs.declared.fault.LedgerFault.{LedgerFault}
 use Rattle.book_model.specs.declared.fault.LedgerFault.TheVariants.{Memory}
 use Rattle.book_import.specs.declared.receipt.Stop.{Stop}

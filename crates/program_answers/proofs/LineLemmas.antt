@@ -6,7 +6,7 @@ use Rattle.std.proofs.lemmas.Fmt.{length-decimal-le}
 use Rattle.byteorder.specs.Numbers.{big_from-lt}
 use Rattle.smf_frames.specs.declared.fault.FrameFault.{FrameFault}
 use Rattle.smf_frames.specs.declared.fault.FrameFault.TheVariants as frame
-use Rattle.smf_frames.specs.Faults.{frame_number}
+use Rattle.book_model.specs.Words.{frame_number, type_of, class_of, damage_number, ledger_number}
 use Rattle.smf_type30.specs.declared.classes.Class.{Class}
 use Rattle.smf_type30.specs.declared.classes.Class.TheVariants.{DumpHeader, DumpTrailer, DataLost}
 use Rattle.smf_type30.specs.declared.classes.Class.TheVariants.{Other, Continuation, Usage, Damaged}
@@ -14,11 +14,8 @@ use Rattle.smf_type30.specs.declared.damage.Damage.{Damage}
 use Rattle.smf_type30.specs.declared.damage.Damage.TheVariants.{Short, Date, Time, NoIdentification}
 use Rattle.smf_type30.specs.declared.damage.Damage.TheVariants.{Identification, Processor}
 use Rattle.smf_type30.specs.declared.damage.Damage.TheVariants.{InputOutput, Completion, Accounting}
-use Rattle.smf_type30.specs.Class.{type_of, class_of}
-use Rattle.smf_type30.specs.Damage.{damage_number}
 use Rattle.book_model.specs.declared.fault.LedgerFault.{LedgerFault}
 use Rattle.book_model.specs.declared.fault.LedgerFault.TheVariants as ledger
-use Rattle.book_model.specs.Faults.{ledger_number}
 use Rattle.book_import.specs.declared.receipt.Stop.{Stop}
 use Rattle.book_import.specs.declared.receipt.Stop.TheVariants as stop
 use Rattle.book_reports.specs.ReceiptLines.{fault_text, stop_text}

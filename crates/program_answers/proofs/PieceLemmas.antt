@@ -7,9 +7,8 @@ use Rattle.std.specs.Option.{option_to_list}
 use Rattle.std.proofs.lemmas.List.{take-append-drop, length-take-le}
 use Rattle.std.specs.Io.KnownBytes.{Appends}
 use Rattle.smf_frames.specs.declared.fault.FrameFault.{FrameFault}
-use Rattle.smf_frames.specs.Front.{Front, front, front_from, behind}
-use Rattle.smf_frames.specs.Joining.{Joining, StandsAfter, broken_by, let_go}
-use Rattle.smf_frames.specs.Feeding.{Feeds}
+use Rattle.book_model.specs.Words.{Front, front, front_from, behind, Joining, StandsAfter}
+use Rattle.book_model.specs.Words.{broken_by, let_go, Feeds}
 use Rattle.book_import.specs.Pieces.{TakesAll}
 use Rattle.program_answers.specs.declared.listing.Listing.{Listing}
 use Rattle.book_reports.specs.CheckLists.{record_line, record_lines}
@@ -35,21 +34,6 @@ pub record HasCome (old : Joining) (piece rest : List ℕ) (joiner : Joining) (b
   pub listed : ListsOver old seen began now had has
   pub few : count_of now ≤ count_of began + length seen
 
--- nowhere yet
-pub come_nowhere : (old : Joining) (piece : List ℕ) (began : Listing) (had : Option (List ℕ))
-    → old.standing ≡ None → HasCome old piece piece old began began had had
-come_nowhere old piece began had none = record {
-  seen = [];
-  parts = refl;
-  none = none;
-  layout_is = refl;
-  stands = λ text stands. subst (λ b. StandsAfter b old) (sym (append-nil text)) stands;
-  listed = λ text held stands listed.
-      subst (λ b. HasListed (front old.layout b).records held had began) (sym (append-nil text))
-      listed;
-  few = omega arith;
-}
-
 -- the records of the text and the bytes that were taken
 records_on : (old joiner mid : Joining) (text seen rest : List ℕ) (n : ℕ) (one : Option (List ℕ))
     → joiner.layout ≡ old.layout → joiner.standing ≡ None → StandsAfter (text ++ seen) joiner
@@ -71,13 +55,6 @@ pub come_moves : (old joiner mid : Joining) (piece rest text : List ℕ) (n : �
 come_moves old joiner mid piece rest text n began now had has one come stood fed one_is =
     fed.moves (text ++ come.seen) (come.stands text stood) come.none
     (sym (ap (λ s. is_some s) one_is))
-
--- no more records have their line than the piece has bytes
-pub come_few : (old : Joining) (piece rest : List ℕ) (joiner : Joining) (began now : Listing)
-    (had has : Option (List ℕ)) → HasCome old piece rest joiner began now had has
-    → count_of now + length rest ≤ count_of began + length piece
-come_few old piece rest joiner began now had has come =
-    omega (arith, come.few, ap length come.parts, length-append come.seen rest)
 
 -- a record that the piece completes got its line, and is let go
 pub come_on : (old joiner mid new : Joining) (piece rest later : List ℕ) (n : ℕ)

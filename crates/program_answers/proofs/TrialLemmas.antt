@@ -6,12 +6,7 @@ use Rattle.std.specs.Io.KnownBytes.{Consumes}
 use Rattle.std.proofs.KnownBytes.{Consumes-nil}
 use Rattle.sha2.specs.Sha256.{sha256}
 use Rattle.smf_frames.specs.declared.dump.Layout.{Layout}
-use Rattle.tariff_rules.specs.Terms.{Terms}
-use Rattle.smf_frames.specs.Front.{front}
-use Rattle.book_model.specs.Books.{Book, flat_book}
-use Rattle.book_model.specs.Events.{Event, after_all}
-use Rattle.book_model.specs.Records.{Naming}
-use Rattle.book_model.specs.Rulings.{Rulings}
+use Rattle.book_model.specs.Words.{Terms, front, Book, flat_book, Event, after_all, Naming, Rulings}
 use Rattle.book_core.specs.Ledgers.{in_memory}
 use Rattle.book_core.specs.Work.{IsWork}
 use Rattle.book_model.specs.declared.fault.LedgerFault.TheVariants.{Memory}

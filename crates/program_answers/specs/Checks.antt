@@ -2,7 +2,7 @@
 use Rattle.std.specs.Prelude.{◌≡◌, ◌⊎◌, ℕ, List, Option, Result, Err, IfOk}
 use Rattle.std.specs.Io.KnownBytes.{Consumes}
 use Rattle.smf_frames.specs.declared.dump.Layout.{Layout}
-use Rattle.smf_frames.specs.Front.{front}
+use Rattle.book_model.specs.Words.{front}
 use Rattle.streams.specs.declared.source.Source.{Source}
 use Rattle.book_import.specs.declared.receipt.Stop.{Stop}
 use Rattle.book_import.specs.Dumps.{stop_behind}

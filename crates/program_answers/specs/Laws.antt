@@ -2,12 +2,8 @@
 use Rattle.std.specs.Prelude.{◌≡◌, ℕ, false, List, Option}
 use Rattle.sha2.specs.Sha256.{sha256}
 use Rattle.smf_frames.specs.declared.dump.Layout.{Layout}
-use Rattle.smf_frames.specs.Front.{front}
-use Rattle.tariff_rules.specs.Terms.{Terms}
-use Rattle.book_model.specs.Books.{Book, flat_book}
-use Rattle.book_model.specs.Events.{Event, after_all}
-use Rattle.book_model.specs.Records.{Records, by_bytes}
-use Rattle.book_model.specs.Sets.{set_of}
+use Rattle.book_model.specs.Words.{front, Terms, Book, flat_book, Event, after_all, Records}
+use Rattle.book_model.specs.Words.{by_bytes, set_of}
 use Rattle.book_import.specs.declared.receipt.Stop.{Stop}
 use Rattle.book_import.specs.declared.receipt.Receipt.{Receipt}
 use Rattle.book_import.specs.Imports.{Imports}

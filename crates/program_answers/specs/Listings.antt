@@ -4,8 +4,7 @@ use Rattle.std.specs.Prelude.{Result, Ok, Err, string_bytes}
 use Rattle.std.specs.Io.KnownBytes.{Appends}
 use Rattle.smf_frames.specs.declared.dump.Layout.{Layout}
 use Rattle.smf_frames.specs.declared.fault.FrameFault.{FrameFault}
-use Rattle.smf_frames.specs.Front.{front}
-use Rattle.smf_frames.specs.Joining.{Joining, StandsAfter, broken_by}
+use Rattle.book_model.specs.Words.{front, Joining, StandsAfter, broken_by}
 use Rattle.book_import.specs.Pieces.{TakesAll}
 use Rattle.book_reports.specs.declared.fault.ReportFault.{ReportFault}
 use Rattle.program_answers.specs.declared.listing.Listing.{Listing}

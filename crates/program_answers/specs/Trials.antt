@@ -4,9 +4,7 @@ use Rattle.std.specs.Prelude.{◌≡◌, ℕ, false, List, [], ◌∷◌, Option
 use Rattle.std.specs.Io.KnownBytes.{Consumes}
 use Rattle.sha2.specs.Sha256.{sha256}
 use Rattle.smf_frames.specs.declared.dump.Layout.{Layout}
-use Rattle.tariff_rules.specs.Terms.{Terms}
-use Rattle.book_model.specs.Books.{Book, flat_book}
-use Rattle.book_model.specs.Events.{Event, after_all}
+use Rattle.book_model.specs.Words.{Terms, Book, flat_book, Event, after_all}
 use Rattle.book_import.specs.declared.receipt.Receipt.{Receipt}
 use Rattle.book_import.specs.declared.receipt.Stop.{Stop}
 use Rattle.book_import.specs.Imports.{Imports}

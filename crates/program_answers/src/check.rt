@@ -2,7 +2,7 @@
 
 ghost use Rattle.std.specs.Prelude.{◌≡◌, ℕ, ◌+◌, ◌<◌, ◌≤◌, ◌^◌, false, true, List, None, length};
 ghost use Rattle.std.specs.Prelude.{IfErr, IfOk, OnOk, []};
-ghost use Rattle.smf_frames.specs.Joining.{StandsAfter};
+ghost use Rattle.book_model.specs.Words.{StandsAfter};
 ghost use Rattle.streams.specs.Sinks.{writer_of, has_failed};
 ghost use Rattle.streams.specs.Marks.{NothingIsLeft};
 ghost use Rattle.streams.specs.Sources as sources;

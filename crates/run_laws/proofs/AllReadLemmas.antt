@@ -11,15 +11,10 @@ use Rattle.book_model.specs.declared.fault.LedgerFault.{LedgerFault}
 use Rattle.book_model.specs.declared.fault.LedgerFault.TheVariants.{NoSuchPeriod}
 use Rattle.book_model.specs.declared.line.Line.{Line}
 use Rattle.book_model.specs.declared.row.ChargeRow.{ChargeRow}
-use Rattle.book_model.specs.Accept.{total_of}
-use Rattle.book_model.specs.Books.{Book, open_number, open_period, all_periods, period_of, charged_of}
-use Rattle.book_model.specs.Events.{Event, after_all}
-use Rattle.book_model.specs.History.{book_after, book_of}
-use Rattle.book_model.specs.Lines.{lines_of}
-use Rattle.book_model.specs.Outcomes.{Outcome, reading, charges_outcome, adjustments_outcome}
-use Rattle.book_model.specs.Periods.{Period}
-use Rattle.book_model.specs.Records.{Naming}
-use Rattle.book_model.specs.Rows.{rows_for}
+use Rattle.book_model.specs.Words.{total_of, Book, open_number, open_period, all_periods, period_of}
+use Rattle.book_model.specs.Words.{charged_of, Event, after_all, book_after, book_of, lines_of}
+use Rattle.book_model.specs.Words.{Outcome, reading, charges_outcome, adjustments_outcome, Period}
+use Rattle.book_model.specs.Words.{Naming, rows_for}
 use Rattle.book_model.proofs.AnsweredLemmas.{sound_after}
 use Rattle.book_model.proofs.ListLemmas.{slice_get-front, slice_get-behind}
 use Rattle.book_model.proofs.StepLemmas.{books_follow_history}

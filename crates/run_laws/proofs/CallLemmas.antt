@@ -1,15 +1,9 @@
 -- Calls on one ledger, one after another: their work, and the events that they make.
 use Rattle.std.proofs.Common.{◌≡◌, ℕ, List, [], ◌∷◌, ◌++◌, None, Result, refl, sym, subst, map}
-use Rattle.smf_frames.specs.Front.{front}
+use Rattle.book_model.specs.Words.{front, accept_answer, IsAnswered, Book, dispute_shown}
+use Rattle.book_model.specs.Words.{book_after, Outcome, accept_outcome, charges_outcome}
+use Rattle.book_model.specs.Words.{adjustments_outcome, disputes_outcome, periods_outcome, Naming}
 use Rattle.book_model.specs.declared.fault.LedgerFault.{LedgerFault}
-use Rattle.book_model.specs.Accept.{accept_answer}
-use Rattle.book_model.specs.Answered.{IsAnswered}
-use Rattle.book_model.specs.Books.{Book}
-use Rattle.book_model.specs.Disputes.{dispute_shown}
-use Rattle.book_model.specs.History.{book_after}
-use Rattle.book_model.specs.Outcomes.{Outcome, accept_outcome, charges_outcome, adjustments_outcome}
-use Rattle.book_model.specs.Outcomes.{disputes_outcome, periods_outcome}
-use Rattle.book_model.specs.Records.{Naming}
 use Rattle.book_core.specs.Calls.{Calls, listed}
 use Rattle.book_core.specs.Ledgers.{Seen}
 use Rattle.book_core.specs.Work.{NoEvent, IsWork}

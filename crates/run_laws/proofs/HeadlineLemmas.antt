@@ -1,15 +1,11 @@
 -- What a report tells: from the contracts of the calls before it, and its own.
-use Rattle.std.proofs.Common.{◌≡◌, ◌∙◌, List, [], ◌++◌, Option, Result, Ok, Err}
-use Rattle.std.proofs.Common.{◌∷◌, refl, sym, ap, subst, append-nil}
+use Rattle.std.proofs.Common.{◌≡◌, ◌∙◌, List, [], ◌++◌, Option, Result, Ok, Err, ◌∷◌, refl, sym, ap}
+use Rattle.std.proofs.Common.{subst, append-nil}
 use Rattle.std.specs.List.{concat}
 use Rattle.std.specs.Prelude.{ℕ, OnOk}
 use Rattle.std.specs.Io.KnownBytes.{Appends}
 use Rattle.book_model.specs.declared.fault.LedgerFault.{LedgerFault}
-use Rattle.book_model.specs.Books.{Book, new_book}
-use Rattle.book_model.specs.Events.{Event}
-use Rattle.book_model.specs.History.{book_after, book_of}
-use Rattle.book_model.specs.Outcomes.{Outcome}
-use Rattle.book_model.specs.Records.{Naming}
+use Rattle.book_model.specs.Words.{Book, new_book, Event, book_after, book_of, Outcome, Naming}
 use Rattle.book_model.proofs.OrderLemmas.{order_is_free}
 use Rattle.book_model.proofs.StepLemmas.{books_follow_history}
 use Rattle.book_core.specs.Calls.{IsCall}
@@ -24,8 +20,7 @@ use Rattle.book_reports.specs.ReceiptLines.{receipt_line_text}
 use Rattle.book_reports.specs.Reports.{IsPassedOn, IsReport}
 use Rattle.run_laws.specs.CallLaws.{IsStillOpen}
 use Rattle.run_laws.specs.Calls.{ledger_after}
-use Rattle.run_laws.specs.Headline.{Reading, IsRead, Tells, ReportsFollowHistory}
-use Rattle.run_laws.specs.Headline.{TellsAfterRun}
+use Rattle.run_laws.specs.Headline.{Reading, IsRead, Tells, ReportsFollowHistory, TellsAfterRun}
 use Rattle.run_laws.specs.declared.report.Report.{Report}
 use Rattle.run_laws.specs.declared.report.Report.TheVariants.{Statement, StatementTable}
 use Rattle.run_laws.specs.declared.report.Report.TheVariants.{AdjustmentList, DisputeList}

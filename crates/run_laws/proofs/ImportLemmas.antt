@@ -2,11 +2,7 @@
 use Rattle.std.proofs.Common.{◌≡◌, ◌∙◌, ℕ, List, [], ◌∷◌, ◌++◌, Option, false, sym, ap, subst}
 use Rattle.std.specs.Io.KnownBytes.{Appends}
 use Rattle.std.specs.List.{concat}
-use Rattle.smf_frames.specs.Front.{front}
-use Rattle.book_model.specs.Books.{Book}
-use Rattle.book_model.specs.Events.{Event}
-use Rattle.book_model.specs.History.{book_after}
-use Rattle.book_model.specs.Records.{Naming}
+use Rattle.book_model.specs.Words.{front, Book, Event, book_after, Naming}
 use Rattle.book_model.proofs.StepLemmas.{books_follow_history}
 use Rattle.book_core.specs.Ledgers.{Seen}
 use Rattle.book_core.specs.Work.{IsWork}

@@ -1,10 +1,7 @@
 -- What work on an open ledger leaves of it, where it is still open.
 use Rattle.std.proofs.Common.{◌≡◌, ◌∙◌, Bool, true, false, List, [], Ok, refl, sym, ap, subst}
 use Rattle.std.specs.Prelude.{◌||◌}
-use Rattle.book_model.specs.Books.{Book, new_book}
-use Rattle.book_model.specs.Events.{Event, after_all}
-use Rattle.book_model.specs.Outcomes.{Outcome}
-use Rattle.book_model.specs.Records.{Naming}
+use Rattle.book_model.specs.Words.{Book, new_book, Event, after_all, Outcome, Naming}
 use Rattle.book_core.specs.Calls.{IsCall, listed}
 use Rattle.book_core.specs.Ledgers.{Seen, StandsAt, stands_by, IsOpenAt}
 use Rattle.book_core.specs.Work.{Work, IsWork}

@@ -4,13 +4,8 @@ use Rattle.std.specs.Prelude.{Some, pos, ℤ}
 use Rattle.std.specs.Option.{option_map}
 use Rattle.std.specs.Result.{result_ok}
 use Rattle.book_model.specs.declared.row.ChargeRow.{ChargeRow}
-use Rattle.book_model.specs.Answered.{IsAnswered}
-use Rattle.book_model.specs.Books.{Book, new_book}
-use Rattle.book_model.specs.Charged.{is_undisputed}
-use Rattle.book_model.specs.Events.{Event}
-use Rattle.book_model.specs.History.{book_after}
-use Rattle.book_model.specs.Outcomes.{Outcome}
-use Rattle.book_model.specs.Records.{Naming}
+use Rattle.book_model.specs.Words.{IsAnswered, Book, new_book, is_undisputed, Event, book_after}
+use Rattle.book_model.specs.Words.{Outcome, Naming}
 use Rattle.book_model.proofs.OrderLemmas.{order_is_free}
 use Rattle.book_model.proofs.RecordSets.{has_those}
 use Rattle.book_model.proofs.StepLemmas.{books_follow_history}

@@ -4,12 +4,8 @@ use Rattle.std.specs.Prelude.{Vec}
 use Rattle.std.specs.Global.{Global}
 use Rattle.book_model.specs.declared.line.Line.{Line}
 use Rattle.book_model.specs.declared.row.ChargeRow.{ChargeRow}
-use Rattle.book_model.specs.Accept.{total_of}
-use Rattle.book_model.specs.Answered.{IsAnswered}
-use Rattle.book_model.specs.Books.{Book, charged_of, open_number}
-use Rattle.book_model.specs.Events.{Event}
-use Rattle.book_model.specs.History.{book_after, book_of}
-use Rattle.book_model.specs.Records.{Naming}
+use Rattle.book_model.specs.Words.{total_of, IsAnswered, Book, charged_of, open_number, Event}
+use Rattle.book_model.specs.Words.{book_after, book_of, Naming}
 use Rattle.book_core.specs.Ledgers.{Seen, IsOpenAt}
 use Rattle.history_laws.specs.Amounts.{plus_of, minus_of}
 use Rattle.run_laws.specs.CallLaws.{IsStillOpen}

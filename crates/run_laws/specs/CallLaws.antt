@@ -1,9 +1,6 @@
 -- What calls on one ledger, one after another, leave of it.
 use Rattle.std.specs.Prelude.{◌≡◌, false, List, ◌++◌}
-use Rattle.book_model.specs.Answered.{IsAnswered}
-use Rattle.book_model.specs.Events.{Event}
-use Rattle.book_model.specs.History.{book_after}
-use Rattle.book_model.specs.Records.{Naming}
+use Rattle.book_model.specs.Words.{IsAnswered, Event, book_after, Naming}
 use Rattle.book_core.specs.Ledgers.{Seen, IsOpenAt}
 use Rattle.run_laws.specs.Calls.{Call, Step, AreDone, calls_of, ledger_after, works_of}
 

@@ -8,11 +8,9 @@ use Rattle.book_model.specs.declared.dispute.Dispute.{Dispute}
 use Rattle.book_model.specs.declared.fault.LedgerFault.{LedgerFault}
 use Rattle.book_model.specs.declared.line.Line.{Line}
 use Rattle.book_model.specs.declared.row.ChargeRow.{ChargeRow}
-use Rattle.book_model.specs.Disputes.{dispute_shown}
-use Rattle.book_model.specs.Outcomes.{accept_outcome, tariff_outcome, close_outcome}
-use Rattle.book_model.specs.Outcomes.{charges_outcome, adjustments_outcome, disputes_outcome}
-use Rattle.book_model.specs.Outcomes.{periods_outcome}
-use Rattle.book_model.specs.Records.{Naming}
+use Rattle.book_model.specs.Words.{dispute_shown, accept_outcome, tariff_outcome, close_outcome}
+use Rattle.book_model.specs.Words.{charges_outcome, adjustments_outcome, disputes_outcome}
+use Rattle.book_model.specs.Words.{periods_outcome, Naming}
 use Rattle.book_core.specs.Calls.{Calls}
 use Rattle.book_core.specs.Ledgers.{Seen}
 use Rattle.book_core.specs.Work.{Work, NoEvent, Then, IsWork}

@@ -1,10 +1,7 @@
 -- The headline: what a report tells, whatever calls came before it.
 use Rattle.std.specs.Prelude.{◌≡◌, ℕ, false, List, [], ◌∷◌, ◌++◌, Option, Ok}
 use Rattle.std.specs.Io.KnownBytes.{Appends}
-use Rattle.book_model.specs.Answered.{IsAnswered}
-use Rattle.book_model.specs.Events.{Event}
-use Rattle.book_model.specs.History.{book_after}
-use Rattle.book_model.specs.Records.{Naming}
+use Rattle.book_model.specs.Words.{IsAnswered, Event, book_after, Naming}
 use Rattle.book_core.specs.Ledgers.{Seen, IsOpenAt}
 use Rattle.book_import.specs.declared.command.Command.{Command}
 use Rattle.book_import.specs.declared.command.Reply.{Reply}

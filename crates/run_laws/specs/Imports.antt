@@ -2,11 +2,7 @@
 use Rattle.std.specs.Prelude.{◌≡◌, ℕ, false, List, [], ◌∷◌, ◌++◌, Option, Ok}
 use Rattle.std.specs.Io.KnownBytes.{Appends}
 use Rattle.smf_frames.specs.declared.dump.Layout.{Layout}
-use Rattle.smf_frames.specs.Front.{front}
-use Rattle.book_model.specs.Answered.{IsAnswered}
-use Rattle.book_model.specs.Events.{Event}
-use Rattle.book_model.specs.History.{book_after, book_of}
-use Rattle.book_model.specs.Records.{Naming}
+use Rattle.book_model.specs.Words.{front, IsAnswered, Event, book_after, book_of, Naming}
 use Rattle.book_core.specs.Ledgers.{Seen, IsOpenAt}
 use Rattle.book_core.specs.Work.{IsWork}
 use Rattle.book_import.specs.declared.command.Command.{Command}

@@ -1,14 +1,8 @@
 -- The laws of runs: what any list of commands leaves behind.
 use Rattle.std.specs.Prelude.{◌≡◌, ◌&&◌, ℕ, Bool, List, [], ◌∷◌, None, Some, pos}
-use Rattle.tariff_rules.specs.Terms.{Terms}
-use Rattle.book_model.specs.Sets.{has}
-use Rattle.book_model.specs.Records.{Naming}
-use Rattle.book_model.specs.Charged.{is_undisputed}
-use Rattle.book_model.specs.Books.{Book, new_book, flat_book, all_periods}
-use Rattle.book_model.specs.Events.{Event, TariffAccepted}
-use Rattle.book_model.specs.History.{book_after, book_of}
-use Rattle.book_model.specs.Answered.{IsAnswered}
-use Rattle.book_model.specs.Stretches.{rulings_in, stretches}
+use Rattle.book_model.specs.Words.{Terms, has, Naming, is_undisputed, Book, new_book, flat_book}
+use Rattle.book_model.specs.Words.{all_periods, Event, TariffAccepted, book_after, book_of}
+use Rattle.book_model.specs.Words.{IsAnswered, rulings_in, stretches}
 use Rattle.history_laws.specs.Net.{net_count, one_if}
 use Rattle.history_laws.specs.Laws.{IsBalanced}
 use Rattle.history_laws.specs.Closed.{IsClosed}

@@ -1,12 +1,8 @@
 -- The six reports, by one name each: how each is written, and what its text is. Five tell of books;
 -- the line of a receipt tells of one import, and no books are asked for it.
 use Rattle.std.specs.Prelude.{◌≡◌, true, false, ℕ, List, [], ◌∷◌, Option, Result, Ok, IfErr}
-use Rattle.book_model.specs.Books.{Book}
-use Rattle.book_model.specs.Events.{Event}
-use Rattle.book_model.specs.History.{book_of}
-use Rattle.book_model.specs.Outcomes.{Outcome, reading}
-use Rattle.book_model.specs.Records.{Naming}
-use Rattle.book_model.specs.Stretches.{rulings_in, stretches}
+use Rattle.book_model.specs.Words.{Book, Event, book_of, Outcome, reading, Naming, rulings_in}
+use Rattle.book_model.specs.Words.{stretches}
 use Rattle.book_model.specs.declared.fault.LedgerFault.{LedgerFault}
 use Rattle.book_core.specs.Calls.{Calls}
 use Rattle.book_core.specs.Ledgers.{Seen}

@@ -1,10 +1,6 @@
 -- Runs: lists of commands, on books that calls made.
 use Rattle.std.specs.Prelude.{Bool, List, ◌++◌}
-use Rattle.book_model.specs.Records.{Naming}
-use Rattle.book_model.specs.Books.{Book}
-use Rattle.book_model.specs.Events.{Event, after_all}
-use Rattle.book_model.specs.History.{book_after}
-use Rattle.book_model.specs.Answered.{IsAnswered}
+use Rattle.book_model.specs.Words.{Naming, Book, Event, after_all, book_after, IsAnswered}
 use Rattle.book_import.specs.declared.command.Command.{Command}
 use Rattle.book_import.specs.declared.command.Reply.{Reply}
 use Rattle.book_import.specs.Commands.{Runs}

@@ -2,9 +2,7 @@
 use Rattle.std.specs.Prelude.{◌≡◌, ℕ, ◌-◌, List, Option, slice_get}
 use Rattle.std.specs.Option.{option_map}
 use Rattle.std.specs.Result.{result_ok}
-use Rattle.book_model.specs.Records.{Naming}
-use Rattle.book_model.specs.Books.{Book}
-use Rattle.book_model.specs.Outcomes.{charges_outcome}
+use Rattle.book_model.specs.Words.{Naming, Book, charges_outcome}
 use Rattle.history_laws.specs.Closed.{IsReadAlike}
 use Rattle.book_reports.specs.Statements.{statement_text}
 use Rattle.book_reports.specs.BookTexts.{dispute_text}

@@ -158,15 +158,6 @@ stepped old bytes new (over_block holds) =
 stepped old bytes new (over_segment holds) =
     record { goes = goes_segment old bytes holds; empty = refl; moves = holds.on.four }
 
--- over nothing
-pub goes_nowhere : (joining : Joining) → joining.standing ≡ None → GoesOver joining [] joining
-goes_nowhere joining none = record {
-  layout_is = refl;
-  on = λ more. ap (λ s. behind (option_to_list s)
-      (front_from joining.layout joining.place (joining.held ++ more))) (sym none);
-  soonest = λ k below. absurd (omega arith);
-}
-
 -- over some bytes, and then over more
 pub goes_then : (first middle last : Joining) (bytes more : List ℕ) → middle.standing ≡ None
     → GoesOver first bytes middle → GoesOver middle more last

@@ -1,23 +1,22 @@
 -- After which bytes a joiner stands: at the start, behind what it takes, with the record let go,
 -- at a fault, and at the end.
-use Rattle.std.proofs.Common.{lit<, ◌≡◌, ℕ, ◌<◌, true, false, All, arith, length-append, List, []}
-use Rattle.std.proofs.Common.{◌∷◌, ◌++◌, length, take}
-use Rattle.std.proofs.Common.{sym, ap, ◌∙◌, append_assoc, append-nil, subst, Option, Some, None}
+use Rattle.std.proofs.Common.{lit<, ◌≡◌, ℕ, ◌<◌, false, All, arith, length-append, List, [], ◌∷◌}
+use Rattle.std.proofs.Common.{◌++◌, length, take, sym, ap, ◌∙◌, append_assoc, append-nil, subst}
+use Rattle.std.proofs.Common.{Option, Some, None}
 use Rattle.std.specs.Prelude.{is_some, IfSome}
 use Rattle.std.specs.Option.{option_to_list}
 use Rattle.std.proofs.Math.Seq.{get_or-append_seam}
 use Rattle.smf_frames.specs.declared.dump.Layout.{Layout}
-use Rattle.smf_frames.specs.declared.fault.FrameFault.{FrameFault}
 use Rattle.smf_frames.specs.declared.next.Next.TheVariants.{Stops}
 use Rattle.smf_frames.specs.Framed.{IsFramed}
-use Rattle.smf_frames.specs.Faults.{descriptor_fault, fault_at}
+use Rattle.smf_frames.specs.Faults.{fault_at}
 use Rattle.smf_frames.specs.Front.{Front, start, data_len, behind, stopped, front_from, front}
 use Rattle.smf_frames.specs.Joining.{Joining, StandsAfter, nothing_joined, nothing_found, next_held}
-use Rattle.smf_frames.specs.Joining.{fault_held, broken_by, let_go}
+use Rattle.smf_frames.specs.Joining.{fault_held}
 use Rattle.smf_frames.proofs.Ways.{next_at, behind-append, front_stops}
 use Rattle.smf_frames.proofs.Fronts.{front_framed}
 use Rattle.smf_frames.proofs.Waits.{short_stops}
-use Rattle.smf_frames.proofs.Over.{GoesOver, stops_without, fault_breaks}
+use Rattle.smf_frames.proofs.Over.{GoesOver, stops_without}
 
 -- the front at the start of a dump
 pub front_of_nothing : (layout : Layout) → front layout [] ≡ nothing_found
@@ -30,15 +29,6 @@ stands_start layout = record {
   goes_on = λ more. ap (λ records. behind records (front layout more))
       (sym (ap (λ (f : Front). f.records) (front_of_nothing layout)));
   waits = short_stops layout None None [] (lit< tt);
-  stands = tt;
-}
-
--- with the record let go
-pub stands_let_go : (text : List ℕ) (joining : Joining) → StandsAfter text joining
-    → StandsAfter text (let_go joining)
-stands_let_go text joining stands = record {
-  goes_on = stands.goes_on;
-  waits = stands.waits;
   stands = tt;
 }
 
@@ -140,23 +130,6 @@ soonest_over text bytes old new stands goes k below =
     ap (λ (f : Front). f.records) (stands.goes_on (take k bytes))
     ∙ ap (λ later. records ++ later) (goes.soonest k below)
     ∙ append-nil records
-
--- a fault at a descriptor breaks the front of the text, of the piece and of all that follows
-pub broken_over : (text bytes piece : List ℕ) (old : Joining) (fault : FrameFault)
-    → StandsAfter text old
-    → descriptor_fault old.layout (data_len old.place.begun) old.place.left (old.held ++ bytes)
-    ≡ Some fault
-    → (rest : List ℕ) → piece ≡ bytes ++ rest
-    → front old.layout (text ++ piece)
-    ≡ broken_by (front old.layout text).records fault
-broken_over text bytes piece old fault stands fails rest piece_is =
-    let records = (front old.layout text).records in
-    stands.goes_on piece
-    ∙ ap (λ b. behind records (front_from old.layout old.place b))
-    (ap (λ p. old.held ++ p) piece_is ∙ sym (append_assoc old.held bytes rest))
-    ∙ ap (behind records)
-    (fault_breaks old.layout old.place (old.held ++ bytes) rest fault fails)
-    ∙ (λ i. record { records = append-nil records i; fault = Some fault; is_broken = true })
 
 -- where the descriptor that is held has no fault, the front is not broken
 pub unbroken_after : (text : List ℕ) (joining : Joining) → StandsAfter text joining

@@ -7,9 +7,8 @@ use Rattle.std.proofs.lemmas.Bool.{and_from, and_parts, not_from_false, not_from
 use Rattle.std.proofs.lemmas.Bool.{cond-false, le-ltb, ne_eqb}
 use Rattle.std.specs.Option.{option_or}
 use Rattle.smf_text.specs.PackedDate.{packed_day_of}
-use Rattle.smf_frames.specs.Header.{header_len}
+use Rattle.smf_frames.specs.Header.{header_len, header_of}
 use Rattle.smf_frames.specs.declared.header.Header.{Header}
-use Rattle.smf_frames.specs.Header.{header_of}
 use Rattle.smf_type30.specs.Layout.{dump_header, dump_trailer, data_lost, work, step_end, job_end}
 use Rattle.smf_type30.specs.Layout.{subtype_end, triplets_end, hundredths_per_day, identification}
 use Rattle.smf_type30.specs.Layout.{processor, io_activity, completion}

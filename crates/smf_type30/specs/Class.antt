@@ -3,9 +3,8 @@ use Rattle.std.specs.Prelude.{◌≡◌, ℕ, ◌==◌, ◌&&◌, ◌||◌, not,
 use Rattle.std.specs.Prelude.{length, Option, Some, None, is_err, is_none}
 use Rattle.std.specs.Option.{option_or}
 use Rattle.smf_text.specs.PackedDate.{packed_day_of}
-use Rattle.smf_frames.specs.Header.{header_len}
+use Rattle.smf_frames.specs.Header.{header_len, header_of}
 use Rattle.smf_frames.specs.declared.header.Header.{Header}
-use Rattle.smf_frames.specs.Header.{header_of}
 use Rattle.smf_type30.specs.Layout.{dump_header, dump_trailer, data_lost, work, step_end, job_end}
 use Rattle.smf_type30.specs.Layout.{subtype_end, triplets_end, hundredths_per_day, identification}
 use Rattle.smf_type30.specs.Layout.{processor, io_activity, completion}

@@ -25,10 +25,9 @@ use Rattle.sqlite_trees.proofs.ListLemmas.{IsPermutation-filter}
 use Rattle.sql_rows.proofs.Queries.{was_mapped}
 use Rattle.sql_rows.proofs.Items.{changed_if}
 use Rattle.sql_rows.specs.RowMaps.{AreEntries, updated, moved, MovesApart, entry_at}
-use Rattle.sql_rows.proofs.Entries.{first_true, no_length}
-use Rattle.sql_rows.proofs.Entries.{has_permuted, some_none, turned, AreApart, AtMost, at_key}
-use Rattle.sql_rows.proofs.Entries.{sorted_apart, one_at, same_order, put_new, entries_made}
-use Rattle.sql_rows.proofs.Entries.{found_has, has_found}
+use Rattle.sql_rows.proofs.Entries.{first_true, no_length, has_permuted, some_none, turned}
+use Rattle.sql_rows.proofs.Entries.{AreApart, AtMost, at_key, sorted_apart, one_at, same_order}
+use Rattle.sql_rows.proofs.Entries.{put_new, entries_made, found_has, has_found}
 use Rattle.sql_rows.proofs.SortedEntries.{same_options, sorted_kept, find_kept, sorted_filter}
 use Rattle.sql_rows.proofs.SortedEntries.{below_has}
 

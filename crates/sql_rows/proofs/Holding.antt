@@ -1,7 +1,6 @@
 -- How the rows of a table hold a map, through each kind of statement.
-use Rattle.std.proofs.Common.{◌≡◌, ◌⊎◌, inl, inr, ℤ, List, [], ◌∷◌, ◌++◌, map, take, length}
-use Rattle.std.proofs.Common.{refl, sym, ap, ap₂, ◌∙◌, subst, true, false, not, Bool, Option, Some}
-use Rattle.std.proofs.Common.{None}
+use Rattle.std.proofs.Common.{◌≡◌, ◌⊎◌, inl, inr, ℤ, List, [], ◌∷◌, ◌++◌, map, take, length, refl}
+use Rattle.std.proofs.Common.{sym, ap, ap₂, ◌∙◌, subst, true, false, not, Bool, Option, Some, None}
 use Rattle.std.specs.Prelude.{filter, if◌then◌else◌}
 use Rattle.std.specs.Cmp.{IsTotalOrder}
 use Rattle.std.specs.FinMap.{FinMap, IsAntisymmetric, empty, find, get, insert, remove, entries}
@@ -22,11 +21,11 @@ use Rattle.sqlite_trees.proofs.TreeLemmas.{IsTable-put_row}
 use Rattle.sql_rows.specs.TableRows.{AreRows}
 use Rattle.sql_rows.proofs.Numbers.{put_last, replaced}
 use Rattle.sql_rows.proofs.Queries.{mapped_has, was_mapped}
-use Rattle.sql_rows.proofs.Items.{changed_if, are_numbered, rows_push, rows_filter}
-use Rattle.sql_rows.proofs.Items.{rows_shown, no_rows, row_of, of_row}
+use Rattle.sql_rows.proofs.Items.{changed_if, are_numbered, rows_push, rows_filter, rows_shown}
+use Rattle.sql_rows.proofs.Items.{no_rows, row_of, of_row}
 use Rattle.sql_rows.specs.RowMaps.{AreEntries, HoldsMap, change_found, changed_at, updated, moved}
 use Rattle.sql_rows.specs.RowMaps.{MovesApart, entry_at}
-use Rattle.sql_rows.proofs.Entries.{AreApart, AtMost, entries_made, entries_apart, get_found}
+use Rattle.sql_rows.proofs.Entries.{AtMost, entries_made, get_found}
 use Rattle.sql_rows.proofs.Changes.{rekeyed, with_value, entries_inserted, entries_changed}
 use Rattle.sql_rows.proofs.Changes.{entries_unchanged, entries_removed, entries_at, entries_ordered}
 use Rattle.sql_rows.proofs.Changes.{entries_counted, entries_updated, entries_moved, entries_first}
@@ -67,10 +66,6 @@ module _ {X K V : Type 0} {R : K → K → Ordering} (o : IsTotalOrder R) (exact
           let one : decode r ≡ y = ap decode h.0.1 ∙ reads h.0.0 y in
           let rest = decoded rs ys h.1 in
           λ i. one i ∷ rest i
-
-  -- no two rows have one key
-  pub holds_apart : AreApart o exact (map entry xs)
-  holds_apart = entries_apart o exact m (map entry xs) holds.are
 
   -- INSERT of an item whose key is new: the map with its entry
   pub holds_inserted : (x : X) → get m (entry x).0 ≡ None

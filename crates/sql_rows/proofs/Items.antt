@@ -1,12 +1,11 @@
 -- A table as the list of its items, whichever items these are.
 use Rattle.std.proofs.Common.{◌≡◌, ℤ, Bool, true, false, cond, List, [], ◌∷◌, ◌++◌, map, filter}
-use Rattle.std.proofs.Common.{refl, sym, ap, ◌∙◌}
+use Rattle.std.proofs.Common.{refl, sym, ap, ◌∙◌, inl, inr}
 use Rattle.std.specs.Prelude.{if◌then◌else◌}
 use Rattle.sqlite.specs.declared.types.Value.TheVariants.{Int}
 use Rattle.sqlite.specs.Order.{Row}
 use Rattle.sqlite.specs.Tree.{rowid}
 use Rattle.sqlite.specs.View.{is_int}
-use Rattle.std.proofs.Common.{inl, inr}
 use Rattle.sqlite_rules.specs.Lists.{Has}
 use Rattle.sql_rows.specs.TableRows.{AreRows}
 use Rattle.sql_rows.proofs.Numbers.{AreNumbered, replaced}

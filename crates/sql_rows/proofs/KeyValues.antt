@@ -1,14 +1,12 @@
 -- Keys of one column or several, as SQL compares their values.
-use Rattle.std.proofs.Common.{◌≡◌, ℕ, suc, ℤ, pos, List, [], ◌∷◌, map, true, false, refl, sym, ap}
-use Rattle.std.proofs.Common.{ap₂, ◌∙◌}
-use Rattle.std.specs.Prelude.{◌&&◌, ◌==◌}
-use Rattle.std.specs.Cmp.{nat_cmp_total}
-use Rattle.std.proofs.lemmas.Bool.{eqb-true}
+use Rattle.std.proofs.Common.{◌≡◌, ℕ, suc, ℤ, pos, List, [], ◌∷◌, map, false, refl, sym, ap, ap₂}
+use Rattle.std.proofs.Common.{◌∙◌}
+use Rattle.std.specs.Prelude.{◌&&◌}
 use Rattle.std.specs.Cmp.Lexicographic.{slice_cmp}
 use Rattle.std.specs.Ordering.{nat_cmp, int_cmp, is_eq, ordering_then, eq_by_cmp}
 use Rattle.std.specs.declared.cmp.Ordering.{Ordering}
 use Rattle.std.specs.declared.cmp.Ordering.TheVariants.{Less, Equal, Greater}
-use Rattle.std.proofs.lemmas.Cmp.{eq_by_cmp_equiv, tied_itself}
+use Rattle.std.proofs.lemmas.Cmp.{eq_by_cmp_equiv}
 use Rattle.sqlite.specs.Collation.TheVariants.{Binary}
 use Rattle.sqlite.specs.Ops.{binary}
 use Rattle.sqlite.specs.Order.{Row, column}
@@ -146,15 +144,6 @@ text_last a b = text_then a b [] [] ∙ then-Equal (slice_cmp nat_cmp a b)
 -- a key that ends with a blob
 pub blob_last : (a b : List ℕ) → row_cmp (Blob a ∷ []) (Blob b ∷ []) ≡ slice_cmp nat_cmp a b
 blob_last a b = blob_then a b [] [] ∙ then-Equal (slice_cmp nat_cmp a b)
-
--- under one number the rest of a key decides
-pub under_number : (number a b : ℕ) → (a == number) ≡ true → (b == number) ≡ true
-    → (rest : Ordering) → ordering_then (nat_cmp a b) rest ≡ rest
-under_number number a b here there rest =
-    let one : a ≡ number = eqb-true a number here in
-    let other : b ≡ number = eqb-true b number there in
-    ap (λ r. ordering_then r rest)
-    (ap₂ nat_cmp one other ∙ tied_itself nat_cmp_total number)
 
 -- ---- the keys of a layout
 

@@ -1,5 +1,5 @@
 -- What a query leaves, whichever query it is.
-use Rattle.std.proofs.Common.{◌≡◌, ◌⊎◌, inl, inr, ℕ, List, Ok, Err, Result, IfOk, IfErr, OnErr, Vec}
+use Rattle.std.proofs.Common.{◌≡◌, inl, inr, ℕ, List, Ok, Err, Result, IfOk, IfErr, OnErr, Vec}
 use Rattle.std.proofs.Common.{Global, sym, subst}
 use Rattle.sqlite.specs.Order.{Row}
 use Rattle.sqlite.specs.Effect.{Database}
@@ -7,8 +7,7 @@ use Rattle.sqlite.specs.Schema.{Schema}
 use Rattle.sqlite.specs.declared.error.Error.{Error}
 use Rattle.sqlite.specs.Listing.{understood}
 use Rattle.sqlite.specs.State.{State, IsUnchanged, Shown, FailsToQuery, IsNotRun, CommitsShowing}
-use Rattle.sqlite.specs.State.{Survives, IsRolledBack, FailsToShow, ShowsRows, IsTooLate}
-use Rattle.sqlite.specs.State.{HasCleanDisk}
+use Rattle.sqlite.specs.State.{Survives, IsRolledBack, FailsToShow, ShowsRows, HasCleanDisk}
 use Rattle.sqlite.specs.Clock.{timed}
 use Rattle.sqlite.proofs.Callers.{IsPlain, never_commits}
 use Rattle.sqlite.proofs.StateLemmas.{survives_weaker}
@@ -96,16 +95,6 @@ module _ {D : Type 0} (Keeps : Database → D → Type 0) (schema : Schema)
   looks_refused result =
       on_err result (λ error fails content keeps. fails_stays sql params old new
       (plain_here content keeps) error fails)
-
-  -- the same inside a transaction
-  pub looks_refused_inside : {A : Type 0} (result : Result A Error)
-      → IfErr result (λ error. FailsToQuery sql params old new error ⊎ IsTooLate sql params old new
-      error)
-      → OnErr result ((content : D) → Keeps old.now content → Stays old new)
-  looks_refused_inside result = on_err result (λ error fails content keeps. elim fails [
-    | inl stopped ↦ fails_stays sql params old new (plain_here content keeps) error stopped
-    | inr late ↦ unchanged_stays old new late.5
-  ])
 
   -- a query commits nothing
   pub looks_survive : Survives old new (CommitsShowing sql params old)

@@ -5,7 +5,7 @@ use Rattle.std.proofs.Common.{subst, inl, inr, true≢false, arith}
 use Rattle.std.specs.List.{AllByRecursion, list_any}
 use Rattle.std.specs.Ordering.{is_eq, int_cmp, ordering_reverse}
 use Rattle.std.proofs.lemmas.Bool.Decides.{nat_tests}
-use Rattle.std.specs.Prelude.{fold, ◌<ℤ◌}
+use Rattle.std.specs.Prelude.{fold, ◌<ℤ◌, if◌then◌else◌}
 use Rattle.std.proofs.lemmas.Cmp.{tied_itself}
 use Rattle.std.proofs.lemmas.Int.{ints}
 use Rattle.std.proofs.lemmas.Bool.{or_parts, or_from, not-true, cases_Bool}
@@ -19,7 +19,6 @@ use Rattle.sqlite_rules.specs.Edit.{id_in, next_rowid, without_all, put_all, are
 use Rattle.sqlite_trees.proofs.ListLemmas.{ascending-filter}
 use Rattle.sqlite_trees.proofs.TreeLemmas.{IsTable-put_row}
 use Rattle.sqlite_rules.proofs.PlaceLemmas.{tied_same}
-use Rattle.std.specs.Prelude.{if◌then◌else◌}
 use Rattle.std.specs.Cmp.{both_ways as implied_both}
 use Rattle.sqlite_rules.proofs.ListLemmas.{some_has, some_from, all_has, all_from, has_filtered}
 use Rattle.sqlite_rules.proofs.ListLemmas.{has_kept}
@@ -201,10 +200,6 @@ pub IsTable-put_all : (news rows : List Row) → IsTable rows → IsTable (put_a
 IsTable-put_all [] rows up = up
 IsTable-put_all (n ∷ news) rows up = IsTable-put_all news (put_row n rows)
     (IsTable-put_row n rows up)
-
--- the number of one row is below that of the other
-abbrev Below : Row → Row → Type 0
-Below a b = value_cmp (rowid a) (rowid b) ≡ Less
 
 -- a row that passes is replaced
 abbrev pub replaced : (Row → Bool) → (Row → Row) → Row → Row

@@ -6,16 +6,12 @@ use Rattle.std.specs.declared.cmp.Ordering.{Ordering}
 use Rattle.std.specs.List.Sorted.{IsPermutation}
 use Rattle.sqlite.specs.declared.types.Value.TheVariants.{Null}
 use Rattle.sqlite.specs.Order.{Row}
-use Rattle.sqlite.specs.Term.{Term, col}
+use Rattle.sqlite.specs.Term.{Term}
 use Rattle.sqlite.specs.Query.{Output, IsAnswer, output, output_cmp}
 use Rattle.sqlite.specs.Program.{overlay}
 use Rattle.sqlite.specs.Effect.{Database, Answers}
 use Rattle.sqlite.specs.Tree.{IsAscending}
-use Rattle.sqlite.specs.Collation.TheVariants.{Binary}
-use Rattle.sqlite_value.specs.Keys.{ascending}
 use Rattle.sqlite_value.specs.declared.keys.Key.{Key}
-use Rattle.sqlite_value.specs.Order.{value_cmp, column}
-use Rattle.sqlite_value.proofs.OrderLemmas.{then-Equal}
 use Rattle.sqlite_exec.proofs.PartitionLemmas.{ascending_from_sorted}
 use Rattle.sqlite_sql.proofs.QueryLemmas.{output_cmp_total}
 use Rattle.sqlite_trees.proofs.ListLemmas.{map-map, pull_back, ascending_from_map}
@@ -56,9 +52,3 @@ module _ (db : Database) (t : ℕ) (terms project : List Term) (params : Row)
         shown = a.shown ∙ drop_none (map (λ (o : Output). o.1) a.ordered)
             ∙ ap (map (λ (o : Output). o.1)) back.2 ∙ map-map (λ (o : Output). o.1) shape back.0;
       }
-
--- one column compares by its values
-pub by_column : (at : ℕ) (params a b : Row)
-    → in_order ((col 1 at, ascending Binary) ∷ []) params a b
-    ≡ value_cmp (column a at) (column b at)
-by_column at params a b = then-Equal (value_cmp (column a at) (column b at))

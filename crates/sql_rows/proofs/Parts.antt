@@ -1,7 +1,6 @@
 -- What the parts of a statement on one table leave, each by its value.
-use Rattle.std.proofs.Common.{◌≡◌, ◌⊎◌, inl, inr, ℕ, ℤ, List, [], ◌∷◌, ◌++◌, length, drop}
-use Rattle.std.proofs.Common.{slice_get, Bool, false, append-nil, Option, Some, None, Ok, Err}
-use Rattle.std.proofs.Common.{Result, sym, ap, subst, ◌∙◌}
+use Rattle.std.proofs.Common.{◌≡◌, ℕ, ℤ, List, [], ◌∷◌, ◌++◌, length, drop, slice_get, Bool, false}
+use Rattle.std.proofs.Common.{append-nil, Option, Some, None, Ok, Result, sym, ap, subst, ◌∙◌}
 use Rattle.sqlite.specs.Order.{Row}
 use Rattle.sqlite.specs.Table.{Table}
 use Rattle.sqlite.specs.Schema.{Schema}
@@ -11,11 +10,10 @@ use Rattle.sqlite_schema.specs.declared.program.Program.{Program}
 use Rattle.sqlite.specs.Edit.{Edit, edit_of, taken_by}
 use Rattle.sqlite_rules.specs.Calls.{ids_of}
 use Rattle.sqlite.specs.Rowids.TheVariants.{Chosen, Given, Above}
-use Rattle.sqlite.specs.Does.{Tally, OnTable, AtPlace, Concludes, Tested}
-use Rattle.sqlite.specs.Does.{Returns}
-use Rattle.sqlite.specs.Rows.{Written, stamped, Task, Part, Outcome, Gives, Counter, CounterIn}
-use Rattle.sqlite.specs.Rows.{Counts, CountsIn, count_of, sequence, Inserts, Sourced, Queried}
-use Rattle.sqlite.specs.Rows.{Updates, Deletes, Edited, Then, last_id, higher, rowids_for}
+use Rattle.sqlite.specs.Does.{Tally, OnTable, AtPlace, Concludes, Tested, Returns}
+use Rattle.sqlite.specs.Rows.{Written, stamped, Task, Part, Outcome, Gives, Counter, Counts}
+use Rattle.sqlite.specs.Rows.{CountsIn, count_of, sequence, Inserts, Sourced, Queried, Updates}
+use Rattle.sqlite.specs.Rows.{Deletes, Edited, Then, last_id, higher, rowids_for}
 use Rattle.sqlite.specs.declared.run.Mode.{Mode}
 use Rattle.sqlite_schema.specs.declared.schema.Stamps.{Stamps}
 use Rattle.sqlite_schema.specs.Rules.{Refers}
@@ -27,12 +25,6 @@ use Rattle.sqlite.specs.Effect.{Database, Answers, IsSource}
 use Rattle.sqlite.specs.Tree.{Trees}
 use Rattle.sqlite.specs.State.{State}
 use Rattle.sqlite.proofs.Callers.{through}
-
--- a part that gave a value did not stop on the way
-pub went : {B E R : Type 0} {b : B} {Stops : E → Type 0}
-    → ((stop : E) × Stops stop × (Ok b ≡ Err stop)) ⊎ R → R
-went (inl stopped) = absurd (let e = stopped.2 in cc)
-went (inr on) = on
 
 -- two parts that gave one value gave the same
 pub same_value : {B E : Type 0} {a b : B} → ◌≡◌ {A = Result B E} (Ok a) (Ok b) → a ≡ b
@@ -69,14 +61,6 @@ on_table limit mode params db at P out table listed h =
       table = t;
       params = params;
     })) o out) listed h
-
--- a table that counts nothing has no counter
-pub no_counter : (task : Task) (db : Trees) (c : Option Row) → task.table.is_counted ≡ false
-    → Counter task db (Ok c) → c ≡ None
-no_counter task db c none h =
-    same_value
-    (subst (λ b. MatchBool b (CounterIn task db (sequence task.schema) (Ok c)) (Gives None (Ok c)))
-    none h)
 
 -- and none is written
 pub no_count : (task : Task) (db : Trees) (counter : Option Row) (top : ℤ) (next : Trees)

@@ -1,6 +1,6 @@
 -- What each query answers of the map that a table holds, whichever table it is.
-use Rattle.std.proofs.Common.{◌≡◌, ℕ, ℤ, pos, List, [], ◌∷◌, length, map, take, Bool, true, false}
-use Rattle.std.proofs.Common.{sym, ap, subst, ◌∙◌}
+use Rattle.std.proofs.Common.{◌≡◌, ℕ, ℤ, pos, List, [], ◌∷◌, map, take, Bool, true, false, sym, ap}
+use Rattle.std.proofs.Common.{subst, ◌∙◌}
 use Rattle.std.specs.Prelude.{filter}
 use Rattle.std.specs.FinMap.{FinMap, get, entries}
 use Rattle.std.specs.declared.cmp.Ordering.{Ordering}
@@ -14,16 +14,15 @@ use Rattle.sqlite.specs.Effect.{Answers}
 use Rattle.sqlite.specs.Listing.{understood, reads_listing}
 use Rattle.sqlite.specs.State.{State, Shown}
 use Rattle.sqlite.proofs.Callers.{IsPlain, command_of, reads_as}
-use Rattle.sqlite_sql.specs.Aggregate.{count}
 use Rattle.sqlite_value.specs.declared.keys.Key.{Key}
-use Rattle.sql_rows.proofs.Holding.{holds_at, holds_counted}
+use Rattle.sql_rows.proofs.Holding.{holds_at}
 use Rattle.sql_rows.proofs.KeyValues.{asks_key, order_of_keys}
 use Rattle.sql_rows.proofs.Limits.{limited_by}
 use Rattle.sql_rows.proofs.Ordered.{ordered_by}
-use Rattle.sql_rows.proofs.Queries.{selected, counted}
+use Rattle.sql_rows.proofs.Queries.{selected}
 use Rattle.sql_rows.proofs.Sorting.{holds_listed, holds_within, holds_some}
 use Rattle.sql_rows.specs.Layouts.{Layout, Asks, AreListed, AreSomeOf, key_terms}
-use Rattle.sql_rows.specs.Queries.{over, no_limit, count_over, passes, shows, in_order, by}
+use Rattle.sql_rows.specs.Queries.{over, no_limit, passes, shows, in_order, by}
 use Rattle.sql_rows.specs.RowMaps.{HoldsMap, entry_at}
 
 -- the text is a query, and this was shown
@@ -148,15 +147,3 @@ module _ {X K V : Type 0} {R : K → K → Ordering} (layout : Layout X K V R) (
           (shows project params) show shown
           (in_order order params) (λ n n′ x y px py. order_of_keys layout params n n′ x y)
           it.ordered it.same it.rising)
-
-  -- SELECT count(*) with tests: how many entries pass
-  pub counted_in : (terms : List Term) (test : K × V → Bool)
-      → ((n : ℤ) (x : X) → passes terms params (Int n ∷ layout.columns x) ≡ test (layout.entry x))
-      → (names : List (List ℕ)) → command_of (understood schema sql)
-      ≡ Select (record { lets = []; body = count_over tree terms }) names
-      → answer ≡ (count (length (filter test (entries held))) ∷ []) ∷ []
-  counted_in terms test same names says =
-      counted old.now tree terms [] params answer (answers (count_over tree terms) names says)
-      ∙ ap (λ n. (count n ∷ []) ∷ [])
-      (holds_counted layout.total layout.exact layout.columns layout.entry
-      (old.now.trees tree) held holds (passes terms params) test same)

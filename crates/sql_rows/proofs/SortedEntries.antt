@@ -1,7 +1,6 @@
 -- Sorted entries of which the values are changed, or those that pass are taken.
-use Rattle.std.proofs.Common.{◌≡◌, inl, inr, List, [], ◌∷◌, map, refl, sym}
-use Rattle.std.proofs.Common.{ap, ◌∙◌, true, false, Bool, cond, Option}
-use Rattle.std.proofs.Common.{Some, None, T}
+use Rattle.std.proofs.Common.{◌≡◌, inl, inr, List, [], ◌∷◌, map, refl, sym, ap, ◌∙◌, true, false}
+use Rattle.std.proofs.Common.{Bool, cond, Option, Some, None, T}
 use Rattle.std.specs.Prelude.{filter, ◌&&◌}
 use Rattle.std.specs.Option.{option_map}
 use Rattle.std.specs.Cmp.{IsTotalOrder}

@@ -1,5 +1,5 @@
 -- What the rows of a query are among the entries of the map, in whatever order.
-use Rattle.std.proofs.Common.{◌≡◌, inl, inr, ℕ, zero, suc, ◌≤◌, ℤ, List, [], ◌∷◌, map, take, length}
+use Rattle.std.proofs.Common.{◌≡◌, inl, inr, ℕ, zero, suc, ℤ, List, [], ◌∷◌, map, take, length}
 use Rattle.std.proofs.Common.{Bool, true, false, not, cond, refl, sym, ap, subst, ◌∙◌, arith}
 use Rattle.std.specs.Prelude.{filter, ◌==◌, ◌||◌, min}
 use Rattle.std.specs.List.{list_any}
@@ -152,13 +152,6 @@ take_length zero xs = grind (arith)
 take_length (suc n) [] = grind (arith)
 take_length (suc n) (x ∷ xs) = ap suc (take_length n xs) ∙ grind (arith)
 
--- the first are all where there are no more
-take_all : {A : Type 0} (n : ℕ) (xs : List A) → length xs ≤ n → take n xs ≡ xs
-take_all zero [] few = refl
-take_all zero (x ∷ xs) few = absurd (omega (arith, few))
-take_all (suc n) [] few = refl
-take_all (suc n) (x ∷ xs) few = ap (λ l. x ∷ l) (take_all n xs (omega (arith, few)))
-
 module _ {E Y : Type 0} (show : E → Y) (found : List E) (most : ℕ) (answer : List Y)
     (some : AreSomeOf show found most answer) where
   -- they are as many as there are, or as there may be
@@ -166,16 +159,6 @@ module _ {E Y : Type 0} (show : E → Y) (found : List E) (most : ℕ) (answer :
   some_count =
       ap length some.first ∙ length-map (take most some.list) show ∙ take_length most some.list
       ∙ ap (min most) (length_permutation found some.list some.same)
-
-  -- where there are no more than there may be they are all
-  pub some_are_all : length found ≤ most → IsPermutation (map show found) answer
-  some_are_all few =
-      let all : answer ≡ map show some.list = some.first
-      ∙ ap (map show)
-      (take_all most some.list
-      (subst (λ n. n ≤ most) (sym (length_permutation found some.list some.same)) few)) in
-      subst (IsPermutation (map show found)) (sym all)
-      (IsPermutation-map show found some.list some.same)
 
 -- one more than some is not none
 not_none : (n : ℕ) → not (suc n == 0) ≡ true
@@ -201,8 +184,3 @@ pub some_passes : {E Y : Type 0} (show : E → Y) (q : E → Bool) (xs : List E)
 some_passes show q xs more answer some =
     ap (λ n. not (n == 0)) (some_count show (filter q xs) (suc more) answer some)
     ∙ some_left more (length (filter q xs)) ∙ any_passes q xs
-
--- a test that all pass leaves all
-pub all_pass : {E : Type 0} (xs : List E) → filter (λ _. true) xs ≡ xs
-all_pass [] = refl
-all_pass (x ∷ xs) = ap (λ l. x ∷ l) (all_pass xs)

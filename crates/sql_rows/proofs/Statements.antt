@@ -1,6 +1,5 @@
 -- What a statement on one table does to its rows, whichever table it is.
-use Rattle.std.proofs.Common.{◌≡◌, ℕ, ◌/◌, List, [], length}
-use Rattle.std.proofs.Common.{slice_get, false, cond, Some, None, Ok}
+use Rattle.std.proofs.Common.{◌≡◌, ℕ, ◌/◌, List, [], length, slice_get, false, cond, Some, None, Ok}
 use Rattle.std.proofs.Common.{refl, sym, ap, subst, ◌∙◌}
 use Rattle.sqlite.specs.Order.{Row}
 use Rattle.sqlite.specs.Term.{Term}
@@ -12,12 +11,11 @@ use Rattle.sqlite.specs.Command.TheVariants.{Insert, Update, Delete}
 use Rattle.sqlite_schema.specs.declared.schema.Keys.TheVariants.{Enforced}
 use Rattle.sqlite_schema.specs.declared.program.Program.{Program}
 use Rattle.sqlite.specs.Edit.{Edit, edit_of, taken_by, Applies}
-use Rattle.sqlite_rules.specs.Action.{works}
+use Rattle.sqlite_rules.specs.Action.{works, Writes}
 use Rattle.sqlite_rules.specs.Calls.{ids_of}
 use Rattle.sqlite.specs.Rowids.TheVariants.{Chosen, Given}
 use Rattle.sqlite.specs.Does.{Tally, Does, OnTable, OnRows, WritesRows, Concludes}
 use Rattle.sqlite.specs.Rows.{Written, Task}
-use Rattle.sqlite_rules.specs.Action.{Writes}
 use Rattle.sqlite.specs.State as state
 use Rattle.sqlite.specs.Effect.{Database, Answers, value_rows}
 use Rattle.sqlite.specs.Tree.{Trees}

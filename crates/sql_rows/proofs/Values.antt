@@ -11,7 +11,7 @@ use Rattle.std.proofs.lemmas.Bool.Decides.{nat_tests}
 use Rattle.std.proofs.lemmas.Int.{ints}
 use Rattle.std.proofs.lemmas.Map.Text.{is_eq-slice_cmp}
 use Rattle.sqlite.specs.declared.types.Value.{Value}
-use Rattle.sqlite.specs.declared.types.Value.TheVariants.{Null, Int, Text, Blob}
+use Rattle.sqlite.specs.declared.types.Value.TheVariants.{Null, Int, Blob}
 use Rattle.sqlite.specs.Cast.{cast}
 use Rattle.sqlite.specs.Collation.TheVariants.{Binary}
 use Rattle.sqlite.specs.Kind.TheVariants as kind
@@ -19,8 +19,8 @@ use Rattle.sqlite.specs.Ops.{unary, binary, is_true}
 use Rattle.sqlite_sql.specs.Ops.{from_truth, test}
 use Rattle.sqlite_sql.specs.declared.ops.BinaryOp.TheVariants.{Compare}
 use Rattle.sqlite_sql.specs.declared.ops.CompareOp.{CompareOp}
-use Rattle.sqlite_sql.specs.declared.ops.CompareOp.TheVariants.{Eq, Ne, Lt, Le, Gt, Ge}
-use Rattle.sqlite_value.proofs.OrderLemmas.{value_cmp-Int, value_cmp-Text, value_cmp-Blob}
+use Rattle.sqlite_sql.specs.declared.ops.CompareOp.TheVariants.{Eq, Ne, Le, Gt, Ge}
+use Rattle.sqlite_value.proofs.OrderLemmas.{value_cmp-Int, value_cmp-Blob}
 
 -- ---- what a column makes of a value
 
@@ -38,14 +38,6 @@ cast_null = either _ Null
 pub cast_int : (n : ℤ) → cast kind.Integer (Int n) ≡ Int n
 unfolding unary
 cast_int n = either _ (Int n)
-
--- a text stays in a TEXT column
-pub cast_text : (bytes : List ℕ) → cast kind.Text (Text bytes) ≡ Text bytes
-cast_text bytes = refl
-
--- a blob stays in a BLOB column
-pub cast_blob : (bytes : List ℕ) → cast kind.Blob (Blob bytes) ≡ Blob bytes
-cast_blob bytes = refl
 
 -- ---- comparisons
 
@@ -65,12 +57,6 @@ pub ints_compare : (op : CompareOp) (a b : ℤ)
 unfolding binary
 ints_compare op a b = truth_is _ ∙ ap (test op) (value_cmp-Int a b)
 
--- texts compare by their bytes
-pub texts_compare : (op : CompareOp) (a b : List ℕ)
-    → is_true (binary (Compare op Binary) (Text a) (Text b)) ≡ test op (slice_cmp nat_cmp a b)
-unfolding binary
-texts_compare op a b = truth_is _ ∙ ap (test op) (value_cmp-Text a b)
-
 -- blobs compare by their bytes
 pub blobs_compare : (op : CompareOp) (a b : List ℕ)
     → is_true (binary (Compare op Binary) (Blob a) (Blob b)) ≡ test op (slice_cmp nat_cmp a b)
@@ -89,20 +75,10 @@ pub ints_differ : (a b : ℤ)
     → is_true (binary (Compare Ne Binary) (Int a) (Int b)) ≡ is_ne (int_cmp a b)
 ints_differ = ints_compare Ne
 
--- texts are equal where their bytes are
-pub texts_equal : (a b : List ℕ)
-    → is_true (binary (Compare Eq Binary) (Text a) (Text b)) ≡ bytes_eq a b
-texts_equal a b = texts_compare Eq a b ∙ is_eq-slice_cmp a b
-
 -- blobs are equal where their bytes are
 pub blobs_equal : (a b : List ℕ)
     → is_true (binary (Compare Eq Binary) (Blob a) (Blob b)) ≡ bytes_eq a b
 blobs_equal a b = blobs_compare Eq a b ∙ is_eq-slice_cmp a b
-
--- a blob is greater where its bytes come later
-pub blob_above : (a b : List ℕ)
-    → is_true (binary (Compare Gt Binary) (Blob a) (Blob b)) ≡ is_gt (slice_cmp nat_cmp a b)
-blob_above = blobs_compare Gt
 
 -- greater is less the other way
 turned_gt : (r : Ordering) → is_gt (ordering_reverse r) ≡ is_lt r
@@ -129,11 +105,6 @@ int_above a b = ap is_gt (int_cmp_total.antisymm a b) ∙ turned_gt (int_cmp b a
 pub int_greater : (a b : ℤ)
     → is_true (binary (Compare Gt Binary) (Int a) (Int b)) ≡ int_lt b a
 int_greater a b = ints_compare Gt a b ∙ int_above a b
-
--- the test < of integers
-pub int_below : (a b : ℤ)
-    → is_true (binary (Compare Lt Binary) (Int a) (Int b)) ≡ int_lt a b
-int_below a b = ints_compare Lt a b ∙ less_int a b
 
 -- the test <= of integers
 pub int_at_most : (a b : ℤ)

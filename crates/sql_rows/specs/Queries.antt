@@ -1,5 +1,5 @@
 -- The queries of one table.
-use Rattle.std.specs.Prelude.{ℕ, pos, negsuc, false, Bool, List, [], ◌∷◌, map, None, Some}
+use Rattle.std.specs.Prelude.{ℕ, pos, negsuc, false, Bool, List, [], ◌∷◌, map, None}
 use Rattle.std.specs.List.{list_all}
 use Rattle.std.specs.declared.cmp.Ordering.{Ordering}
 use Rattle.sqlite.specs.Collation.TheVariants.{Binary}
@@ -45,20 +45,6 @@ counting = record {
     argument = lit Null;
   } ∷ [];
   having = [];
-}
-
--- how many rows of one table pass
-abbrev pub count_over : ℕ → List Term → Query
-count_over tree filter = record {
-  from = inner tree end;
-  filter = filter;
-  group = Some counting;
-  project = col 1 0 ∷ [];
-  distinct = false;
-  collations = [];
-  order = [];
-  limit = no_limit;
-  offset = lit (Int (pos 0));
 }
 
 -- column = ?parameter: columns count from 1, since the row's number is the first, parameters from 0

@@ -1,8 +1,7 @@
 -- The rows of an SQL table as a finite map by their key.
-use Rattle.std.specs.Prelude.{◌≡◌, true, List, [], ◌∷◌, map, filter, take, Option, Some, None}
+use Rattle.std.specs.Prelude.{◌≡◌, true, List, [], ◌∷◌, map, Option, Some, None}
 use Rattle.std.specs.FinMap.{FinMap, get, insert, entries, contains_key, from_entries}
 use Rattle.std.specs.List.Sorted.{IsPermutation}
-use Rattle.std.specs.Ordering.{is_gt}
 use Rattle.std.specs.declared.cmp.Ordering.{Ordering}
 use Rattle.sqlite.specs.Order.{Row}
 use Rattle.sql_rows.specs.TableRows.{IsTableOf}
@@ -51,8 +50,3 @@ MovesApart {K} change held =
 abbrev pub entry_at : {K V : Type 0} → K → Option V → List (K × V)
 entry_at key None = []
 entry_at key (Some value) = (key, value) ∷ []
-
--- the first entry after a key, if there is one
-abbrev pub entry_after : {K V : Type 0} {R : K → K → Ordering} → FinMap R V → K → List (K × V)
-entry_after {K} {V} {R} held key =
-    take 1 (filter (λ (row : K × V). is_gt (R row.0 key)) (entries held))

@@ -1,12 +1,11 @@
 -- The words that schemas are written with.
-use Rattle.std.specs.Prelude.{true, false, ℕ, List, [], ◌∷◌, Some, None}
+use Rattle.std.specs.Prelude.{true, false, ℕ, List, [], ◌∷◌, None}
 use Rattle.sqlite.specs.Collation.TheVariants.{Binary}
 use Rattle.sqlite.specs.declared.types.Value.TheVariants.{Null}
 use Rattle.sqlite.specs.Kind.{Kind}
 use Rattle.sqlite.specs.Schema.{Schema}
 use Rattle.sqlite.specs.Table.{Table}
 use Rattle.sqlite_schema.specs.declared.schema.Column.{Column}
-use Rattle.sqlite_schema.specs.declared.schema.Index.{Index}
 use Rattle.sqlite_value.specs.Keys.{plain}
 
 -- the schema of a new database
@@ -39,20 +38,4 @@ plain_table name columns primary = record {
   computed = [];
   stamps = record { places = []; terms = []; formats = [] };
   is_counted = false;
-}
-
--- a table whose first column is INTEGER PRIMARY KEY: the rows' own number
-abbrev pub numbered_table : List ℕ → List Column → Table
-numbered_table name columns =
-    record (plain_table name columns (0 ∷ [])) { key = Some 0; uniques = []; orders = [] }
-
--- an index on columns of the table in this place
-abbrev pub plain_index : List ℕ → ℕ → List ℕ → Index
-plain_index name table columns = record {
-  name = name;
-  tree = 0;
-  table = table;
-  columns = columns;
-  order = plain;
-  is_unique = false;
 }

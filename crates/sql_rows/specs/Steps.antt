@@ -53,13 +53,6 @@ pub record IsUndone (old new : State) : Type 0 where
   pub now : new.now ≡ old.committed
   pub committed : new.committed ≡ old.committed
 
--- what the commit may have put on the disk: the changed data, whole
-abbrev pub MayHold :
-    {D : Type 0} → (Database → D → Type 0) → (Trees → D → Type 0) → State → (D → D) → Trees
-    → Type 0
-MayHold {D} Keeps Holds old change trees =
-    (content : D) → Keeps old.now content → Holds trees (change content)
-
 -- ---- queries
 
 -- after a refusal the last commit stands, and what is seen is as it was or is the last commit

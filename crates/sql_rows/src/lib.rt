@@ -2,8 +2,6 @@
 //! a transaction.
 #![tactic(auto)]
 
-mod serving;
 mod transaction;
 
-pub use serving::{Serving, still_serves};
 pub use transaction::end_transaction;

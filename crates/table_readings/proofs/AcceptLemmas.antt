@@ -6,17 +6,14 @@ use Rattle.std.specs.FinMap.{get, get-from_entries}
 use Rattle.std.proofs.lemmas.Cmp.{nat_list_cmp_total}
 use Rattle.std.proofs.lemmas.Map.Lookups.{exact_bytes}
 use Rattle.std.proofs.lemmas.Map.Views.{tells_apart}
-use Rattle.smf_frames.specs.Framed.{data_of, record_with, IsFramed}
+use Rattle.book_model.specs.Words.{data_of, record_with, IsFramed, accept_answer, accept_priced}
+use Rattle.book_model.specs.Words.{clashes, Book, open_number, charged_of, Naming, name_of}
+use Rattle.book_model.specs.Words.{same_bytes, price_in, has}
 use Rattle.tariff_rules.specs.declared.priced.Priced.{Priced}
 use Rattle.book_model.specs.declared.answer.Accepted.{Accepted}
 use Rattle.book_model.specs.declared.answer.Accepted.TheVariants.{Known}
 use Rattle.book_model.specs.declared.fault.LedgerFault.{LedgerFault}
 use Rattle.book_model.specs.declared.fault.LedgerFault.TheVariants.{DigestClash}
-use Rattle.book_model.specs.Accept.{accept_answer, accept_priced, clashes}
-use Rattle.book_model.specs.Books.{Book, open_number, charged_of}
-use Rattle.book_model.specs.Records.{Naming, name_of, same_bytes}
-use Rattle.book_model.specs.Rulings.{price_in}
-use Rattle.book_model.specs.Sets.{has}
 use Rattle.book_model.proofs.RecordSets.{is, is_itself}
 use Rattle.book_model.proofs.SetChanges.{is_back, IsUnnamed}
 use Rattle.book_model.proofs.SetLemmas.{fails_too}

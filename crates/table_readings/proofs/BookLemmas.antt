@@ -5,11 +5,8 @@ use Rattle.std.specs.Prelude.{◌<◌, ◌≤◌, nat_lt, slice_get, ℤ}
 use Rattle.std.specs.FinMap.{values}
 use Rattle.std.proofs.lemmas.Bool.Decides.{nat_tests}
 use Rattle.std.proofs.lemmas.List.{length-append}
-use Rattle.book_model.specs.Books.{Book, all_periods, open_period}
-use Rattle.book_model.specs.Charged.{is_dated_after}
-use Rattle.book_model.specs.Periods.{Period, period_by}
-use Rattle.book_model.specs.Records.{Records, Naming}
-use Rattle.book_model.specs.Sets.{those}
+use Rattle.book_model.specs.Words.{Book, all_periods, open_period, is_dated_after, Period}
+use Rattle.book_model.specs.Words.{period_by, Records, Naming, those}
 use Rattle.book_model.proofs.ListLemmas.{slice_get-front, slice_get-behind}
 use Rattle.book_model.proofs.StepLemmas.{same_book}
 use Rattle.kept_tables.specs.Tables.{Tables}

@@ -1,17 +1,11 @@
 -- Each call that is an event leaves books that calls made.
 use Rattle.std.proofs.Common.{◌≡◌, ℕ, List, [], ◌∷◌, refl, ap, ◌∙◌, subst, Some, Ok}
 use Rattle.std.specs.Prelude.{ℤ}
-use Rattle.smf_text.specs.Day.{IsDay}
-use Rattle.tariff_rules.specs.Terms.{Terms}
+use Rattle.book_model.specs.Words.{IsDay, Terms, accept_answer, Book, open_number, RecordKept}
+use Rattle.book_model.specs.Words.{TariffAccepted, PeriodClosed, keep, put_in_force, close, Naming}
+use Rattle.book_model.specs.Words.{terms_answer, close_answer, Rulings}
 use Rattle.book_model.specs.declared.answer.Accepted.TheVariants.{Kept}
 use Rattle.book_model.specs.declared.answer.Ruled.TheVariants.{Done}
-use Rattle.book_model.specs.Accept.{accept_answer}
-use Rattle.book_model.specs.Books.{Book, open_number}
-use Rattle.book_model.specs.Events.{RecordKept, TariffAccepted, PeriodClosed}
-use Rattle.book_model.specs.Events.{keep, put_in_force, close}
-use Rattle.book_model.specs.Records.{Naming}
-use Rattle.book_model.specs.RulingAnswers.{terms_answer, close_answer}
-use Rattle.book_model.specs.Rulings.{Rulings}
 use Rattle.book_model.proofs.AnsweredLemmas.{rulings_are}
 use Rattle.kept_tables.proofs.CloseDays.{closed_open}
 use Rattle.table_readings.specs.FromCalls.{IsFromCalls, IsHandedIn, IsReadFrom}

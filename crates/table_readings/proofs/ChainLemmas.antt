@@ -1,11 +1,8 @@
 -- The closed periods of a history hang together by what its closes charged.
 use Rattle.std.proofs.Common.{◌≡◌, ℕ, zero, suc, List, [], ◌∷◌, ◌++◌, length, refl, sym, ap, ◌∙◌}
 use Rattle.std.specs.Prelude.{Option, ℤ}
-use Rattle.book_model.specs.Charged.{is_dated_after}
-use Rattle.book_model.specs.Events.{Event}
-use Rattle.book_model.specs.History.{book_of, charged_in, closes, day_of_close}
-use Rattle.book_model.specs.History.{periods}
-use Rattle.book_model.specs.Periods.{period_by}
+use Rattle.book_model.specs.Words.{is_dated_after, Event, book_of, charged_in, closes, day_of_close}
+use Rattle.book_model.specs.Words.{periods, period_by}
 use Rattle.book_model.proofs.HistoryLemmas.{charged_not_late}
 use Rattle.table_readings.specs.BookIn.{close_after}
 use Rattle.table_readings.specs.Readable.{chained, IsChain}

@@ -1,6 +1,6 @@
 -- The disputes are answered from the tables.
-use Rattle.std.proofs.Common.{◌≡◌, ℕ, List, [], ◌∷◌, map, length, refl, sym, ap, ◌∙◌, true}
-use Rattle.std.proofs.Common.{Ok, arith, subst}
+use Rattle.std.proofs.Common.{◌≡◌, ℕ, List, [], ◌∷◌, map, length, refl, sym, ap, ◌∙◌, true, Ok}
+use Rattle.std.proofs.Common.{arith, subst}
 use Rattle.std.specs.Prelude.{◌<◌}
 use Rattle.std.specs.List.{AllByRecursion}
 use Rattle.std.specs.List.Sorted.{IsStrictlySortedBy}
@@ -8,12 +8,8 @@ use Rattle.std.specs.Ordering.{is_eq}
 use Rattle.std.specs.declared.cmp.Ordering.TheVariants.{Less}
 use Rattle.std.proofs.lemmas.Bool.Decides.{nat_tests}
 use Rattle.std.proofs.lemmas.List.Elements.{filter_map-append}
-use Rattle.book_model.specs.Books.{Book}
-use Rattle.book_model.specs.Disputes.{Disputed, dispute_at, disputes_in, identities}
-use Rattle.book_model.specs.Outcomes.{reading}
-use Rattle.book_model.specs.Records.{Naming, by_bytes, same_bytes}
-use Rattle.book_model.specs.Rulings.{identity_by}
-use Rattle.book_model.specs.Sets.{has}
+use Rattle.book_model.specs.Words.{Book, Disputed, dispute_at, disputes_in, identities, reading}
+use Rattle.book_model.specs.Words.{Naming, by_bytes, same_bytes, identity_by, has}
 use Rattle.book_model.proofs.RecordSets.{second_of}
 use Rattle.kept_tables.specs.TablesOf.{tables_of}
 use Rattle.table_readings.specs.ListLaws.{DisputesFollow}
@@ -22,8 +18,7 @@ use Rattle.table_readings.specs.Readable.{IsReadable}
 use Rattle.table_readings.proofs.DisputedIdentities.{shared, is_shared, shared_rises}
 use Rattle.table_readings.proofs.DisputedRecords.{block, block_own, in_block, flat}
 use Rattle.table_readings.proofs.DisputedRows.{AreListed, listed_entries, first_entry, each_entry}
-use Rattle.table_readings.proofs.DisputedRows.{disputed_are, all_shown}
-use Rattle.table_readings.proofs.DisputedRows.{rows_in_order}
+use Rattle.table_readings.proofs.DisputedRows.{disputed_are, all_shown, rows_in_order}
 use Rattle.table_readings.proofs.GroupingLemmas.{grouped-push, grouped-append, join_all, one_group}
 use Rattle.table_readings.proofs.GroupingLemmas.{of_rows, StartsOther}
 use Rattle.table_readings.proofs.ListOrder.{all_passing}

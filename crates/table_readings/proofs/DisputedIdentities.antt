@@ -12,11 +12,9 @@ use Rattle.std.proofs.lemmas.List.Kept.{IsStrictlySortedBy-filter}
 use Rattle.std.proofs.lemmas.List.Sums.{length-filter}
 use Rattle.std.proofs.lemmas.Map.Keys.{IsDistinct-from_sorted}
 use Rattle.std.proofs.lemmas.Map.Lookups.{exact_bytes}
-use Rattle.book_model.specs.Charged.{conflict, is_undisputed, charged_now}
-use Rattle.book_model.specs.Disputes.{by_name, identities}
-use Rattle.book_model.specs.Records.{Records, Naming, by_bytes, same_bytes}
-use Rattle.book_model.specs.Rulings.{Rulings, identity_by}
-use Rattle.book_model.specs.Sets.{Set, set_of, members, has}
+use Rattle.book_model.specs.Words.{conflict, is_undisputed, charged_now, by_name, identities}
+use Rattle.book_model.specs.Words.{Records, Naming, by_bytes, same_bytes, Rulings, identity_by, Set}
+use Rattle.book_model.specs.Words.{set_of, members, has}
 use Rattle.book_model.proofs.ListLemmas.{list_any-map, count_by-narrower, count_by-distinct}
 use Rattle.book_model.proofs.RecordSets.{is, has_those}
 use Rattle.book_model.proofs.SetLemmas.{same_bytes-by_cmp, has-texts, members_rise}

@@ -1,6 +1,6 @@
 -- The records in dispute, by identity, then name.
-use Rattle.std.proofs.Common.{◌≡◌, ℕ, List, [], ◌∷◌, ◌++◌, refl, sym, ap, ◌∙◌}
-use Rattle.std.proofs.Common.{true, false, true≢false, Bool, ◌&&◌, ◌||◌}
+use Rattle.std.proofs.Common.{◌≡◌, ℕ, List, [], ◌∷◌, ◌++◌, refl, sym, ap, ◌∙◌, true, false}
+use Rattle.std.proofs.Common.{true≢false, Bool, ◌&&◌, ◌||◌}
 use Rattle.std.specs.Prelude.{filter}
 use Rattle.std.specs.Cmp.{IsTotalOrder, tied_itself}
 use Rattle.std.specs.FinMap as fin
@@ -9,17 +9,14 @@ use Rattle.std.specs.List.Sorted.{IsStrictlySortedBy}
 use Rattle.std.specs.Ordering.{eq_by_cmp, ordering_then}
 use Rattle.std.specs.declared.cmp.Ordering.{Ordering}
 use Rattle.std.specs.declared.cmp.Ordering.TheVariants.{Less}
-use Rattle.std.proofs.lemmas.Cmp.{nat_list_cmp_total}
-use Rattle.std.proofs.lemmas.Cmp.{then_total, on_total}
+use Rattle.std.proofs.lemmas.Cmp.{nat_list_cmp_total, then_total, on_total}
 use Rattle.std.proofs.lemmas.List.Folds.{list_any-append}
 use Rattle.std.proofs.lemmas.Map.Lookups.{exact_bytes}
-use Rattle.book_model.specs.Disputes.{by_name, records_of}
-use Rattle.book_model.specs.Records.{Records, Naming, by_bytes, same_bytes}
-use Rattle.book_model.specs.Rulings.{Rulings, identity_by}
-use Rattle.book_model.specs.Sets.{set_of, members, has, those}
+use Rattle.book_model.specs.Words.{by_name, records_of, Records, Naming, by_bytes, same_bytes}
+use Rattle.book_model.specs.Words.{Rulings, identity_by, set_of, members, has, those}
 use Rattle.book_model.proofs.RecordSets.{is, has_those, first_of}
-use Rattle.book_model.proofs.SetLemmas.{any-members, members-those, members_rise}
-use Rattle.book_model.proofs.SetLemmas.{fails_too, same_ties}
+use Rattle.book_model.proofs.SetLemmas.{any-members, members-those, members_rise, fails_too}
+use Rattle.book_model.proofs.SetLemmas.{same_ties}
 use Rattle.book_core.proofs.HeldLemmas.{by_name_total, by_name_exact}
 use Rattle.table_readings.proofs.ListOrder.{all_joined, all_so, all_texts, rise_together}
 use Rattle.table_readings.proofs.ListOrder.{both_equal}

@@ -1,6 +1,6 @@
 -- The rows of the records in dispute, and what they show.
-use Rattle.std.proofs.Common.{◌≡◌, ℕ, List, [], ◌∷◌, map, refl, sym, ap, ◌∙◌, subst, true}
-use Rattle.std.proofs.Common.{not, ◌||◌, Option, Some, None}
+use Rattle.std.proofs.Common.{◌≡◌, ℕ, List, [], ◌∷◌, map, refl, sym, ap, ◌∙◌, subst, true, not}
+use Rattle.std.proofs.Common.{◌||◌, Option, Some, None}
 use Rattle.std.specs.Cmp.{IsTotalOrder, tied_itself}
 use Rattle.std.specs.List.{AllByRecursion, list_any, filter_map, cons_option}
 use Rattle.std.specs.List.Sorted.{IsPermutation, IsStrictlySortedBy}
@@ -12,15 +12,11 @@ use Rattle.std.proofs.lemmas.Cmp.{nat_list_cmp_total, then_total, on_total}
 use Rattle.std.proofs.lemmas.List.Sorted.{IsPermutation-sym, IsPermutation-trans}
 use Rattle.std.proofs.lemmas.Map.Keys.{IsDistinct-from_sorted}
 use Rattle.std.proofs.lemmas.Map.Lookups.{exact_bytes}
-use Rattle.smf_type30.specs.Usage.{job_id_of, program_of, completion_of}
+use Rattle.book_model.specs.Words.{job_id_of, program_of, completion_of, Book, charged_of}
+use Rattle.book_model.specs.Words.{variant_of, Naming, name_of, by_bytes, price_in, identity_by}
+use Rattle.book_model.specs.Words.{set_of, members, has, IsSound}
 use Rattle.tariff_rules.specs.declared.priced.Priced.{Priced}
 use Rattle.book_model.specs.declared.dispute.Variant.{Variant}
-use Rattle.book_model.specs.Books.{Book, charged_of}
-use Rattle.book_model.specs.Disputes.{variant_of}
-use Rattle.book_model.specs.Records.{Naming, name_of, by_bytes}
-use Rattle.book_model.specs.Rulings.{price_in, identity_by}
-use Rattle.book_model.specs.Sets.{set_of, members, has}
-use Rattle.book_model.specs.Sound.{IsSound}
 use Rattle.book_model.proofs.GivenLemmas.{map-filter_map}
 use Rattle.book_model.proofs.PermutedSets.{apart_from_distinct, given_permuted, sorted_members}
 use Rattle.book_model.proofs.PermutedSets.{distinct_permuted}
@@ -34,8 +30,7 @@ use Rattle.table_readings.proofs.DisputedIdentities.{shared, works, works_distin
 use Rattle.table_readings.proofs.DisputedIdentities.{shared_rises}
 use Rattle.table_readings.proofs.DisputedRecords.{by_work, by_work_total, flat, in_flat, flat_rises}
 use Rattle.table_readings.proofs.ListOrder.{first_two}
-use Rattle.table_readings.proofs.RecordReading.{entry, entry_at, rows_permuted}
-use Rattle.table_readings.proofs.RecordReading.{entries-where}
+use Rattle.table_readings.proofs.RecordReading.{entry, entry_at, rows_permuted, entries-where}
 
 -- rows are in an order by identity, then name
 pub by_identity_total : IsTotalOrder by_identity

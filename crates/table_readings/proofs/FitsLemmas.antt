@@ -17,20 +17,13 @@ use Rattle.std.proofs.lemmas.List.Sums.{sum_by-le}
 use Rattle.std.proofs.lemmas.Map.Lookups.{exact_bytes}
 use Rattle.std.proofs.lemmas.Map.Views.{tells_apart}
 use Rattle.std.proofs.lemmas.Option.{slice_get_within}
-use Rattle.smf_text.specs.Day.{IsDay}
-use Rattle.smf_text.specs.Names.{IsName}
-use Rattle.tariff_rules.specs.Price.{IsPriced}
+use Rattle.book_model.specs.Words.{IsDay, IsName, IsPriced, Book, all_periods, open_period}
+use Rattle.book_model.specs.Words.{last_period, Period, Naming, by_bytes, IsUsageRecord, key_of}
+use Rattle.book_model.specs.Words.{by_key, same_key, charged_at, Tariffed, price_in, members, has}
+use Rattle.book_model.specs.Words.{AreAmong, AreHeld}
 use Rattle.tariff_rules.specs.declared.priced.Priced.{Priced}
 use Rattle.book_model.specs.declared.row.ChargeRow.{ChargeRow}
 use Rattle.book_model.specs.declared.row.RowKey.{RowKey}
-use Rattle.book_model.specs.Books.{Book, all_periods, open_period}
-use Rattle.book_model.specs.Limits.{last_period}
-use Rattle.book_model.specs.Periods.{Period}
-use Rattle.book_model.specs.Records.{Naming, by_bytes, IsUsageRecord}
-use Rattle.book_model.specs.Rows.{key_of, by_key, same_key, charged_at}
-use Rattle.book_model.specs.Rulings.{Tariffed, price_in}
-use Rattle.book_model.specs.Sets.{members, has}
-use Rattle.book_model.specs.Sound.{AreAmong, AreHeld}
 use Rattle.book_model.proofs.RecordSets.{is, is_itself}
 use Rattle.book_model.proofs.RowLemmas.{by_key_total, by_key_exact, same_key_ties}
 use Rattle.book_model.proofs.SumsAlike.{length-sum_by}

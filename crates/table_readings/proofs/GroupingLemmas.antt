@@ -4,8 +4,7 @@ use Rattle.std.proofs.Common.{Bool}
 use Rattle.std.specs.Prelude.{if◌then◌else◌}
 use Rattle.std.specs.List.{AllByRecursion}
 use Rattle.std.proofs.lemmas.Cmp.{nat_list_eq_equiv}
-use Rattle.book_model.specs.Disputes.{Disputed}
-use Rattle.book_model.specs.Records.{same_bytes}
+use Rattle.book_model.specs.Words.{Disputed, same_bytes}
 use Rattle.table_readings.specs.DisputesRead.{NamedRow, variant_read, of_one, join_first, grouped}
 use Rattle.table_readings.specs.DisputesRead.{join_last}
 use Rattle.table_readings.proofs.Texts.{same_text}

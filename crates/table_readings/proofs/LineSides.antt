@@ -1,7 +1,6 @@
 -- What a period adds and takes back is read of its lines.
 use Rattle.std.proofs.Common.{◌≡◌, ℕ, suc, List, [], ◌∷◌, ◌++◌, map, refl, sym, ap, ◌∙◌, true}
-use Rattle.std.proofs.Common.{false}
-use Rattle.std.proofs.Common.{◌+◌, Bool, cond, not, Option, Some, append-nil, arith}
+use Rattle.std.proofs.Common.{false, ◌+◌, Bool, cond, not, Option, Some, append-nil, arith}
 use Rattle.std.specs.Prelude.{filter, slice_get}
 use Rattle.std.specs.FinMap.{get, entries, from_entries}
 use Rattle.std.specs.List.{filter_map}
@@ -9,12 +8,8 @@ use Rattle.std.specs.Option.{option_map}
 use Rattle.std.proofs.lemmas.Cmp.{nat_list_cmp_total}
 use Rattle.std.proofs.lemmas.List.Elements.{filter-append}
 use Rattle.std.proofs.lemmas.Map.Lookups.{exact_bytes}
-use Rattle.book_model.specs.Books.{Book, all_periods}
-use Rattle.book_model.specs.Periods.{Period}
-use Rattle.book_model.specs.Records.{Records, Naming, name_of, by_bytes}
-use Rattle.book_model.specs.Rulings.{price_in}
-use Rattle.book_model.specs.Sets.{set_of, members, has}
-use Rattle.book_model.specs.Sound.{IsSound, AreHeld, AreAmong}
+use Rattle.book_model.specs.Words.{Book, all_periods, Period, Records, Naming, name_of, by_bytes}
+use Rattle.book_model.specs.Words.{price_in, set_of, members, has, IsSound, AreHeld, AreAmong}
 use Rattle.book_model.proofs.FilterLemmas.{filter-from_entries}
 use Rattle.book_model.proofs.ListLemmas.{filter-map, filter_map-map}
 use Rattle.book_model.proofs.SetChanges.{pick-agree}

@@ -1,18 +1,14 @@
 -- The lists of a period are answered from the tables.
 use Rattle.std.proofs.Common.{◌≡◌, ℕ, ◌-◌, length, refl, sym, ap, ◌∙◌, true, false, true≢false}
-use Rattle.std.proofs.Common.{Bool, not}
-use Rattle.std.proofs.Common.{◌&&◌, Option, Some, None, Result, Ok, Err, get_or, arith}
+use Rattle.std.proofs.Common.{Bool, not, ◌&&◌, Option, Some, None, Result, Ok, Err, get_or, arith}
 use Rattle.std.specs.Prelude.{◌<◌, ◌≤◌, ◌==◌, nat_le, if◌then◌else◌, slice_get}
 use Rattle.std.specs.Option.{ok_or, option_map}
 use Rattle.std.proofs.lemmas.Bool.Decides.{nat_tests}
 use Rattle.std.proofs.lemmas.Option.{slice_get-get_or, slice_get_past}
 use Rattle.book_model.specs.declared.fault.LedgerFault.{LedgerFault}
 use Rattle.book_model.specs.declared.fault.LedgerFault.TheVariants.{NoSuchPeriod}
-use Rattle.book_model.specs.Books.{Book, open_number, open_period, period_of}
-use Rattle.book_model.specs.Lines.{lines_of}
-use Rattle.book_model.specs.Outcomes.{reading}
-use Rattle.book_model.specs.Periods.{Period}
-use Rattle.book_model.specs.Rows.{rows_for}
+use Rattle.book_model.specs.Words.{Book, open_number, open_period, period_of, lines_of, reading}
+use Rattle.book_model.specs.Words.{Period, rows_for}
 use Rattle.kept_tables.specs.Reading.{rows_read, lines_read}
 use Rattle.kept_tables.specs.TablesOf.{tables_of}
 use Rattle.kept_tables.proofs.LineReading.{lines_follow}

@@ -1,7 +1,6 @@
 -- Lists in strict order, and what holds of each of their elements.
 use Rattle.std.proofs.Common.{◌≡◌, ℕ, List, [], ◌∷◌, ◌++◌, refl, ap, ◌∙◌, true, false, Bool, cond}
-use Rattle.std.proofs.Common.{map}
-use Rattle.std.proofs.Common.{◌||◌}
+use Rattle.std.proofs.Common.{map, ◌||◌}
 use Rattle.std.specs.Prelude.{filter}
 use Rattle.std.specs.List.{AllByRecursion, list_any}
 use Rattle.std.specs.List.Sorted.{IsStrictlySortedBy}

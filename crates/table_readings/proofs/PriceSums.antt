@@ -10,14 +10,9 @@ use Rattle.std.proofs.lemmas.Cmp.{nat_list_cmp_total}
 use Rattle.std.proofs.lemmas.List.Elements.{All-nil, All-cons}
 use Rattle.std.proofs.lemmas.List.Sums.{sum_by-le-sum_by}
 use Rattle.std.proofs.lemmas.Map.Lookups.{exact_bytes}
-use Rattle.tariff_rules.specs.Price.{IsPriced}
+use Rattle.book_model.specs.Words.{IsPriced, Book, most_held, Records, Naming, price_in, prices}
+use Rattle.book_model.specs.Words.{members, has, those, AreAmong}
 use Rattle.tariff_rules.specs.declared.priced.Priced.{Priced}
-use Rattle.book_model.specs.Books.{Book}
-use Rattle.book_model.specs.Limits.{most_held}
-use Rattle.book_model.specs.Records.{Records, Naming}
-use Rattle.book_model.specs.Rulings.{price_in, prices}
-use Rattle.book_model.specs.Sets.{members, has, those}
-use Rattle.book_model.specs.Sound.{AreAmong}
 use Rattle.book_model.proofs.RecordSets.{is, is_itself, same_records, has_those}
 use Rattle.book_model.proofs.SetLemmas.{members-those}
 use Rattle.book_model.proofs.SumsAlike.{sum_by-filter, sum_by-filter_map, length-sum_by}

@@ -1,7 +1,6 @@
 -- Books that calls made can be read back.
-use Rattle.std.proofs.Common.{◌≡◌, ℕ, ◌+◌, List, [], ◌∷◌, length, refl, sym, ap, ◌∙◌, subst}
-use Rattle.std.proofs.Common.{true, false, true≢false, Bool, ◌||◌, Some, None, Ok, Err, Result}
-use Rattle.std.proofs.Common.{arith}
+use Rattle.std.proofs.Common.{◌≡◌, ℕ, ◌+◌, List, [], ◌∷◌, length, refl, sym, ap, ◌∙◌, subst, true}
+use Rattle.std.proofs.Common.{false, true≢false, Bool, ◌||◌, Some, None, Ok, Err, Result, arith}
 use Rattle.std.specs.Prelude.{◌≤◌, ◌==◌, nat_le, nat_lt, if◌then◌else◌, All, sum_by, ℤ}
 use Rattle.std.specs.List.{filter_map}
 use Rattle.std.specs.List.Sorted.{IsStrictlySortedBy}
@@ -9,27 +8,19 @@ use Rattle.std.specs.Ordering.{int_cmp}
 use Rattle.std.proofs.lemmas.Bool.Decides.{nat_tests}
 use Rattle.std.proofs.lemmas.List.{length-append}
 use Rattle.std.proofs.lemmas.List.Elements.{All-nil, All-push}
-use Rattle.smf_text.specs.Day.{IsDay}
-use Rattle.tariff_rules.specs.Price.{IsPriced}
-use Rattle.tariff_rules.specs.Terms.{Terms}
+use Rattle.book_model.specs.Words.{IsDay, IsPriced, Terms, accept_answer, accept_priced, clashes}
+use Rattle.book_model.specs.Words.{is_full, total_of, IsAnswered, Book, new_book, open_number}
+use Rattle.book_model.specs.Words.{Event, RecordKept, TariffAccepted, PeriodClosed, keep}
+use Rattle.book_model.specs.Words.{put_in_force, close, book_after, most_held, most_cost}
+use Rattle.book_model.specs.Words.{last_period, Naming, IsUsageRecord, by_bytes, terms_answer}
+use Rattle.book_model.specs.Words.{close_answer, is_closed, is_early, Rulings, price_in, are_rising}
+use Rattle.book_model.specs.Words.{members, has, with, IsSound}
 use Rattle.tariff_rules.specs.declared.priced.Priced.{Priced}
 use Rattle.book_model.specs.declared.answer.Accepted.{Accepted}
 use Rattle.book_model.specs.declared.answer.Accepted.TheVariants.{Kept, Known}
 use Rattle.book_model.specs.declared.answer.Ruled.TheVariants.{Done}
 use Rattle.book_model.specs.declared.fault.LedgerFault.{LedgerFault}
 use Rattle.book_model.specs.declared.fault.LedgerFault.TheVariants.{DigestClash, Full}
-use Rattle.book_model.specs.Accept.{accept_answer, accept_priced, clashes, is_full, total_of}
-use Rattle.book_model.specs.Answered.{IsAnswered}
-use Rattle.book_model.specs.Books.{Book, new_book, open_number}
-use Rattle.book_model.specs.Events.{Event, RecordKept, TariffAccepted, PeriodClosed}
-use Rattle.book_model.specs.Events.{keep, put_in_force, close}
-use Rattle.book_model.specs.History.{book_after}
-use Rattle.book_model.specs.Limits.{most_held, most_cost, last_period}
-use Rattle.book_model.specs.Records.{Naming, IsUsageRecord, by_bytes}
-use Rattle.book_model.specs.RulingAnswers.{terms_answer, close_answer, is_closed, is_early}
-use Rattle.book_model.specs.Rulings.{Rulings, price_in, are_rising}
-use Rattle.book_model.specs.Sets.{members, has, with}
-use Rattle.book_model.specs.Sound.{IsSound}
 use Rattle.book_model.proofs.AnsweredLemmas.{rulings_are, sound_after, latest_is_last}
 use Rattle.book_model.proofs.CallLemmas.{calls_go_forward, close_by}
 use Rattle.book_model.proofs.RecordSets.{one_or}

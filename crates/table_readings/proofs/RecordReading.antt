@@ -1,7 +1,6 @@
 -- Records are read back from their rows.
 use Rattle.std.proofs.Common.{◌≡◌, ℕ, List, [], ◌∷◌, map, refl, sym, ap, ◌∙◌, true, false, Bool}
-use Rattle.std.proofs.Common.{◌&&◌, ◌||◌}
-use Rattle.std.proofs.Common.{Option, Some, None, subst}
+use Rattle.std.proofs.Common.{◌&&◌, ◌||◌, Option, Some, None, subst}
 use Rattle.std.specs.Prelude.{filter}
 use Rattle.std.specs.FinMap.{entries}
 use Rattle.std.specs.FinMap as fin
@@ -14,11 +13,8 @@ use Rattle.std.proofs.lemmas.List.Sorted.{list_any-IsPermutation}
 use Rattle.std.proofs.lemmas.Map.Lookups.{exact_bytes}
 use Rattle.std.proofs.lemmas.Simd.{map-map}
 use Rattle.tariff_rules.specs.declared.priced.Priced.{Priced}
-use Rattle.book_model.specs.Books.{Book, charged_of}
-use Rattle.book_model.specs.Records.{Naming, name_of, by_bytes}
-use Rattle.book_model.specs.Rulings.{price_in}
-use Rattle.book_model.specs.Sets.{set_of, members, has, those}
-use Rattle.book_model.specs.Sound.{IsSound}
+use Rattle.book_model.specs.Words.{Book, charged_of, Naming, name_of, by_bytes, price_in, set_of}
+use Rattle.book_model.specs.Words.{members, has, those, IsSound}
 use Rattle.book_model.proofs.FilterLemmas.{Apart, filter-filter_map, filter-from_entries}
 use Rattle.book_model.proofs.ListLemmas.{filter-map}
 use Rattle.book_model.proofs.RecordSets.{is, is_itself, same_records, has_those, in_those}

@@ -7,19 +7,13 @@ use Rattle.std.specs.List.{list_any}
 use Rattle.std.specs.Option.{option_map}
 use Rattle.std.proofs.lemmas.Cmp.{nat_list_cmp_total}
 use Rattle.std.proofs.lemmas.Map.Lookups.{exact_bytes}
-use Rattle.smf_type30.specs.Usage.{day_of}
-use Rattle.tariff_rules.specs.Terms.{Terms}
+use Rattle.book_model.specs.Words.{day_of, Terms, Book, charged_of, Naming, name_of, has_dated}
+use Rattle.book_model.specs.Words.{has_text, is_effective, is_later, terms_answer, close_answer}
+use Rattle.book_model.specs.Words.{price_in, last_close, members, has, IsSound}
 use Rattle.tariff_rules.specs.declared.priced.Priced.{Priced}
 use Rattle.book_model.specs.declared.answer.Ruled.TheVariants.{Done, Already}
 use Rattle.book_model.specs.declared.fault.LedgerFault.TheVariants.{TariffDate, TariffExists}
 use Rattle.book_model.specs.declared.fault.LedgerFault.TheVariants.{RecordsDated}
-use Rattle.book_model.specs.Books.{Book, charged_of}
-use Rattle.book_model.specs.Records.{Naming, name_of}
-use Rattle.book_model.specs.RulingAnswers.{has_dated, has_text, is_effective, is_later}
-use Rattle.book_model.specs.RulingAnswers.{terms_answer, close_answer}
-use Rattle.book_model.specs.Rulings.{price_in, last_close}
-use Rattle.book_model.specs.Sets.{members, has}
-use Rattle.book_model.specs.Sound.{IsSound}
 use Rattle.book_model.proofs.CallLemmas.{calls_go_forward}
 use Rattle.book_model.proofs.GivenLemmas.{map-filter_map}
 use Rattle.book_model.proofs.ListLemmas.{list_any-map}

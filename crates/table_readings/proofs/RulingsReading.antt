@@ -1,7 +1,6 @@
 -- The tariffs and the closes are read back from their tables.
 use Rattle.std.proofs.Common.{◌≡◌, ℕ, List, [], ◌∷◌, map, refl, sym, ap, ◌∙◌, true, false, Bool}
-use Rattle.std.proofs.Common.{◌&&◌, T}
-use Rattle.std.proofs.Common.{Some, arith, subst}
+use Rattle.std.proofs.Common.{◌&&◌, T, Some, arith, subst}
 use Rattle.std.specs.Prelude.{All, ℤ, int_lt, ◌<ℤ◌}
 use Rattle.std.specs.Cmp.{int_cmp_is, int_cmp_total, nat_cmp_total}
 use Rattle.std.specs.FinMap.{from_entries, entries, values, int_cmp-IsAntisymmetric}
@@ -13,8 +12,7 @@ use Rattle.std.specs.Ordering.{int_cmp, nat_cmp, is_lt}
 use Rattle.std.specs.declared.cmp.Ordering.TheVariants.{Less}
 use Rattle.std.proofs.lemmas.Int.{ints}
 use Rattle.std.proofs.lemmas.List.Elements.{All-head, All-tail}
-use Rattle.tariff_rules.specs.TariffFile.{terms_in}
-use Rattle.book_model.specs.Rulings.{Tariffed, are_rising}
+use Rattle.book_model.specs.Words.{terms_in, Tariffed, are_rising}
 use Rattle.book_model.proofs.FilterLemmas.{entries-sorted}
 use Rattle.book_model.proofs.RecordSets.{first_of, second_of}
 use Rattle.kept_tables.specs.TablesOf.{tariff_entries, close_entries}

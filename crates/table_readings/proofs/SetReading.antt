@@ -10,11 +10,8 @@ use Rattle.std.proofs.lemmas.List.Folds.{list_any-append, Any-from_list_any}
 use Rattle.std.proofs.lemmas.List.Sorted.{sum_by-IsPermutation}
 use Rattle.std.proofs.lemmas.Map.Lookups.{exact_bytes}
 use Rattle.std.proofs.lemmas.Map.Views.{list_any-from_Contains}
-use Rattle.book_model.specs.Charged.{is_dated_after}
-use Rattle.book_model.specs.Periods.{Period, period_by}
-use Rattle.book_model.specs.Records.{Records, by_bytes}
-use Rattle.book_model.specs.Sets.{set_of, members, has, those, without}
-use Rattle.book_model.specs.Sound.{AreDatedBy}
+use Rattle.book_model.specs.Words.{is_dated_after, Period, period_by, Records, by_bytes, set_of}
+use Rattle.book_model.specs.Words.{members, has, those, without, AreDatedBy}
 use Rattle.book_model.proofs.RecordSets.{is, same_records, has_those}
 use Rattle.book_model.proofs.SetLemmas.{has-set_of, members-those, set_of-alike}
 use Rattle.book_model.proofs.SumsAlike.{SumsAlike, filter_map-alike}

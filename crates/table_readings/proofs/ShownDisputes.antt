@@ -4,13 +4,9 @@ use Rattle.std.specs.Prelude.{◌<◌, All}
 use Rattle.std.specs.List.{AllByRecursion}
 use Rattle.std.proofs.lemmas.Bool.Decides.{nat_tests}
 use Rattle.std.proofs.lemmas.List.Elements.{All-from_recursion, All-map}
-use Rattle.smf_text.specs.Day.{IsDay}
-use Rattle.smf_type30.specs.Usage.{identity_length}
+use Rattle.book_model.specs.Words.{IsDay, identity_length, Book, IsDispute, AreDisputes, dispute_at}
+use Rattle.book_model.specs.Words.{identities, Naming, identity_by}
 use Rattle.book_model.specs.declared.dispute.Variant.{Variant}
-use Rattle.book_model.specs.Books.{Book}
-use Rattle.book_model.specs.Disputes.{IsDispute, AreDisputes, dispute_at, identities}
-use Rattle.book_model.specs.Records.{Naming}
-use Rattle.book_model.specs.Rulings.{identity_by}
 use Rattle.kept_tables.specs.TablesOf.{tables_of}
 use Rattle.table_readings.specs.DisputesRead.{NamedRow, disputes_read, variant_read}
 use Rattle.table_readings.specs.Readable.{IsReadable}

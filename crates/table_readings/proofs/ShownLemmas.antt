@@ -8,27 +8,19 @@ use Rattle.std.specs.List.{AllByRecursion, filter_map}
 use Rattle.std.specs.Ordering.{match_ordering}
 use Rattle.std.specs.declared.cmp.Ordering.{Ordering}
 use Rattle.std.specs.declared.cmp.Ordering.TheVariants.{Less, Equal, Greater}
-use Rattle.std.proofs.lemmas.List.Elements.{All-from_recursion}
+use Rattle.std.proofs.lemmas.List.Elements.{All-from_recursion, recursion_from_All}
 use Rattle.std.proofs.lemmas.List.Sums.{sum_by-cons, sum_by-le, sum_by-append}
-use Rattle.smf_text.specs.Day.{IsDay}
+use Rattle.book_model.specs.Words.{IsDay, Book, most_cost, AreLines, lines_for, lines_of, Records}
+use Rattle.book_model.specs.Words.{Naming, name_of, FitSums, AreRows, AreAmong, AreHeld, price_in}
+use Rattle.book_model.specs.Words.{set_of, members, job_of}
 use Rattle.tariff_rules.specs.declared.priced.Priced.{Priced}
-use Rattle.book_model.specs.Books.{Book}
-use Rattle.book_model.specs.Limits.{most_cost}
-use Rattle.book_model.specs.Lines.{AreLines, lines_for, lines_of}
-use Rattle.book_model.specs.Records.{Records, Naming, name_of}
-use Rattle.book_model.specs.Rows.{FitSums, AreRows}
-use Rattle.book_model.specs.Sound.{AreAmong, AreHeld}
 use Rattle.book_model.specs.declared.line.Line.{Line}
-use Rattle.book_model.specs.Rulings.{price_in}
-use Rattle.book_model.specs.Sets.{set_of, members}
 use Rattle.book_model.proofs.GivenLemmas.{map-filter_map}
 use Rattle.book_model.proofs.LineOrder.{by_line_total}
 use Rattle.book_model.proofs.SetLemmas.{members-empty, members-with}
 use Rattle.book_model.proofs.SumsAlike.{length-sum_by}
 use Rattle.kept_tables.proofs.LineReading.{lines_follow}
-use Rattle.smf_type30.specs.Usage.{job_of}
 use Rattle.std.specs.Option.{option_map}
-use Rattle.std.proofs.lemmas.List.Elements.{recursion_from_All}
 use Rattle.table_readings.proofs.ListOrder.{all_joined, all_unmapped}
 use Rattle.book_core.proofs.ShownLemmas.{rows_shown}
 use Rattle.kept_tables.specs.Reading.{rows_read, lines_read}

@@ -2,7 +2,7 @@
 use Rattle.std.proofs.Common.{◌≡◌, ℕ, List, sym, ◌∙◌, true}
 use Rattle.std.proofs.lemmas.Map.Lookups.{exact_bytes}
 use Rattle.std.proofs.lemmas.Map.Views.{tells_apart}
-use Rattle.book_model.specs.Records.{same_bytes}
+use Rattle.book_model.specs.Words.{same_bytes}
 use Rattle.book_model.proofs.RecordSets.{is}
 use Rattle.book_model.proofs.SetLemmas.{same_bytes-by_cmp}
 

@@ -3,15 +3,13 @@ use Rattle.std.specs.Prelude.{ℕ, Bool, ◌+◌, ◌||◌, nat_lt, nat_le, if�
 use Rattle.std.specs.Prelude.{Option, Some, None, Result, Ok, Err, ℤ}
 use Rattle.std.specs.FinMap.{get}
 use Rattle.std.specs.Option.{option_map}
-use Rattle.smf_frames.specs.Framed.{data_of}
+use Rattle.book_model.specs.Words.{data_of, most_held, most_cost, Naming, name_of, same_bytes}
+use Rattle.book_model.specs.Words.{Rulings, price_in, identity_by}
 use Rattle.tariff_rules.specs.declared.priced.Priced.{Priced}
 use Rattle.book_model.specs.declared.answer.Accepted.{Accepted}
 use Rattle.book_model.specs.declared.answer.Accepted.TheVariants.{Kept, Known, Unpriced}
 use Rattle.book_model.specs.declared.fault.LedgerFault.{LedgerFault}
 use Rattle.book_model.specs.declared.fault.LedgerFault.TheVariants.{Full, DigestClash}
-use Rattle.book_model.specs.Limits.{most_held, most_cost}
-use Rattle.book_model.specs.Records.{Naming, name_of, same_bytes}
-use Rattle.book_model.specs.Rulings.{Rulings, price_in, identity_by}
 use Rattle.book_core.specs.Effects.{effects_of}
 use Rattle.book_core.specs.declared.effect_table.View.{View}
 use Rattle.kept_tables.specs.Keeping.{open_of}

@@ -1,15 +1,10 @@
 -- The laws of answers: of a book that can be read back, each is what its tables say.
 use Rattle.std.specs.Prelude.{◌≡◌, ℕ, List, Some, Ok, ℤ, take, Option}
-use Rattle.tariff_rules.specs.Terms.{Terms}
+use Rattle.book_model.specs.Words.{Terms, accept_answer, Book, keep, put_in_force, close, Naming}
+use Rattle.book_model.specs.Words.{IsUsageRecord, terms_answer, close_answer, price_in}
 use Rattle.tariff_rules.specs.declared.priced.Priced.{Priced}
 use Rattle.book_model.specs.declared.answer.Accepted.TheVariants.{Kept}
 use Rattle.book_model.specs.declared.answer.Ruled.TheVariants.{Done}
-use Rattle.book_model.specs.Accept.{accept_answer}
-use Rattle.book_model.specs.Books.{Book}
-use Rattle.book_model.specs.Events.{keep, put_in_force, close}
-use Rattle.book_model.specs.Records.{Naming, IsUsageRecord}
-use Rattle.book_model.specs.RulingAnswers.{terms_answer, close_answer}
-use Rattle.book_model.specs.Rulings.{price_in}
 use Rattle.book_core.specs.Effects.{effects_of}
 use Rattle.kept_tables.specs.MapChanges.{updated}
 use Rattle.kept_tables.specs.TableChanges.{close_tables, put_tariff, post}

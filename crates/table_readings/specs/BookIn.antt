@@ -1,20 +1,13 @@
 -- The book that tables tell, without the naming of its records.
 use Rattle.std.specs.Prelude.{ℕ, zero, suc, Bool, true, not, List, [], ◌∷◌, ◌++◌, map, filter}
-use Rattle.std.specs.Prelude.{length}
-use Rattle.std.specs.Prelude.{Option, Some, None, Result, Ok, Err, ℤ, slice_get}
+use Rattle.std.specs.Prelude.{length, Option, Some, None, Result, Ok, Err, ℤ, slice_get}
 use Rattle.std.specs.FinMap.{get, entries, values}
 use Rattle.std.specs.List.{filter_map}
 use Rattle.std.specs.Option.{option_map, option_and_then}
-use Rattle.smf_frames.specs.Framed.{record_with}
-use Rattle.tariff_rules.specs.TariffFile.{terms_in}
-use Rattle.tariff_rules.specs.Terms.{Terms}
+use Rattle.book_model.specs.Words.{record_with, terms_in, Terms, Book, is_dated_after, Period}
+use Rattle.book_model.specs.Words.{Records, by_bytes, Rulings, Tariffed, set_of, members, those}
+use Rattle.book_model.specs.Words.{without}
 use Rattle.tariff_rules.specs.declared.fault.TariffFault.{TariffFault}
-use Rattle.book_model.specs.Books.{Book}
-use Rattle.book_model.specs.Charged.{is_dated_after}
-use Rattle.book_model.specs.Periods.{Period}
-use Rattle.book_model.specs.Records.{Records, by_bytes}
-use Rattle.book_model.specs.Rulings.{Rulings, Tariffed}
-use Rattle.book_model.specs.Sets.{set_of, members, those, without}
 use Rattle.kept_tables.specs.Numbered.{rows_under}
 use Rattle.kept_tables.specs.Tables.{RecordRow, RecordTable, Tables}
 

@@ -3,12 +3,9 @@ use Rattle.std.specs.Prelude.{ℕ, not, if◌then◌else◌, List, [], ◌∷◌
 use Rattle.std.specs.FinMap.{entries}
 use Rattle.std.specs.Ordering.{ordering_then}
 use Rattle.std.specs.declared.cmp.Ordering.{Ordering}
-use Rattle.smf_frames.specs.Framed.{record_with}
-use Rattle.smf_type30.specs.Usage.{job_id_of, program_of, completion_of}
+use Rattle.book_model.specs.Words.{record_with, job_id_of, program_of, completion_of, Disputed}
+use Rattle.book_model.specs.Words.{by_bytes, same_bytes, set_of, members}
 use Rattle.book_model.specs.declared.dispute.Variant.{Variant}
-use Rattle.book_model.specs.Disputes.{Disputed}
-use Rattle.book_model.specs.Records.{by_bytes, same_bytes}
-use Rattle.book_model.specs.Sets.{set_of, members}
 use Rattle.kept_tables.specs.Tables.{RecordRow, RecordTable, Tables}
 
 -- a row with its name

@@ -1,13 +1,10 @@
 -- Tables whose numbers 64 bits with a sign hold, and whose days and periods are such.
 use Rattle.std.specs.Prelude.{◌≡◌, ℕ, ◌≤◌, ◌<◌, ◌^◌, Bool, List, Option, Some, ℤ}
 use Rattle.std.specs.FinMap.{get}
-use Rattle.smf_text.specs.Day.{IsDay}
-use Rattle.smf_text.specs.Names.{IsName}
-use Rattle.tariff_rules.specs.Price.{IsPriced}
+use Rattle.book_model.specs.Words.{IsDay, IsName, IsPriced, most_held, most_cost, last_period}
+use Rattle.book_model.specs.Words.{IsUsageRecord}
 use Rattle.book_model.specs.declared.row.ChargeRow.{ChargeRow}
 use Rattle.book_model.specs.declared.row.RowKey.{RowKey}
-use Rattle.book_model.specs.Limits.{most_held, most_cost, last_period}
-use Rattle.book_model.specs.Records.{IsUsageRecord}
 use Rattle.kept_tables.specs.Tables.{RecordRow, Tables}
 use Rattle.kept_tables.specs.TablesOf.{place_of}
 use Rattle.table_readings.specs.BookIn.{record_of}

@@ -1,16 +1,9 @@
 -- Books that calls made.
 use Rattle.std.specs.Prelude.{◌≡◌, ℕ, List, [], ◌∷◌, Some, None, Ok}
-use Rattle.smf_text.specs.Day.{IsDay}
-use Rattle.tariff_rules.specs.Price.{IsPriced}
-use Rattle.tariff_rules.specs.TariffFile.{terms_in}
-use Rattle.tariff_rules.specs.Terms.{Terms}
+use Rattle.book_model.specs.Words.{IsDay, IsPriced, terms_in, Terms, IsAnswered, Book, Event}
+use Rattle.book_model.specs.Words.{RecordKept, TariffAccepted, PeriodClosed, book_after, rulings}
+use Rattle.book_model.specs.Words.{Naming, IsUsageRecord, Rulings, price_in}
 use Rattle.tariff_rules.specs.declared.priced.Priced.{Priced}
-use Rattle.book_model.specs.Answered.{IsAnswered}
-use Rattle.book_model.specs.Books.{Book}
-use Rattle.book_model.specs.Events.{Event, RecordKept, TariffAccepted, PeriodClosed}
-use Rattle.book_model.specs.History.{book_after, rulings}
-use Rattle.book_model.specs.Records.{Naming, IsUsageRecord}
-use Rattle.book_model.specs.Rulings.{Rulings, price_in}
 
 -- A record that a call hands in: it measures work, and its price is one that can be.
 pub record IsHandedIn (rulings : Rulings) (bytes : List ℕ) : Type 0 where

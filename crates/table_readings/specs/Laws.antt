@@ -1,15 +1,10 @@
 -- The laws of books that calls made: each call keeps them so, and they are read back from their
 -- tables.
 use Rattle.std.specs.Prelude.{◌≡◌, ℕ, List, Some, Ok, ℤ}
-use Rattle.smf_text.specs.Day.{IsDay}
-use Rattle.tariff_rules.specs.Terms.{Terms}
+use Rattle.book_model.specs.Words.{IsDay, Terms, accept_answer, Book, new_book, keep, put_in_force}
+use Rattle.book_model.specs.Words.{close, Naming, terms_answer, close_answer}
 use Rattle.book_model.specs.declared.answer.Accepted.TheVariants.{Kept}
 use Rattle.book_model.specs.declared.answer.Ruled.TheVariants.{Done}
-use Rattle.book_model.specs.Accept.{accept_answer}
-use Rattle.book_model.specs.Books.{Book, new_book}
-use Rattle.book_model.specs.Events.{keep, put_in_force, close}
-use Rattle.book_model.specs.Records.{Naming}
-use Rattle.book_model.specs.RulingAnswers.{terms_answer, close_answer}
 use Rattle.kept_tables.specs.TablesOf.{tables_of}
 use Rattle.table_readings.specs.BookIn.{book_in}
 use Rattle.table_readings.specs.FromCalls.{IsFromCalls, IsHandedIn, IsReadFrom}

@@ -3,18 +3,13 @@
 use Rattle.std.specs.Prelude.{◌≡◌, ℕ, List, [], ◌∷◌, ◌++◌, Ok, true}
 use Rattle.std.specs.FinMap.{values}
 use Rattle.std.specs.List.Sorted.{IsPermutation, IsStrictlySortedBy}
-use Rattle.book_model.specs.Books.{Book}
-use Rattle.book_model.specs.Outcomes.{charges_outcome, adjustments_outcome, disputes_outcome}
-use Rattle.book_model.specs.Outcomes.{periods_outcome, reading}
-use Rattle.book_model.specs.Records.{Naming}
+use Rattle.book_model.specs.Words.{Book, charges_outcome, adjustments_outcome, disputes_outcome}
+use Rattle.book_model.specs.Words.{periods_outcome, reading, Naming, AreDisputes, AreLines, AreRows}
 use Rattle.kept_tables.specs.TablesOf.{tables_of}
 use Rattle.table_readings.specs.DisputesRead.{NamedRow, by_identity, disputed_among, disputed_rows}
 use Rattle.table_readings.specs.DisputesRead.{disputes_read, grouped, join_last}
 use Rattle.table_readings.specs.ListsRead.{charges_read, adjustments_read, is_period}
 use Rattle.table_readings.specs.Readable.{IsReadable}
-use Rattle.book_model.specs.Disputes.{AreDisputes}
-use Rattle.book_model.specs.Lines.{AreLines}
-use Rattle.book_model.specs.Rows.{AreRows}
 use Rattle.kept_tables.specs.Reading.{rows_read, lines_read}
 
 -- the lists of a period, and the days of the closes

@@ -5,7 +5,7 @@ use Rattle.book_model.specs.declared.fault.LedgerFault.{LedgerFault}
 use Rattle.book_model.specs.declared.fault.LedgerFault.TheVariants.{NoSuchPeriod}
 use Rattle.book_model.specs.declared.line.Line.{Line}
 use Rattle.book_model.specs.declared.row.ChargeRow.{ChargeRow}
-use Rattle.book_model.specs.Rulings.{Rulings}
+use Rattle.book_model.specs.Words.{Rulings}
 use Rattle.kept_tables.specs.Keeping.{open_of}
 use Rattle.kept_tables.specs.Reading.{rows_read, lines_read}
 use Rattle.kept_tables.specs.Tables.{Tables}

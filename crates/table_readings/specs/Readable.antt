@@ -3,18 +3,11 @@ use Rattle.std.specs.Prelude.{◌≡◌, ℕ, zero, suc, ◌≤◌, ◌<◌, tru
 use Rattle.std.specs.Prelude.{Some, Ok, ℤ}
 use Rattle.std.specs.List.Sorted.{IsStrictlySortedBy}
 use Rattle.std.specs.Ordering.{int_cmp}
-use Rattle.smf_text.specs.Day.{IsDay}
-use Rattle.tariff_rules.specs.Price.{IsPriced}
-use Rattle.tariff_rules.specs.TariffFile.{terms_in}
+use Rattle.book_model.specs.Words.{IsDay, IsPriced, terms_in, total_of, Book, most_held, most_cost}
+use Rattle.book_model.specs.Words.{last_period, Period, period_by, Records, Naming, IsUsageRecord}
+use Rattle.book_model.specs.Words.{Tariffed, price_in, are_rising, members, has, IsSound}
+use Rattle.book_model.specs.Words.{AreDatedBy}
 use Rattle.tariff_rules.specs.declared.priced.Priced.{Priced}
-use Rattle.book_model.specs.Accept.{total_of}
-use Rattle.book_model.specs.Books.{Book}
-use Rattle.book_model.specs.Limits.{most_held, most_cost, last_period}
-use Rattle.book_model.specs.Periods.{Period, period_by}
-use Rattle.book_model.specs.Records.{Records, Naming, IsUsageRecord}
-use Rattle.book_model.specs.Rulings.{Tariffed, price_in, are_rising}
-use Rattle.book_model.specs.Sets.{members, has}
-use Rattle.book_model.specs.Sound.{IsSound, AreDatedBy}
 use Rattle.kept_tables.specs.Reading.{HasLines}
 use Rattle.table_readings.specs.BookIn.{close_after}
 

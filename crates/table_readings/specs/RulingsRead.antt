@@ -3,14 +3,12 @@ use Rattle.std.specs.Prelude.{ℕ, Bool, not, ◌&&◌, ◌||◌, if◌then◌el
 use Rattle.std.specs.Prelude.{int_lt}
 use Rattle.std.specs.FinMap.{values}
 use Rattle.std.specs.List.{list_any}
-use Rattle.tariff_rules.specs.Terms.{Terms}
+use Rattle.book_model.specs.Words.{Terms, has_text, is_effective, is_later, Rulings}
 use Rattle.book_model.specs.declared.answer.Ruled.{Ruled}
 use Rattle.book_model.specs.declared.answer.Ruled.TheVariants.{Done, Already}
 use Rattle.book_model.specs.declared.fault.LedgerFault.{LedgerFault}
 use Rattle.book_model.specs.declared.fault.LedgerFault.TheVariants.{TariffDate, TariffExists}
 use Rattle.book_model.specs.declared.fault.LedgerFault.TheVariants.{RecordsDated}
-use Rattle.book_model.specs.RulingAnswers.{has_text, is_effective, is_later}
-use Rattle.book_model.specs.Rulings.{Rulings}
 use Rattle.kept_tables.specs.Tables.{RecordRow, RecordTable}
 
 -- a row is dated on the day or after it

@@ -35,14 +35,9 @@ fn days_of(alloc: Global, closed: &[ClosedPeriod]) -> Result<Vec<i32>, AllocErro
 
 impl<N: Naming + Drop> PlainLedger<N> {
     ghost use Rattle.std.specs.Prelude.{◌≡◌, All, IfOk, map, ok_or};
-    ghost use Rattle.smf_text.specs.Day.{IsDay};
-    ghost use Rattle.book_model.specs.Answers.{Answers};
-    ghost use Rattle.book_model.specs.Books.{period_of};
-    ghost use Rattle.book_model.specs.Disputes.{AreDisputes, dispute_shown};
-    ghost use Rattle.book_model.specs.Lines.{AreLines};
-    ghost use Rattle.book_model.specs.Outcomes.{adjustments_outcome, charges_outcome};
-    ghost use Rattle.book_model.specs.Outcomes.{disputes_outcome, periods_outcome};
-    ghost use Rattle.book_model.specs.Rows.{AreRows};
+    ghost use Rattle.book_model.specs.Words.{IsDay, Answers, period_of, AreDisputes, dispute_shown};
+    ghost use Rattle.book_model.specs.Words.{AreLines, adjustments_outcome, charges_outcome};
+    ghost use Rattle.book_model.specs.Words.{disputes_outcome, periods_outcome, AreRows};
     ghost use Rattle.book_core.specs.Shares.{IsEnding};
     ghost use Rattle.book_core.specs.PlainBook.{book_in, naming_in, period_in};
 

@@ -1,7 +1,7 @@
 //! Records that a plain ledger is handed.
 
 ghost use Rattle.std.specs.Prelude.{◌≡◌, Ok, Err, if◌then◌else◌};
-ghost use Rattle.book_model.specs.Records.{same_bytes};
+ghost use Rattle.book_model.specs.Words.{same_bytes};
 ghost use Rattle.book_core.specs.Plain.{record_of};
 
 use super::PlainLedger;
@@ -25,9 +25,7 @@ fn known_or_clash(held: &HeldRecord, bytes: &[u8]) -> Result<Accepted, LedgerFau
 
 impl<N: Naming + Drop> PlainLedger<N> {
     ghost use Rattle.std.specs.Prelude.{◌≡◌};
-    ghost use Rattle.smf_type30.specs.Usage.{identity_of};
-    ghost use Rattle.book_model.specs.Records.{IsUsageRecord};
-    ghost use Rattle.book_model.specs.Outcomes.{accept_outcome};
+    ghost use Rattle.book_model.specs.Words.{identity_of, IsUsageRecord, accept_outcome};
     ghost use Rattle.book_core.specs.PlainBook.{IsPlainCall, naming_in};
 
     /// Holds a record from now on where it is new, a tariff is in force on its day, and there is

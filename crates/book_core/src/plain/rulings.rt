@@ -37,10 +37,8 @@ fn is_closed(closed: &[ClosedPeriod], period: u16, through: i32) -> bool
 
 impl<N: Naming + Drop> PlainLedger<N> {
     ghost use Rattle.std.specs.Prelude.{◌≡◌, ◌+◌, ◌<◌, Ok, OnErr, OnOk, Some, length};
-    ghost use Rattle.smf_text.specs.Day.{IsDay};
-    ghost use Rattle.book_model.specs.Events.{close, put_in_force};
-    ghost use Rattle.book_model.specs.Limits.{last_period};
-    ghost use Rattle.book_model.specs.Outcomes.{close_outcome, tariff_outcome};
+    ghost use Rattle.book_model.specs.Words.{IsDay, close, put_in_force, last_period};
+    ghost use Rattle.book_model.specs.Words.{close_outcome, tariff_outcome};
     ghost use Rattle.book_core.specs.PlainBook.{IsPlainCall, book_in, naming_in};
 
     /// Puts the tariff of a file in force.

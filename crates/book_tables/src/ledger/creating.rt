@@ -39,7 +39,7 @@ impl<S: Alter, N: Naming + Drop> TableLedger<S, N> {
     ghost use Rattle.std.specs.Prelude.{◌≡◌, IfErr, IfOk, false};
     ghost use Rattle.sqlite.specs.Held.{state};
     ghost use Rattle.sqlite.specs.State.{HasCleanDisk, Survives};
-    ghost use Rattle.book_model.specs.Books.{new_book};
+    ghost use Rattle.book_model.specs.Words.{new_book};
     ghost use Rattle.book_core.specs.Ledgers.{IsOpenAt};
     ghost use Rattle.book_statements.specs.Making.{MayHoldNew};
     ghost use Rattle.book_tables.specs.Recalled.{IsStoreFault};

@@ -10,7 +10,7 @@ impl<S: Alter, N: Naming + Drop> TableLedger<S, N> {
     ghost use Rattle.std.specs.Prelude.{◌≡◌, IfErr, IfOk, IsErrAnd, false};
     ghost use Rattle.sqlite.specs.Held.{state};
     ghost use Rattle.sqlite.specs.State.{HasCleanDisk, Survives};
-    ghost use Rattle.book_model.specs.Books.{Book};
+    ghost use Rattle.book_model.specs.Words.{Book};
     ghost use Rattle.book_core.specs.Ledgers.{IsOpenAt};
     ghost use Rattle.kept_tables.specs.Tables.{Tables};
     ghost use Rattle.kept_tables.specs.TablesOf.{tables_of};

@@ -1,5 +1,5 @@
 use Rattle.std.proofs.Common.{subst, List, ℕ, None, [], refl, append-nil}
-use Rattle.smf_frames.specs.Front.{front}
+use Rattle.book_model.specs.Words.{front}
 use Rattle.book_core.specs.Work.{IsWork}
 use Rattle.book_core.proofs.WorkLemmas.{no_work, work_as}
 use Rattle.book_import.specs.Dumps.{stop_behind}

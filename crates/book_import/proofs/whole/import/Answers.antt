@@ -4,7 +4,7 @@ use Rattle.std.specs.Io.KnownBytes.{Consumes}
 use Rattle.streams.specs.Sources.{reader_of}
 use Rattle.std.proofs.KnownBytes.{Consumes-trans, Consumes-nil}
 use Rattle.book_core.proofs.WorkLemmas.{no_work, work_as}
-use Rattle.smf_frames.specs.Front.{front}
+use Rattle.book_model.specs.Words.{front}
 use Rattle.book_import.specs.declared.receipt.Receipt.{Receipt}
 use Rattle.book_import.specs.Dumps.{stop_behind}
 use Rattle.book_import.specs.Reading.{cut_of}

@@ -1,5 +1,5 @@
 use Rattle.std.proofs.Common.{arith}
-use Rattle.book_model.specs.Disputes.{IsDispute, dispute_shown}
+use Rattle.book_model.specs.Words.{IsDispute, dispute_shown}
 use Rattle.book_reports.proofs.ListLemmas.{at_map}
 use Rattle.book_reports.proofs.dispute_lists.dispute_list_text.Goals as goal
 

@@ -1,7 +1,7 @@
 use Rattle.std.proofs.Common.{◌≡◌, ◌++◌, map, take}
 use Rattle.std.specs.List.{flat_map}
 use Rattle.std.specs.String.{string_bytes}
-use Rattle.book_model.specs.Disputes.{dispute_shown}
+use Rattle.book_model.specs.Words.{dispute_shown}
 use Rattle.book_reports.specs.DisputeLists.{dispute_lines}
 use Rattle.book_reports.proofs.dispute_lists.dispute_list_text.Given as goal
 

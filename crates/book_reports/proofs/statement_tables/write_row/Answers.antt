@@ -1,7 +1,7 @@
 use Rattle.std.proofs.Common.{◌∙◌, ℕ, List, [], ◌∷◌, ◌++◌, ap, subst, arith, decimal, w32}
 use Rattle.std.proofs.lemmas.Int.{to_z-of_z}
 use Rattle.book_core.proofs.DayLemmas.{day_fits}
-use Rattle.smf_text.specs.Day.{day_text_of}
+use Rattle.book_model.specs.Words.{day_text_of}
 use Rattle.book_reports.specs.Columns.{seconds_text, amount_text}
 use Rattle.book_reports.specs.StatementTables.{table_line}
 use Rattle.book_reports.specs.Tables.{IsBetweenRows}

@@ -1,8 +1,6 @@
 use Rattle.std.proofs.Common.{◌<◌, length, [], All, sym, ◌∙◌, subst}
 use Rattle.std.proofs.lemmas.List.{length-map, get_or-map}
-use Rattle.smf_frames.specs.Framed.{IsFramed}
-use Rattle.smf_frames.specs.Texts.{texts}
-use Rattle.smf_type30.specs.Class.{IsUsage}
+use Rattle.book_model.specs.Words.{IsFramed, texts, IsUsage}
 use Rattle.std.proofs.Common.{◌≡◌, ℕ, List, ap, get_or, Vec, Global}
 use Rattle.book_rows.proofs.books.accept_each.Goals as goal
 

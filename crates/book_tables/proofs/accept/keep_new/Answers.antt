@@ -1,14 +1,12 @@
-use Rattle.std.proofs.Common.{◌≡◌, ◌∙◌, ◌+◌, ap, sym, false, length, List, ℕ}
-use Rattle.smf_frames.specs.Framed.{data_of}
-use Rattle.smf_type30.specs.Usage.{identity_of}
+use Rattle.std.proofs.Common.{◌≡◌, ◌∙◌, ap}
+use Rattle.book_model.specs.Words.{identity_of}
 use Rattle.book_core.specs.Effects.{effects_of}
 use Rattle.kept_tables.specs.Views.{rows_with}
 use Rattle.table_readings.specs.AcceptRead.{view_with}
-use Rattle.book_tables.specs.Entries.{AreRemembered}
-use Rattle.book_tables.specs.Keepings.{keep_as}
 use Rattle.book_tables.proofs.NewEntries.{commit_so, entry_kept}
 use Rattle.book_tables.proofs.Refusals.{commit_failed}
-use Rattle.book_tables.proofs.TryLemmas.{commit_refused, commit_seen, sees_none, sees_found, sees_then}
+use Rattle.book_tables.proofs.TryLemmas.{commit_refused, commit_seen, sees_none, sees_found}
+use Rattle.book_tables.proofs.TryLemmas.{sees_then}
 use Rattle.book_tables.proofs.accept.keep_new.Goals as goal
 
 pub returns-in_err-effects-clause-commits : goal.returns-in_err-effects-clause-commits

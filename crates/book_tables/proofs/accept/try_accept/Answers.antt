@@ -1,5 +1,5 @@
 use Rattle.std.proofs.Common.{◌∙◌, sym, refl}
-use Rattle.book_model.specs.Rulings.{price_under}
+use Rattle.book_model.specs.Words.{price_under}
 use Rattle.book_tables.proofs.AcceptTries.{try_unread, try_known, try_unpriced, try_full}
 use Rattle.book_tables.proofs.AcceptTries.{sees_as, try_unkept, try_kept}
 use Rattle.book_tables.proofs.TryLemmas.{looks_up, sees_found}

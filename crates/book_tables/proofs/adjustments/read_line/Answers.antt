@@ -1,7 +1,6 @@
 use Rattle.std.proofs.Common.{◌≡◌, ◌∙◌, Some, None, ap, rules}
 use Rattle.std.proofs.lemmas.Result.{err_from_is_err_and}
-use Rattle.smf_frames.specs.Framed.{record_with}
-use Rattle.smf_type30.specs.Usage.{job_of}
+use Rattle.book_model.specs.Words.{record_with, job_of}
 use Rattle.book_tables.proofs.LineReadings.{line_found, look_refused}
 use Rattle.book_tables.proofs.TryLemmas.{looks_known, looks_stopped, looks_up}
 use Rattle.book_tables.proofs.TryLemmas.{sees_found, sees_none}

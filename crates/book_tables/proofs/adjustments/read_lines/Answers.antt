@@ -8,8 +8,7 @@ use Rattle.book_model.specs.declared.line.Line.{Line}
 use Rattle.book_statements.specs.declared.line_rows.StoredLine.{StoredLine}
 use Rattle.book_tables.specs.LineReads.{lines_stored}
 use Rattle.book_tables.proofs.LineReadings.{line_more, look_refused}
-use Rattle.book_tables.proofs.TryLemmas.{looks_known, looks_stopped, sees_found, sees_so}
-use Rattle.book_tables.proofs.TryLemmas.{sees_then}
+use Rattle.book_tables.proofs.TryLemmas.{looks_known, looks_stopped, sees_found, sees_so, sees_then}
 use Rattle.book_tables.proofs.adjustments.read_lines.Goals as goal
 use Rattle.book_tables.proofs.adjustments.read_lines.Goals.{in-Some+in_ok-push, in_default}
 

@@ -1,6 +1,6 @@
 use Rattle.std.proofs.Common.{◌≡◌, take}
 use Rattle.std.specs.Prelude.{All, sum_by}
-use Rattle.smf_text.specs.Day.{IsDay}
+use Rattle.book_model.specs.Words.{IsDay}
 use Rattle.book_tables.specs.TotalsFit.{TotalsFit}
 use Rattle.book_tables.proofs.charges.can_show.Given as goal
 

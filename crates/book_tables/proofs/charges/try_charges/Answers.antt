@@ -1,4 +1,4 @@
-use Rattle.std.proofs.Common.{◌≡◌, ◌∙◌, sym, rules, true, false}
+use Rattle.std.proofs.Common.{◌≡◌, sym, rules, true, false}
 use Rattle.std.proofs.lemmas.Result.{err_from_is_err_and}
 use Rattle.kept_tables.specs.Reading.{rows_read}
 use Rattle.table_readings.specs.ListsRead.{is_period}

@@ -1,23 +1,21 @@
-use Rattle.std.proofs.Common.{◌≡◌, ◌≢◌, ◌∙◌, ℕ, ℤ, sym, ap, subst, Ok, Err, Result, [], ◌∷◌, ◌++◌, ◌-◌}
+use Rattle.std.proofs.Common.{◌≡◌, ◌≢◌, ◌∙◌, ℕ, ℤ, sym, ap, subst, Ok, Result, [], ◌∷◌, ◌++◌, ◌-◌}
 use Rattle.std.proofs.Common.{arith, take, length, w32, to_z, of_z}
 use Rattle.std.specs.Prelude.{All}
 use Rattle.std.proofs.lemmas.List.Elements.{All-push}
 use Rattle.std.proofs.lemmas.Int.{to_z-of_z}
-use Rattle.smf_text.specs.Day.{IsDay}
+use Rattle.book_model.specs.Words.{IsDay, close_answer, close_outcome}
 use Rattle.book_model.specs.declared.fault.LedgerFault.{LedgerFault}
-use Rattle.book_model.specs.RulingAnswers.{close_answer}
 use Rattle.book_core.proofs.DayLemmas.{day_fits}
 use Rattle.book_tables.specs.Summaries.{book_ruled}
 use Rattle.book_tables.specs.declared.summary.Summary.{Summary}
 use Rattle.sqlite.specs.Held.{state}
 use Rattle.book_model.specs.declared.answer.Ruled.{Ruled}
 use Rattle.book_model.specs.declared.answer.Ruled.TheVariants.{Done}
-use Rattle.book_model.specs.Outcomes.{close_outcome}
 use Rattle.book_statements.specs.Days.{NoneNext}
 use Rattle.book_tables.specs.Closings.{close_written}
 use Rattle.book_tables.specs.Tries.{IsPlain}
-use Rattle.book_tables.proofs.CloseTries.{close_is_event, close_plain, close_makes, close_remembered}
-use Rattle.book_tables.proofs.CloseTries.{close_room}
+use Rattle.book_tables.proofs.CloseTries.{close_is_event, close_plain, close_makes}
+use Rattle.book_tables.proofs.CloseTries.{close_remembered, close_room}
 use Rattle.book_tables.proofs.LastClose.{popped}
 use Rattle.book_tables.proofs.TryLemmas.{sees_none, try_answered, try_stopped, try_done, try_undone}
 use Rattle.book_tables.proofs.TryLemmas.{tries_so, tries_err}

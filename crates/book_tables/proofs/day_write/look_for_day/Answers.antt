@@ -1,4 +1,4 @@
-use Rattle.std.proofs.Common.{rules, ◌∙◌, ap, Some}
+use Rattle.std.proofs.Common.{rules, ap}
 use Rattle.sqlite.specs.Held.{state}
 use Rattle.book_tables.proofs.DayLooks.{look_none, look_added, look_taken}
 use Rattle.book_tables.proofs.Refusals.{looks_failed}

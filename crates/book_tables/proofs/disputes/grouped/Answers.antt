@@ -1,9 +1,9 @@
-use Rattle.std.proofs.Common.{◌≡◌, ◌∙◌, ◌++◌, ◌∷◌, [], sym, ap, map, take, List}
+use Rattle.std.proofs.Common.{◌∙◌, ◌++◌, ◌∷◌, [], sym, ap, map, take, List}
 use Rattle.std.proofs.lemmas.List.{map-append, take_more}
-use Rattle.book_model.specs.Disputes.{Disputed}
+use Rattle.book_model.specs.Words.{Disputed}
 use Rattle.book_statements.specs.Stored.{stored_entry}
 use Rattle.book_statements.specs.declared.stored_record.StoredRecord.{StoredRecord}
-use Rattle.table_readings.specs.DisputesRead.{NamedRow, grouped, join_last}
+use Rattle.table_readings.specs.DisputesRead.{grouped, join_last}
 use Rattle.table_readings.proofs.GroupingLemmas.{grouped-push}
 use Rattle.book_tables.proofs.disputes.grouped.Goals as goal
 

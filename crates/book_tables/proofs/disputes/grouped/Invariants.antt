@@ -1,5 +1,5 @@
 use Rattle.std.proofs.Common.{◌≡◌, map, take}
-use Rattle.book_model.specs.Disputes.{dispute_shown}
+use Rattle.book_model.specs.Words.{dispute_shown}
 use Rattle.book_statements.specs.Stored.{stored_entry}
 use Rattle.table_readings.specs.DisputesRead.{grouped}
 use Rattle.book_tables.proofs.disputes.grouped.Given as goal

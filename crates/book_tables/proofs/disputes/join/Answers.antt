@@ -1,8 +1,7 @@
-use Rattle.std.proofs.Common.{◌≡◌, ◌∙◌, ◌++◌, ◌∷◌, [], true, false, sym, ap, rules, map, List}
+use Rattle.std.proofs.Common.{◌≡◌, ◌∙◌, ◌++◌, ◌∷◌, [], true, false, ap, rules, map, List}
 use Rattle.book_model.specs.declared.dispute.Dispute.{Dispute}
 use Rattle.book_model.specs.declared.dispute.Variant.{Variant}
-use Rattle.book_model.specs.Disputes.{dispute_shown}
-use Rattle.book_model.specs.Records.{same_bytes}
+use Rattle.book_model.specs.Words.{dispute_shown, same_bytes}
 use Rattle.book_statements.specs.Stored.{stored_entry}
 use Rattle.book_tables.proofs.JoinLemmas.{joined_same, joined_other}
 use Rattle.book_tables.proofs.disputes.join.Goals as goal

@@ -1,12 +1,11 @@
-use Rattle.std.proofs.Common.{◌≡◌, ◌∙◌, sym, ap, subst, rules, List, map}
+use Rattle.std.proofs.Common.{◌∙◌, sym, ap, subst, rules, List, map}
 use Rattle.std.specs.Prelude.{All}
 use Rattle.std.proofs.lemmas.List.Elements.{All-map}
 use Rattle.std.proofs.lemmas.Result.{err_from_is_err_and}
-use Rattle.book_model.specs.Disputes.{AreDisputes}
+use Rattle.book_model.specs.Words.{AreDisputes}
 use Rattle.book_statements.specs.Stored.{stored_entry}
 use Rattle.book_statements.specs.declared.stored_record.StoredRecord.{StoredRecord}
-use Rattle.kept_tables.specs.TablesOf.{tables_of}
-use Rattle.table_readings.specs.DisputesRead.{NamedRow, disputes_read, grouped}
+use Rattle.table_readings.specs.DisputesRead.{disputes_read, grouped}
 use Rattle.table_readings.proofs.DisputeLemmas.{disputes_follow}
 use Rattle.book_tables.specs.DisputeReads.{IsShownRow}
 use Rattle.book_tables.proofs.JoinLemmas.{disputes_show}

@@ -1,5 +1,5 @@
 use Rattle.sqlite.specs.Held.{state}
-use Rattle.book_tables.proofs.RecallLemmas.{reads_answer, reads_none, reads_refused}
+use Rattle.book_tables.proofs.RecallLemmas.{reads_answer, reads_refused}
 use Rattle.book_tables.proofs.recall.read_summary.Goals as goal
 
 pub returns-in-Err-clause-reads : goal.returns-in-Err-clause-reads

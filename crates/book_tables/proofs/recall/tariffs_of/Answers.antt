@@ -1,7 +1,7 @@
 use Rattle.std.proofs.Common.{◌≡◌, ◌∙◌, ◌+◌, ap, arith, rules, subst, suc, sym, take, true}
 use Rattle.std.specs.Prelude.{int_lt}
 use Rattle.std.specs.List.{AllZip, list_all}
-use Rattle.book_model.specs.Rulings.{are_rising}
+use Rattle.book_model.specs.Words.{are_rising}
 use Rattle.book_model.proofs.LatestLemmas.{rising-behind}
 use Rattle.book_statements.proofs.ReadRows.{zip_next}
 use Rattle.book_tables.specs.Recalled.{SaysTariff}

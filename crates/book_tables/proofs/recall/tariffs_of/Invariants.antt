@@ -1,6 +1,6 @@
 use Rattle.std.proofs.Common.{◌≡◌, take, true}
 use Rattle.std.specs.List.{AllZip}
-use Rattle.book_model.specs.Rulings.{are_rising}
+use Rattle.book_model.specs.Words.{are_rising}
 use Rattle.book_tables.specs.Recalled.{SaysTariff}
 use Rattle.book_tables.proofs.recall.tariffs_of.Given as goal
 

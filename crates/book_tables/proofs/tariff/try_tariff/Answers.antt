@@ -1,19 +1,16 @@
-use Rattle.std.proofs.Common.{◌≡◌, ◌≢◌, ◌∙◌, ℕ, ℤ, List, [], ◌∷◌, ◌++◌, ◌-◌, length, take, sym, ap, subst, arith}
-use Rattle.std.proofs.Common.{Bool, true, false, Ok, Err, Result, Some, refl, w32, to_z, of_z}
+use Rattle.std.proofs.Common.{◌≡◌, ◌≢◌, ◌∙◌, ℕ, ℤ, List, [], ◌∷◌, ◌++◌, ◌-◌, length, take, sym, ap}
+use Rattle.std.proofs.Common.{subst, arith, Bool, true, false, Ok, Err, Result, Some, refl, w32}
+use Rattle.std.proofs.Common.{to_z, of_z}
 use Rattle.std.specs.Prelude.{if◌then◌else◌}
 use Rattle.std.specs.FinMap.{values}
 use Rattle.std.specs.List.{list_any}
 use Rattle.sqlite.specs.Held.{state}
 use Rattle.sqlite.specs.State.{State}
 use Rattle.sqlite.specs.declared.error.Error.{Error}
-use Rattle.smf_text.specs.Day.{IsDay}
-use Rattle.tariff_rules.specs.Terms.{Terms}
+use Rattle.book_model.specs.Words.{IsDay, Terms, tariff_outcome, Tariffed, are_rising}
 use Rattle.book_model.specs.declared.answer.Ruled.{Ruled}
 use Rattle.book_model.specs.declared.answer.Ruled.TheVariants.{Done}
-use Rattle.book_model.specs.declared.fault.LedgerFault.{LedgerFault}
 use Rattle.book_model.specs.declared.fault.LedgerFault.TheVariants.{RecordsDated}
-use Rattle.book_model.specs.Outcomes.{tariff_outcome}
-use Rattle.book_model.specs.Rulings.{Tariffed, are_rising}
 use Rattle.kept_tables.specs.Tables.{Tables}
 use Rattle.kept_tables.specs.TablesOf.{tables_of}
 use Rattle.book_statements.specs.Changes.{put_tariff_row}

@@ -1,5 +1,4 @@
-use Rattle.std.proofs.Common.{◌++◌, take, arith, subst, [], append-nil}
-use Rattle.std.proofs.Common.{length-take-le}
+use Rattle.std.proofs.Common.{◌++◌, take, arith, subst, [], append-nil, length-take-le}
 use Rattle.std.specs.Io.KnownBytes.{Consumes}
 use Rattle.std.proofs.KnownBytes.{Consumes-trans}
 use Rattle.std.proofs.lemmas.Result.{err_from_is_err_and}

@@ -3,7 +3,7 @@ use Rattle.std.specs.BTreeSet.{contains}
 use Rattle.std.specs.Map.Iter.{deref_pair}
 use Rattle.std.proofs.lemmas.List.{map-append}
 use Rattle.std.proofs.lemmas.Map.Iter.{rest_so_far, rest_more, iter_end}
-use Rattle.book_model.specs.Records.{by_bytes}
+use Rattle.book_model.specs.Words.{by_bytes}
 use Rattle.book_core.specs.Plain.{Entry}
 use Rattle.book_core.specs.Shares.{SharesOf, share_at, under_name}
 use Rattle.book_core.proofs.NameLemmas.{missing_so_far, shares-more, shares-skip}

@@ -1,7 +1,7 @@
 use Rattle.std.proofs.Common.{map}
 use Rattle.std.specs.BTreeSet.{contains}
 use Rattle.std.specs.Map.Iter.{deref_pair}
-use Rattle.book_model.specs.Records.{by_bytes}
+use Rattle.book_model.specs.Words.{by_bytes}
 use Rattle.book_core.specs.Shares.{SharesOf, share_at}
 use Rattle.book_core.proofs.ending.Ending.shares.Given as goal
 

@@ -1,7 +1,6 @@
 use Rattle.std.proofs.Common.{◌≡◌, ◌∙◌, Bool, true, false, sym, ap, refl}
 use Rattle.std.specs.List.{list_any}
-use Rattle.book_model.specs.RulingAnswers.{has_text, is_effective, is_later, has_dated}
-use Rattle.book_model.specs.RulingAnswers.{terms_answer}
+use Rattle.book_model.specs.Words.{has_text, is_effective, is_later, has_dated, terms_answer}
 use Rattle.book_model.proofs.CallLemmas.{by_tests}
 use Rattle.book_core.specs.Plain.{ruled_by}
 use Rattle.book_core.specs.PlainBook.{book_in}

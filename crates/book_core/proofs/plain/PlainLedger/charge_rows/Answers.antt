@@ -1,7 +1,5 @@
 use Rattle.std.proofs.Common.{◌∙◌, sym, ap, subst, Bool, Ok}
-use Rattle.book_model.specs.Periods.{Period}
-use Rattle.book_model.specs.Books.{period_of}
-use Rattle.book_model.specs.Rows.{rows_for, rows_of, FitSums, AreRows}
+use Rattle.book_model.specs.Words.{Period, period_of, rows_for, rows_of, FitSums, AreRows}
 use Rattle.book_core.specs.Plain.{Entry}
 use Rattle.book_core.specs.PlainBook.{book_in}
 use Rattle.book_core.specs.Shares.{is_counted, share_in}

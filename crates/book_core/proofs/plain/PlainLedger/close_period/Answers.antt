@@ -2,10 +2,7 @@ use Rattle.std.proofs.Common.{◌≡◌, ◌∙◌, ◌+◌, length, true, false
 use Rattle.std.specs.Option.{option_map_or}
 use Rattle.std.specs.Prelude.{int_lt}
 use Rattle.std.proofs.lemmas.Bool.{eq-eqb, ne_eqb}
-use Rattle.book_model.specs.Events.{close}
-use Rattle.book_model.specs.Limits.{last_period}
-use Rattle.book_model.specs.RulingAnswers.{is_closed}
-use Rattle.book_model.specs.Rulings.{last_close}
+use Rattle.book_model.specs.Words.{close, last_period, is_closed, last_close}
 use Rattle.book_core.specs.Plain.{ruled_by}
 use Rattle.book_core.specs.PlainBook.{book_in}
 use Rattle.book_core.proofs.BookLemmas.{close_calls-by}

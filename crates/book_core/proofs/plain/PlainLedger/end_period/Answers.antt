@@ -1,8 +1,7 @@
 use Rattle.std.proofs.Common.{◌<◌, length, sym, subst, refl, w32, to_z, of_z}
 use Rattle.std.proofs.lemmas.Int.{to_z-of_z}
 use Rattle.std.proofs.lemmas.List.{length-append}
-use Rattle.smf_text.specs.Day.{IsDay}
-use Rattle.book_model.specs.Limits.{last_period}
+use Rattle.book_model.specs.Words.{IsDay, last_period}
 use Rattle.book_core.specs.Shares.{charges, is_named, share_at}
 use Rattle.book_core.proofs.BookLemmas.{book-closed, kept-closed}
 use Rattle.book_core.proofs.DayLemmas.{day_fits}

@@ -3,13 +3,8 @@ use Rattle.std.proofs.Common.{refl, sym, ap, subst, nat_le, nat_lt, ℕ, List, N
 use Rattle.std.specs.BTreeMap.{insert_entry}
 use Rattle.book_model.specs.declared.answer.Accepted.TheVariants.{Known}
 use Rattle.book_model.specs.declared.fault.LedgerFault.TheVariants.{DigestClash}
-use Rattle.book_model.specs.Accept.{accept_priced}
-use Rattle.book_model.specs.Events.{keep, after_any}
-use Rattle.book_model.specs.Limits.{most_held, most_cost}
-use Rattle.book_model.specs.Outcomes.{accept_event}
-use Rattle.book_model.specs.Records.{by_bytes, same_bytes}
-use Rattle.book_model.specs.Rulings.{price_in}
-use Rattle.book_model.specs.Sets.{has}
+use Rattle.book_model.specs.Words.{accept_priced, keep, after_any, most_held, most_cost}
+use Rattle.book_model.specs.Words.{accept_event, by_bytes, same_bytes, price_in, has}
 use Rattle.book_model.proofs.AnswerLemmas.{answers_itself, accept_calls}
 use Rattle.book_core.specs.Plain.{AreBooked, AreHeld, held_in, record_of, ruled_by}
 use Rattle.book_core.specs.PlainBook.{book_in, book_with}

@@ -1,5 +1,5 @@
 use Rattle.std.proofs.Common.{◌∙◌, sym, ap, subst, Some, is_ok}
-use Rattle.book_model.specs.Events.{put_in_force}
+use Rattle.book_model.specs.Words.{put_in_force}
 use Rattle.book_core.specs.Plain.{AreBooked, ruled_by}
 use Rattle.book_core.specs.PlainBook.{book_in, book_with}
 use Rattle.book_core.proofs.TariffLemmas.{kept_under_if, later-before, terms_taken}

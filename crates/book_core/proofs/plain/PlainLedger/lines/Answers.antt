@@ -3,10 +3,8 @@ use Rattle.std.proofs.Common.{map, Option, Ok, append-nil, take_all, arith}
 use Rattle.std.proofs.lemmas.List.{drop_all}
 use Rattle.std.specs.List.{IsDistinct}
 use Rattle.book_model.specs.declared.line.Line.{Line}
-use Rattle.book_model.specs.Books.{period_of}
-use Rattle.book_model.specs.Lines.{AreLines, by_line, lines_of}
-use Rattle.book_model.specs.Records.{same_bytes}
-use Rattle.book_model.specs.Sets.{members, set_of}
+use Rattle.book_model.specs.Words.{period_of, AreLines, by_line, lines_of, same_bytes, members}
+use Rattle.book_model.specs.Words.{set_of}
 use Rattle.book_core.specs.declared.share.Share.{Share}
 use Rattle.book_core.specs.Plain.{Entry}
 use Rattle.book_core.specs.PlainBook.{book_in, naming_in}

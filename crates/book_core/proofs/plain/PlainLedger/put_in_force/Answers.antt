@@ -1,8 +1,6 @@
 use Rattle.std.proofs.Common.{◌∙◌, Ok, sym, ap, refl}
-use Rattle.tariff_rules.specs.TariffFile.{terms_in}
+use Rattle.book_model.specs.Words.{terms_in, after_any, tariff_event}
 use Rattle.book_model.specs.declared.answer.Ruled.TheVariants.{Done, Already}
-use Rattle.book_model.specs.Events.{after_any}
-use Rattle.book_model.specs.Outcomes.{tariff_event}
 use Rattle.book_model.proofs.AnswerLemmas.{tariff_calls}
 use Rattle.book_core.specs.PlainBook.{book_in}
 use Rattle.book_core.proofs.TariffLemmas.{tariff_answer-of}

@@ -1,4 +1,4 @@
-use Rattle.book_model.specs.Sets.{has}
+use Rattle.book_model.specs.Words.{has}
 use Rattle.book_core.specs.Plain.{held_in}
 use Rattle.book_core.proofs.plain.PlainLedger.under.Goals as goal
 

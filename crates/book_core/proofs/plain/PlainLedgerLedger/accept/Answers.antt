@@ -1,5 +1,5 @@
 use Rattle.book_model.specs.declared.answer.Accepted.{Accepted}
-use Rattle.book_model.specs.Outcomes.{accept_outcome}
+use Rattle.book_model.specs.Words.{accept_outcome}
 use Rattle.book_core.specs.PlainBook.{book_in, naming_in}
 use Rattle.book_core.proofs.MemoryLemmas.{plain_call, accept-of_books}
 use Rattle.book_core.proofs.plain.PlainLedgerLedger.accept.Goals as goal

@@ -1,6 +1,6 @@
 use Rattle.std.proofs.Common.{Vec, Global, refl}
 use Rattle.book_model.specs.declared.line.Line.{Line}
-use Rattle.book_model.specs.Outcomes.{adjustments_outcome}
+use Rattle.book_model.specs.Words.{adjustments_outcome}
 use Rattle.book_core.specs.PlainBook.{book_in, naming_in}
 use Rattle.book_core.proofs.MemoryLemmas.{read_in_memory, listed-of_books}
 use Rattle.book_core.proofs.plain.PlainLedgerLedger.adjustments.Goals as goal

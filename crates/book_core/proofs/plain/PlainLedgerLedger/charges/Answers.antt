@@ -1,6 +1,6 @@
 use Rattle.std.proofs.Common.{Vec, Global, refl}
 use Rattle.book_model.specs.declared.row.ChargeRow.{ChargeRow}
-use Rattle.book_model.specs.Outcomes.{charges_outcome}
+use Rattle.book_model.specs.Words.{charges_outcome}
 use Rattle.book_core.specs.PlainBook.{book_in, naming_in}
 use Rattle.book_core.proofs.MemoryLemmas.{read_in_memory, listed-of_books}
 use Rattle.book_core.proofs.plain.PlainLedgerLedger.charges.Goals as goal

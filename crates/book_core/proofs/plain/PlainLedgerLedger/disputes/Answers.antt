@@ -1,7 +1,6 @@
 use Rattle.std.proofs.Common.{Vec, Global, refl, map}
 use Rattle.book_model.specs.declared.dispute.Dispute.{Dispute}
-use Rattle.book_model.specs.Disputes.{dispute_shown}
-use Rattle.book_model.specs.Outcomes.{disputes_outcome}
+use Rattle.book_model.specs.Words.{dispute_shown, disputes_outcome}
 use Rattle.book_core.specs.PlainBook.{book_in, naming_in}
 use Rattle.book_core.proofs.MemoryLemmas.{read_in_memory, answered-of_books}
 use Rattle.book_core.proofs.plain.PlainLedgerLedger.disputes.Goals as goal

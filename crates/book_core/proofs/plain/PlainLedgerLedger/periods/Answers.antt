@@ -1,6 +1,6 @@
 use Rattle.std.proofs.Common.{Vec, Global, refl}
 use Rattle.std.specs.Prelude.{ℤ}
-use Rattle.book_model.specs.Outcomes.{periods_outcome}
+use Rattle.book_model.specs.Words.{periods_outcome}
 use Rattle.book_core.specs.PlainBook.{book_in, naming_in}
 use Rattle.book_core.proofs.MemoryLemmas.{read_in_memory, answered-of_books}
 use Rattle.book_core.proofs.plain.PlainLedgerLedger.periods.Goals as goal

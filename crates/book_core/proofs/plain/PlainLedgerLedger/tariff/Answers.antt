@@ -1,6 +1,5 @@
-use Rattle.tariff_rules.specs.TariffFile.{terms_in}
+use Rattle.book_model.specs.Words.{terms_in, tariff_outcome}
 use Rattle.book_model.specs.declared.answer.Ruled.{Ruled}
-use Rattle.book_model.specs.Outcomes.{tariff_outcome}
 use Rattle.book_core.specs.PlainBook.{book_in}
 use Rattle.book_core.proofs.MemoryLemmas.{plain_call, tariff-of_books}
 use Rattle.book_core.proofs.plain.PlainLedgerLedger.tariff.Goals as goal

@@ -1,10 +1,8 @@
 use Rattle.sqlite.specs.Tree.{Trees}
-use Rattle.sqlite.specs.Held.{state}
-use Rattle.std.specs.Prelude.{IsTrue}
 use Rattle.std.proofs.Common.{Vec}
 use Rattle.std.specs.Global.{Global}
 use Rattle.book_model.specs.declared.line.Line.{Line}
-use Rattle.book_model.specs.Outcomes.{adjustments_outcome}
+use Rattle.book_model.specs.Words.{adjustments_outcome}
 use Rattle.book_tables.proofs.OneCall.{call_reopen}
 use Rattle.book_tables.proofs.SettleLemmas.{call_settled}
 use Rattle.book_tables.proofs.ledger.TableLedgerLedger.adjustments.Goals as goal

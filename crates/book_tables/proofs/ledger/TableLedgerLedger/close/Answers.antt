@@ -5,7 +5,7 @@ use Rattle.std.proofs.lemmas.Int.{to_z-of_z}
 use Rattle.book_core.proofs.DayLemmas.{day_fits}
 use Rattle.book_tables.specs.Tries.{Tries}
 use Rattle.book_model.specs.declared.answer.Ruled.{Ruled}
-use Rattle.book_model.specs.Outcomes.{close_outcome}
+use Rattle.book_model.specs.Words.{close_outcome}
 use Rattle.book_tables.proofs.OneCall.{call_reopen}
 use Rattle.book_tables.proofs.SettleLemmas.{call_settled}
 use Rattle.book_tables.proofs.ledger.TableLedgerLedger.close.Goals as goal

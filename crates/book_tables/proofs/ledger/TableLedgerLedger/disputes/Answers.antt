@@ -1,11 +1,8 @@
 use Rattle.sqlite.specs.Tree.{Trees}
-use Rattle.sqlite.specs.Held.{state}
-use Rattle.std.specs.Prelude.{IsTrue}
 use Rattle.std.proofs.Common.{Vec, map}
 use Rattle.std.specs.Global.{Global}
 use Rattle.book_model.specs.declared.dispute.Dispute.{Dispute}
-use Rattle.book_model.specs.Disputes.{dispute_shown}
-use Rattle.book_model.specs.Outcomes.{disputes_outcome}
+use Rattle.book_model.specs.Words.{dispute_shown, disputes_outcome}
 use Rattle.book_tables.proofs.OneCall.{call_reopen}
 use Rattle.book_tables.proofs.SettleLemmas.{call_settled}
 use Rattle.book_tables.proofs.ledger.TableLedgerLedger.disputes.Goals as goal

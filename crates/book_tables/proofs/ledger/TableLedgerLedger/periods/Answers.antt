@@ -1,9 +1,7 @@
 use Rattle.sqlite.specs.Tree.{Trees}
-use Rattle.sqlite.specs.Held.{state}
-use Rattle.std.specs.Prelude.{IsTrue}
 use Rattle.std.proofs.Common.{Vec, ℤ}
 use Rattle.std.specs.Global.{Global}
-use Rattle.book_model.specs.Outcomes.{periods_outcome}
+use Rattle.book_model.specs.Words.{periods_outcome}
 use Rattle.book_tables.proofs.OneCall.{call_reopen}
 use Rattle.book_tables.proofs.SettleLemmas.{call_settled}
 use Rattle.book_tables.proofs.ledger.TableLedgerLedger.periods.Goals as goal

@@ -1,8 +1,6 @@
 use Rattle.sqlite.specs.Tree.{Trees}
-use Rattle.sqlite.specs.Held.{state}
-use Rattle.std.specs.Prelude.{IsTrue}
 use Rattle.book_model.specs.declared.answer.Ruled.{Ruled}
-use Rattle.book_model.specs.Outcomes.{tariff_outcome}
+use Rattle.book_model.specs.Words.{tariff_outcome}
 use Rattle.book_tables.proofs.OneCall.{call_reopen}
 use Rattle.book_tables.proofs.SettleLemmas.{call_settled}
 use Rattle.book_tables.proofs.ledger.TableLedgerLedger.tariff.Goals as goal
