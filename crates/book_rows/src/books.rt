@@ -2,48 +2,40 @@
 
 use crate::answers::{push_accepted, push_receipt, push_ruled};
 use crate::changes::push_changes;
-use crate::closing::answer_closes;
-use crate::commands::answer_list;
+use crate::commands::push_replies;
 use crate::day::Day;
 use crate::lines::BookLines;
 use crate::reading::Reading;
 use crate::texts::{BookText, TextOf};
-use book_core::{Ledger, Source};
+use crate::writing::push_text;
+use book_core::{Ledger, Ruled, Source};
 use book_import::import;
-use row_scripts::{Ask, Named};
+use row_scripts::{Answered, Ask, LineFault, Named, if_read};
 use smf_frames::{Layout, split};
 use smf_type30::{Class, class};
 use std::alloc::{AllocError, Global};
 use std::collections::BTreeMap;
+use std::io::Write;
 
-/// Hands in a tariff file.
-fn answer_tariff<L: Ledger>(
-    named: &Named,
-    ledger: &mut L,
-    ask: Ask<'_>,
-    out: &mut Vec<u8>,
-) -> Result<bool, AllocError> {
-    let Some(text) = named.texts(ask.words, ask.body)? else {
-        return Ok(false);
-    };
-    push_ruled(out, ledger.tariff(text.as_str()))?;
-    Ok(true)
-}
-
-/// Closes a period.
-fn answer_close<L: Ledger>(
-    ledger: &mut L,
-    words: &[&str],
-    out: &mut Vec<u8>,
-) -> Result<bool, AllocError> {
-    let [period, day] = words else {
-        return Ok(false);
-    };
-    let (Ok(period), Some(day)) = (period.parse::<u16>(), Day::of(day)) else {
-        return Ok(false);
-    };
-    push_ruled(out, ledger.close(period, day.number))?;
-    Ok(true)
+/// Closes the periods `FROM..END`, the first through a day, each other one through the next day, up
+/// to the first close that is not done. Adds the answer to that one, and how many were done.
+fn close_each<L: Ledger>(ledger: &mut L, periods: &str, first: Day, out: &mut Vec<u8>) -> Answered {
+    let (from, end) = periods.split_once("..").ok_or(LineFault::Unread)?;
+    let mut done: u16 = 0;
+    for period in from.parse::<u16>()?..end.parse::<u16>()? {
+        let Some(day) = first.behind(done) else {
+            break;
+        };
+        match ledger.close(period, day.number) {
+            Ok(Ruled::Done) => done = done.saturating_add(1),
+            other => {
+                push_ruled(out, other)?;
+                break;
+            }
+        }
+    }
+    writeln!(out, "DONE {done}")?;
+    Ok(())
 }
 
 /// Reads a dump into books.
@@ -53,12 +45,12 @@ fn read_in<L: Ledger>(
     reading: Reading,
     dump: &[u8],
     out: &mut Vec<u8>,
-) -> Result<(), AllocError> {
+) -> Answered {
     let mut source = Source::new(reading.reader(dump));
     let reads = reading.allowed();
     let receipt = import(alloc, &mut source, reading.layout, reads, ledger);
-    push_receipt(alloc, out, &receipt)?;
-    reading.push_asked(alloc, out, source.asked())
+    push_receipt(out, &receipt)?;
+    reading.push_asked(out, source.asked())
 }
 
 /// Hands each usage record of a dump to books.
@@ -67,7 +59,7 @@ fn accept_each<L: Ledger>(
     ledger: &mut L,
     dump: &[u8],
     out: &mut Vec<u8>,
-) -> Result<(), AllocError> {
+) -> Answered {
     let dump = split(alloc, Layout::Rdw, dump)?;
     for bytes in &dump.records {
         if let Class::Usage = class(bytes) {
@@ -78,49 +70,36 @@ fn accept_each<L: Ledger>(
 }
 
 impl BookLines {
-    /// Imports a dump, or hands its records in one by one.
-    fn answer_records<L: Ledger>(
-        &self,
+    /// Answers a line, each by one call of the books but for `list`, `accept` and `changes`.
+    fn answer<L: Ledger>(
+        &mut self,
         named: &Named,
         ledger: &mut L,
         ask: Ask<'_>,
         out: &mut Vec<u8>,
-    ) -> Result<bool, AllocError> {
-        let Some(dump) = named.dump(ask.words)? else {
-            return Ok(false);
-        };
-        if ask.verb == "import" {
-            read_in(named.alloc(), ledger, self.reading, &dump, out)?;
-        } else {
-            accept_each(named.alloc(), ledger, &dump, out)?;
-        }
-        Ok(true)
-    }
-
-    /// Shows which texts changed.
-    fn answer_changes<L: Ledger>(
-        &mut self,
-        alloc: Global,
-        ledger: &mut L,
-        out: &mut Vec<u8>,
-    ) -> Result<bool, AllocError> {
-        let mut shown = self.shown.take().unwrap_or(BTreeMap::new(alloc));
-        push_changes(alloc, &mut shown, ledger, out)?;
-        self.shown = Some(shown);
-        Ok(true)
-    }
-
-    /// Writes a text of books, if one is asked for.
-    fn answer_text<L: Ledger>(
-        &self,
-        alloc: Global,
-        ledger: &mut L,
-        ask: Ask<'_>,
-        out: &mut Vec<u8>,
-    ) -> Result<bool, AllocError> {
-        match BookText::of(ask.verb, ask.words) {
-            Some(text) => self.write(alloc, &mut TextOf { ledger, text }, out),
-            None => Ok(false),
+    ) -> Answered {
+        let (alloc, reading) = (named.alloc(), self.reading);
+        match (ask.verb, ask.words) {
+            ("tariff", names) => {
+                let text = named.read_texts(names, ask.body)?;
+                push_ruled(out, ledger.tariff(text.as_str()))
+            }
+            ("close", [period, day]) => {
+                let (period, day) = (period.parse::<u16>()?, Day::of(day)?);
+                push_ruled(out, ledger.close(period, day.number))
+            }
+            ("closes", [periods, day]) => close_each(ledger, periods, Day::of(day)?, out),
+            ("import", parts) => read_in(alloc, ledger, reading, &named.read_dump(parts)?, out),
+            ("accept", parts) => accept_each(alloc, ledger, &named.read_dump(parts)?, out),
+            ("list", _) => push_replies(named, reading.layout, ledger, ask.body, out),
+            ("changes", []) => {
+                let shown = self.shown.get_or_insert_with(|| BTreeMap::new(alloc));
+                push_changes(alloc, shown, ledger, out)
+            }
+            (verb, words) => {
+                let text = BookText::of(verb, words)?;
+                push_text(alloc, &mut TextOf { ledger, text }, self.writing, out)
+            }
         }
     }
 }
@@ -133,13 +112,5 @@ pub fn answer<L: Ledger>(
     ask: Ask<'_>,
     out: &mut Vec<u8>,
 ) -> Result<bool, AllocError> {
-    match ask.verb {
-        "tariff" => answer_tariff(named, ledger, ask, out),
-        "close" => answer_close(ledger, ask.words, out),
-        "closes" => answer_closes(named.alloc(), ledger, ask.words, out),
-        "import" | "accept" => lines.answer_records(named, ledger, ask, out),
-        "list" => answer_list(named, lines.reading.layout, ledger, ask.body, out),
-        "changes" if ask.words.is_empty() => lines.answer_changes(named.alloc(), ledger, out),
-        _ => lines.answer_text(named.alloc(), ledger, ask, out),
-    }
+    Ok(if_read(lines.answer(named, ledger, ask, out))?.is_some())
 }

@@ -1,50 +1,35 @@
 //! Which texts of books changed.
 
 use crate::answers::push_fault;
-use crate::texts::BookText;
+use crate::texts::{BookText, TextOf};
+use crate::writing::Writes;
 use book_core::{Ledger, LedgerFault};
-use std::alloc::{AllocError, Global};
+use row_scripts::{Answered, Limits};
+use std::alloc::Global;
 use std::collections::BTreeMap;
 
 /// The texts of books, as they were shown last.
 pub(crate) type Shown = BTreeMap<BookText, Vec<u8>>;
 
 /// What the books say of a period that they do not have.
-fn no_text(alloc: Global) -> Result<Vec<u8>, AllocError> {
+fn no_text(alloc: Global) -> Vec<u8> {
     let mut text = Vec::new(alloc);
-    push_fault(&mut text, LedgerFault::NoSuchPeriod)?;
-    Ok(text)
+    push_fault(&mut text, LedgerFault::NoSuchPeriod);
+    text
 }
 
-/// A text of books as it is now, or why there is none.
-fn text_now<L: Ledger>(
-    alloc: Global,
-    ledger: &mut L,
-    text: BookText,
-) -> Result<Vec<u8>, AllocError> {
-    match text.asked(alloc, ledger) {
-        Ok(text) => Ok(text),
-        Err(fault) => {
-            let mut said = Vec::new(alloc);
-            push_fault(&mut said, fault)?;
-            Ok(said)
-        }
-    }
-}
-
-/// Adds a text where it is not as it was shown last.
+/// Adds a text, or why there is none, where that is not as it was shown last.
 fn push_changed<L: Ledger>(
     alloc: Global,
     shown: &mut Shown,
     ledger: &mut L,
     text: BookText,
     out: &mut Vec<u8>,
-) -> Result<(), AllocError> {
-    let now = text_now(alloc, ledger, text)?;
-    let before = match shown.remove(&text) {
-        Some(before) => before,
-        None => no_text(alloc)?,
-    };
+) -> Answered {
+    let written = TextOf { ledger, text }.write_to(alloc, Limits::none())?;
+    let mut now = written.taker.taken;
+    now.extend_from_slice(&written.said)?;
+    let before = shown.remove(&text).unwrap_or(no_text(alloc));
     if before.as_slice() != now.as_slice() {
         out.extend_from_slice(&now)?;
     }
@@ -52,11 +37,11 @@ fn push_changed<L: Ledger>(
     Ok(())
 }
 
-/// The number of the open period; 0 where the books do not say.
-fn open_period<L: Ledger>(ledger: &mut L) -> u16 {
+/// The number of the period behind the open one; 1 where the books do not say.
+fn period_behind<L: Ledger>(ledger: &mut L) -> u16 {
     match ledger.periods() {
-        Ok(closes) => u16::try_from(closes.len()).map_or(0, |closes| closes.saturating_add(1)),
-        Err(_) => 0,
+        Ok(closes) => u16::try_from(closes.len()).map_or(1, |closes| closes.saturating_add(2)),
+        Err(_) => 1,
     }
 }
 
@@ -68,9 +53,8 @@ pub(crate) fn push_changes<L: Ledger>(
     shown: &mut Shown,
     ledger: &mut L,
     out: &mut Vec<u8>,
-) -> Result<(), AllocError> {
-    let behind = open_period(ledger).saturating_add(1);
-    for period in 0..=behind {
+) -> Answered {
+    for period in 0..=period_behind(ledger) {
         push_changed(alloc, shown, ledger, BookText::Statement(period), out)?;
         push_changed(alloc, shown, ledger, BookText::Adjustments(period), out)?;
     }

@@ -7,106 +7,51 @@ use crate::answers::push_reply;
 use crate::day::Day;
 use book_core::Ledger;
 use book_import::{Command, run};
-use row_scripts::Named;
+use row_scripts::{Answered, LineFault, Named};
 use smf_frames::Layout;
-use std::alloc::{AllocError, Global};
 
-/// A command of a list.
-#[derive(Drop)]
-enum Item {
-    Tariff(String),
-    Import(Layout, Vec<u8>),
-    Close(u16, Day),
-}
-
-/// A close.
-fn close_of(words: &[&str]) -> Option<Item> {
-    match *words {
-        [period, day] => Some(Item::Close(period.parse::<u16>().ok()?, Day::of(day)?)),
-        _ => None,
-    }
-}
-
-/// What a line of a list asks, if it can be read.
-fn item_of(named: &Named, layout: Layout, line: &str) -> Result<Option<Item>, AllocError> {
-    let words: Vec<&str> = line.split_whitespace().collect(named.alloc())?;
-    let Some((verb, words)) = words.as_slice().split_first() else {
-        return Ok(None);
-    };
-    match *verb {
-        "import" => Ok(named.dump(words)?.map(|dump| Item::Import(layout, dump))),
-        "tariff" => Ok(named.texts(words, "")?.map(|text| Item::Tariff(text))),
-        "close" => Ok(close_of(words)),
-        _ => Ok(None),
-    }
-}
-
-/// What the lines of a body ask, if each can be read.
-fn items_of(named: &Named, layout: Layout, body: &str) -> Result<Option<Vec<Item>>, AllocError> {
-    let mut list = Vec::new(named.alloc());
-    for line in body.lines() {
-        match item_of(named, layout, line)? {
-            Some(item) => list.push(item)?,
-            None => return Ok(None),
-        }
-    }
-    Ok(Some(list))
-}
-
-/// The command of an item.
-fn command_of(alloc: Global, item: &Item) -> Result<Command, AllocError>
+/// The command of a line.
+fn command_of(named: &Named, layout: Layout, line: &str) -> Answered<Command>
     ensures { IfOk result IsAskable }
 {
-    match item {
-        Item::Tariff(text) => Ok(Command::Tariff(String::from_str(alloc, text.as_str())?)),
-        Item::Import(layout, bytes) => Ok(Command::Import {
-            layout: *layout,
-            bytes: Vec::from_slice(alloc, bytes.as_slice())?,
-        }),
-        Item::Close(period, day) => Ok(Command::Close {
-            period: *period,
-            through: day.number,
-        }),
+    let words: Vec<&str> = line.split_whitespace().collect(named.alloc())?;
+    match words.as_slice() {
+        ["tariff", names @ ..] => Ok(Command::Tariff(named.read_texts(names, "")?)),
+        ["import", parts @ ..] => {
+            let bytes = named.read_dump(parts)?;
+            Ok(Command::Import { layout, bytes })
+        }
+        ["close", period, day] => {
+            let (period, day) = (period.parse::<u16>()?, Day::of(day)?);
+            let through = day.number;
+            Ok(Command::Close { period, through })
+        }
+        _ => Err(LineFault::Unread),
     }
 }
 
-/// The commands of items.
-fn commands(alloc: Global, items: &[Item]) -> Result<Vec<Command>, AllocError>
+/// The commands of the lines of a body.
+fn commands(named: &Named, layout: Layout, body: &str) -> Answered<Vec<Command>>
     ensures { IfOk result (λ list. All IsAskable list.items) }
 {
-    let mut list = Vec::new(alloc);
-    for item in items {
-        list.push(command_of(alloc, item)?)?;
+    let mut list = Vec::new(named.alloc());
+    for line in body.lines() {
+        list.push(command_of(named, layout, line)?)?;
     }
     Ok(list)
 }
 
-/// Gives books a list of commands, and adds the reply to each.
-fn give<L: Ledger>(
-    alloc: Global,
-    ledger: &mut L,
-    items: &[Item],
-    out: &mut Vec<u8>,
-) -> Result<(), AllocError> {
-    let commands = commands(alloc, items)?;
-    let replies = run(alloc, ledger, &commands)?;
-    for reply in &replies {
-        push_reply(alloc, out, reply)?;
-    }
-    Ok(())
-}
-
-/// Gives books the commands of a body, if each can be read.
-pub(crate) fn answer_list<L: Ledger>(
+/// Gives books the commands of a body, and adds the reply to each.
+pub(crate) fn push_replies<L: Ledger>(
     named: &Named,
     layout: Layout,
     ledger: &mut L,
     body: &str,
     out: &mut Vec<u8>,
-) -> Result<bool, AllocError> {
-    let Some(items) = items_of(named, layout, body)? else {
-        return Ok(false);
-    };
-    give(named.alloc(), ledger, &items, out)?;
-    Ok(true)
+) -> Answered {
+    let commands = commands(named, layout, body)?;
+    for reply in &run(named.alloc(), ledger, &commands)? {
+        push_reply(out, reply)?;
+    }
+    Ok(())
 }

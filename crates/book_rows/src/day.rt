@@ -1,10 +1,9 @@
 //! Days that words name.
 
-ghost use Rattle.smf_text.specs.Day.{IsDay};
+ghost use Rattle.book_model.specs.Words.{IsDay};
 
-use crate::answers::push;
-use smf_text::{FIRST_DAY, LAST_DAY, day_of_text, day_text};
-use std::alloc::{AllocError, Global};
+use row_scripts::{Answered, LineFault};
+use smf_text::{LAST_DAY, day_of_text};
 
 /// A day that this product knows, counted from 1970-01-01.
 #[derive(Clone, Copy)]
@@ -14,10 +13,12 @@ pub(crate) struct Day {
 }
 
 impl Day {
-    /// The day of a text, if it has one.
-    pub(crate) fn of(text: &str) -> Option<Day> {
-        let number = day_of_text(text)?;
-        Some(Day { number })
+    /// The day of a text.
+    pub(crate) fn of(text: &str) -> Answered<Day> {
+        match day_of_text(text) {
+            Some(number) => Ok(Day { number }),
+            None => Err(LineFault::Unread),
+        }
     }
 
     /// The day so many days behind this one, if this product knows it.
@@ -28,14 +29,5 @@ impl Day {
         } else {
             None
         }
-    }
-}
-
-/// Adds a day, which is one that this product knows.
-pub(crate) fn push_day(alloc: Global, out: &mut Vec<u8>, day: i32) -> Result<(), AllocError> {
-    if FIRST_DAY <= day && day <= LAST_DAY {
-        push(out, day_text(alloc, day)?.as_str())
-    } else {
-        push(out, "NO DAY")
     }
 }

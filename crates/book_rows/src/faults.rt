@@ -3,6 +3,7 @@
 use book_core::LedgerFault;
 use book_import::Stop;
 use book_reports::ReportFault;
+use row_scripts::{Answered, LineFault};
 use smf_frames::FrameFault;
 use tariff_rules::{Key, TariffFault};
 
@@ -29,95 +30,87 @@ const KEYS: [Key; 18] = [
 ];
 
 /// The key of a word.
-fn key_of(word: &str) -> Option<Key> {
+fn key_of(word: &str) -> Answered<Key> {
     for key in KEYS {
         if key.text() == word {
-            return Some(key);
+            return Ok(key);
         }
     }
-    None
+    Err(LineFault::Unread)
 }
 
 /// The fault of a tariff file.
-fn tariff_fault(words: &[&str]) -> Option<TariffFault> {
-    match *words {
-        ["syntax"] => Some(TariffFault::Syntax),
-        ["missing", key] => Some(TariffFault::Missing(key_of(key)?)),
-        ["range", key] => Some(TariffFault::Range(key_of(key)?)),
-        ["name"] => Some(TariffFault::Name),
-        ["shift_conflict"] => Some(TariffFault::ShiftConflict),
-        ["too_many"] => Some(TariffFault::TooMany),
-        ["memory"] => Some(TariffFault::Memory),
-        _ => None,
-    }
-}
-
-/// The fault of books that a word names.
-fn plain_fault(word: &str) -> Option<LedgerFault> {
-    match word {
-        "memory" => Some(LedgerFault::Memory),
-        "store" => Some(LedgerFault::Store),
-        "reopen" => Some(LedgerFault::Reopen),
-        "full" => Some(LedgerFault::Full),
-        "digest_clash" => Some(LedgerFault::DigestClash),
-        "tariff_date" => Some(LedgerFault::TariffDate),
-        "tariff_exists" => Some(LedgerFault::TariffExists),
-        "records_dated" => Some(LedgerFault::RecordsDated),
-        "not_later" => Some(LedgerFault::NotLater),
-        "no_such_period" => Some(LedgerFault::NoSuchPeriod),
-        "no_such_record" => Some(LedgerFault::NoSuchRecord),
-        "not_disputed" => Some(LedgerFault::NotDisputed),
-        "old_rule" => Some(LedgerFault::OldRule),
-        "not_books" => Some(LedgerFault::NotBooks),
-        _ => None,
-    }
+fn tariff_fault(words: &[&str]) -> Answered<TariffFault> {
+    Ok(match words {
+        ["syntax"] => TariffFault::Syntax,
+        ["missing", key] => TariffFault::Missing(key_of(key)?),
+        ["range", key] => TariffFault::Range(key_of(key)?),
+        ["name"] => TariffFault::Name,
+        ["shift_conflict"] => TariffFault::ShiftConflict,
+        ["too_many"] => TariffFault::TooMany,
+        ["memory"] => TariffFault::Memory,
+        _ => return Err(LineFault::Unread),
+    })
 }
 
 /// The fault of books: `tariff` with a tariff's fault, `wrong_period` with the open period, or a
 /// word alone.
-fn ledger_fault(words: &[&str]) -> Option<LedgerFault> {
-    match words.split_first()? {
-        (&"tariff", fault) => Some(LedgerFault::TariffRefused(tariff_fault(fault)?)),
-        (&"wrong_period", [open]) => Some(LedgerFault::WrongPeriod(open.parse::<u16>().ok()?)),
-        (word, []) => plain_fault(word),
-        _ => None,
-    }
+fn ledger_fault(words: &[&str]) -> Answered<LedgerFault> {
+    Ok(match words {
+        ["tariff", fault @ ..] => LedgerFault::TariffRefused(tariff_fault(fault)?),
+        ["wrong_period", open] => LedgerFault::WrongPeriod(open.parse::<u16>()?),
+        ["memory"] => LedgerFault::Memory,
+        ["store"] => LedgerFault::Store,
+        ["reopen"] => LedgerFault::Reopen,
+        ["full"] => LedgerFault::Full,
+        ["digest_clash"] => LedgerFault::DigestClash,
+        ["tariff_date"] => LedgerFault::TariffDate,
+        ["tariff_exists"] => LedgerFault::TariffExists,
+        ["records_dated"] => LedgerFault::RecordsDated,
+        ["not_later"] => LedgerFault::NotLater,
+        ["no_such_period"] => LedgerFault::NoSuchPeriod,
+        ["no_such_record"] => LedgerFault::NoSuchRecord,
+        ["not_disputed"] => LedgerFault::NotDisputed,
+        ["old_rule"] => LedgerFault::OldRule,
+        ["not_books"] => LedgerFault::NotBooks,
+        _ => return Err(LineFault::Unread),
+    })
 }
 
 /// The fault of a dump's segments.
-fn frame_fault(word: &str) -> Option<FrameFault> {
-    match word {
-        "segment_length" => Some(FrameFault::SegmentLength),
-        "block_length" => Some(FrameFault::BlockLength),
-        "extended_block" => Some(FrameFault::ExtendedBlock),
-        "segment_crosses_block" => Some(FrameFault::SegmentCrossesBlock),
-        "orphan_segment" => Some(FrameFault::OrphanSegment),
-        "missing_last" => Some(FrameFault::MissingLast),
-        "record_too_long" => Some(FrameFault::RecordTooLong),
-        "truncated" => Some(FrameFault::Truncated),
-        _ => None,
-    }
+fn frame_fault(word: &str) -> Answered<FrameFault> {
+    Ok(match word {
+        "segment_length" => FrameFault::SegmentLength,
+        "block_length" => FrameFault::BlockLength,
+        "extended_block" => FrameFault::ExtendedBlock,
+        "segment_crosses_block" => FrameFault::SegmentCrossesBlock,
+        "orphan_segment" => FrameFault::OrphanSegment,
+        "missing_last" => FrameFault::MissingLast,
+        "record_too_long" => FrameFault::RecordTooLong,
+        "truncated" => FrameFault::Truncated,
+        _ => return Err(LineFault::Unread),
+    })
 }
 
 /// The fault of a report: `write`, `memory`, or `ledger` with the fault of books.
-pub(crate) fn report_fault(words: &[&str]) -> Option<ReportFault> {
-    match words.split_first()? {
-        (&"write", []) => Some(ReportFault::Write),
-        (&"memory", []) => Some(ReportFault::Memory),
-        (&"ledger", fault) => Some(ReportFault::Ledger(ledger_fault(fault)?)),
-        _ => None,
+pub(crate) fn report_fault(words: &[&str]) -> Answered<ReportFault> {
+    match words {
+        ["write"] => Ok(ReportFault::Write),
+        ["memory"] => Ok(ReportFault::Memory),
+        ["ledger", fault @ ..] => Ok(ReportFault::Ledger(ledger_fault(fault)?)),
+        _ => Err(LineFault::Unread),
     }
 }
 
 /// Why reading stopped: `end`, `read`, `read_limit`, `frame` with a fault of segments, or `ledger`
 /// with a fault of books.
-pub(crate) fn stop_of(words: &[&str]) -> Option<Stop> {
-    match words.split_first()? {
-        (&"end", []) => Some(Stop::End),
-        (&"read", []) => Some(Stop::Read),
-        (&"read_limit", []) => Some(Stop::ReadLimit),
-        (&"frame", [fault]) => Some(Stop::Frame(frame_fault(fault)?)),
-        (&"ledger", fault) => Some(Stop::Ledger(ledger_fault(fault)?)),
-        _ => None,
+pub(crate) fn stop_of(words: &[&str]) -> Answered<Stop> {
+    match words {
+        ["end"] => Ok(Stop::End),
+        ["read"] => Ok(Stop::Read),
+        ["read_limit"] => Ok(Stop::ReadLimit),
+        ["frame", fault] => Ok(Stop::Frame(frame_fault(fault)?)),
+        ["ledger", fault @ ..] => Ok(Stop::Ledger(ledger_fault(fault)?)),
+        _ => Err(LineFault::Unread),
     }
 }

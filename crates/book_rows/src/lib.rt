@@ -35,7 +35,6 @@ mod alone;
 mod answers;
 mod books;
 mod changes;
-mod closing;
 mod commands;
 mod day;
 mod dumps;

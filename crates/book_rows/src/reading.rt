@@ -3,21 +3,17 @@
 ghost use Rattle.std.specs.Prelude.{◌≤◌};
 ghost use Rattle.book_import.specs.Reading.{most_reads};
 
-use crate::answers::push;
 use book_import::MAX_READS;
+use row_scripts::{Answered, Giver, Limits, LineFault};
 use smf_frames::Layout;
-use std::alloc::{AllocError, Global};
-use std::io;
-use std::io::{ErrorKind, Read};
+use std::io::Write;
 
 /// How a dump is read from here on.
 #[derive(Clone, Copy)]
 pub(crate) struct Reading {
     pub(crate) layout: Layout,
-    /// How many bytes a read gives at most.
-    size: usize,
-    /// Behind how many reads each one fails.
-    fails: u32,
+    /// What a reader of it gives.
+    limits: Limits,
     /// How many reads are allowed.
     reads: u32,
     /// The dump begins anew at its end.
@@ -31,63 +27,34 @@ impl Reading {
     pub(crate) fn plain() -> Reading {
         Reading {
             layout: Layout::Rdw,
-            size: usize::MAX,
-            fails: u32::MAX,
+            limits: Limits::none(),
             reads: u32::MAX,
             is_endless: false,
             is_counted: false,
         }
     }
 
-    /// The same, but for what one word sets, if it can be read.
-    fn with(self, word: &str) -> Option<Reading> {
-        match word.split_once(':') {
-            Some((key, value)) => self.with_number(key, value.parse::<u32>().ok()?),
-            None => self.with_flag(word),
-        }
-    }
-
-    fn with_flag(self, word: &str) -> Option<Reading> {
-        let mut reading = self;
-        match word {
-            "bdw" => reading.layout = Layout::Bdw,
-            "endless" => reading.is_endless = true,
-            "counted" => reading.is_counted = true,
-            _ => return None,
-        }
-        Some(reading)
-    }
-
-    fn with_number(self, key: &str, number: u32) -> Option<Reading> {
-        let mut reading = self;
-        match key {
-            "pieces" => reading.size = number as usize,
-            "fails" => reading.fails = number,
-            "reads" => reading.reads = number,
-            _ => return None,
-        }
-        Some(reading)
-    }
-
     /// The reading that a line asks for: `bdw`, `pieces:SIZE`, `fails:READS`, `reads:READS`,
     /// `endless`, `counted`.
-    pub(crate) fn of(words: &[&str]) -> Option<Reading> {
+    pub(crate) fn of(words: &[&str]) -> Answered<Reading> {
         let mut reading = Reading::plain();
         for word in words {
-            reading = reading.with(word)?;
+            match (*word, word.split_once(':')) {
+                ("bdw", _) => reading.layout = Layout::Bdw,
+                ("endless", _) => reading.is_endless = true,
+                ("counted", _) => reading.is_counted = true,
+                (_, Some(("pieces", size))) => reading.limits.size = size.parse::<u32>()? as usize,
+                (_, Some(("fails", reads))) => reading.limits.calls = reads.parse::<u32>()?,
+                (_, Some(("reads", reads))) => reading.reads = reads.parse::<u32>()?,
+                _ => return Err(LineFault::Unread),
+            }
         }
-        Some(reading)
+        Ok(reading)
     }
 
     /// The reader of a dump.
-    pub(crate) fn reader(self, dump: &[u8]) -> Pieces<'_> {
-        Pieces {
-            dump,
-            left: dump,
-            size: self.size,
-            reads: self.fails,
-            is_endless: self.is_endless,
-        }
+    pub(crate) fn reader(self, dump: &[u8]) -> Giver<'_> {
+        Giver::new(dump, self.limits, self.is_endless)
     }
 
     /// How many reads are allowed.
@@ -98,43 +65,10 @@ impl Reading {
     }
 
     /// Adds how often the reader was asked, if that is to be told.
-    pub(crate) fn push_asked(
-        self,
-        alloc: Global,
-        out: &mut Vec<u8>,
-        asked: u64,
-    ) -> Result<(), AllocError> {
-        if !self.is_counted {
-            return Ok(());
+    pub(crate) fn push_asked(self, out: &mut Vec<u8>, asked: u64) -> Answered {
+        if self.is_counted {
+            writeln!(out, "READS {asked}")?;
         }
-        let line = format!(in alloc; "READS {asked}\n")?;
-        push(out, line.as_str())
-    }
-}
-
-/// Gives a dump, at most so many bytes at a read, and fails at each behind so many reads.
-#[derive(Drop)]
-pub(crate) struct Pieces<'a> {
-    dump: &'a [u8],
-    left: &'a [u8],
-    size: usize,
-    reads: u32,
-    is_endless: bool,
-}
-
-impl Read for Pieces<'_> {
-    fn read(&mut self, buffer: &mut [u8]) -> io::Result<usize> {
-        if self.reads == 0 {
-            return Err(ErrorKind::BrokenPipe.into());
-        }
-        self.reads -= 1;
-        if self.is_endless && self.left.is_empty() {
-            self.left = self.dump;
-        }
-        let count = self.size.min(buffer.len()).min(self.left.len());
-        let (piece, later) = self.left.split_at(count);
-        buffer[..count].copy_from_slice(piece);
-        self.left = later;
-        Ok(count)
+        Ok(())
     }
 }

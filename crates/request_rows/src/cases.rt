@@ -1,12 +1,13 @@
 //! What came of one case after the other: it is said once of all that follow each other and had the
 //! same.
 
-use std::alloc::{AllocError, Global};
+use row_scripts::Answered;
+use std::alloc::Global;
+use std::io::Write;
 
 /// Cases, counted from 0 on.
 #[derive(Drop)]
-pub struct Cases<'a> {
-    alloc: Global,
+pub(crate) struct Cases<'a> {
     out: &'a mut Vec<u8>,
     /// What a case has so many of.
     unit: &'a str,
@@ -20,9 +21,8 @@ pub struct Cases<'a> {
 
 impl<'a> Cases<'a> {
     /// None yet. What is said of them goes behind a text.
-    pub fn new(alloc: Global, out: &'a mut Vec<u8>, unit: &'a str) -> Cases<'a> {
+    pub(crate) fn new(alloc: Global, out: &'a mut Vec<u8>, unit: &'a str) -> Cases<'a> {
         Cases {
-            alloc,
             out,
             unit,
             first: 0,
@@ -32,23 +32,22 @@ impl<'a> Cases<'a> {
     }
 
     /// Says what the last cases had, if there were some.
-    pub fn say(&mut self) -> Result<(), AllocError> {
-        if self.first == self.count {
+    pub(crate) fn say(&mut self) -> Answered {
+        let (first, behind, unit) = (self.first, self.count, self.unit);
+        if behind <= first {
             return Ok(());
         }
-        let (first, last) = (self.first, self.count.saturating_sub(1));
-        let unit = self.unit;
-        let line = if first == last {
-            format!(in self.alloc; "{first} {unit}\n")?
-        } else {
-            format!(in self.alloc; "{first} TO {last} {unit}\n")?
-        };
-        self.out.extend_from_slice(line.as_bytes())?;
-        self.out.extend_from_slice(&self.had)
+        write!(self.out, "{first}")?;
+        if behind - first > 1 {
+            write!(self.out, " TO {}", behind - 1)?;
+        }
+        writeln!(self.out, " {unit}")?;
+        self.out.extend_from_slice(&self.had)?;
+        Ok(())
     }
 
     /// Takes what the next case had.
-    pub fn take(&mut self, had: Vec<u8>) -> Result<(), AllocError> {
+    pub(crate) fn take(&mut self, had: Vec<u8>) -> Answered {
         if had.as_slice() != self.had.as_slice() {
             self.say()?;
             self.first = self.count;

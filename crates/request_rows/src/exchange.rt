@@ -1,51 +1,78 @@
 //! A request and what became of it.
 
 use crate::connection::Connection;
-use crate::shown::{push_bytes, push_served};
 use book_core::{Ledger, Sink, Source};
 use book_http::{Served, serve_one};
-use row_scripts::push_line;
-use std::alloc::{AllocError, Global};
+use row_scripts::{Answered, Giver, Taker, push_line};
+use std::alloc::Global;
+use std::io::Write;
 
 /// What became of a request.
 #[derive(Drop)]
-pub struct Exchange {
-    pub served: Served,
-    /// What was taken of the answer.
-    pub taken: Vec<u8>,
-    /// How many writes were asked for.
-    pub asked: u32,
+pub(crate) struct Exchange {
+    pub(crate) served: Served,
+    /// What took the answer.
+    pub(crate) writer: Taker,
 }
 
-/// Serves a request that comes over a connection.
-pub fn serve_over<L: Ledger>(
-    alloc: Global,
-    connection: Connection,
-    request: &[u8],
-    ledger: &mut L,
-) -> Exchange {
-    let mut source = Source::new(connection.reader(request));
-    let mut sink = Sink::new(connection.writer(alloc));
-    let served = serve_one(alloc, &mut source, &mut sink, ledger);
-    let writer = sink.into_inner();
-    Exchange {
-        served,
-        taken: writer.taken,
-        asked: writer.asked,
-    }
-}
-
-/// Adds what was taken, what was served, and, where a write failed, how often was asked.
-pub fn push_exchange(
-    alloc: Global,
-    out: &mut Vec<u8>,
-    exchange: &Exchange,
-) -> Result<(), AllocError> {
-    push_bytes(alloc, out, &exchange.taken)?;
-    push_served(alloc, out, exchange.served)?;
-    if exchange.served == Served::WriteFault {
-        let line = format!(in alloc; "ASKED {}", exchange.asked)?;
-        push_line(out, line.as_str())?;
+/// Adds a byte as it is shown: a line's end and what is printed as itself, a carriage return as
+/// `\r`, a backslash as two, every other as `\x` and two digits.
+fn push_byte(out: &mut Vec<u8>, byte: u8) -> Answered {
+    match byte {
+        b'\r' => out.extend_from_slice(b"\\r")?,
+        b'\\' => out.extend_from_slice(b"\\\\")?,
+        b'\n' | b' '..=b'~' => out.push(byte)?,
+        _ => write!(out, "\\x{byte:02X}")?,
     }
     Ok(())
+}
+
+/// Adds bytes as they are shown. A backslash stands at the end where no line's end does.
+fn push_bytes(out: &mut Vec<u8>, bytes: &[u8]) -> Answered {
+    for byte in bytes {
+        push_byte(out, *byte)?;
+    }
+    match bytes.last() {
+        None | Some(b'\n') => Ok(()),
+        Some(_) => Ok(push_line(out, "\\")?),
+    }
+}
+
+/// Adds what was served.
+pub(crate) fn push_served(out: &mut Vec<u8>, served: Served) -> Answered {
+    match served {
+        Served::Closed => writeln!(out, "CLOSED")?,
+        Served::ReadFault => writeln!(out, "READ")?,
+        Served::WriteFault => writeln!(out, "WRITE")?,
+        Served::Answered(status) => writeln!(out, "SERVED {status}")?,
+    }
+    Ok(())
+}
+
+impl Exchange {
+    /// Serves a request that comes over a connection.
+    pub(crate) fn over<L: Ledger>(
+        alloc: Global,
+        connection: Connection,
+        request: &[u8],
+        ledger: &mut L,
+    ) -> Exchange {
+        let mut source = Source::new(Giver::new(request, connection.reads, false));
+        let mut sink = Sink::new(Taker::new(alloc, connection.writes));
+        let served = serve_one(alloc, &mut source, &mut sink, ledger);
+        Exchange {
+            served,
+            writer: sink.into_inner(),
+        }
+    }
+
+    /// Adds what was taken, what was served, and, where a write failed, how often was asked.
+    pub(crate) fn push(&self, out: &mut Vec<u8>) -> Answered {
+        push_bytes(out, &self.writer.taken)?;
+        push_served(out, self.served)?;
+        if self.served == Served::WriteFault {
+            writeln!(out, "ASKED {}", self.writer.asked)?;
+        }
+        Ok(())
+    }
 }

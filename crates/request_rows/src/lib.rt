@@ -18,11 +18,9 @@
 
 mod cases;
 mod connection;
-mod cut;
 mod exchange;
 mod lines;
 mod lost;
-mod request;
-mod shown;
+mod sending;
 
 pub use lines::{RequestLines, answer_request};

@@ -1,5 +1,6 @@
 //! Dumps, put together of parts that a script names.
 
+use crate::answered::{Answered, LineFault, read_where};
 use std::alloc::{AllocError, Global};
 use std::collections::BTreeMap;
 
@@ -20,72 +21,49 @@ fn digit_of(byte: u8) -> Option<u8> {
 
 /// Adds the bytes that a word spells, two capital digits each. False where it spells none.
 pub fn push_hex(out: &mut Vec<u8>, word: &str) -> Result<bool, AllocError> {
-    let mut high = None;
-    for byte in word.as_bytes() {
-        let Some(digit) = digit_of(*byte) else {
+    for digits in word.as_bytes().chunks(2) {
+        let [high, low] = *digits else {
             return Ok(false);
         };
-        match high {
-            None => high = Some(digit),
-            Some(first) => {
-                out.push(digit.wrapping_add(16u8.wrapping_mul(first)))?;
-                high = None;
-            }
-        }
+        let (Some(high), Some(low)) = (digit_of(high), digit_of(low)) else {
+            return Ok(false);
+        };
+        out.push(high << 4 | low)?;
     }
-    Ok(high.is_none())
+    Ok(true)
 }
 
 /// Adds the bytes that the words of a line spell, up to a word that begins with a semicolon.
-pub(crate) fn push_hex_line(out: &mut Vec<u8>, line: &str) -> Result<bool, AllocError> {
+pub(crate) fn push_hex_line(out: &mut Vec<u8>, line: &str) -> Answered {
     for word in line.split_whitespace() {
         if word.starts_with(';') {
             break;
         }
-        if !push_hex(out, word)? {
-            return Ok(false);
-        }
+        read_where(push_hex(out, word)?)?;
     }
-    Ok(true)
+    Ok(())
 }
 
 /// Puts bytes over those at a place, if they are there.
-fn put(out: &mut [u8], at: usize, bytes: &[u8]) -> bool {
-    if at <= out.len() && bytes.len() <= out.len() - at {
-        out[at..at + bytes.len()].copy_from_slice(bytes);
-        true
-    } else {
-        false
+fn put_at(out: &mut [u8], place: &str, bytes: &[u8]) -> Answered {
+    let at = place.parse::<usize>()?;
+    if at > out.len() || bytes.len() > out.len() - at {
+        return Err(LineFault::Unread);
     }
-}
-
-/// Puts the bytes that a word spells over those at a place, if they are there.
-fn put_at(alloc: Global, out: &mut [u8], place: &str, word: &str) -> Result<bool, AllocError> {
-    let mut bytes = Vec::new(alloc);
-    let is_hex = push_hex(&mut bytes, word)?;
-    match place.parse::<usize>() {
-        Ok(at) => Ok(is_hex && put(out, at, &bytes)),
-        Err(_) => Ok(false),
-    }
-}
-
-/// A count of zeros or copies, if it is one.
-fn times_of(count: &str) -> Option<usize> {
-    count
-        .parse::<usize>()
-        .ok()
-        .filter(|times| *times <= MOST_TIMES)
+    out[at..at + bytes.len()].copy_from_slice(bytes);
+    Ok(())
 }
 
 /// Adds so many copies of bytes.
-fn push_copies(out: &mut Vec<u8>, bytes: &[u8], count: &str) -> Result<bool, AllocError> {
-    let Some(times) = times_of(count) else {
-        return Ok(false);
-    };
+fn push_copies(out: &mut Vec<u8>, bytes: &[u8], count: &str) -> Answered {
+    let times = count.parse::<usize>()?;
+    if times > MOST_TIMES {
+        return Err(LineFault::Unread);
+    }
     for _ in 0..times {
         out.extend_from_slice(bytes)?;
     }
-    Ok(true)
+    Ok(())
 }
 
 /// The bytes from one place up to another, if they are there.
@@ -97,11 +75,7 @@ fn slice_of<'a>(bytes: &'a [u8], places: &str) -> Option<&'a [u8]> {
     } else {
         to.parse::<usize>().ok()?
     };
-    if from <= to && to <= bytes.len() {
-        Some(&bytes[from..to])
-    } else {
-        None
-    }
+    bytes.get(from..to)
 }
 
 /// The bytes of a dump that is named, or those at some places of it.
@@ -112,42 +86,29 @@ fn named<'a>(dumps: &'a Dumps, part: &str) -> Option<&'a [u8]> {
     }
 }
 
-/// Adds what is named, as often as is said behind a star, if it is there.
-fn push_named(dumps: &Dumps, out: &mut Vec<u8>, part: &str) -> Result<bool, AllocError> {
-    let (part, count) = part.split_once('*').unwrap_or((part, "1"));
-    match named(dumps, part) {
-        Some(bytes) => push_copies(out, bytes, count),
-        None => Ok(false),
-    }
-}
-
 /// Adds a part: `NAME`, `NAME/FROM..TO`, either with `*COUNT` behind it, `x:HEX`, `zeros:COUNT`, or
 /// `PLACE:HEX`, which is put over what is there so far.
-fn push_part(
-    alloc: Global,
-    dumps: &Dumps,
-    out: &mut Vec<u8>,
-    part: &str,
-) -> Result<bool, AllocError> {
+fn push_part(alloc: Global, dumps: &Dumps, out: &mut Vec<u8>, part: &str) -> Answered {
     match part.split_once(':') {
-        None => push_named(dumps, out, part),
-        Some(("x", word)) => push_hex(out, word),
+        None => {
+            let (part, count) = part.split_once('*').unwrap_or((part, "1"));
+            push_copies(out, named(dumps, part).ok_or(LineFault::Unread)?, count)
+        }
+        Some(("x", word)) => read_where(push_hex(out, word)?),
         Some(("zeros", count)) => push_copies(out, &[0], count),
-        Some((place, word)) => put_at(alloc, out, place, word),
+        Some((place, word)) => {
+            let mut bytes = Vec::new(alloc);
+            read_where(push_hex(&mut bytes, word)?)?;
+            put_at(out, place, &bytes)
+        }
     }
 }
 
-/// The dump of parts, if each can be read.
-pub(crate) fn dump_of(
-    alloc: Global,
-    dumps: &Dumps,
-    parts: &[&str],
-) -> Result<Option<Vec<u8>>, AllocError> {
+/// The dump of parts.
+pub(crate) fn dump_of(alloc: Global, dumps: &Dumps, parts: &[&str]) -> Answered<Vec<u8>> {
     let mut out = Vec::new(alloc);
     for part in parts {
-        if !push_part(alloc, dumps, &mut out, part)? {
-            return Ok(None);
-        }
+        push_part(alloc, dumps, &mut out, part)?;
     }
-    Ok(Some(out))
+    Ok(out)
 }

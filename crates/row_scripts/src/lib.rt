@@ -2,14 +2,18 @@
 //! beside it from outside. It is played line by line, and compared with what was answered.
 #![tactic(auto)]
 
+mod answered;
 mod ask;
 mod dump_parts;
+mod limited;
 mod named;
 mod player;
 mod verdict;
 
+pub use answered::{Answered, LineFault, if_read};
 pub use ask::{Answers, Ask};
 pub use dump_parts::push_hex;
+pub use limited::{Giver, Limits, Taker};
 pub use named::Named;
-pub use player::{Played, play};
-pub use verdict::{play_files, push_line};
+pub use player::push_line;
+pub use verdict::play_files;

@@ -1,5 +1,6 @@
 //! What scripts have named: dumps and texts.
 
+use crate::answered::{Answered, LineFault, if_read};
 use crate::dump_parts::{Dumps, dump_of, push_hex_line};
 use std::alloc::{AllocError, Global};
 use std::collections::BTreeMap;
@@ -26,9 +27,14 @@ impl Named {
         self.alloc
     }
 
+    /// The dump of parts.
+    pub fn read_dump(&self, parts: &[&str]) -> Answered<Vec<u8>> {
+        dump_of(self.alloc, &self.dumps, parts)
+    }
+
     /// The dump of parts, if each can be read.
     pub fn dump(&self, parts: &[&str]) -> Result<Option<Vec<u8>>, AllocError> {
-        dump_of(self.alloc, &self.dumps, parts)
+        if_read(self.read_dump(parts))
     }
 
     /// A text that is named, if it is.
@@ -36,51 +42,36 @@ impl Named {
         Some(self.texts.get(name)?.as_str())
     }
 
-    /// A body, and the texts that are named behind it, if they are.
-    pub fn texts(&self, names: &[&str], body: &str) -> Result<Option<String>, AllocError> {
+    /// A body, and the texts that are named behind it.
+    pub fn read_texts(&self, names: &[&str], body: &str) -> Answered<String> {
         let mut text = String::from_str(self.alloc, body)?;
         for name in names {
-            match self.text(name) {
-                Some(part) => text.push_str(part)?,
-                None => return Ok(None),
-            }
+            text.push_str(self.text(name).ok_or(LineFault::Unread)?)?;
         }
-        Ok(Some(text))
+        Ok(text)
     }
 
-    /// Names a dump of parts, and of what a body spells behind them. False where one of them can't
-    /// be read.
-    pub(crate) fn name_dump(
-        &mut self,
-        name: &str,
-        parts: &[&str],
-        body: &str,
-    ) -> Result<bool, AllocError> {
-        let Some(mut dump) = self.dump(parts)? else {
-            return Ok(false);
-        };
+    /// A body, and the texts that are named behind it, if they are.
+    pub fn texts(&self, names: &[&str], body: &str) -> Result<Option<String>, AllocError> {
+        if_read(self.read_texts(names, body))
+    }
+
+    /// Names a dump of parts, and of what a body spells behind them.
+    pub(crate) fn name_dump(&mut self, name: &str, parts: &[&str], body: &str) -> Answered {
+        let mut dump = self.read_dump(parts)?;
         for line in body.lines() {
-            if !push_hex_line(&mut dump, line)? {
-                return Ok(false);
-            }
+            push_hex_line(&mut dump, line)?;
         }
         self.dumps
             .insert(String::from_str(self.alloc, name)?, dump)?;
-        Ok(true)
+        Ok(())
     }
 
-    /// Names a text: a body, and the texts that are named behind it. False where one is not named.
-    pub(crate) fn name_text(
-        &mut self,
-        name: &str,
-        names: &[&str],
-        body: &str,
-    ) -> Result<bool, AllocError> {
-        let Some(text) = self.texts(names, body)? else {
-            return Ok(false);
-        };
+    /// Names a text: a body, and the texts that are named behind it.
+    pub(crate) fn name_text(&mut self, name: &str, names: &[&str], body: &str) -> Answered {
+        let text = self.read_texts(names, body)?;
         self.texts
             .insert(String::from_str(self.alloc, name)?, text)?;
-        Ok(true)
+        Ok(())
     }
 }

@@ -1,20 +1,13 @@
 //! Standard input and output of a session.
 
-use std::alloc::Global;
 use std::io;
 use std::io::{ErrorKind, Read, Write};
 
 /// Gives its bytes, and ends or fails behind them.
 #[derive(Drop)]
 pub(crate) struct Input<'a> {
-    left: &'a [u8],
-    fails: bool,
-}
-
-impl<'a> Input<'a> {
-    pub(crate) fn of(bytes: &'a [u8], fails: bool) -> Input<'a> {
-        Input { left: bytes, fails }
-    }
+    pub(crate) left: &'a [u8],
+    pub(crate) fails: bool,
 }
 
 impl Read for Input<'_> {
@@ -33,18 +26,8 @@ impl Read for Input<'_> {
 /// Takes bytes as long as there is room, and fails then.
 #[derive(Drop)]
 pub(crate) struct Output {
-    room: usize,
-    /// What it took.
+    pub(crate) room: usize,
     pub(crate) taken: Vec<u8>,
-}
-
-impl Output {
-    pub(crate) fn with_room(alloc: Global, room: usize) -> Output {
-        Output {
-            room,
-            taken: Vec::new(alloc),
-        }
-    }
 }
 
 impl Write for Output {

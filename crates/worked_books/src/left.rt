@@ -6,7 +6,6 @@ use std::alloc::{AllocError, Global};
 /// How what a command left is shown.
 #[derive(Clone, Copy)]
 pub(crate) enum Showing {
-    Whole,
     /// So many bytes of each stream at most, and two dots for more.
     First(usize),
     /// How many lines its output has.
@@ -15,89 +14,66 @@ pub(crate) enum Showing {
     Bytes,
 }
 
-/// What a command left.
-#[derive(Drop)]
-pub(crate) struct Left {
-    pub(crate) output: Vec<u8>,
-    pub(crate) errors: Vec<u8>,
-    pub(crate) status: u8,
-}
-
-/// Adds text, a mark before each line. A backslash stands at the end where no line's end does.
-fn push_lines(out: &mut Vec<u8>, mark: &str, text: &str) -> Result<(), AllocError> {
-    for line in text.lines() {
+/// Adds so many bytes of a stream at most, a mark before each line. A backslash stands at the end
+/// where no line's end does.
+fn push_stream(
+    out: &mut Vec<u8>,
+    mark: &str,
+    stream: Vec<u8>,
+    most: usize,
+) -> Result<(), AllocError> {
+    let mut bytes = stream;
+    if bytes.len() > most {
+        bytes.truncate(most);
+        bytes.extend_from_slice(b"..\n")?;
+    }
+    let Ok(text) = String::from_utf8(bytes) else {
+        return push_line(out, "NO TEXT");
+    };
+    for line in text.as_str().lines() {
         out.extend_from_slice(mark.as_bytes())?;
         push_line(out, line)?;
     }
-    if !text.is_empty() && !text.ends_with('\n') {
+    if !text.is_empty() && !text.as_str().ends_with('\n') {
         push_line(out, "\\")?;
     }
     Ok(())
 }
 
-/// The bytes of a stream that are shown.
-fn shown(bytes: Vec<u8>, showing: Showing) -> Result<Vec<u8>, AllocError> {
-    let mut bytes = bytes;
-    if let Showing::First(size) = showing {
-        if bytes.len() > size {
-            bytes.truncate(size);
-            bytes.extend_from_slice(b"..\n")?;
-        }
-    }
-    Ok(bytes)
-}
-
-/// Adds what went through a stream.
-fn push_stream(out: &mut Vec<u8>, mark: &str, bytes: Vec<u8>) -> Result<(), AllocError> {
-    match String::from_utf8(bytes) {
-        Ok(text) => push_lines(out, mark, text.as_str()),
-        Err(_) => push_line(out, "NO TEXT"),
-    }
-}
-
-/// Adds how many of a unit an output has.
+/// Adds a number, and what it is.
 fn push_count(
     alloc: Global,
     out: &mut Vec<u8>,
-    unit: &str,
+    what: &str,
     count: usize,
 ) -> Result<(), AllocError> {
-    push_line(out, format!(in alloc; "{unit} {count}")?.as_str())
-}
-
-/// Adds an output, or how much it is.
-fn push_output(
-    alloc: Global,
-    out: &mut Vec<u8>,
-    output: Vec<u8>,
-    showing: Showing,
-) -> Result<(), AllocError> {
-    match showing {
-        Showing::Lines => {
-            let lines = output.iter().filter(|byte| **byte == b'\n').count();
-            push_count(alloc, out, "LINES", lines)
-        }
-        Showing::Bytes => push_count(alloc, out, "BYTES", output.len()),
-        _ => push_stream(out, "", shown(output, showing)?),
-    }
+    push_line(out, format!(in alloc; "{what} {count}")?.as_str())
 }
 
 /// Adds what a command left.
 pub(crate) fn push_left(
     alloc: Global,
     out: &mut Vec<u8>,
-    left: Left,
     showing: Showing,
+    output: Vec<u8>,
+    errors: Vec<u8>,
+    status: u8,
 ) -> Result<(), AllocError> {
-    let Left {
-        output,
-        errors,
-        status,
-    } = left;
-    push_output(alloc, out, output, showing)?;
-    push_stream(out, "! ", shown(errors, showing)?)?;
-    if status == 0 {
-        return Ok(());
+    let mut most = usize::MAX;
+    match showing {
+        Showing::First(size) => {
+            most = size;
+            push_stream(out, "", output, most)?;
+        }
+        Showing::Lines => {
+            let lines = output.iter().filter(|byte| **byte == b'\n').count();
+            push_count(alloc, out, "LINES", lines)?;
+        }
+        Showing::Bytes => push_count(alloc, out, "BYTES", output.len())?,
     }
-    push_line(out, format!(in alloc; "STATUS {status}")?.as_str())
+    push_stream(out, "! ", errors, most)?;
+    match status {
+        0 => Ok(()),
+        _ => push_count(alloc, out, "STATUS", usize::from(status)),
+    }
 }

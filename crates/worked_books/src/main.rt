@@ -42,16 +42,14 @@
 //! | `same FILE FILE`, `missing FILE` | whether they are |
 #![tactic(auto)]
 
-mod came;
 mod ends;
-mod folder;
 mod left;
 mod lines;
-mod one_name;
-mod opened;
+mod names;
 mod plain_books;
 mod queries;
 mod restart;
+mod rows;
 mod run;
 mod sessions;
 mod stops;
@@ -59,24 +57,27 @@ mod sweep;
 mod table_books;
 mod unstopped;
 
-use folder::Folder;
-use plain_books::PlainBooks;
+use book_core::PlainLedger;
+use names::Names;
 use row_scripts::play_files;
+use rows::BookRows;
 use sessions::Sessions;
-use std::env;
 use std::test::Fail;
+use std::{env, fs, process};
 use table_books::TableBooks;
 
 /// Plays the scripts of a section.
 fn play_section(rt: &HostRuntime, section: &str, names: &[String]) -> Result<(), Fail> {
-    println!(rt; "{section}:")?;
+    println!(rt; "{section}")?;
     match section {
-        "memory" => play_files(rt, PlainBooks::new(), names),
-        "tables" | "stops" => play_files(rt, TableBooks::new(), names),
-        "commands" => {
-            let folder = Folder::of_this_run(rt)?;
-            let played = play_files(rt, Sessions::new(rt, &folder), names);
-            folder.remove(rt);
+        "memory:" => play_files(rt, BookRows::<PlainLedger<Names>>::new(), names),
+        "tables:" | "stops:" => play_files(rt, BookRows::<TableBooks>::new(), names),
+        "commands:" => {
+            let within = env::temp_dir(rt)?;
+            let id = process::id(rt.process());
+            let folder = format!(in rt.alloc(); "{}/chargectl-{id}", within.as_path().display())?;
+            let played = play_files(rt, Sessions::new(rt, folder.as_str()), names);
+            let _ = fs::remove_dir_all(rt, folder.as_str());
             played
         }
         _ => Err("no section has this name")?,
@@ -86,22 +87,11 @@ fn play_section(rt: &HostRuntime, section: &str, names: &[String]) -> Result<(),
 fn main(rt: HostRuntime) -> Result<(), Fail> {
     let mut words = env::args(&rt)?;
     words.next();
-    let mut section = None;
-    let mut names = Vec::new(rt.alloc());
-    for word in words {
-        match word.as_str().strip_suffix(':') {
-            None => names.push(word)?,
-            Some(next) => {
-                let next = String::from_str(rt.alloc(), next)?;
-                if let Some(section) = section.replace(next) {
-                    play_section(&rt, section.as_str(), &names)?;
-                }
-                names = Vec::new(rt.alloc());
-            }
+    let words: Vec<String> = words.collect(rt.alloc())?;
+    for part in words.chunk_by(|_, next| !next.as_str().ends_with(':')) {
+        if let [section, names @ ..] = part {
+            play_section(&rt, section.as_str(), names)?;
         }
     }
-    match section {
-        Some(section) => play_section(&rt, section.as_str(), &names),
-        None => Err("no section is named")?,
-    }
+    Ok(())
 }

@@ -1,6 +1,7 @@
 //! What SQL shows of the tables of books, a text line a row.
 
-use sqlite::{Alter, Connection, Error, Row};
+use row_scripts::Ask;
+use sqlite::{Alter, Connection, Error};
 use std::alloc::Global;
 
 /// The charge rows.
@@ -41,37 +42,31 @@ FROM record ORDER BY name";
 const LINE_NAMES: &str = "\
 SELECT period || ' ' || hex(name) || ' ' || plus FROM line ORDER BY period, name";
 
-/// What a verb shows.
-pub(crate) fn query_of(verb: &str) -> Option<&'static str> {
-    match verb {
-        "rows" => Some(ROWS),
-        "lines" => Some(LINES),
-        "marks" => Some(MARKS),
-        "closed" => Some(CLOSED),
-        "tariffs" => Some(TARIFFS),
-        "book" => Some(BOOK),
+/// What a line shows, if it shows a table.
+pub(crate) fn query_of(ask: Ask<'_>) -> Option<&'static str> {
+    match (ask.verb, ask.words) {
+        ("rows", []) => Some(ROWS),
+        ("lines", []) => Some(LINES),
+        ("marks", []) => Some(MARKS),
+        ("closed", []) => Some(CLOSED),
+        ("tariffs", []) => Some(TARIFFS),
+        ("book", []) => Some(BOOK),
         _ => None,
     }
 }
 
-/// Adds the first columns of rows, a line each.
-fn push_columns(out: &mut Vec<u8>, rows: &[Row]) -> Result<(), Error> {
-    for row in rows {
-        let column: String = row.get(0)?;
-        out.extend_from_slice(column.as_bytes())?;
-        out.push(b'\n')?;
-    }
-    Ok(())
-}
-
-/// Adds what a query shows.
+/// Adds the first columns of what a query shows, a line each.
 pub(crate) fn push_shown<S: Alter>(
     conn: &mut Connection<S>,
     query: &str,
     out: &mut Vec<u8>,
 ) -> Result<(), Error> {
-    let rows = conn.query_all(query, &[])?;
-    push_columns(out, &rows)
+    for row in &conn.query_all(query, &[])? {
+        let column: String = row.get(0)?;
+        out.extend_from_slice(column.as_bytes())?;
+        out.push(b'\n')?;
+    }
+    Ok(())
 }
 
 /// All rows of all tables, an empty line behind those of each; none where SQL shows one not.

@@ -1,10 +1,87 @@
-//! A run of commands.
+//! A run of commands, and how far it came by what was answered.
 
-use crate::came::{Came, came_of};
 use book_core::Ledger;
 use book_rows::{BookLines, answer};
 use row_scripts::{Ask, Named, push_line};
-use std::alloc::{AllocError, Global};
+use std::alloc::AllocError;
+
+/// The number of the fault of a store.
+const STORE: &str = "2";
+
+/// That of books that are to be opened again.
+const REOPEN: &str = "3";
+
+/// How far a run came.
+#[derive(Clone, Copy)]
+pub(crate) struct Came {
+    /// How many changes of the books were told of.
+    pub(crate) changes: usize,
+    /// The last answer is a fault.
+    pub(crate) stopped: bool,
+    /// The first fault is the store's, each answer behind it says that the books are to be opened
+    /// again, and there are no others.
+    pub(crate) is_as_told: bool,
+}
+
+/// A run that got no answer yet.
+const BEGUN: Came = Came {
+    changes: 0,
+    stopped: false,
+    is_as_told: true,
+};
+
+/// A run that was stopped before there were books.
+pub(crate) const NOT_BEGUN: Came = Came {
+    changes: 0,
+    stopped: true,
+    is_as_told: true,
+};
+
+/// How many changes an answer tells of, and the number of the fault in it, if it is an answer to a
+/// command.
+fn told<'a>(words: &[&'a str]) -> Option<(usize, Option<&'a str>)> {
+    match *words {
+        ["DONE"] => Some((1, None)),
+        ["ALREADY"] => Some((0, None)),
+        ["chargectl:", "ledger", fault] => Some((0, Some(fault))),
+        ["KEPT", kept, .., "STOP", "END"] => Some((kept.parse::<usize>().ok()?, None)),
+        ["KEPT", kept, .., "STOP", "LEDGER", fault] => {
+            Some((kept.parse::<usize>().ok()?, Some(fault)))
+        }
+        _ => None,
+    }
+}
+
+impl Came {
+    /// How far it came with one answer more.
+    fn with(self, answer: &[&str]) -> Came {
+        let Some((changes, fault)) = told(answer) else {
+            return Came {
+                is_as_told: false,
+                ..self
+            };
+        };
+        let is_due = match fault {
+            None => !self.stopped,
+            Some(fault) => fault == if self.stopped { REOPEN } else { STORE },
+        };
+        Came {
+            changes: self.changes.saturating_add(changes),
+            stopped: fault.is_some(),
+            is_as_told: self.is_as_told && is_due,
+        }
+    }
+}
+
+/// What the words of a command ask.
+pub(crate) fn ask_of<'a>(words: &'a [&'a str]) -> Ask<'a> {
+    let (verb, words) = words.split_first().unwrap_or((&"", words));
+    Ask {
+        verb,
+        words,
+        body: "",
+    }
+}
 
 /// Commands, a line each.
 #[derive(Clone, Copy)]
@@ -13,65 +90,52 @@ pub(crate) struct Run<'a> {
     pub(crate) body: &'a str,
 }
 
-/// How far a run came that got these answers.
-pub(crate) fn came_by(answers: Vec<u8>) -> Came {
-    match String::from_utf8(answers) {
-        Ok(text) => came_of(text.as_str()),
-        Err(_) => came_of("NO TEXT"),
-    }
-}
-
 impl Run<'_> {
-    pub(crate) fn alloc(self) -> Global {
-        self.named.alloc()
+    /// How far a run came that got these answers, a line each.
+    pub(crate) fn came_by(self, answers: &[u8]) -> Result<Came, AllocError> {
+        let alloc = self.named.alloc();
+        let mut came = BEGUN;
+        for line in String::from_utf8_lossy(alloc, answers)?.as_str().lines() {
+            let words: Vec<&str> = line.split_whitespace().collect(alloc)?;
+            came = came.with(&words);
+        }
+        Ok(came)
     }
 
     /// Asks books, and adds what they answer.
     fn ask<L: Ledger>(
         self,
         ledger: &mut L,
-        verb: &str,
         words: &[&str],
         out: &mut Vec<u8>,
     ) -> Result<(), AllocError> {
-        let ask = Ask {
-            verb,
-            words,
-            body: "",
-        };
-        if !answer(&mut BookLines::new(), self.named, ledger, ask, out)? {
+        if !answer(
+            &mut BookLines::new(),
+            self.named,
+            ledger,
+            ask_of(words),
+            out,
+        )? {
             push_line(out, "NOT UNDERSTOOD")?;
         }
         Ok(())
     }
 
-    /// Gives books the command of a line, and adds what they answer.
-    fn give<L: Ledger>(
-        self,
-        ledger: &mut L,
-        line: &str,
-        out: &mut Vec<u8>,
-    ) -> Result<(), AllocError> {
-        let words: Vec<&str> = line.split_whitespace().collect(self.alloc())?;
-        match words.as_slice().split_first() {
-            Some((verb, words)) => self.ask(ledger, verb, words, out),
-            None => push_line(out, "NOT UNDERSTOOD"),
-        }
-    }
-
     /// Gives books all commands, and answers how far they came.
     pub(crate) fn give_all<L: Ledger>(self, ledger: &mut L) -> Result<Came, AllocError> {
-        let mut answers = Vec::new(self.alloc());
+        let alloc = self.named.alloc();
+        let mut answers = Vec::new(alloc);
         for line in self.body.lines() {
-            self.give(ledger, line, &mut answers)?;
+            let words: Vec<&str> = line.split_whitespace().collect(alloc)?;
+            self.ask(ledger, &words, &mut answers)?;
         }
-        Ok(came_by(answers))
+        self.came_by(&answers)
     }
 
     /// All texts of books.
     pub(crate) fn texts<L: Ledger>(self, ledger: &mut L) -> Result<Vec<u8>, AllocError> {
-        let mut texts = Vec::new(self.alloc());
-        self.ask(ledger, "changes", &[], &mut texts)?;
+        let mut texts = Vec::new(self.named.alloc());
+        self.ask(ledger, &["changes"], &mut texts)?;
         Ok(texts)
     }
 }

@@ -1,90 +1,74 @@
 //! A disk that stops at each call of a file.
 
-use crate::restart::{Stopped, failing};
 use crate::run::Run;
-use crate::sweep::{Other, meets_stop};
+use crate::sweep::meets_stop;
 use crate::unstopped::{Unstopped, run_unstopped};
 use row_scripts::{Ask, Named, push_line};
-use sqlite::{Alter, Connection, FileStore};
+use sqlite::{Alter, Connection, FileStore, Files};
 use sqlite_disk::{Fuse, Memory};
 use std::alloc::{AllocError, Global};
 
 /// More calls than any run makes of one file.
 const ENOUGH: u64 = 2_000;
 
-/// Makes a run on new books in files, of which one fails behind so many calls, and answers whether
-/// it was stopped, if all is as it has to be.
-fn is_stopped(
-    run: Run<'_>,
-    whole: &Unstopped,
-    stopped: Stopped,
-    calls: u64,
-) -> Result<bool, Other> {
-    let files = failing(run.alloc(), stopped, calls);
-    meets_stop::<FileStore<Fuse<Memory>>>(run, whole, files)
+/// Which of the two files a run is stopped at.
+#[derive(Clone, Copy)]
+enum Stopped {
+    Log,
+    Database,
 }
 
-/// Adds how many changes a run has, and whether it was stopped more often.
-fn push_swept(
-    alloc: Global,
-    out: &mut Vec<u8>,
-    changes: usize,
-    stops: usize,
-) -> Result<(), AllocError> {
-    if stops > changes {
-        push_line(
-            out,
-            format!(in alloc; "CHANGES {changes} STOPS MORE")?.as_str(),
-        )
-    } else {
-        push_line(
-            out,
-            format!(in alloc; "CHANGES {changes} STOPS {stops}")?.as_str(),
-        )
+/// Empty files in memory, of which one fails behind so many calls.
+fn failing(alloc: Global, stopped: Stopped, calls: u64) -> Files<Fuse<Memory>> {
+    let (log, db) = match stopped {
+        Stopped::Log => (calls, u64::MAX),
+        Stopped::Database => (u64::MAX, calls),
+    };
+    Files {
+        log: Fuse::new(Memory::new(alloc), log),
+        db: Fuse::new(Memory::new(alloc), db),
     }
 }
 
-/// Stops a run at each call of a file, up to one that meets no stop, and adds what came of it: of
-/// the first stop that leaves what it should not, or how often it was stopped.
-fn push_sweep(
-    run: Run<'_>,
-    whole: &Unstopped,
-    stopped: Stopped,
-    out: &mut Vec<u8>,
-) -> Result<(), AllocError> {
+/// Stops a run at each call of a file, up to one that meets no stop. Answers what came of it: how
+/// many changes the run has and how often it was stopped, or the first stop that leaves what it
+/// should not.
+fn swept(run: Run<'_>, whole: &Unstopped, stopped: Stopped) -> Result<String, AllocError> {
+    let alloc = run.named.alloc();
+    let changes = whole.changes();
     let mut stops: usize = 0;
     for calls in 0..ENOUGH {
-        match is_stopped(run, whole, stopped, calls) {
+        let files = failing(alloc, stopped, calls);
+        match meets_stop::<FileStore<Fuse<Memory>>>(run, whole, files) {
             Ok(true) => stops = stops.saturating_add(1),
-            Ok(false) => return push_swept(run.alloc(), out, whole.changes(), stops),
-            Err(other) => {
-                let text = other.text();
-                let line = format!(in run.alloc(); "BEHIND {calls} CALLS {text}")?;
-                return push_line(out, line.as_str());
+            Ok(false) if stops > changes => {
+                return format!(in alloc; "CHANGES {changes} STOPS MORE");
             }
+            Ok(false) => return format!(in alloc; "CHANGES {changes} STOPS {stops}"),
+            Err(other) => return format!(in alloc; "BEHIND {calls} CALLS {}", other.0),
         }
     }
-    push_line(out, "EVERY RUN WAS STOPPED")
+    String::from_str(alloc, "EVERY RUN WAS STOPPED")
 }
 
 /// Answers `stops log` or `stops database`, with commands, and gives the database back, whose books
-/// got them with no stop. None where the line can't be read.
+/// got them with no stop, with whether the line was read.
 pub(crate) fn answer_stops<S: Alter + Drop>(
     named: &Named,
     conn: Connection<S>,
     ask: Ask<'_>,
     out: &mut Vec<u8>,
-) -> Result<Option<Connection<S>>, AllocError> {
+) -> Result<(Connection<S>, bool), AllocError> {
     let stopped = match *ask.words {
         ["log"] => Stopped::Log,
         ["database"] => Stopped::Database,
-        _ => return Ok(None),
+        _ => return Ok((conn, false)),
     };
     let run = Run {
         named,
         body: ask.body,
     };
     let (whole, conn) = run_unstopped(run, conn)?;
-    push_sweep(run, &whole, stopped, out)?;
-    Ok(Some(conn))
+    push_line(out, swept(run, &whole, stopped)?.as_str())?;
+    Ok((conn, true))
 }

@@ -1,14 +1,12 @@
 //! A run over files that may fail: what is found when the machine is back, and how the same
 //! commands then end.
 
-use crate::came::{Came, NOT_BEGUN};
 use crate::queries::all_rows;
 use crate::restart::Restart;
-use crate::run::Run;
+use crate::run::{Came, NOT_BEGUN, Run};
 use crate::unstopped::Unstopped;
 use book_core::{Ledger, LedgerFault, ShaNames};
 use book_tables::TableLedger;
-use sqlite::Connection;
 use std::alloc::{AllocError, Global};
 
 /// Books in files.
@@ -16,82 +14,34 @@ type Books<S> = TableLedger<S, ShaNames>;
 
 /// What is not as it has to be.
 #[derive(Clone, Copy)]
-pub(crate) enum Other {
-    Memory,
-    Answers,
-    NotOpened,
-    Rows,
-    End,
-}
-
-impl Other {
-    /// What is said of it.
-    pub(crate) fn text(self) -> &'static str {
-        match self {
-            Other::Memory => "NO MEMORY",
-            Other::Answers => "OTHER ANSWERS",
-            Other::NotOpened => "NOT OPENED AGAIN",
-            Other::Rows => "OTHER ROWS",
-            Other::End => "ANOTHER END",
-        }
-    }
-}
+pub(crate) struct Other(pub(crate) &'static str);
 
 impl From<AllocError> for Other {
     fn from(_: AllocError) -> Other {
-        Other::Memory
+        Other("NO MEMORY")
     }
 }
 
-/// Books that were opened, or the files of a disk that failed.
-#[derive(Drop)]
-enum Opened<S: Restart> {
-    Books(Books<S>),
-    Files(S::Disks),
-}
-
-/// The files of a database in which no books were opened or made, by a fault of the store.
-fn left_by<S: Restart>(fault: LedgerFault, conn: Connection<S>) -> Result<Opened<S>, Other> {
-    match fault {
-        LedgerFault::Store => Ok(Opened::Files(conn.into_store().into_files())),
-        _ => Err(Other::Answers),
-    }
-}
-
-/// New books in an empty database.
-fn create_on<S: Restart>(alloc: Global, conn: Connection<S>) -> Result<Opened<S>, Other> {
+/// The books in files, new ones where there are none; the files where the disk failed.
+fn open<S: Restart>(alloc: Global, files: S::Disks) -> Result<Result<Books<S>, S::Disks>, Other> {
+    let conn = match S::connect(alloc, files) {
+        Ok(conn) => conn,
+        Err(files) => return Ok(Err(files)),
+    };
     if !conn.is_autocommit() {
-        return Err(Other::Answers);
+        return Err(Other("OTHER ANSWERS"));
     }
-    match TableLedger::create(alloc, conn, ShaNames) {
-        Ok(books) => Ok(Opened::Books(books)),
-        Err((fault, conn)) => left_by(fault, conn),
+    let opened = match TableLedger::open(alloc, conn, ShaNames) {
+        Err((LedgerFault::NotBooks, conn)) if conn.is_autocommit() => {
+            TableLedger::create(alloc, conn, ShaNames)
+        }
+        opened => opened,
+    };
+    match opened {
+        Ok(books) => Ok(Ok(books)),
+        Err((LedgerFault::Store, conn)) => Ok(Err(conn.into_store().crash())),
+        Err(_) => Err(Other("OTHER ANSWERS")),
     }
-}
-
-/// The books in a database, new ones where there are none.
-fn open_on<S: Restart>(alloc: Global, conn: Connection<S>) -> Result<Opened<S>, Other> {
-    if !conn.is_autocommit() {
-        return Err(Other::Answers);
-    }
-    match TableLedger::open(alloc, conn, ShaNames) {
-        Ok(books) => Ok(Opened::Books(books)),
-        Err((LedgerFault::NotBooks, conn)) => create_on(alloc, conn),
-        Err((fault, conn)) => left_by(fault, conn),
-    }
-}
-
-/// The books in files, new ones where there are none.
-fn open<S: Restart>(alloc: Global, files: S::Disks) -> Result<Opened<S>, Other> {
-    match S::connect(alloc, files) {
-        Ok(conn) => open_on(alloc, conn),
-        Err(files) => Ok(Opened::Files(files)),
-    }
-}
-
-/// Lets books go, and gives their files back.
-fn files_of<S: Restart>(books: Books<S>) -> S::Disks {
-    books.close_store().into_store().into_files()
 }
 
 /// Gives books the commands, up to a stop.
@@ -101,35 +51,32 @@ fn work<L: Ledger>(run: Run<'_>, ledger: &mut L) -> Result<Came, Other> {
     if came.is_as_told && !is_lost {
         Ok(came)
     } else {
-        Err(Other::Answers)
+        Err(Other("OTHER ANSWERS"))
     }
 }
 
-/// Works on books in files, and gives back what is left of them.
+/// Works on books in files, and gives back what is found of them when the machine is back.
 fn start<S: Restart>(run: Run<'_>, files: S::Disks) -> Result<(Came, S::Disks), Other> {
-    match open::<S>(run.alloc(), files)? {
-        Opened::Books(mut books) => {
+    match open::<S>(run.named.alloc(), files)? {
+        Ok(mut books) => {
             let came = work(run, &mut books)?;
-            Ok((came, files_of(books)))
+            Ok((came, books.close_store().into_store().crash()))
         }
-        Opened::Files(files) => Ok((NOT_BEGUN, files)),
+        Err(files) => Ok((NOT_BEGUN, files)),
     }
 }
 
-/// The books as they are found when the machine is back.
+/// The books in files that were found when the machine was back.
 fn reopen<S: Restart>(alloc: Global, files: S::Disks) -> Result<Books<S>, Other> {
-    match open::<S>(alloc, S::crash(files))? {
-        Opened::Books(books) => Ok(books),
-        Opened::Files(_files) => Err(Other::NotOpened),
-    }
+    open::<S>(alloc, files)?.or(Err(Other("NOT OPENED AGAIN")))
 }
 
-/// All rows of the books that are found when the machine is back, and their files.
+/// All rows of the books in files that were found when the machine was back, and the files.
 fn found<S: Restart>(alloc: Global, files: S::Disks) -> Result<(Vec<u8>, S::Disks), Other> {
     let mut conn = reopen::<S>(alloc, files)?.close_store();
     match all_rows(alloc, &mut conn) {
-        Some(rows) => Ok((rows, conn.into_store().into_files())),
-        None => Err(Other::Rows),
+        Some(rows) => Ok((rows, conn.into_store().crash())),
+        None => Err(Other("OTHER ROWS")),
     }
 }
 
@@ -137,18 +84,11 @@ fn found<S: Restart>(alloc: Global, files: S::Disks) -> Result<(Vec<u8>, S::Disk
 fn finish<L: Ledger>(run: Run<'_>, whole: &Unstopped, ledger: &mut L) -> Result<(), Other> {
     let came = run.give_all(ledger)?;
     let texts = run.texts(ledger)?;
-    if came.is_as_told && !came.stopped && whole.ends_with_texts(&texts) {
+    if came.is_as_told && !came.stopped && whole.texts == texts {
         Ok(())
     } else {
-        Err(Other::End)
+        Err(Other("ANOTHER END"))
     }
-}
-
-/// The same of the books in files.
-fn end<S: Restart>(run: Run<'_>, whole: &Unstopped, files: S::Disks) -> Result<S::Disks, Other> {
-    let mut books = reopen::<S>(run.alloc(), files)?;
-    finish(run, whole, &mut books)?;
-    Ok(files_of(books))
 }
 
 /// Makes a run on books in files that may fail, and answers whether it was stopped, if what is
@@ -158,16 +98,18 @@ pub(crate) fn meets_stop<S: Restart>(
     whole: &Unstopped,
     files: S::Disks,
 ) -> Result<bool, Other> {
+    let alloc = run.named.alloc();
     let (came, files) = start::<S>(run, files)?;
-    let (rows, files) = found::<S>(run.alloc(), files)?;
+    let (rows, files) = found::<S>(alloc, files)?;
     if !whole.is_reached(came, &rows) {
-        return Err(Other::Rows);
+        return Err(Other("OTHER ROWS"));
     }
-    let files = end::<S>(run, whole, files)?;
-    let (rows, _files) = found::<S>(run.alloc(), files)?;
-    if whole.ends_with_rows(&rows) {
+    let mut books = reopen::<S>(alloc, files)?;
+    finish(run, whole, &mut books)?;
+    let (rows, _files) = found::<S>(alloc, books.close_store().into_store().crash())?;
+    if whole.rows.last() == Some(&rows) {
         Ok(came.stopped)
     } else {
-        Err(Other::End)
+        Err(Other("ANOTHER END"))
     }
 }

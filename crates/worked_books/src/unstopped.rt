@@ -1,10 +1,8 @@
 //! A run that nothing stops, change by change.
 
-use crate::came::Came;
 use crate::lines::Lines;
-use crate::opened::asked;
 use crate::queries::all_rows;
-use crate::run::{Run, came_by};
+use crate::run::{Came, Run, ask_of};
 use book_core::ShaNames;
 use row_scripts::Ask;
 use sqlite::{Alter, Connection};
@@ -14,9 +12,9 @@ use std::alloc::AllocError;
 #[derive(Drop)]
 pub(crate) struct Unstopped {
     /// All rows of new books, and those behind each change.
-    rows: Vec<Vec<u8>>,
+    pub(crate) rows: Vec<Vec<u8>>,
     /// All texts of the books at its end.
-    texts: Vec<u8>,
+    pub(crate) texts: Vec<u8>,
 }
 
 impl Unstopped {
@@ -28,80 +26,46 @@ impl Unstopped {
     /// These are the rows behind the last change that a run was told of, or behind the one in hand
     /// where it was stopped.
     pub(crate) fn is_reached(&self, came: Came, rows: &Vec<u8>) -> bool {
-        let Some(before) = self.rows.get(came.changes) else {
-            return false;
-        };
-        let after = self.rows.get(came.changes.saturating_add(1));
-        rows == before || came.stopped && after == Some(rows)
-    }
-
-    /// These are all texts of the books at its end.
-    pub(crate) fn ends_with_texts(&self, texts: &Vec<u8>) -> bool {
-        *texts == self.texts
-    }
-
-    /// These are all rows at its end.
-    pub(crate) fn ends_with_rows(&self, rows: &Vec<u8>) -> bool {
-        self.rows.last() == Some(rows)
+        let in_hand = if came.stopped { 2 } else { 1 };
+        let mut reached = self.rows.iter().skip(came.changes).take(in_hand);
+        reached.any(|other| other == rows)
     }
 }
 
-/// A database whose books a run changes step by step.
-#[derive(Drop)]
-struct Steps<'a, S: Alter + Drop> {
-    run: Run<'a>,
+/// Asks the books of a database, and gives it back, with what they answer.
+fn answered<S: Alter + Drop>(
+    run: Run<'_>,
     conn: Connection<S>,
-    /// All rows of the books, at first and behind each change; none that SQL did not show.
-    rows: Vec<Vec<u8>>,
+    ask: Ask<'_>,
+) -> Result<(Connection<S>, Vec<u8>), AllocError> {
+    let mut answers = Vec::new(run.named.alloc());
+    let (conn, _) = Lines::new().ask_tables(run.named, conn, ShaNames, ask, &mut answers)?;
+    Ok((conn, answers))
 }
 
-impl<'a, S: Alter + Drop> Steps<'a, S> {
-    /// Asks the books.
-    fn ask(self, verb: &str, words: &[&str]) -> Result<(Steps<'a, S>, Vec<u8>), AllocError> {
-        let Steps { run, conn, rows } = self;
-        let mut answers = Vec::new(run.alloc());
-        let ask = Ask {
-            verb,
-            words,
-            body: "",
-        };
-        let named = run.named;
-        let (conn, _) = asked(&mut Lines::new(), named, conn, ShaNames, ask, &mut answers)?;
-        Ok((Steps { run, conn, rows }, answers))
-    }
-
-    /// Adds all rows of the books.
-    fn add_rows(&mut self) -> Result<(), AllocError> {
-        if let Some(rows) = all_rows(self.run.alloc(), &mut self.conn) {
-            self.rows.push(rows)?;
+/// Gives the books of a database the command of a line, each record of an import by a command of
+/// its own, and adds all rows behind each change.
+fn take_line<S: Alter + Drop>(
+    run: Run<'_>,
+    conn: Connection<S>,
+    words: &[&str],
+    rows: &mut Vec<Vec<u8>>,
+) -> Result<Connection<S>, AllocError> {
+    let mut conn = conn;
+    let ask = ask_of(words);
+    let size = if ask.verb == "import" {
+        1
+    } else {
+        ask.words.len().max(1)
+    };
+    for words in ask.words.chunks(size) {
+        let (then, answers) = answered(run, conn, Ask { words, ..ask })?;
+        conn = then;
+        if run.came_by(&answers)?.changes == 1 {
+            rows.extend(all_rows(run.named.alloc(), &mut conn))?;
         }
-        Ok(())
     }
-
-    /// Gives the books a command that makes one change, or none.
-    fn take(self, verb: &str, words: &[&str]) -> Result<Steps<'a, S>, AllocError> {
-        let (mut steps, answers) = self.ask(verb, words)?;
-        if came_by(answers).changes == 1 {
-            steps.add_rows()?;
-        }
-        Ok(steps)
-    }
-
-    /// Gives the books the command of a line, each record of an import by a command of its own.
-    fn take_line(self, line: &str) -> Result<Steps<'a, S>, AllocError> {
-        let words: Vec<&str> = line.split_whitespace().collect(self.run.alloc())?;
-        let Some((verb, words)) = words.as_slice().split_first() else {
-            return Ok(self);
-        };
-        if *verb != "import" {
-            return self.take(verb, words);
-        }
-        let mut steps = self;
-        for word in words {
-            steps = steps.take(verb, &[word])?;
-        }
-        Ok(steps)
-    }
+    Ok(conn)
 }
 
 /// What a run leaves that nothing stops, and the database behind it.
@@ -109,16 +73,14 @@ pub(crate) fn run_unstopped<S: Alter + Drop>(
     run: Run<'_>,
     conn: Connection<S>,
 ) -> Result<(Unstopped, Connection<S>), AllocError> {
-    let mut steps = Steps {
-        run,
-        conn,
-        rows: Vec::new(run.alloc()),
-    };
-    steps.add_rows()?;
+    let alloc = run.named.alloc();
+    let mut conn = conn;
+    let mut rows = Vec::new(alloc);
+    rows.extend(all_rows(alloc, &mut conn))?;
     for line in run.body.lines() {
-        steps = steps.take_line(line)?;
+        let words: Vec<&str> = line.split_whitespace().collect(alloc)?;
+        conn = take_line(run, conn, &words, &mut rows)?;
     }
-    let (steps, texts) = steps.ask("changes", &[])?;
-    let Steps { run: _, conn, rows } = steps;
+    let (conn, texts) = answered(run, conn, ask_of(&["changes"]))?;
     Ok((Unstopped { rows, texts }, conn))
 }

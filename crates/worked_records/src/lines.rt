@@ -1,26 +1,74 @@
-//! What the lines of a row have set so far, and which of them answers what.
+//! What the lines of a row have set so far, and which of them is answered by what.
 
-use crate::dates::answer_date;
-use crate::dumps::answer_dump;
-use crate::fields::answer_field;
-use crate::pieces::answer_pieces;
-use crate::prices::{answer_flat, answer_price};
-use crate::records::answer_class;
-use crate::stream_lines::{answer_sink, answer_source};
-use crate::tariff_files::answer_file;
-use crate::texts::answer_text;
+use crate::dump_reader::work_lines;
+use crate::dumps::{push_class, push_header, push_parts};
+use crate::fields::push_field;
+use crate::joined::push_joined;
+use crate::marks::{push_reads, push_writes};
+use crate::pieces::push_pieces;
+use crate::tariffs::{changed, push_fault, push_file, push_flat, push_price, repeated};
+use crate::texts::{push_day, push_encoded, push_name, push_packed, push_shown};
+use crate::words::{Answered, NoAnswer, dump_of, hex_of, text_of};
 use row_scripts::{Answers, Ask, Named};
 use smf_frames::{Joiner, Layout};
+use smf_text::day_of_text;
 use std::alloc::{AllocError, Global};
+use tariff_rules::TariffFault;
 
 /// What the lines of a row have set so far.
 #[derive(Drop)]
 pub(crate) struct RecordLines {
     /// How dumps are read.
-    pub(crate) layout: Layout,
-    pub(crate) joiner: Option<Joiner>,
+    layout: Layout,
+    joiner: Option<Joiner>,
     /// The lines of a tariff file.
-    pub(crate) file: String,
+    file: String,
+}
+
+/// Adds the answer to a line on texts, days or records.
+fn push_read(named: &Named, out: &mut String, ask: Ask<'_>) -> Answered {
+    let alloc = named.alloc();
+    match (ask.verb, ask.words) {
+        ("packed", [hex]) => push_packed(alloc, out, &hex_of(alloc, hex)?),
+        ("day", words) => push_day(alloc, out, day_of_text(text_of(alloc, words)?.as_str())),
+        ("date", [number]) => push_day(alloc, out, Some(number.parse::<i32>()?)),
+        ("show", [hex]) => push_shown(alloc, out, &hex_of(alloc, hex)?),
+        ("encode", [size, words @ ..]) => push_encoded(alloc, out, size, words),
+        ("name", words) => push_name(out, text_of(alloc, words)?.as_str()),
+        ("header", parts) => push_header(alloc, out, &dump_of(named, parts)?),
+        ("class", parts) => push_class(out, &dump_of(named, parts)?),
+        ("field", [name, parts @ ..]) => push_field(alloc, out, name, &dump_of(named, parts)?),
+        ("work", parts) => {
+            let lines = work_lines(alloc, &dump_of(named, parts)?)?;
+            Ok(out.push_str(lines.as_str())?)
+        }
+        _ => Err(NoAnswer::Unread),
+    }
+}
+
+/// Adds the answer to a line on tariffs or streams.
+fn push_priced(named: &Named, out: &mut String, ask: Ask<'_>) -> Answered {
+    let alloc = named.alloc();
+    match (ask.verb, ask.words) {
+        ("file", names) => {
+            let text = named.texts(names, ask.body)?.ok_or(NoAnswer::Unread)?;
+            push_file(alloc, out, text.as_str())
+        }
+        ("changed", [name, words @ ..]) => {
+            push_file(alloc, out, changed(named, name, words)?.as_str())
+        }
+        ("repeated", [count, piece, names @ ..]) => {
+            push_file(alloc, out, repeated(named, count, piece, names)?.as_str())
+        }
+        ("say", ["memory"]) => push_fault(out, TariffFault::Memory),
+        ("flat", [cpu, excp, record, parts @ ..]) => {
+            push_flat(alloc, out, [cpu, excp, record], &dump_of(named, parts)?)
+        }
+        ("price", [name, parts @ ..]) => push_price(named, out, name, &dump_of(named, parts)?),
+        ("source", [sizes, parts @ ..]) => push_reads(alloc, out, sizes, &dump_of(named, parts)?),
+        ("sink", [size, writes, texts @ ..]) => push_writes(alloc, out, size, writes, texts),
+        _ => push_read(named, out, ask),
+    }
 }
 
 impl RecordLines {
@@ -33,15 +81,30 @@ impl RecordLines {
         }
     }
 
-    /// Sets how dumps are read, if the words say how.
-    fn set_reader(&mut self, words: &[&str]) -> bool {
-        let layout = match *words {
-            [] => Layout::Rdw,
-            ["bdw"] => Layout::Bdw,
-            _ => return false,
-        };
-        self.layout = layout;
-        true
+    /// Adds what is read of the row's lines so far, with one more.
+    fn push_line(&mut self, alloc: Global, out: &mut String, words: &[&str]) -> Answered {
+        self.file.push_str(text_of(alloc, words)?.as_str())?;
+        self.file.push('\n')?;
+        push_file(alloc, out, self.file.as_str())
+    }
+
+    /// Adds the answer to a line.
+    fn push_answer(&mut self, named: &Named, out: &mut String, ask: Ask<'_>) -> Answered {
+        let alloc = named.alloc();
+        match (ask.verb, ask.words) {
+            ("reader", []) => self.layout = Layout::Rdw,
+            ("reader", ["bdw"]) => self.layout = Layout::Bdw,
+            ("joiner", []) => self.joiner = Some(Joiner::new(alloc, self.layout)?),
+            ("feed" | "record" | "finish" | "next", parts) => {
+                let joiner = self.joiner.as_mut().ok_or(NoAnswer::Unread)?;
+                push_joined(out, joiner, ask.verb, &dump_of(named, parts)?)?;
+            }
+            ("line", words) => self.push_line(alloc, out, words)?,
+            ("split", parts) => push_parts(alloc, out, self.layout, &dump_of(named, parts)?)?,
+            ("pieces", [sizes, parts @ ..]) => push_pieces(named, out, self.layout, sizes, parts)?,
+            _ => push_priced(named, out, ask)?,
+        }
+        Ok(())
     }
 }
 
@@ -57,21 +120,13 @@ impl Answers for RecordLines {
         ask: Ask<'_>,
         out: &mut Vec<u8>,
     ) -> Result<bool, AllocError> {
-        match ask.verb {
-            "packed" | "day" | "date" => answer_date(named.alloc(), ask, out),
-            "show" | "encode" | "name" => answer_text(named.alloc(), ask, out),
-            "reader" => Ok(self.set_reader(ask.words)),
-            "split" | "header" | "work" => answer_dump(named, self.layout, ask, out),
-            "pieces" => answer_pieces(named, self.layout, ask.words, out),
-            "class" => answer_class(named, ask.words, out),
-            "field" => answer_field(named, ask.words, out),
-            "flat" => answer_flat(named, ask.words, out),
-            "price" => answer_price(named, ask.words, out),
-            "file" | "changed" | "repeated" | "say" => answer_file(named, ask, out),
-            "line" => self.answer_line(named.alloc(), ask.words, out),
-            "source" => answer_source(named, ask.words, out),
-            "sink" => answer_sink(named.alloc(), ask.words, out),
-            _ => self.answer_joiner(named, ask, out),
+        let mut text = String::new(named.alloc());
+        let answered = self.push_answer(named, &mut text, ask);
+        out.extend_from_slice(text.as_bytes())?;
+        match answered {
+            Ok(()) => Ok(true),
+            Err(NoAnswer::Unread) => Ok(false),
+            Err(NoAnswer::Memory(error)) => Err(error),
         }
     }
 }

@@ -33,18 +33,14 @@
 //! | `sink SIZE WRITES HEX..` | each write to a sink over a writer that takes so much |
 #![tactic(auto)]
 
-mod dates;
 mod dump_reader;
 mod dumps;
 mod fields;
-mod joiner_lines;
+mod joined;
 mod lines;
+mod marks;
 mod pieces;
-mod prices;
-mod records;
-mod stream_lines;
-mod taker;
-mod tariff_files;
+mod tariffs;
 mod texts;
 mod words;
 

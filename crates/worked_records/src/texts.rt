@@ -1,71 +1,60 @@
-//! Code page 037, and the names that centres and shifts have.
+//! Days, as records, tariffs and reports write them, code page 037, and the names of centres.
 
-use crate::words::{push, push_bytes, text_of};
-use row_scripts::{Ask, push_hex, push_line};
-use smf_text::{Name, encode, show};
-use std::alloc::{AllocError, Global};
+use crate::words::{Answered, NoAnswer, text_of};
+use hex::encode_upper;
+use smf_text::{FIRST_DAY, LAST_DAY, Name, day_text, encode, packed_day, show, weekday};
+use std::alloc::Global;
 
 /// What a buffer holds before a text is written into it.
 const BEFORE: u8 = 9;
 
-/// Answers `show HEX`.
-fn answer_show(alloc: Global, hex: &str, out: &mut Vec<u8>) -> Result<bool, AllocError> {
-    let mut bytes = Vec::new(alloc);
-    if !push_hex(&mut bytes, hex)? {
-        return Ok(false);
+/// Adds a day: its number, counted from 1970-01-01, its text, and its weekday, 1 for Monday.
+pub(crate) fn push_day(alloc: Global, out: &mut String, day: Option<i32>) -> Answered {
+    let Some(day) = day.filter(|day| FIRST_DAY <= *day && *day <= LAST_DAY) else {
+        return Ok(writeln!(out, "NO DAY")?);
+    };
+    let text = day_text(alloc, day)?;
+    let of_week = weekday(day);
+    Ok(writeln!(out, "DAY {day} {text} WEEKDAY {of_week}")?)
+}
+
+/// Adds the day of a packed date, or its fault.
+pub(crate) fn push_packed(alloc: Global, out: &mut String, bytes: &[u8]) -> Answered {
+    let [first, second, third, fourth] = *bytes else {
+        return Err(NoAnswer::Unread);
+    };
+    match packed_day(&[first, second, third, fourth]) {
+        Ok(day) => push_day(alloc, out, Some(day)),
+        Err(fault) => Ok(writeln!(out, "FAULT {}", fault.number())?),
     }
-    let shown = show(alloc, &bytes)?;
-    push_line(out, format!(in alloc; "\"{shown}\"")?.as_str())?;
-    Ok(true)
+}
+
+/// Adds bytes as people read them.
+pub(crate) fn push_shown(alloc: Global, out: &mut String, bytes: &[u8]) -> Answered {
+    let shown = show(alloc, bytes)?;
+    Ok(writeln!(out, "\"{shown}\"")?)
 }
 
 /// Adds how many bytes of a buffer a text takes, or its fault, and what the buffer holds then.
-fn push_encoded(alloc: Global, size: u8, text: &str, out: &mut Vec<u8>) -> Result<(), AllocError> {
-    let mut buffer = vec![in alloc; BEFORE; usize::from(size)]?;
-    let answer = match encode(text, &mut buffer) {
-        Ok(count) => format!(in alloc; "WROTE {count} ")?,
-        Err(fault) => format!(in alloc; "FAULT {} ", fault.number())?,
-    };
-    push(out, answer.as_str())?;
-    push_bytes(alloc, out, &buffer)
-}
-
-/// Answers `encode SIZE TEXT`.
-fn answer_encode(alloc: Global, words: &[&str], out: &mut Vec<u8>) -> Result<bool, AllocError> {
-    let Some((size, words)) = words.split_first() else {
-        return Ok(false);
-    };
-    let Ok(size) = size.parse::<u8>() else {
-        return Ok(false);
-    };
-    let text = text_of(alloc, words)?;
-    push_encoded(alloc, size, text.as_str(), out)?;
-    Ok(true)
-}
-
-/// Answers `name TEXT`.
-fn answer_name(alloc: Global, words: &[&str], out: &mut Vec<u8>) -> Result<bool, AllocError> {
-    let text = text_of(alloc, words)?;
-    match Name::of(text.as_str()) {
-        Some(name) => {
-            push(out, "NAME ")?;
-            push_line(out, name.text())?;
-        }
-        None => push_line(out, "NO NAME")?,
-    }
-    Ok(true)
-}
-
-/// Answers a line on texts.
-pub(crate) fn answer_text(
+pub(crate) fn push_encoded(
     alloc: Global,
-    ask: Ask<'_>,
-    out: &mut Vec<u8>,
-) -> Result<bool, AllocError> {
-    match (ask.verb, ask.words) {
-        ("show", [hex]) => answer_show(alloc, hex, out),
-        ("encode", words) => answer_encode(alloc, words, out),
-        ("name", words) => answer_name(alloc, words, out),
-        _ => Ok(false),
+    out: &mut String,
+    size: &str,
+    words: &[&str],
+) -> Answered {
+    let mut buffer = vec![in alloc; BEFORE; usize::from(size.parse::<u8>()?)]?;
+    match encode(text_of(alloc, words)?.as_str(), &mut buffer) {
+        Ok(count) => write!(out, "WROTE {count} ")?,
+        Err(fault) => write!(out, "FAULT {} ", fault.number())?,
     }
+    Ok(writeln!(out, "{}", encode_upper(alloc, buffer)?)?)
+}
+
+/// Adds the name with a text.
+pub(crate) fn push_name(out: &mut String, text: &str) -> Answered {
+    match Name::of(text) {
+        Some(name) => writeln!(out, "NAME {}", name.text())?,
+        None => writeln!(out, "NO NAME")?,
+    }
+    Ok(())
 }

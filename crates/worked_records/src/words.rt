@@ -1,41 +1,44 @@
-//! What words spell, and answers as lines.
+//! What words spell, and why a line has no answer.
 
-use row_scripts::push_line;
+use row_scripts::{Named, push_hex};
 use std::alloc::{AllocError, Global};
+use std::num::ParseIntError;
 
-/// Adds a text.
-pub(crate) fn push(out: &mut Vec<u8>, text: &str) -> Result<(), AllocError> {
-    out.extend_from_slice(text.as_bytes())?;
-    Ok(())
+/// Why a line has no answer.
+#[derive(Clone, Copy)]
+pub(crate) enum NoAnswer {
+    Unread,
+    Memory(AllocError),
 }
 
-/// Adds bytes, two capital digits each.
-pub(crate) fn push_digits(
-    alloc: Global,
-    out: &mut Vec<u8>,
-    bytes: &[u8],
-) -> Result<(), AllocError> {
-    for byte in bytes {
-        let digits = format!(in alloc; "{byte:02X}")?;
-        push(out, digits.as_str())?;
+/// What comes of a line whose answer is added to a text.
+pub(crate) type Answered = Result<(), NoAnswer>;
+
+impl From<AllocError> for NoAnswer {
+    fn from(error: AllocError) -> NoAnswer {
+        NoAnswer::Memory(error)
     }
-    Ok(())
 }
 
-/// Adds a line of bytes.
-pub(crate) fn push_bytes(alloc: Global, out: &mut Vec<u8>, bytes: &[u8]) -> Result<(), AllocError> {
-    push_digits(alloc, out, bytes)?;
-    push(out, "\n")
+impl From<ParseIntError> for NoAnswer {
+    fn from(_: ParseIntError) -> NoAnswer {
+        NoAnswer::Unread
+    }
 }
 
-/// Adds a line of a number.
-pub(crate) fn push_number(alloc: Global, out: &mut Vec<u8>, number: u64) -> Result<(), AllocError> {
-    push_line(out, format!(in alloc; "{number}")?.as_str())
+/// The dump of parts.
+pub(crate) fn dump_of(named: &Named, parts: &[&str]) -> Result<Vec<u8>, NoAnswer> {
+    named.dump(parts)?.ok_or(NoAnswer::Unread)
 }
 
-/// Adds the number of a fault.
-pub(crate) fn push_fault(alloc: Global, out: &mut Vec<u8>, number: u8) -> Result<(), AllocError> {
-    push_line(out, format!(in alloc; "FAULT {number}")?.as_str())
+/// The bytes that a word spells.
+pub(crate) fn hex_of(alloc: Global, word: &str) -> Result<Vec<u8>, NoAnswer> {
+    let mut bytes = Vec::new(alloc);
+    if push_hex(&mut bytes, word)? {
+        Ok(bytes)
+    } else {
+        Err(NoAnswer::Unread)
+    }
 }
 
 /// The text of words: a blank between two, `\n` is a line's end, and `\s` a blank.
@@ -50,12 +53,8 @@ pub(crate) fn split_words<'a, 'b>(
     words: &'a [&'b str],
     between: &str,
 ) -> Option<(&'a [&'b str], &'a [&'b str])> {
-    for (at, word) in words.iter().enumerate() {
-        if *word == between {
-            let (before, rest) = words.split_at(at);
-            let (_, behind) = rest.split_first()?;
-            return Some((before, behind));
-        }
-    }
-    None
+    let at = words.iter().position(|word| *word == between)?;
+    let (before, rest) = words.split_at(at);
+    let (_, behind) = rest.split_first()?;
+    Some((before, behind))
 }

@@ -1,0 +1,60 @@
+//! What comes of a line, or why nothing does.
+
+use std::alloc::{AllocError, AllocFailed};
+use std::io;
+use std::num::ParseIntError;
+
+/// Why a line is not answered.
+#[derive(Clone, Copy, Debug, PartialEq, Eq)]
+pub enum LineFault {
+    /// It can't be read.
+    Unread,
+    /// There is no memory for its answer.
+    Memory,
+}
+
+/// What comes of a line.
+pub type Answered<T = ()> = Result<T, LineFault>;
+
+/// What came of a line, if it could be read.
+pub fn if_read<T: Drop>(answered: Answered<T>) -> Result<Option<T>, AllocError> {
+    match answered {
+        Ok(value) => Ok(Some(value)),
+        Err(LineFault::Unread) => Ok(None),
+        Err(LineFault::Memory) => Err(AllocError),
+    }
+}
+
+/// A line could be read where this holds.
+pub(crate) fn read_where(is_read: bool) -> Answered {
+    if is_read {
+        Ok(())
+    } else {
+        Err(LineFault::Unread)
+    }
+}
+
+impl From<ParseIntError> for LineFault {
+    fn from(_: ParseIntError) -> LineFault {
+        LineFault::Unread
+    }
+}
+
+impl From<AllocError> for LineFault {
+    fn from(_: AllocError) -> LineFault {
+        LineFault::Memory
+    }
+}
+
+impl<T: Drop> From<AllocFailed<T>> for LineFault {
+    fn from(_: AllocFailed<T>) -> LineFault {
+        LineFault::Memory
+    }
+}
+
+/// Answers are written to memory.
+impl From<io::Error> for LineFault {
+    fn from(_: io::Error) -> LineFault {
+        LineFault::Memory
+    }
+}
