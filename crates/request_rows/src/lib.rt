@@ -1,5 +1,5 @@
-//! Requests over HTTP in scripts, to any ledger. What is taken of an answer is shown byte for byte, a
-//! carriage return as `\r`; behind it stands what was served: `SERVED` and the status, `CLOSED`,
+//! Requests over HTTP in scripts, to any ledger. What is taken of an answer is shown byte for byte,
+//! a carriage return as `\r`; behind it stands what was served: `SERVED` and the status, `CLOSED`,
 //! `READ`, or `WRITE` with how many writes were asked for.
 //!
 //! - `get PATH` asks for a report.
@@ -8,10 +8,10 @@
 //! - `send PARTS..` sends the lines of its body and the parts, with no end of a head between.
 //! - `each-length REQUEST` sends each front of such a request that is not all of it.
 //! - `each-read REQUEST` sends it once for each count of reads behind which reading fails.
-//! - `each-write at:PLACE REQUEST` sends it once for each count of writes behind which writing fails,
-//!   and each time once more. At the place in the dump stands the count, if a place is told.
-//! - `connection pieces:SIZE reads:COUNT takes:SIZE writes:COUNT` sets how many bytes a read gives and
-//!   a write takes, and behind how many each fails. What is left out is not limited.
+//! - `each-write at:PLACE REQUEST` sends it once for each count of writes behind which writing
+//!   fails, and each time once more. At the place in the dump stands the count, if one is told.
+//! - `connection pieces:SIZE reads:COUNT takes:SIZE writes:COUNT` sets how many bytes a read gives
+//!   and a write takes, and behind how many each fails. What is left out is not limited.
 //!
 //! Lengths and counts that follow each other and had the same are shown as one.
 #![tactic(auto)]

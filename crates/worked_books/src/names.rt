@@ -18,7 +18,7 @@ impl Names {
 }
 
 impl Naming for Names {
-    ghost use Rattle.std.specs.Prelude.{replicate};
+    ghost use Rattle.std.specs.Prelude.{if◌then◌else◌, replicate};
     ghost use Rattle.sha2.specs.Sha256.{sha256};
 
     ghost name_of = { λ names bytes. if names.has_one then replicate 32 7 else sha256 bytes };

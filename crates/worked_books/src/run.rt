@@ -37,6 +37,18 @@ pub(crate) const NOT_BEGUN: Came = Came {
     is_as_told: true,
 };
 
+/// How many changes a receipt tells of, and the number of the fault that stopped the import.
+fn told_by_receipt<'a>(words: &[&'a str]) -> Option<(usize, Option<&'a str>)> {
+    let (last, before) = words.split_last()?;
+    let (first, counts) = before.split_first()?;
+    let kept = counts.first()?.parse::<usize>().ok()?;
+    match (*first, *before.last()?, *last) {
+        ("KEPT", "STOP", "END") => Some((kept, None)),
+        ("KEPT", "LEDGER", fault) => Some((kept, Some(fault))),
+        _ => None,
+    }
+}
+
 /// How many changes an answer tells of, and the number of the fault in it, if it is an answer to a
 /// command.
 fn told<'a>(words: &[&'a str]) -> Option<(usize, Option<&'a str>)> {
@@ -44,11 +56,7 @@ fn told<'a>(words: &[&'a str]) -> Option<(usize, Option<&'a str>)> {
         ["DONE"] => Some((1, None)),
         ["ALREADY"] => Some((0, None)),
         ["chargectl:", "ledger", fault] => Some((0, Some(fault))),
-        ["KEPT", kept, .., "STOP", "END"] => Some((kept.parse::<usize>().ok()?, None)),
-        ["KEPT", kept, .., "STOP", "LEDGER", fault] => {
-            Some((kept.parse::<usize>().ok()?, Some(fault)))
-        }
-        _ => None,
+        _ => told_by_receipt(words),
     }
 }
 

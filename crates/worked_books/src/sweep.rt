@@ -7,6 +7,7 @@ use crate::run::{Came, NOT_BEGUN, Run};
 use crate::unstopped::Unstopped;
 use book_core::{Ledger, LedgerFault, ShaNames};
 use book_tables::TableLedger;
+use sqlite::Connection;
 use std::alloc::{AllocError, Global};
 
 /// Books in files.
@@ -22,25 +23,45 @@ impl From<AllocError> for Other {
     }
 }
 
-/// The books in files, new ones where there are none; the files where the disk failed.
-fn open<S: Restart>(alloc: Global, files: S::Disks) -> Result<Result<Books<S>, S::Disks>, Other> {
-    let conn = match S::connect(alloc, files) {
-        Ok(conn) => conn,
-        Err(files) => return Ok(Err(files)),
-    };
+/// Books that were opened, or the files of a disk that failed.
+type Opened<S> = Result<Books<S>, <S as Restart>::Disks>;
+
+/// The files of a database in which no books were opened or made, by a fault of the store.
+fn left_by<S: Restart>(fault: LedgerFault, conn: Connection<S>) -> Result<Opened<S>, Other> {
+    match fault {
+        LedgerFault::Store => Ok(Err(conn.into_store().crash())),
+        _ => Err(Other("OTHER ANSWERS")),
+    }
+}
+
+/// New books in an empty database.
+fn create_on<S: Restart>(alloc: Global, conn: Connection<S>) -> Result<Opened<S>, Other> {
     if !conn.is_autocommit() {
         return Err(Other("OTHER ANSWERS"));
     }
-    let opened = match TableLedger::open(alloc, conn, ShaNames) {
-        Err((LedgerFault::NotBooks, conn)) if conn.is_autocommit() => {
-            TableLedger::create(alloc, conn, ShaNames)
-        }
-        opened => opened,
-    };
-    match opened {
+    match TableLedger::create(alloc, conn, ShaNames) {
         Ok(books) => Ok(Ok(books)),
-        Err((LedgerFault::Store, conn)) => Ok(Err(conn.into_store().crash())),
-        Err(_) => Err(Other("OTHER ANSWERS")),
+        Err((fault, conn)) => left_by(fault, conn),
+    }
+}
+
+/// The books in a database, new ones where there are none.
+fn open_on<S: Restart>(alloc: Global, conn: Connection<S>) -> Result<Opened<S>, Other> {
+    if !conn.is_autocommit() {
+        return Err(Other("OTHER ANSWERS"));
+    }
+    match TableLedger::open(alloc, conn, ShaNames) {
+        Ok(books) => Ok(Ok(books)),
+        Err((LedgerFault::NotBooks, conn)) => create_on(alloc, conn),
+        Err((fault, conn)) => left_by(fault, conn),
+    }
+}
+
+/// The books in files, new ones where there are none; the files where the disk failed.
+fn open<S: Restart>(alloc: Global, files: S::Disks) -> Result<Opened<S>, Other> {
+    match S::connect(alloc, files) {
+        Ok(conn) => open_on(alloc, conn),
+        Err(files) => Ok(Err(files)),
     }
 }
 
