@@ -1,4 +1,5 @@
-"""What crates.txt says: each crate of the repository, and which others of it each one uses."""
+"""What crates.txt says: each crate of the repository, and which others of it each one uses; and what tools/times says of their
+proofs."""
 import pathlib
 
 ROOT = pathlib.Path(__file__).resolve().parent.parent
@@ -12,6 +13,13 @@ def uses():
         if found:
             lines[name.split()[0]] = libraries.split()
     return {name: [library for library in libraries if library in lines] for name, libraries in lines.items()}
+
+
+def times():
+    """Of each crate the seconds of processor time that its proof took from nothing, where tools/times has them."""
+    lines = (ROOT / "tools" / "times").read_text().splitlines()
+    pairs = (line.split() for line in lines if line and not line.startswith("#"))
+    return {name: int(seconds) for name, seconds in pairs}
 
 
 def below(name, of=None):
