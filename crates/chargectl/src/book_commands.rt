@@ -1,15 +1,14 @@
-//! The commands on books in a file. Faults are found in the order of the words: a date, the books,
-//! the file, and then what the books say.
+//! The commands on books. Faults are found in the order of the words: a date, the books, the file, and
+//! then what the books say.
 
-use crate::asked::{Dump, PeriodEnd, TariffText, Written};
-use crate::file_books::{ask_books, expect_books};
+ghost use Rattle.office.specs.Requests.{IsAskableAnew};
+ghost use Rattle.office.proofs.AskLemmas.{askable_once};
+
 use crate::progress::Watched;
 use crate::trouble::{Trouble, ended};
-use book_core::{LedgerFault, Ruled, Sink};
-use book_import::Receipt;
-use book_reports::receipt_line;
-use command_words::{DumpFile, Report};
-use smf_frames::Layout;
+use book_core::{Ledger, LedgerFault, Sink, Source};
+use command_words::DumpFile;
+use office::{Answer, Asked, Report, Shelf, Visit, answer};
 use smf_text::day_of_text;
 use std::alloc::Global;
 use std::fs::File;
@@ -17,17 +16,46 @@ use std::io::{IsTerminal, Read, Write};
 use std::{fs, io};
 use tariff_rules::{MAX_TEXT, TariffFault};
 
+/// A request to the office, with the reader of its dump and the writer of its answer.
+#[derive(Drop)]
+struct Question<R: Read + Drop, W: Write + Drop> {
+    alloc: Global,
+    asked: Asked,
+    input: R,
+    output: W,
+    ghost askable: { IsAskableAnew asked } by { Prim.hlevel askable_once },
+}
+
+impl<R: Read + Drop, W: Write + Drop> Visit for Question<R, W> {
+    /// What the books answered, written.
+    type Answer = Result<Answer, Trouble>;
+
+    fn visit<L: Ledger>(self, books: &mut L) -> Result<Answer, Trouble> {
+        let mut source = Source::new(self.input);
+        let mut sink = Sink::new(self.output);
+        let answered = answer(self.alloc, books, &self.asked, &mut source, &mut sink)?;
+        sink.into_inner().flush()?;
+        Ok(answered)
+    }
+}
+
 /// Hands in a tariff.
-pub(crate) fn tariff<O: Write + Drop>(
+pub(crate) fn tariff<S: Shelf, O: Write + Drop>(
     rt: &HostRuntime,
+    shelf: &S,
     book: &str,
     file: &str,
     output: O,
 ) -> Result<(), Trouble> {
-    expect_books(rt, book)?;
-    let text = tariff_text(rt, file)?;
-    let ruled = ask_books(rt, book, TariffText { text })?;
-    say_ruled(ruled?, output)
+    shelf.expect(book)?;
+    let question = Question {
+        alloc: rt.alloc(),
+        asked: Asked::Tariff(tariff_text(rt, file)?),
+        input: io::empty(),
+        output,
+    };
+    shelf.open(book, question)??;
+    Ok(())
 }
 
 /// The text of a tariff file.
@@ -47,8 +75,9 @@ fn refused(fault: TariffFault) -> Trouble {
 }
 
 /// Closes a period through a day.
-pub(crate) fn close<O: Write + Drop>(
+pub(crate) fn close<S: Shelf, O: Write + Drop>(
     rt: &HostRuntime,
+    shelf: &S,
     book: &str,
     period: u16,
     date: &str,
@@ -57,36 +86,36 @@ pub(crate) fn close<O: Write + Drop>(
     let Some(through) = day_of_text(date) else {
         return Err(Trouble::Word);
     };
-    expect_books(rt, book)?;
-    let ruled = ask_books(rt, book, PeriodEnd { period, through })?;
-    say_ruled(ruled?, output)
-}
-
-fn say_ruled<O: Write + Drop>(ruled: Ruled, mut output: O) -> Result<(), Trouble> {
-    let answer = match ruled {
-        Ruled::Done => "DONE",
-        Ruled::Already => "ALREADY",
+    shelf.expect(book)?;
+    let question = Question {
+        alloc: rt.alloc(),
+        asked: Asked::Close { period, through },
+        input: io::empty(),
+        output,
     };
-    writeln!(output, "{answer}")?;
-    Ok(output.flush()?)
+    shelf.open(book, question)??;
+    Ok(())
 }
 
 /// Reads a dump into the books, and prints the receipt line, whatever stopped the import.
-pub(crate) fn import_dump<O: Write + Drop>(
+pub(crate) fn import_dump<S: Shelf, O: Write + Drop>(
     rt: &HostRuntime,
+    shelf: &S,
     book: &str,
     dump: DumpFile<'_>,
     output: O,
 ) -> Result<(), Trouble> {
-    expect_books(rt, book)?;
-    let asked = Dump {
+    shelf.expect(book)?;
+    let question = Question {
         alloc: rt.alloc(),
+        asked: Asked::Import(dump.layout),
         input: watched(rt, dump)?,
-        layout: dump.layout,
+        output,
     };
-    let (receipt, input) = ask_books(rt, book, asked)?;
-    input.end();
-    say_receipt(rt.alloc(), &receipt, output)
+    match shelf.open(book, question)?? {
+        Answer::Receipt(receipt) => ended(receipt.stop),
+        Answer::Ruled(_) | Answer::Text(_) => Ok(()),
+    }
 }
 
 /// The file of a dump, which shows how far it is read.
@@ -96,28 +125,21 @@ fn watched<'a>(rt: &'a HostRuntime, dump: DumpFile<'_>) -> io::Result<Watched<'a
     Ok(Watched::new(rt, input, dump.layout, is_shown))
 }
 
-fn say_receipt<O: Write + Drop>(
-    alloc: Global,
-    receipt: &Receipt,
-    output: O,
-) -> Result<(), Trouble> {
-    let mut sink = Sink::new(output);
-    receipt_line(alloc, receipt, &mut sink)?;
-    ended(receipt.stop)
-}
-
 /// Prints a report of the books.
-pub(crate) fn report<O: Write + Drop>(
+pub(crate) fn report<S: Shelf, O: Write + Drop>(
     rt: &HostRuntime,
+    shelf: &S,
     book: &str,
     report: Report,
     output: O,
 ) -> Result<(), Trouble> {
-    expect_books(rt, book)?;
-    let asked = Written {
+    shelf.expect(book)?;
+    let question = Question {
         alloc: rt.alloc(),
-        report,
+        asked: Asked::Report(report),
+        input: io::empty(),
         output,
     };
-    Ok(ask_books(rt, book, asked)??)
+    shelf.open(book, question)??;
+    Ok(())
 }

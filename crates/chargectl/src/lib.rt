@@ -1,11 +1,9 @@
 //! What the program of the chargeback office does with its words and streams.
 #![tactic(auto)]
 
-mod asked;
 mod book_commands;
 mod connection;
 mod explained;
-mod file_books;
 mod program;
 mod progress;
 mod serve;

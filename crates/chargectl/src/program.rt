@@ -2,13 +2,13 @@
 
 use crate::book_commands::{close, import_dump, report, tariff};
 use crate::explained::explained;
-use crate::file_books::make_books;
 use crate::progress::Watched;
 use crate::serve::serve;
 use crate::trouble::{Trouble, ended};
 use book_core::{Sink, Source};
 use book_import::MAX_READS;
 use command_words::{BookRequest, DumpFile, NumberKind, Request, WordFault, requested_by};
+use office::Shelf;
 use program_answers::{PROGRAM, Status, check_list, io_failed, out_of_memory, trial};
 use smf_frames::Layout;
 use std::alloc::Global;
@@ -16,16 +16,17 @@ use std::fs;
 use std::io::{IsTerminal, Read, Write};
 use tariff_rules::{MAX_RATE, Tariff};
 
-/// Does what the words ask for, of which the first is the program's name.
-pub fn command<I: Read + Drop, O: Write + Drop, E: Write>(
+/// Does what the words ask for, of which the first is the program's name. Books are kept on a shelf.
+pub fn command<S: Shelf, I: Read + Drop, O: Write + Drop, E: Write>(
     rt: &HostRuntime,
+    shelf: &S,
     words: &[String],
     input: I,
     output: O,
     errors: &mut E,
 ) -> Status {
     match requested_by(rt.alloc(), PROGRAM, words, MAX_RATE as u32) {
-        Ok(request) => status_of(run(rt, request, input, output), errors),
+        Ok(request) => status_of(run(rt, shelf, request, input, output), errors),
         Err(fault) => refuse(&fault, output, errors),
     }
 }
@@ -38,8 +39,9 @@ fn status_of<E: Write>(ended: Result<(), Trouble>, errors: &mut E) -> Status {
 }
 
 /// Does what is asked.
-fn run<I: Read + Drop, O: Write + Drop>(
+fn run<S: Shelf, I: Read + Drop, O: Write + Drop>(
     rt: &HostRuntime,
+    shelf: &S,
     request: Request<'_>,
     input: I,
     output: O,
@@ -56,24 +58,25 @@ fn run<I: Read + Drop, O: Write + Drop>(
         }
         Request::Check(dump) => check(rt, dump, output),
         Request::Explain { kind, number } => explain(kind, number, output),
-        Request::OfBooks { book, asked } => run_on_books(rt, book, asked, output),
+        Request::OfBooks { book, asked } => run_on_books(rt, shelf, book, asked, output),
     }
 }
 
 /// Does what is asked of books.
-fn run_on_books<O: Write + Drop>(
+fn run_on_books<S: Shelf, O: Write + Drop>(
     rt: &HostRuntime,
+    shelf: &S,
     book: &str,
     asked: BookRequest<'_>,
     output: O,
 ) -> Result<(), Trouble> {
     match asked {
-        BookRequest::Init => make_books(rt, book),
-        BookRequest::Tariff { file } => tariff(rt, book, file, output),
-        BookRequest::Import(dump) => import_dump(rt, book, dump, output),
-        BookRequest::Close { period, date } => close(rt, book, period, date, output),
-        BookRequest::Print(asked) => report(rt, book, asked, output),
-        BookRequest::Serve { port, requests } => serve(rt, book, port, requests, output),
+        BookRequest::Init => Ok(shelf.make(book)?),
+        BookRequest::Tariff { file } => tariff(rt, shelf, book, file, output),
+        BookRequest::Import(dump) => import_dump(rt, shelf, book, dump, output),
+        BookRequest::Close { period, date } => close(rt, shelf, book, period, date, output),
+        BookRequest::Print(asked) => report(rt, shelf, book, asked, output),
+        BookRequest::Serve { port, requests } => serve(rt, shelf, book, port, requests, output),
     }
 }
 
@@ -122,7 +125,5 @@ fn check<O: Write + Drop>(rt: &HostRuntime, dump: DumpFile<'_>, output: O) -> Re
     let input = fs::open(rt, dump.file)?;
     let mut source = Source::new(Watched::new(rt, input, layout, is_shown));
     let mut sink = Sink::new(output);
-    let listed = check_list(rt.alloc(), &mut source, layout, MAX_READS, &mut sink);
-    source.into_inner().end();
-    ended(listed?)
+    ended(check_list(rt.alloc(), &mut source, layout, MAX_READS, &mut sink)?)
 }

@@ -65,6 +65,11 @@ impl<'a> Progress<'a> {
         }
     }
 
+    /// Takes the line away.
+    fn clear(&self) {
+        let _ = write!(self.rt.stderr(), "{CLEARED}");
+    }
+
     fn show(&mut self) {
         let (bytes, records) = (self.bytes, self.records);
         let _ = write!(
@@ -77,7 +82,7 @@ impl<'a> Progress<'a> {
     }
 }
 
-/// A reader that shows how far it was read.
+/// A reader that shows how far it was read, up to its end or a failure.
 #[derive(Drop)]
 pub(crate) struct Watched<'a, R: Read + Drop> {
     inner: R,
@@ -99,22 +104,17 @@ impl<'a, R: Read + Drop> Watched<'a, R> {
         };
         Watched { inner, progress }
     }
-
-    /// Takes the line away.
-    pub(crate) fn end(self) {
-        let Watched { inner: _, progress } = self;
-        if let Some(progress) = progress {
-            let _ = write!(progress.rt.stderr(), "{CLEARED}");
-        }
-    }
 }
 
 impl<R: Read + Drop> Read for Watched<'_, R> {
     fn read(&mut self, buffer: &mut [u8]) -> io::Result<usize> {
-        let count = self.inner.read(buffer)?;
-        if let (Some(progress), Some(piece)) = (&mut self.progress, buffer.get(..count)) {
-            progress.count(piece);
+        let answer = self.inner.read(buffer);
+        if let Some(progress) = &mut self.progress {
+            match &answer {
+                Ok(count) if *count > 0 => progress.count(buffer.get(..*count).unwrap_or(&[])),
+                _ => progress.clear(),
+            }
         }
-        Ok(count)
+        answer
     }
 }

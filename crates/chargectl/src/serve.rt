@@ -1,11 +1,10 @@
 //! Answers for the books over HTTP, on this machine alone.
 
-use crate::asked::Asked;
 use crate::connection::Client;
-use crate::file_books::{ask_books, expect_books};
 use crate::trouble::Trouble;
 use book_core::{Ledger, Sink, Source};
 use book_http::{Served, serve_one};
+use office::{Shelf, Visit};
 use std::io;
 use std::io::Write;
 use std::net::{TcpListener, TcpStream};
@@ -15,21 +14,22 @@ const UNAVAILABLE: u16 = 503;
 
 /// Answers so many connections, one after the other, and says of each what became of it. After an
 /// answer that the books could not give, their file is closed and opened again.
-pub(crate) fn serve<O: Write + Drop>(
+pub(crate) fn serve<S: Shelf, O: Write + Drop>(
     rt: &HostRuntime,
+    shelf: &S,
     book: &str,
     port: u16,
     requests: u32,
     mut output: O,
 ) -> Result<(), Trouble> {
-    expect_books(rt, book)?;
+    shelf.expect(book)?;
     let first = FirstSession {
         rt,
         port,
         requests,
         output: &mut output,
     };
-    let (listener, mut left) = ask_books(rt, book, first)??;
+    let (listener, mut left) = shelf.open(book, first)??;
     // Each session but the last answers one connection at least.
     for _ in 0..requests {
         let Some(requests) = left else {
@@ -41,7 +41,7 @@ pub(crate) fn serve<O: Write + Drop>(
             requests,
             output: &mut output,
         };
-        left = ask_books(rt, book, next)??;
+        left = shelf.open(book, next)??;
     }
     Ok(())
 }
@@ -55,11 +55,11 @@ struct FirstSession<'a, O: Write> {
     output: &'a mut O,
 }
 
-impl<'a, O: Write> Asked for FirstSession<'a, O> {
+impl<'a, O: Write> Visit for FirstSession<'a, O> {
     /// The port, and how many connections are left where the books are to be opened again.
     type Answer = io::Result<(TcpListener, Option<u32>)>;
 
-    fn ask<L: Ledger>(self, books: &mut L) -> io::Result<(TcpListener, Option<u32>)> {
+    fn visit<L: Ledger>(self, books: &mut L) -> io::Result<(TcpListener, Option<u32>)> {
         let listener = listen(self.rt, self.port, self.output)?;
         let left = serve_while_open(self.rt, &listener, self.requests, books, self.output)?;
         Ok((listener, left))
@@ -75,11 +75,11 @@ struct Session<'a, O: Write> {
     output: &'a mut O,
 }
 
-impl<'a, O: Write> Asked for Session<'a, O> {
+impl<'a, O: Write> Visit for Session<'a, O> {
     /// How many connections are left where the books are to be opened again.
     type Answer = io::Result<Option<u32>>;
 
-    fn ask<L: Ledger>(self, books: &mut L) -> io::Result<Option<u32>> {
+    fn visit<L: Ledger>(self, books: &mut L) -> io::Result<Option<u32>> {
         serve_while_open(self.rt, self.listener, self.requests, books, self.output)
     }
 }

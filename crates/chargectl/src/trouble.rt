@@ -1,6 +1,7 @@
 use book_core::LedgerFault;
 use book_import::Stop;
 use book_reports::ReportFault;
+use office::ShelfFault;
 use program_answers::{
     Status, io_failed, ledger_refused, no_such_number, report_failed, said, stopped,
 };
@@ -70,6 +71,16 @@ impl From<AllocError> for Trouble {
 impl From<LedgerFault> for Trouble {
     fn from(fault: LedgerFault) -> Trouble {
         Trouble::Ledger(fault)
+    }
+}
+
+impl From<ShelfFault> for Trouble {
+    fn from(fault: ShelfFault) -> Trouble {
+        match fault {
+            ShelfFault::Io => Trouble::Io,
+            ShelfFault::Exists => Trouble::Exists,
+            ShelfFault::Ledger(fault) => Trouble::Ledger(fault),
+        }
     }
 }
 

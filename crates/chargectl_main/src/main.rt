@@ -1,13 +1,24 @@
 //! The program of the chargeback office.
 #![tactic(auto)]
 
+use book_files::Files;
 use chargectl::{command, words_failed};
 use std::process::ExitCode;
 use std::{env, io};
 
 fn main(rt: HostRuntime) -> ExitCode {
     let status = match given_words(&rt) {
-        Ok(words) => command(&rt, &words, rt.reader(), io::writer(&rt), &mut rt.stderr()),
+        Ok(words) => {
+            let (input, output) = (rt.reader(), io::writer(&rt));
+            command(
+                &rt,
+                &Files::of(&rt),
+                &words,
+                input,
+                output,
+                &mut rt.stderr(),
+            )
+        }
         Err(error) => words_failed(&mut rt.stderr(), &error),
     };
     ExitCode::from(status.code())

@@ -1,7 +1,8 @@
 //! The command that `clap` found in the words.
 
-use crate::request::{BookRequest, DumpFile, NumberKind, Report, Request};
+use crate::request::{BookRequest, DumpFile, NumberKind, Request};
 use clap::ArgMatches;
+use office::Report;
 use smf_frames::Layout;
 
 /// The command with its words. None stands for a subcommand or a missing word that the command line
@@ -78,8 +79,8 @@ fn close_in<'a>(found: &ArgMatches<'a>) -> Option<BookRequest<'a>> {
 
 fn report_in(name: &str, found: &ArgMatches<'_>) -> Option<Report> {
     match name {
-        "disputes" => Some(Report::Disputes),
-        "adjustments" => Some(Report::Adjustments(period_in(found)?)),
+        "disputes" => Some(Report::DisputeList),
+        "adjustments" => Some(Report::AdjustmentList(period_in(found)?)),
         "statement" => statement_in(found),
         _ => None,
     }

@@ -1,3 +1,4 @@
+use office::Report;
 use smf_frames::Layout;
 
 /// What a number is the number of.
@@ -22,19 +23,6 @@ pub struct DumpFile<'a> {
     pub layout: Layout,
     /// Nothing is shown of how far it is.
     pub quiet: bool,
-}
-
-/// A report of the books.
-#[derive(Clone, Copy)]
-pub enum Report {
-    /// What a period charges.
-    Statement(u16),
-    /// The same as rows of comma-separated values.
-    StatementTable(u16),
-    /// What a period adds to closed ones, and takes back.
-    Adjustments(u16),
-    /// The identities that two or more records have.
-    Disputes,
 }
 
 /// What is asked of books in a file.

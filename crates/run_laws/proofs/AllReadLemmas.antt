@@ -25,7 +25,7 @@ use Rattle.history_laws.proofs.ReadLemmas.{conserved}
 use Rattle.run_laws.specs.AllRead.{PeriodLists, list_calls, rows_in, lines_in, rows_cost}
 use Rattle.run_laws.specs.AllRead.{ListsConserve}
 use Rattle.run_laws.specs.Calls.{works_of}
-use Rattle.run_laws.proofs.LeavingLemmas.{calls_follow_history}
+use Rattle.run_laws.proofs.CallLemmas.{calls_follow_history}
 
 -- what stands behind a front is found at its length
 found_behind : {X : Type 0} (front later : List X) (x : X)

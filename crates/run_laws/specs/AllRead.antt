@@ -8,7 +8,7 @@ use Rattle.book_model.specs.Words.{total_of, IsAnswered, Book, charged_of, open_
 use Rattle.book_model.specs.Words.{book_after, book_of, Naming}
 use Rattle.book_core.specs.Ledgers.{Seen, IsOpenAt}
 use Rattle.history_laws.specs.Amounts.{plus_of, minus_of}
-use Rattle.run_laws.specs.CallLaws.{IsStillOpen}
+use Rattle.office.specs.Laws.{IsStillOpen}
 use Rattle.run_laws.specs.Calls.{Call, ReadCharges, ReadAdjustments, Step, AreDone, calls_of}
 use Rattle.run_laws.specs.Calls.{ledger_after}
 

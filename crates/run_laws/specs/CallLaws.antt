@@ -1,13 +1,9 @@
 -- What calls on one ledger, one after another, leave of it.
-use Rattle.std.specs.Prelude.{◌≡◌, false, List, ◌++◌}
+use Rattle.std.specs.Prelude.{false, List, ◌++◌}
 use Rattle.book_model.specs.Words.{IsAnswered, Event, book_after, Naming}
 use Rattle.book_core.specs.Ledgers.{Seen, IsOpenAt}
+use Rattle.office.specs.Laws.{IsStillOpen}
 use Rattle.run_laws.specs.Calls.{Call, Step, AreDone, calls_of, ledger_after, works_of}
-
--- no store has failed, and what the ledger is kept on returned what was written
-pub record IsStillOpen (seen : Seen) : Type 0 where
-  pub is_open : seen.must_reopen ≡ false
-  pub honest : seen.is_honest
 
 -- The calls made these events, the newest first, and the ledger is open at the books of the history
 -- that goes on with them.

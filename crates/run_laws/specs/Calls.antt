@@ -1,52 +1,39 @@
 -- Calls on one ledger, one after another.
-use Rattle.std.specs.Prelude.{ℕ, ℤ, List, [], ◌∷◌, Option, Result, Vec, map}
+use Rattle.std.specs.Prelude.{ℕ, ℤ, List, [], ◌∷◌, Result, Vec, map}
 use Rattle.std.specs.Global.{Global}
-use Rattle.smf_frames.specs.declared.dump.Layout.{Layout}
 use Rattle.book_model.specs.declared.answer.Accepted.{Accepted}
-use Rattle.book_model.specs.declared.answer.Ruled.{Ruled}
 use Rattle.book_model.specs.declared.dispute.Dispute.{Dispute}
 use Rattle.book_model.specs.declared.fault.LedgerFault.{LedgerFault}
 use Rattle.book_model.specs.declared.line.Line.{Line}
 use Rattle.book_model.specs.declared.row.ChargeRow.{ChargeRow}
-use Rattle.book_model.specs.Words.{dispute_shown, accept_outcome, tariff_outcome, close_outcome}
-use Rattle.book_model.specs.Words.{charges_outcome, adjustments_outcome, disputes_outcome}
-use Rattle.book_model.specs.Words.{periods_outcome, Naming}
+use Rattle.book_model.specs.Words.{dispute_shown, accept_outcome, charges_outcome}
+use Rattle.book_model.specs.Words.{adjustments_outcome, disputes_outcome, periods_outcome, Naming}
 use Rattle.book_core.specs.Calls.{Calls}
 use Rattle.book_core.specs.Ledgers.{Seen}
 use Rattle.book_core.specs.Work.{Work, NoEvent, Then, IsWork}
 use Rattle.book_import.specs.declared.command.Command.{Command}
 use Rattle.book_import.specs.declared.command.Reply.{Reply}
-use Rattle.book_import.specs.declared.receipt.Receipt.{Receipt}
-use Rattle.book_import.specs.declared.receipt.Stop.{Stop}
 use Rattle.book_import.specs.Commands.{Runs}
-use Rattle.book_import.specs.Imports.{Imports}
-use Rattle.run_laws.specs.declared.report.Report.{Report}
-use Rattle.run_laws.specs.Reports.{report_work}
+use Rattle.office.specs.declared.request.Asked.{Asked}
+use Rattle.office.specs.Requests.{Dump, Told, Asks}
 
--- What was asked of a ledger, and what it answered: commands by `run`; the import of a dump, whose
--- reading something may have cut short; a record; a tariff; a close; a list of a period, of the
--- disputes or of the closes; or a report.
+-- What was asked of a ledger, and what it answered: commands by `run`; a request to the office, with
+-- the dump that it gave; a record; or a list of a period, of the disputes or of the closes.
 pub data Call : Type 0 where
   RunCommands : List Command → List Reply → Call
-  ImportDump : Layout → Option Stop → List ℕ → Receipt → Call
+  Request : Asked → Dump → Result Told LedgerFault → Call
   AcceptRecord : List ℕ → Result Accepted LedgerFault → Call
-  PutInForce : List ℕ → Result Ruled LedgerFault → Call
-  ClosePeriod : ℕ → ℤ → Result Ruled LedgerFault → Call
   ReadCharges : ℕ → Result (Vec ChargeRow Global) LedgerFault → Call
   ReadAdjustments : ℕ → Result (Vec Line Global) LedgerFault → Call
   ReadDisputes : Result (Vec Dispute Global) LedgerFault → Call
   ReadPeriods : Result (Vec ℤ Global) LedgerFault → Call
-  ReadReport : Report → Result (List ℕ) LedgerFault → Call
 
 -- the work that the contract of the call says
 abbrev pub work_of : Naming → Call → Work
 work_of naming (RunCommands commands replies) = Runs naming commands replies
-work_of naming (ImportDump layout cut bytes receipt) = Imports naming layout cut bytes receipt
+work_of naming (Request asked dump told) = Asks naming asked dump told
 work_of naming (AcceptRecord bytes answer) =
     Calls (λ answer. answer) (accept_outcome naming bytes) answer
-work_of naming (PutInForce text answer) = Calls (λ answer. answer) (tariff_outcome text) answer
-work_of naming (ClosePeriod period through answer) =
-    Calls (λ answer. answer) (close_outcome period through) answer
 work_of naming (ReadCharges period answer) =
     Calls (λ rows. rows.items) (charges_outcome period) answer
 work_of naming (ReadAdjustments period answer) =
@@ -54,7 +41,6 @@ work_of naming (ReadAdjustments period answer) =
 work_of naming (ReadDisputes answer) =
     Calls (λ found. map dispute_shown found.items) (disputes_outcome naming) answer
 work_of naming (ReadPeriods answer) = Calls (λ days. days.items) periods_outcome answer
-work_of naming (ReadReport report answer) = report_work naming report answer
 
 -- the work of all calls, one after the other
 abbrev pub works_of : Naming → List Call → Work

@@ -3,8 +3,6 @@
 
 ghost use Rattle.run_laws.specs.AllRead.{ListsConserve};
 ghost use Rattle.run_laws.specs.CallLaws.{CallsFollowHistory};
-ghost use Rattle.run_laws.specs.Headline.{ReportsFollowHistory};
-ghost use Rattle.run_laws.specs.Imports.{ReceiptsFollowHistory};
 ghost use Rattle.run_laws.specs.Laws.{ClosedStatementsStay, OpenStatementIsFirst, RunOrderIsFree};
 ghost use Rattle.run_laws.specs.Laws.{RunsMakeHistory, RunsChargeOnce, RunsConserve};
 ghost use Rattle.run_laws.specs.Laws.{RunsFollowHistory};
@@ -55,23 +53,6 @@ pub fn open_statement_is_first()
 /// open, it is at the books of the history that goes on with what they made.
 pub fn calls_follow_history<L: Ledger>()
     ensures { CallsFollowHistory L.seen }
-{}
-
-/// The headline: whatever calls were made on new books, each of the six reports that is written
-/// behind them is the text that the definitions give for the office's rulings and the records that
-/// were accepted between them. Two ledgers of any kinds give the same text, byte for byte, where
-/// their histories have the same rulings in the same order, and the same sets of accepted records
-/// between neighbouring rulings.
-pub fn reports_follow_history<L: Ledger, M: Ledger>()
-    ensures { ReportsFollowHistory L.seen M.seen }
-{}
-
-/// The same of the receipt of an import, and of its line: whatever calls were made before, they are
-/// those that the definitions give for the history and the bytes of the dump, where neither want of
-/// memory nor the store stopped the import. Two ledgers of any kinds answer the same receipt of the
-/// same dump, and have the same line of it, where their histories differ as above.
-pub fn receipts_follow_history<L: Ledger, M: Ledger>()
-    ensures { ReceiptsFollowHistory L.seen M.seen }
 {}
 
 /// The charge rows and plus lines that a ledger answers for all its periods, less the minus lines,

@@ -2,6 +2,7 @@
 
 use crate::ends::{Input, Output};
 use crate::left::{Showing, push_left};
+use book_files::Files;
 use chargectl::command;
 use row_scripts::{Answers, Ask, Named, push_line};
 use std::alloc::AllocError;
@@ -120,7 +121,8 @@ impl<'a> Sessions<'a> {
             taken: Vec::new(alloc),
         };
         let mut errors = Vec::new(alloc);
-        let status = command(self.rt, &line, input, &mut output, &mut errors).code();
+        let files = Files::of(self.rt);
+        let status = command(self.rt, &files, &line, input, &mut output, &mut errors).code();
         push_left(alloc, out, showing, output.taken, errors, status)?;
         Ok(true)
     }

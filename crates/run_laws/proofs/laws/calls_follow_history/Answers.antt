@@ -1,4 +1,4 @@
-use Rattle.run_laws.proofs.LeavingLemmas.{calls_follow_history}
+use Rattle.run_laws.proofs.CallLemmas.{calls_follow_history}
 use Rattle.run_laws.proofs.laws.calls_follow_history.Goals as goal
 
 pub returns : goal.returns

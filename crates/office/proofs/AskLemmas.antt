@@ -1,0 +1,90 @@
+-- One request to the books, as work.
+use Rattle.std.proofs.Common.{◌≡◌, Bool, false, List, Result, Ok, Err, sym, ap, subst}
+use Rattle.std.proofs.Common.{arith}
+use Rattle.std.proofs.Props.{props}
+use Rattle.book_model.specs.declared.fault.LedgerFault.{LedgerFault}
+use Rattle.book_model.specs.declared.fault.LedgerFault.TheVariants.{Memory, Store, Reopen}
+use Rattle.book_model.specs.Words.{Book, Event, Outcome}
+use Rattle.book_core.specs.Calls.{Calls}
+use Rattle.book_core.specs.Ledgers.{Seen}
+use Rattle.book_core.specs.Work.{IsWork}
+use Rattle.book_core.proofs.WorkLemmas.{work_as}
+use Rattle.book_reports.specs.BookTexts.{shown_by}
+use Rattle.office.specs.declared.request.Asked.{Asked}
+use Rattle.office.specs.declared.request.Asked.TheVariants.{Tariff, Close, Import, ImportBytes}
+use Rattle.office.specs.declared.request.Asked.TheVariants.{Report}
+use Rattle.office.specs.declared.request.Answer.{Answer}
+use Rattle.office.specs.Requests.{Dump, Told, telling, told_by, IsAskable, IsAskableAnew, Gives, Asks, IsAsked}
+use Rattle.office.specs.Sides.{ReaderSeen, Books, Input}
+
+-- a call of the ledger, told
+pub calls_told : {V A : Type 0} (view : V → A) (say : A → Told) (outcome : Book → Outcome A)
+    (result : Result V LedgerFault) (was : Bool) (before : Book) (events : List Event) (is : Bool)
+    → Calls view outcome result was before events is
+    → Calls (λ told. told) (telling say outcome) (shown_by (λ value. say (view value)) result)
+    was before events is
+calls_told view say outcome (Ok value) was before events is called = record {
+  makes = (ap (shown_by say) called.makes.0, called.makes.1);
+  reopens = record { reopen = called.reopens.reopen; store = called.reopens.store };
+}
+calls_told view say outcome (Err Memory) was before events is called = record {
+  makes = called.makes;
+  reopens = record { reopen = called.reopens.reopen; store = called.reopens.store };
+}
+calls_told view say outcome (Err Store) was before events is called = record {
+  makes = called.makes;
+  reopens = record { reopen = called.reopens.reopen; store = called.reopens.store };
+}
+calls_told view say outcome (Err Reopen) was before events is called = record {
+  makes = called.makes;
+  reopens = record { reopen = called.reopens.reopen; store = called.reopens.store };
+}
+calls_told view say outcome (Err fault) was before events is called = record {
+  makes = (ap (shown_by say) called.makes.0, called.makes.1);
+  reopens = record { reopen = called.reopens.reopen; store = called.reopens.store };
+}
+
+-- so is the work of one
+pub work_told : {V A : Type 0} {old new : Seen} {view : V → A} (say : A → Told)
+    {outcome : Book → Outcome A} {result : Result V LedgerFault} {told : Result Told LedgerFault}
+    → told ≡ shown_by (λ value. say (view value)) result
+    → IsWork old new (Calls view outcome result)
+    → IsWork old new (Calls (λ told. told) (telling say outcome) told)
+work_told {old = old} {new = new} {view = view} say {outcome = outcome} {result = result}
+    {told = told} is work =
+    subst (λ told. IsWork old new (Calls (λ told. told) (telling say outcome) told)) (sym is)
+    (work_as old new (Calls view outcome result) _ (calls_told view say outcome result) work)
+
+module _ {old new : Seen} {asked : Asked} {answer : Result Answer LedgerFault} {reader : ReaderSeen}
+  where
+    -- a request that reads nothing
+    pub unread : (dump : Dump)
+        → Gives asked dump (told_by answer) (record { old = reader; new = reader })
+        → IsWork old new (Asks old.naming asked dump (told_by answer))
+        → IsAsked asked answer (record { old = old; new = new })
+        (record { old = reader; new = reader })
+    unread dump given work = record { dump = dump; given = given; work = work }
+
+pub as_asked : {books : Books} {asked : Asked} {answer : Result Answer LedgerFault} (same : Asked)
+    {input : Input} → asked ≡ same → IsAsked same answer books input
+    → IsAsked asked answer books input
+as_asked {books = books} {answer = answer} same {input = input} is done =
+    subst (λ asked. IsAsked asked answer books input) (sym is) done
+
+-- there is one proof at most that it may be asked
+pub askable_once : (asked : Asked) → IsProp (IsAskableAnew asked)
+askable_once (Tariff text) = hlevel props
+askable_once (Close period through) = hlevel props
+askable_once (Import layout) = hlevel props
+askable_once (ImportBytes layout bytes) = hlevel props
+askable_once (Report report) = hlevel props
+
+-- a reader that was not asked yet may be asked
+pub askable_anew : (asked : Asked) (reader : ReaderSeen) → IsAskableAnew asked → reader.reads ≡ 0
+    → reader.has_failed ≡ false → reader.has_ended ≡ false → IsAskable asked reader
+askable_anew (Tariff text) reader may reads failed ended = tt
+askable_anew (Close period through) reader may reads failed ended = may
+askable_anew (Import layout) reader may reads failed ended =
+    record { reads = omega arith; failed = failed; ended = ended }
+askable_anew (ImportBytes layout bytes) reader may reads failed ended = tt
+askable_anew (Report report) reader may reads failed ended = tt

@@ -1,0 +1,209 @@
+-- Requests, one after the other, and the history that they make.
+use Rattle.std.proofs.Common.{◌≡◌, ◌∙◌, Bool, true, false, List, [], ◌∷◌, ◌++◌, Result, Ok, Err}
+use Rattle.std.proofs.Common.{inr, refl, sym, ap, subst}
+use Rattle.std.specs.Prelude.{string_bytes}
+use Rattle.book_model.specs.declared.fault.LedgerFault.{LedgerFault}
+use Rattle.book_model.specs.declared.fault.LedgerFault.TheVariants.{Memory, Store, Reopen}
+use Rattle.book_model.specs.Words.{front, IsAnswered, Book, new_book, Event, book_after}
+use Rattle.book_model.specs.Words.{book_of, Outcome, tariff_outcome, close_outcome, Naming}
+use Rattle.book_model.proofs.OrderLemmas.{order_is_free}
+use Rattle.book_model.proofs.StepLemmas.{books_follow_history}
+use Rattle.book_core.specs.Calls.{Calls, listed}
+use Rattle.book_core.specs.Ledgers.{Seen, IsOpenAt}
+use Rattle.book_core.proofs.FollowLemmas.{MakesAnswered, calls_answered, tariff_answered}
+use Rattle.book_core.proofs.FollowLemmas.{close_answered}
+use Rattle.book_core.proofs.WorkLemmas.{after_all-append}
+use Rattle.book_import.specs.Dumps.{stop_behind}
+use Rattle.book_import.proofs.RepeatLemmas.{is_whole}
+use Rattle.book_import.proofs.ReplyLemmas.{import_answered}
+use Rattle.office.specs.declared.request.Report as report
+use Rattle.office.specs.declared.request.Report.TheVariants.{Statement, StatementTable}
+use Rattle.office.specs.declared.request.Report.TheVariants.{AdjustmentList, DisputeList, PeriodList}
+use Rattle.office.specs.declared.request.Asked.{Asked}
+use Rattle.office.specs.declared.request.Asked.TheVariants.{Tariff, Close, Import, ImportBytes}
+use Rattle.office.specs.declared.request.Asked.TheVariants.{Report}
+use Rattle.office.specs.Requests.{Dump, Told, Ruling, Count, Text, told_by, telling, report_outcome}
+use Rattle.office.specs.Requests.{Receives, Asks}
+use Rattle.office.specs.Does.{Done, events_by, done_by, import_done, does, is_hindering, is_hindered}
+use Rattle.office.specs.Laws.{Exchange, ledger_after, AreAnswered}
+use Rattle.office.specs.Laws.{AnswersFollowHistory, AnswersAreFree, IsStillOpen, DiffersAsAllowed}
+use Rattle.office.proofs.LeavingLemmas.{work_leaves, open_earlier}
+
+-- the event of an outcome is answered, where calls with it make answered events only
+event_answered : {A : Type 0} (naming : Naming) (outcome : Book → Outcome A)
+    → MakesAnswered naming (Calls {V = A} (λ value. value) outcome (Err Store))
+    → (history : List Event) → IsAnswered naming history
+    → IsAnswered naming (listed (outcome (book_after history)).event ++ history)
+event_answered naming outcome makes history answered =
+    makes history false (listed (outcome (book_after history)).event) true
+    (record { makes = inr refl; reopens = record { reopen = refl; store = refl } }) answered
+
+told_answered : {A : Type 0} (naming : Naming) (say : A → Told) (outcome : Book → Outcome A)
+    (told : Result Told LedgerFault)
+    → MakesAnswered naming (Calls {V = A} (λ value. value) outcome (Err Store))
+    → MakesAnswered naming (Calls (λ told. told) (telling say outcome) told)
+told_answered naming say outcome told makes =
+    calls_answered naming (λ told. told) (telling say outcome) told
+    (event_answered naming outcome makes)
+
+-- a report is no event
+report_answered : (naming : Naming) (report : report.Report) (told : Result Told LedgerFault)
+    → MakesAnswered naming (Calls (λ told. told) (telling Text (report_outcome naming report)) told)
+report_answered naming (Statement period) told =
+    calls_answered naming (λ told. told) (telling Text (report_outcome naming (Statement period)))
+    told (λ history answered. answered)
+report_answered naming (StatementTable period) told =
+    calls_answered naming (λ told. told)
+    (telling Text (report_outcome naming (StatementTable period))) told
+    (λ history answered. answered)
+report_answered naming (AdjustmentList period) told =
+    calls_answered naming (λ told. told)
+    (telling Text (report_outcome naming (AdjustmentList period))) told
+    (λ history answered. answered)
+report_answered naming DisputeList told =
+    calls_answered naming (λ told. told) (telling Text (report_outcome naming DisputeList)) told
+    (λ history answered. answered)
+report_answered naming PeriodList told =
+    calls_answered naming (λ told. told) (telling Text (report_outcome naming PeriodList)) told
+    (λ history answered. answered)
+
+receives_answered : (naming : Naming) (dump : Dump) (told : Result Told LedgerFault)
+    → MakesAnswered naming (Receives naming dump told)
+receives_answered naming dump (Ok (Count receipt)) =
+    let found = front dump.layout dump.bytes in
+    import_answered naming (stop_behind dump.cut found) found.records receipt
+receives_answered naming dump (Ok (Ruling ruled)) = λ history was events is never. absurd never
+receives_answered naming dump (Ok (Text text)) = λ history was events is never. absurd never
+receives_answered naming dump (Err fault) = λ history was events is never. absurd never
+
+-- a request makes only events that the books answered
+pub asks_answered : (naming : Naming) (asked : Asked) (dump : Dump) (told : Result Told LedgerFault)
+    → MakesAnswered naming (Asks naming asked dump told)
+asks_answered naming (Tariff text) dump told =
+    told_answered naming Ruling (tariff_outcome (string_bytes text)) told
+    (tariff_answered naming (λ value. value) (string_bytes text) (Err Store))
+asks_answered naming (Close period through) dump told =
+    told_answered naming Ruling (close_outcome period through) told
+    (close_answered naming (λ value. value) period through (Err Store))
+asks_answered naming (Import layout) dump told = receives_answered naming dump told
+asks_answered naming (ImportBytes layout bytes) dump told = receives_answered naming dump told
+asks_answered naming (Report report) dump told = report_answered naming report told
+
+same_done : (outcome : Book → Outcome Told) (told : Result Told LedgerFault) (book : Book)
+    (events : List Event) → (outcome book).answer ≡ told
+    → events ≡ events_by told (outcome book).event
+    → done_by (outcome book) ≡ record { told = told; events = events }
+same_done outcome told book events is made =
+    let events_are = ap (λ told. events_by told (outcome book).event) is ∙ sym made in
+    λ i. record { told = is i; events = events_are i }
+
+-- a call on open books that leaves them open told what the definitions say, unless memory ran out
+calls_done : (outcome : Book → Outcome Told) (told : Result Told LedgerFault) (book : Book)
+    (events : List Event) → Calls (λ told. told) outcome told false book events false
+    → is_hindered told ≡ false
+    → done_by (outcome book) ≡ record { told = told; events = events }
+calls_done outcome (Ok value) book events called free =
+    same_done outcome (Ok value) book events called.makes.0 called.makes.1
+calls_done outcome (Err Memory) book events called free = cc free
+calls_done outcome (Err Store) book events called free = let no = called.reopens.store in cc no
+calls_done outcome (Err Reopen) book events called free = let no = called.reopens.reopen in cc no
+calls_done outcome (Err fault) book events called free =
+    same_done outcome (Err fault) book events called.makes.0 called.makes.1
+
+not_both : (told : Bool) → told ≡ true → told ≡ false → ⊥
+not_both told is_so is_not = cc
+
+receives_done : (naming : Naming) (dump : Dump) (told : Result Told LedgerFault) (book : Book)
+    (events : List Event) → Receives naming dump told false book events false
+    → is_hindered told ≡ false
+    → import_done naming dump book ≡ record { told = told; events = events }
+receives_done naming dump (Ok (Count receipt)) book events made free =
+    let found = front dump.layout dump.bytes in
+    let all = is_whole naming (stop_behind dump.cut found) found.records book receipt events false
+    made (record {
+      memory = λ same. not_both (is_hindering receipt.stop) (ap is_hindering same) free;
+      store = λ same. not_both (is_hindering receipt.stop) (ap is_hindering same) free;
+    }) in
+    λ i. record { told = Ok (Count (all.told.receipt i)); events = all.told.events i }
+receives_done naming dump (Ok (Ruling ruled)) book events made free = absurd made
+receives_done naming dump (Ok (Text text)) book events made free = absurd made
+receives_done naming dump (Err fault) book events made free = absurd made
+
+asks_done : (naming : Naming) (asked : Asked) (dump : Dump) (told : Result Told LedgerFault)
+    (book : Book) (events : List Event) → Asks naming asked dump told false book events false
+    → is_hindered told ≡ false
+    → does naming asked dump book ≡ record { told = told; events = events }
+asks_done naming (Tariff text) dump told book events made free =
+    calls_done (telling Ruling (tariff_outcome (string_bytes text))) told book events made free
+asks_done naming (Close period through) dump told book events made free =
+    calls_done (telling Ruling (close_outcome period through)) told book events made free
+asks_done naming (Import layout) dump told book events made free =
+    receives_done naming dump told book events made free
+asks_done naming (ImportBytes layout bytes) dump told book events made free =
+    receives_done naming dump told book events made free
+asks_done naming (Report report) dump told book events made free =
+    calls_done (telling Text (report_outcome naming report)) told book events made free
+
+-- a ledger that is open after requests was open before them
+open_at_first : {L : Type 0} (seen : L → Seen) (before : L) (exchanges : List (Exchange L))
+    → AreAnswered seen before exchanges → IsStillOpen (seen (ledger_after before exchanges))
+    → IsStillOpen (seen before)
+open_at_first seen before [] done still = still
+open_at_first seen before (exchange ∷ later) done still =
+    open_earlier done.0.call.work (open_at_first seen exchange.after later done.1 still)
+
+-- the headline
+pub answers_follow_history : {L : Type 0} (seen : L → Seen) → AnswersFollowHistory seen
+answers_follow_history seen naming start before [] answered opened done still =
+    record { end = start; told = refl; left = opened }
+answers_follow_history seen naming start before (exchange ∷ later) answered opened done still =
+    let one = done.0 in
+    let told : Result Told LedgerFault = told_by one.answer in
+    let gone = work_leaves opened one.call.work
+    (open_at_first seen exchange.after later done.1 still) in
+    let first = subst (λ naming. Asks naming exchange.asked one.call.dump told false
+    (book_after start) gone.events false) opened.naming gone.made in
+    let work = subst (λ book. Asks naming exchange.asked one.call.dump told false book gone.events
+    false) (books_follow_history start) first in
+    let history : List Event = gone.events ++ start in
+    let more = asks_answered naming exchange.asked one.call.dump told start false gone.events false
+    first answered in
+    let rest = answers_follow_history seen naming history exchange.after later more
+    (subst (λ book. IsOpenAt naming book (seen exchange.after))
+    (sym (after_all-append gone.events start new_book)) gone.left) done.1 still in
+    record {
+      end = rest.end;
+      told = (
+        gone.events,
+        record {
+          dump = one.call.dump;
+          answer = one.answer;
+          given = one.call.given;
+          work = work;
+          is = asks_done naming exchange.asked one.call.dump told (book_of start) gone.events work;
+          passed = one.told;
+          answered = more;
+        },
+        rest.told,
+      );
+      left = rest.left;
+    }
+
+-- histories that differ as allowed define one book
+same_book : (one other : List Event) → DiffersAsAllowed one other → book_of one ≡ book_of other
+same_book one other differs =
+    sym (books_follow_history one)
+    ∙ order_is_free new_book one other differs.rulings differs.between
+    ∙ books_follow_history other
+
+-- so they are told the same
+pub answers_are_free : {L M : Type 0} (seen : L → Seen) (seen_other : M → Seen)
+    → AnswersAreFree seen seen_other
+answers_are_free seen seen_other naming history other one two made made_other first second differs
+    asked dump free free_other =
+    let is = first.is free in
+    let is_other = second.is free_other in
+    ap (λ (done : Done). done.told)
+    (sym is
+    ∙ (λ i. does naming (asked i) (dump i) (same_book history other differs i))
+    ∙ is_other)

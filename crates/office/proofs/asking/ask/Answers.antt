@@ -1,0 +1,78 @@
+use Rattle.std.proofs.Common.{refl, subst, ℤ, w32}
+use Rattle.std.proofs.lemmas.Int.{to_z-of_z}
+use Rattle.book_core.proofs.DayLemmas.{day_fits}
+use Rattle.std.specs.Prelude.{None, List, ℕ}
+use Rattle.book_core.specs.Calls.{Calls}
+use Rattle.book_core.specs.Work.{IsWork}
+use Rattle.book_import.specs.Imports.{Imports}
+use Rattle.book_import.specs.Reading.{cut_of}
+use Rattle.book_model.specs.Outcomes.{tariff_outcome, close_outcome}
+use Rattle.office.specs.declared.request.Asked.{Asked}
+use Rattle.office.specs.declared.request.Asked.TheVariants.{Tariff, Close, Import, ImportBytes}
+use Rattle.office.specs.declared.request.Asked.TheVariants.{Report}
+use Rattle.office.specs.Requests.{Ruling, Text, IsAskable, no_dump, whole_dump}
+use Rattle.office.specs.Sides.{reader_seen}
+use Rattle.office.proofs.AskLemmas.{work_told, unread, as_asked}
+use Rattle.office.proofs.asking.ask.Goals as goal
+
+pub returns-in-Tariff : goal.returns-in-Tariff
+returns-in-Tariff g c =
+    let old = g.L.Ledger.seen c.args.ledger.now in
+    let new = g.L.Ledger.seen c.tariff.new.self in
+    as_asked (Tariff c.in-Tariff.text) c.in-Tariff.is
+    (unread no_dump (record { is = refl; same = refl })
+    (work_told Ruling c.ruled.ensures
+    (subst (λ (text : List ℕ).
+    IsWork old new (Calls (λ ruled. ruled) (tariff_outcome text) c.tariff.result))
+    c.as_str.ensures.value c.tariff.ensures.work)))
+
+pub returns-in-Close : goal.returns-in-Close
+returns-in-Close g c =
+    let old = g.L.Ledger.seen c.args.ledger.now in
+    let new = g.L.Ledger.seen c.close.new.self in
+    let through = c.in-Close.through in
+    let day = subst (λ (asked : Asked).
+    IsAskable asked (reader_seen g.R.Read.remaining c.args.source.now)) c.in-Close.is c.requires in
+    as_asked (Close c.in-Close.period through) c.in-Close.is
+    (unread no_dump (record { is = refl; same = refl })
+    (work_told Ruling c.ruled-in-Close.ensures
+    (subst (λ (day : ℤ).
+    IsWork old new (Calls (λ ruled. ruled) (close_outcome c.in-Close.period day) c.close.result))
+    (to_z-of_z w32 through (day_fits through day)) c.close.ensures.work)))
+
+pub returns-in-Import : goal.returns-in-Import
+returns-in-Import g c =
+    let booked = c.import.ensures.booked in
+    as_asked (Import c.in-Import.layout) c.in-Import.is (record {
+      dump = record {
+        layout = c.in-Import.layout;
+        cut = cut_of c.import.new.source;
+        bytes = booked.0;
+      };
+      given = record {
+        form = refl;
+        cut = refl;
+        bytes = booked.1;
+        at_end = c.import.ensures.left;
+        reads = c.import.ensures.asked;
+        read_out = c.import.ensures.read_out;
+      };
+      work = booked.2;
+    })
+
+pub returns-in-ImportBytes : goal.returns-in-ImportBytes
+returns-in-ImportBytes g c =
+    let old = g.L.Ledger.seen c.args.ledger.now in
+    let new = g.L.Ledger.seen c.import_bytes.new.ledger in
+    as_asked (ImportBytes c.in-ImportBytes.layout c.in-ImportBytes.bytes) c.in-ImportBytes.is
+    (unread (whole_dump c.in-ImportBytes.layout c.in-ImportBytes.bytes.items)
+    (record { is = refl; same = refl })
+    (subst (λ (bytes : List ℕ).
+    IsWork old new (Imports old.naming c.in-ImportBytes.layout None bytes c.import_bytes.result))
+    c.as_slice.ensures.value c.import_bytes.ensures))
+
+pub returns-in-Report : goal.returns-in-Report
+returns-in-Report g c =
+    as_asked (Report c.in-Report.report) c.in-Report.is
+    (unread no_dump (record { is = refl; same = refl })
+    (work_told Text c.text.ensures c.report_text.ensures.work))

@@ -1,0 +1,56 @@
+-- What the definitions say of a request, by the book before it: one function.
+use Rattle.std.specs.Prelude.{Bool, true, false, List, [], Option, Result, Ok, Err, string_bytes}
+use Rattle.book_model.specs.declared.fault.LedgerFault.{LedgerFault}
+use Rattle.book_model.specs.declared.fault.LedgerFault.TheVariants.{Memory, Store}
+use Rattle.book_model.specs.Words.{front, Book, Event, Outcome, tariff_outcome, close_outcome}
+use Rattle.book_model.specs.Words.{Naming}
+use Rattle.book_core.specs.Calls.{listed}
+use Rattle.book_import.specs.declared.receipt.Stop.{Stop}
+use Rattle.book_import.specs.declared.receipt.Stop.TheVariants.{Ledger}
+use Rattle.book_import.specs.Dumps.{stop_behind}
+use Rattle.book_import.specs.Laws.{import_of_records}
+use Rattle.office.specs.declared.request.Asked.{Asked}
+use Rattle.office.specs.declared.request.Asked.TheVariants.{Tariff, Close, Import, ImportBytes}
+use Rattle.office.specs.declared.request.Asked.TheVariants.{Report}
+use Rattle.office.specs.Requests.{Dump, Told, Ruling, Count, Text, telling, report_outcome}
+
+-- what the books tell, and the events that they make, the newest first
+pub record Done : Type 0 where
+  pub told : Result Told LedgerFault
+  pub events : List Event
+
+-- a refusal is no event
+abbrev pub events_by : Result Told LedgerFault → Option Event → List Event
+events_by (Ok told) event = listed event
+events_by (Err fault) event = []
+
+abbrev pub done_by : Outcome Told → Done
+done_by outcome =
+    record { told = outcome.answer; events = events_by outcome.answer outcome.event }
+
+abbrev pub import_done : Naming → Dump → Book → Done
+import_done naming dump book =
+    let found = front dump.layout dump.bytes in
+    let all = import_of_records naming book (stop_behind dump.cut found) found.records in
+    record { told = Ok (Count all.receipt); events = all.events }
+
+abbrev pub does : Naming → Asked → Dump → Book → Done
+does naming (Tariff text) dump book =
+    done_by (telling Ruling (tariff_outcome (string_bytes text)) book)
+does naming (Close period through) dump book =
+    done_by (telling Ruling (close_outcome period through) book)
+does naming (Import layout) dump book = import_done naming dump book
+does naming (ImportBytes layout bytes) dump book = import_done naming dump book
+does naming (Report report) dump book = done_by (telling Text (report_outcome naming report) book)
+
+-- want of memory or the store stopped an import
+abbrev pub is_hindering : Stop → Bool
+is_hindering (Ledger Memory) = true
+is_hindering (Ledger Store) = true
+is_hindering stop = false
+
+-- want of memory stands in place of the answer; or it or the store stopped an import
+abbrev pub is_hindered : Result Told LedgerFault → Bool
+is_hindered (Err Memory) = true
+is_hindered (Ok (Count receipt)) = is_hindering receipt.stop
+is_hindered told = false

@@ -1,0 +1,95 @@
+-- Requests, one after the other, on one ledger: what each is told is what the whole history before
+-- it defines.
+use Rattle.std.specs.Prelude.{◌≡◌, false, List, [], ◌∷◌, ◌++◌, Result}
+use Rattle.book_model.specs.declared.fault.LedgerFault.{LedgerFault}
+use Rattle.book_model.specs.Words.{IsAnswered, Event, book_after, book_of, Naming, rulings_in}
+use Rattle.book_model.specs.Words.{stretches}
+use Rattle.book_core.specs.Ledgers.{Seen, IsOpenAt}
+use Rattle.book_reports.specs.declared.fault.ReportFault.{ReportFault}
+use Rattle.office.specs.declared.request.Asked.{Asked}
+use Rattle.office.specs.declared.request.Answer.{Answer}
+use Rattle.office.specs.Requests.{Dump, Gives, Asks, told_by}
+use Rattle.office.specs.Answers.{Answers, PassesOn}
+use Rattle.office.specs.Does.{does, is_hindered}
+use Rattle.office.specs.Sides.{Input, Output, books}
+
+-- no store has failed, and what the ledger is kept on returned what was written
+pub record IsStillOpen (seen : Seen) : Type 0 where
+  pub is_open : seen.must_reopen ≡ false
+  pub honest : seen.is_honest
+
+-- How two histories may differ: they have the same rulings in the same order, and the same sets of
+-- accepted records between neighbouring rulings.
+pub record DiffersAsAllowed (one other : List Event) : Type 0 where
+  pub rulings : rulings_in one ≡ rulings_in other
+  pub between : stretches one ≡ stretches other
+
+-- a request, its reader and writer, and the ledger after it
+pub record Exchange (L : Type 0) : Type 0 where
+  pub asked : Asked
+  pub result : Result Answer ReportFault
+  pub after : L
+  pub input : Input
+  pub output : Output
+
+-- the ledger after all of them
+abbrev pub ledger_after : {L : Type 0} → L → List (Exchange L) → L
+ledger_after before [] = before
+ledger_after before (exchange ∷ later) = ledger_after exchange.after later
+
+-- each kept its contract on the ledger that the one before it left
+abbrev pub AreAnswered : {L : Type 0} → (L → Seen) → L → List (Exchange L) → Type 0
+AreAnswered seen before [] = Unit {0}
+AreAnswered seen before (exchange ∷ later) =
+    Answers exchange.asked exchange.result (books seen before exchange.after) exchange.input
+    exchange.output × AreAnswered seen exchange.after later
+
+-- After a history this was asked, told and passed on, and these events were made, the newest first.
+-- Unless want of memory or the store hindered it, it is what the definitions say of the history,
+-- looked at as a whole.
+pub record IsToldAfter {L : Type 0} (naming : Naming) (history : List Event)
+    (exchange : Exchange L) (made : List Event) : Type 0 where
+  pub dump : Dump
+  pub answer : Result Answer LedgerFault
+  pub given : Gives exchange.asked dump (told_by answer) exchange.input
+  pub work : Asks naming exchange.asked dump (told_by answer) false (book_of history) made false
+  pub is : is_hindered (told_by answer) ≡ false
+      → does naming exchange.asked dump (book_of history)
+      ≡ record { told = told_by answer; events = made }
+  pub passed : PassesOn answer exchange.output exchange.result
+  pub answered : IsAnswered naming (made ++ history)
+
+-- so was each, after the history that goes on with what those before it made
+abbrev pub AreToldAfter : {L : Type 0} → Naming → List Event → List (Exchange L) → List Event
+    → Type 0
+AreToldAfter naming history [] end = end ≡ history
+AreToldAfter naming history (exchange ∷ later) end =
+    (made : List Event) × IsToldAfter naming history exchange made
+    × AreToldAfter naming (made ++ history) later end
+
+-- and the ledger is open at the books of the history with all of it
+pub record FollowHistory {L : Type 0} (naming : Naming) (start : List Event)
+    (exchanges : List (Exchange L)) (after : Seen) : Type 0 where
+  pub end : List Event
+  pub told : AreToldAfter naming start exchanges end
+  pub left : IsOpenAt naming (book_after end) after
+
+-- The headline: whatever is asked of the books of a history that calls made, new books if that is
+-- empty, each text that is written is the one that the definitions give for the whole history.
+abbrev pub AnswersFollowHistory : {L : Type 0} → (L → Seen) → Type 0
+AnswersFollowHistory {L} seen =
+    (naming : Naming) (start : List Event) (before : L) (exchanges : List (Exchange L))
+    → IsAnswered naming start → IsOpenAt naming (book_after start) (seen before)
+    → AreAnswered seen before exchanges → IsStillOpen (seen (ledger_after before exchanges))
+    → FollowHistory naming start exchanges (seen (ledger_after before exchanges))
+
+-- The same is asked of two ledgers, with the same dump, after histories that differ as allowed: both
+-- are told the same, unless something hindered one.
+abbrev pub AnswersAreFree : {L M : Type 0} → (L → Seen) → (M → Seen) → Type 0
+AnswersAreFree {L} {M} seen seen_other =
+    (naming : Naming) (history other : List Event) (one : Exchange L) (two : Exchange M)
+    (made made_other : List Event) (first : IsToldAfter naming history one made)
+    (second : IsToldAfter naming other two made_other)
+    → DiffersAsAllowed history other → one.asked ≡ two.asked → first.dump ≡ second.dump
+    → is_hindered (told_by first.answer) ≡ false → is_hindered (told_by second.answer) ≡ false
+    → told_by first.answer ≡ told_by second.answer

@@ -1,0 +1,150 @@
+-- What is asked of books, what they answer, and what it does to them.
+use Rattle.std.specs.Prelude.{◌≡◌, ◌⊎◌, ℕ, ◌+◌, ◌≤◌, ◌^◌, false, List, [], Option, Some, None, Result}
+use Rattle.std.specs.Prelude.{Ok, if◌then◌else◌, string_bytes}
+use Rattle.std.specs.Io.KnownBytes.{Consumes}
+use Rattle.smf_frames.specs.declared.dump.Layout.{Layout}
+use Rattle.smf_frames.specs.declared.dump.Layout.TheVariants.{Rdw}
+use Rattle.streams.specs.Marks.{NothingIsLeft}
+use Rattle.book_model.specs.declared.answer.Ruled as ruled
+use Rattle.book_model.specs.declared.fault.LedgerFault.{LedgerFault}
+use Rattle.book_model.specs.declared.fault.LedgerFault.TheVariants.{Memory}
+use Rattle.book_model.specs.Words.{IsDay, Book, Outcome, tariff_outcome, close_outcome, Naming}
+use Rattle.book_core.specs.Calls.{Calls}
+use Rattle.book_core.specs.Work.{Work, IsWork}
+use Rattle.book_import.specs.declared.receipt.Receipt as receipt
+use Rattle.book_import.specs.declared.receipt.Stop.{Stop}
+use Rattle.book_import.specs.declared.receipt.Stop.TheVariants.{Read, ReadLimit, Ledger}
+use Rattle.book_import.specs.Commands.{Never}
+use Rattle.book_import.specs.Imports.{Imports}
+use Rattle.book_import.specs.Reading.{most_reads}
+use Rattle.book_reports.specs.BookTexts.{shown_by, statement_outcome, statement_csv_outcome}
+use Rattle.book_reports.specs.BookTexts.{adjustment_list_outcome, dispute_list_outcome}
+use Rattle.book_reports.specs.BookTexts.{period_list_outcome}
+use Rattle.office.specs.declared.request.Report as report
+use Rattle.office.specs.declared.request.Report.TheVariants.{Statement, StatementTable}
+use Rattle.office.specs.declared.request.Report.TheVariants.{AdjustmentList, DisputeList, PeriodList}
+use Rattle.office.specs.declared.request.Asked.{Asked}
+use Rattle.office.specs.declared.request.Asked.TheVariants.{Tariff, Close, Import, ImportBytes}
+use Rattle.office.specs.declared.request.Asked.TheVariants.{Report}
+use Rattle.office.specs.declared.request.Answer.{Answer}
+use Rattle.office.specs.declared.request.Answer.TheVariants as answer
+use Rattle.office.specs.Sides.{ReaderSeen, Books, Input}
+
+-- the bytes of a dump, and what cut their reading short, if anything did
+pub record Dump : Type 0 where
+  pub layout : Layout
+  pub cut : Option Stop
+  pub bytes : List ℕ
+
+-- what the books tell: of a ruling, of a dump, or a report's text
+pub data Told : Type 0 where
+  Ruling : ruled.Ruled → Told
+  Count : receipt.Receipt → Told
+  Text : List ℕ → Told
+
+abbrev pub told_of : Answer → Told
+told_of (answer.Ruled ruled) = Ruling ruled
+told_of (answer.Receipt receipt) = Count receipt
+told_of (answer.Text text) = Text text.items
+
+abbrev pub told_by : Result Answer LedgerFault → Result Told LedgerFault
+told_by answer = shown_by told_of answer
+
+-- the outcome of a call, told
+abbrev pub telling : {A : Type 0} → (A → Told) → (Book → Outcome A) → Book → Outcome Told
+telling say outcome book =
+    record { answer = shown_by say (outcome book).answer; event = (outcome book).event }
+
+-- the text of a report, by the book
+abbrev pub report_outcome : Naming → report.Report → Book → Outcome (List ℕ)
+report_outcome naming (Statement period) = statement_outcome period
+report_outcome naming (StatementTable period) = statement_csv_outcome period
+report_outcome naming (AdjustmentList period) = adjustment_list_outcome naming period
+report_outcome naming DisputeList = dispute_list_outcome naming
+report_outcome naming PeriodList = period_list_outcome
+
+-- a reader may be asked on
+pub record IsReady (reader : ReaderSeen) : Type 0 where
+  pub reads : reader.reads ≤ 2 ^ 62
+  pub failed : reader.has_failed ≡ false
+  pub ended : reader.has_ended ≡ false
+
+-- What may be asked: a close is through a day, and a dump is read of a reader that may be asked.
+abbrev pub IsAskable : Asked → ReaderSeen → Type 0
+IsAskable (Close period through) reader = IsDay through
+IsAskable (Import layout) reader = IsReady reader
+IsAskable asked reader = Unit {0}
+
+-- the same with a reader that was not asked yet
+abbrev pub IsAskableAnew : Asked → Type 0
+IsAskableAnew (Close period through) = IsDay through
+IsAskableAnew asked = Unit {0}
+
+-- what cut the reading short, if anything did
+abbrev pub cut_by : ReaderSeen → Option Stop
+cut_by reader =
+    if reader.has_failed then Some Read
+    else if reader.has_ended then None
+    else Some ReadLimit
+
+-- memory ran out in the import of a dump
+abbrev pub IsShortImport : Result Told LedgerFault → Type 0
+IsShortImport (Ok (Count receipt)) = receipt.stop ≡ Ledger Memory
+IsShortImport told = ⊥
+
+-- A dump was read of a reader: these bytes were taken from it. It was read to its end, to a failure,
+-- or to the last read that was allowed, unless memory ran out.
+pub record IsReadOf (layout : Layout) (dump : Dump) (told : Result Told LedgerFault) (input : Input)
+    : Type 0 where
+  pub form : dump.layout ≡ layout
+  pub cut : dump.cut ≡ cut_by input.new
+  pub bytes : Consumes input.old.left input.new.left dump.bytes
+  pub at_end : NothingIsLeft input.new.has_ended input.new.left
+  pub reads : input.new.reads ≤ input.old.reads + most_reads
+  pub read_out :
+      (input.new.has_failed ≡ false → input.new.has_ended ≡ false
+      → input.new.reads ≡ input.old.reads + most_reads) ⊎ IsShortImport told
+
+-- nothing was read of the reader, and this is the dump
+pub record IsUnread (dump found : Dump) (input : Input) : Type 0 where
+  pub is : found ≡ dump
+  pub same : input.new ≡ input.old
+
+abbrev pub whole_dump : Layout → List ℕ → Dump
+whole_dump layout bytes = record { layout = layout; cut = None; bytes = bytes }
+
+-- the dump of a request that has none
+abbrev pub no_dump : Dump
+no_dump = whole_dump Rdw []
+
+-- The dump of what was asked, and what it took of the reader: an import alone has one, and one that
+-- is here is not read.
+abbrev pub Gives : Asked → Dump → Result Told LedgerFault → Input → Type 0
+Gives (Import layout) dump told input = IsReadOf layout dump told input
+Gives (ImportBytes layout bytes) dump told input =
+    IsUnread (whole_dump layout bytes.items) dump input
+Gives asked dump told input = IsUnread no_dump dump input
+
+-- a dump was imported, and that is its receipt
+abbrev pub Receives : Naming → Dump → Result Told LedgerFault → Work
+Receives naming dump (Ok (Count receipt)) =
+    Imports naming dump.layout dump.cut dump.bytes receipt
+Receives naming dump told = Never
+
+-- the books were asked, and told this
+abbrev pub Asks : Naming → Asked → Dump → Result Told LedgerFault → Work
+Asks naming (Tariff text) dump told =
+    Calls (λ told. told) (telling Ruling (tariff_outcome (string_bytes text))) told
+Asks naming (Close period through) dump told =
+    Calls (λ told. told) (telling Ruling (close_outcome period through)) told
+Asks naming (Import layout) dump told = Receives naming dump told
+Asks naming (ImportBytes layout bytes) dump told = Receives naming dump told
+Asks naming (Report report) dump told =
+    Calls (λ told. told) (telling Text (report_outcome naming report)) told
+
+-- Something was asked of books, with a reader at hand, and this is their answer.
+pub record IsAsked (asked : Asked) (answer : Result Answer LedgerFault) (books : Books)
+    (input : Input) : Type 0 where
+  pub dump : Dump
+  pub given : Gives asked dump (told_by answer) input
+  pub work : IsWork books.old books.new (Asks books.old.naming asked dump (told_by answer))

@@ -1,0 +1,53 @@
+//! One request to the office: the books are asked, and what they answer is written.
+
+ghost use Rattle.std.specs.Prelude.{◌≡◌, false};
+ghost use Rattle.streams.specs.Sinks.{has_failed};
+ghost use Rattle.office.specs.Answers.{Answers, Tells, text_of};
+ghost use Rattle.office.specs.Requests.{IsAskable, told_of};
+ghost use Rattle.office.specs.Sides.{books, input, output, reader_seen};
+
+use crate::asking::ask;
+use crate::request::{Answer, Asked};
+use book_core::{Ledger, Ruled, Sink, Source};
+use book_reports::{ReportFault, receipt_line_text, write_bytes, write_text};
+use std::alloc::Global;
+use std::io::{Read, Write};
+
+/// Writes the text of an answer.
+fn tell<W: Write + Drop>(
+    alloc: Global,
+    answer: &Answer,
+    sink: &mut Sink<W>,
+) -> Result<(), ReportFault>
+    requires { has_failed sink.old ≡ false }
+    ensures { Tells (text_of (told_of answer.now)) (output W.contents sink.old sink.new) result }
+{
+    match answer {
+        Answer::Ruled(Ruled::Done) => write_text(sink, "DONE\n"),
+        Answer::Ruled(Ruled::Already) => write_text(sink, "ALREADY\n"),
+        Answer::Receipt(receipt) => {
+            let line = receipt_line_text(alloc, receipt)?;
+            write_text(sink, line.as_str())
+        }
+        Answer::Text(text) => write_bytes(sink, text.as_slice()),
+    }
+}
+
+/// Does what is asked of the books, and writes what they answer. Where they refuse, nothing is
+/// written.
+pub fn answer<L: Ledger, R: Read + Drop, W: Write + Drop>(
+    alloc: Global,
+    ledger: &mut L,
+    asked: &Asked,
+    source: &mut Source<R>,
+    sink: &mut Sink<W>,
+) -> Result<Answer, ReportFault>
+    requires askable { IsAskable asked.now (reader_seen R.remaining source.old) }
+    requires failed { has_failed sink.old ≡ false }
+    ensures { Answers asked.now result (books L.seen ledger.old ledger.new)
+        (input R.remaining source.old source.new) (output W.contents sink.old sink.new) }
+{
+    let answer = ask(alloc, ledger, asked, source)?;
+    tell(alloc, &answer, sink)?;
+    Ok(answer)
+}

@@ -1,0 +1,37 @@
+//! Books by their names, as a program keeps them in files, and what is done with them while they are
+//! open. What a file holds no contract can say: what is done to open books, the calls of a ledger
+//! promise.
+
+use book_core::{Ledger, LedgerFault};
+
+/// Something that is done with books while they are open.
+pub trait Visit {
+    /// What comes of it.
+    type Answer: Drop;
+
+    /// Does it. The books are closed afterwards.
+    fn visit<L: Ledger>(self, books: &mut L) -> Self::Answer;
+}
+
+/// Why there are no open books.
+#[derive(Clone, Copy, Debug, PartialEq, Eq)]
+pub enum ShelfFault {
+    /// The file failed, or is not there.
+    Io,
+    /// The file is there already.
+    Exists,
+    /// There was no memory, the store failed, or it holds no books.
+    Ledger(LedgerFault),
+}
+
+/// Where books are kept by their names.
+pub trait Shelf {
+    /// Says whether there is something of that name.
+    fn expect(&self, book: &str) -> Result<(), ShelfFault>;
+
+    /// Makes new books of a name that is not there yet.
+    fn make(&self, book: &str) -> Result<(), ShelfFault>;
+
+    /// Opens the books of a name, does something with them, and closes them.
+    fn open<V: Visit + Drop>(&self, book: &str, visit: V) -> Result<V::Answer, ShelfFault>;
+}
