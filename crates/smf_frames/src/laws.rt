@@ -1,7 +1,14 @@
-//! A law of joiners, which holds over the definitions alone. It stands on a function that does
-//! nothing.
+//! Laws of the definitions. Each stands on a function that does nothing.
 
 ghost use Rattle.smf_frames.specs.Feeding.{FeedIsDetermined};
+ghost use Rattle.smf_frames.specs.Front.{FrontIsTheStandards};
+
+/// What splits, joiners and imports call the front of a dump, found step by step, is the one that the
+/// standard's grammar gives: the records of the longest prefix that is whole records, and the first
+/// test that fails behind it.
+pub fn front_is_the_standards()
+    ensures { FrontIsTheStandards }
+{}
 
 /// What a joiner promises of its answer to a piece leaves it no choice.
 pub fn feed_is_determined()

@@ -17,5 +17,5 @@ pub use fault::FrameFault;
 pub use framed::MAX_DATA;
 pub use header::{HEADER_LEN, Header};
 pub use joiner::Joiner;
-pub use laws::feed_is_determined;
+pub use laws::{feed_is_determined, front_is_the_standards};
 pub use whole::split;
