@@ -1,6 +1,6 @@
 -- What requests do to the books, one after another.
 use Rattle.std.proofs.Common.{◌≡◌, ◌∙◌, ℕ, Bool, true, false, List, [], ◌++◌, length, take, None}
-use Rattle.std.proofs.Common.{ltb, refl, sym, ap, subst, inl, inr}
+use Rattle.std.proofs.Common.{ltb, refl, sym, ap, subst, inl, inr, Result, Ok, Err}
 use Rattle.httparse.specs.Grammar.{RequestHead}
 use Rattle.smf_frames.specs.declared.dump.Layout.{Layout}
 use Rattle.book_model.specs.Words.{front, Book, Event, after_all, book_after, Naming}
@@ -10,15 +10,20 @@ use Rattle.book_core.specs.Calls.{listed}
 use Rattle.book_core.specs.Ledgers.{Seen}
 use Rattle.book_core.specs.Work.{IsWork}
 use Rattle.book_core.proofs.FollowLemmas.{MakesAnswered, called_events, follows, after_all-book_of}
+use Rattle.book_model.specs.declared.fault.LedgerFault.{LedgerFault}
+use Rattle.book_import.specs.declared.receipt.Receipt.{Receipt}
 use Rattle.book_import.specs.Dumps.{stop_behind}
-use Rattle.book_import.proofs.ReplyLemmas.{import_answered}
+use Rattle.book_import.specs.Imports.{Imports}
+use Rattle.office.specs.declared.request.Report.{Report}
+use Rattle.office.specs.Requests.{Dump, Told, Ruling, Count, Text, telling, report_outcome}
+use Rattle.office.specs.Requests.{Receives, whole_dump}
+use Rattle.office.proofs.LawLemmas.{report_event, receives_answered}
 use Rattle.book_import.proofs.RepeatLemmas.{twice_is_once}
 use Rattle.book_http.specs.declared.asked.Asked.{Asked}
 use Rattle.book_http.specs.declared.asked.Asked.TheVariants as asks
-use Rattle.book_http.specs.declared.route.Report.{Report}
-use Rattle.book_http.specs.declared.route.Report.TheVariants as report
+use Rattle.book_http.specs.declared.answer_head.Kind.TheVariants as kinds
 use Rattle.book_http.specs.Asked.{asked}
-use Rattle.book_http.specs.Answer.{report_outcome, AnswersReport, AnswersBody, AnswersAsked}
+use Rattle.book_http.specs.Answer.{office_reply, AnswersReport, AnswersBody, AnswersAsked}
 use Rattle.book_http.specs.Answer.{Answers, done, no_memory, no_head, a_head}
 use Rattle.book_http.specs.Head.{HasHead}
 use Rattle.book_http.specs.Laws.{IsUnhindered, RequestTwiceIsOnce, RequestsMakeHistory}
@@ -27,23 +32,32 @@ use Rattle.book_http.specs.Served.{IsDone}
 use Rattle.book_http.proofs.HeadLemmas.{head_unique}
 
 -- a report is no event
-report_event : (naming : Naming) (asked : Report) (book : Book)
-    → (report_outcome naming asked book).event ≡ None
-report_event naming report.Periods book = refl
-report_event naming (report.Statement period) book = refl
-report_event naming (report.StatementCsv period) book = refl
-report_event naming (report.Adjustments period) book = refl
-report_event naming report.Disputes book = refl
-
 pub report_none : (naming : Naming) (asked : Report) (reply : Reply) (was : Bool) (before : Book)
     (events : List Event) (is : Bool) → AnswersReport naming asked reply was before events is
     → events ≡ []
 report_none naming asked reply was before events is answers =
-    elim (called_events (λ (text : List ℕ). text) (report_outcome naming asked before)
-    answers.answer events answers.called.makes) [
+    elim (called_events (λ (told : Told). told) (telling Text (report_outcome naming asked) before)
+    answers.told events answers.made.makes) [
       | inl none ↦ none
       | inr all ↦ all ∙ ap listed (report_event naming asked before)
     ]
+
+-- an import tells a receipt
+pub record IsCounted (naming : Naming) (dump : Dump) (told : Result Told LedgerFault) (was : Bool)
+    (before : Book) (events : List Event) (is : Bool) : Type 0 where
+  pub receipt : Receipt
+  pub counted : told ≡ Ok (Count receipt)
+  pub imported : Imports naming dump.layout dump.cut dump.bytes receipt was before events is
+
+pub import_counted : (naming : Naming) (dump : Dump) (told : Result Told LedgerFault) (was : Bool)
+    (before : Book) (events : List Event) (is : Bool)
+    → Receives naming dump told was before events is
+    → IsCounted naming dump told was before events is
+import_counted naming dump (Ok (Count receipt)) was before events is imported =
+    record { receipt = receipt; counted = refl; imported = imported }
+import_counted naming dump (Ok (Ruling ruled)) was before events is never = absurd never
+import_counted naming dump (Ok (Text text)) was before events is never = absurd never
+import_counted naming dump (Err fault) was before events is never = absurd never
 
 -- where the second did nothing, the first alone did
 nothing_more : (before : Book) (first second : List Event) → second ≡ []
@@ -60,10 +74,15 @@ import_twice : (short : Bool) (naming : Naming) (layout : Layout) (body : List �
 import_twice true naming layout body once twice before first second between is one unhindered two =
     nothing_more before first second two.none.none
 import_twice false naming layout body once twice before first second between is one unhindered two =
-    let dump = front layout body in
-    let stop = stop_behind None dump in
-    twice_is_once naming before stop stop dump.records one.receipt two.receipt first second between
-    is one.imported (unhindered.whole one.receipt one.replied) two.imported
+    let dump = whole_dump layout body in
+    let found = front layout body in
+    let stop = stop_behind None found in
+    let a = import_counted naming dump one.told false before first between one.made in
+    let b = import_counted naming dump two.told between (after_all first before) second is two.made
+    in
+    twice_is_once naming before stop stop found.records a.receipt b.receipt first second between is
+    a.imported
+    (unhindered.whole a.receipt (one.replied ∙ ap (office_reply kinds.Text) a.counted)) b.imported
 
 -- what a head asks, twice
 asked_twice : (wanted : Asked) (naming : Naming) (behind : List ℕ) (once twice : Reply)
@@ -134,9 +153,7 @@ body_answered : (short : Bool) (naming : Naming) (layout : Layout) (body : List 
 body_answered true naming layout body reply past was events is made =
     none_answered naming past events made.none.none
 body_answered false naming layout body reply past was events is made =
-    let dump = front layout body in
-    import_answered naming (stop_behind None dump) dump.records made.receipt past was events is
-    made.imported
+    receives_answered naming (whole_dump layout body) made.told past was events is made.made
 
 asked_answered : (wanted : Asked) (naming : Naming) (behind : List ℕ) (reply : Reply)
     → MakesAnswered naming (AnswersAsked naming wanted behind reply)

@@ -15,19 +15,21 @@ use Rattle.book_import.specs.Handled.{Imported, Answering, answers_of, handle, h
 use Rattle.book_import.specs.Handled.{start_of}
 use Rattle.book_import.specs.Imports.{Handles, IsTold, whole, out_of_memory, store_failed}
 use Rattle.book_import.specs.Receipts.{is_stop_of_books}
+use Rattle.office.specs.declared.request.Report.{Report}
+use Rattle.office.specs.Requests.{Told, Text, telling, report_outcome, whole_dump}
 use Rattle.book_http.specs.declared.answer_head.Kind.{Kind}
+use Rattle.book_http.specs.declared.answer_head.Kind.TheVariants as kinds
 use Rattle.book_http.specs.declared.asked.Asked.{Asked}
 use Rattle.book_http.specs.declared.asked.Asked.TheVariants as asks
-use Rattle.book_http.specs.declared.route.Report.{Report}
 use Rattle.book_http.specs.declared.status.Status.TheVariants.{Unavailable}
-use Rattle.book_http.specs.Answer.{report_outcome, report_reply, kind_of, AnswersReport}
+use Rattle.book_http.specs.Answer.{office_reply, kind_of, AnswersReport}
 use Rattle.book_http.specs.Answer.{AnswersImport, AnswersBody, AnswersAsked, Refuses}
 use Rattle.book_http.specs.Answer.{UnlessMemory, done, no_memory, no_head, a_head}
 use Rattle.book_http.specs.Asked.{asked}
 use Rattle.book_http.specs.Laws.{IsSame, AnswersAreOne}
 use Rattle.book_http.specs.Replies.{Reply, receipt_reply, stop_status}
 use Rattle.book_http.proofs.HeadLemmas.{head_unique}
-use Rattle.book_http.proofs.LawLemmas.{report_none}
+use Rattle.book_http.proofs.LawLemmas.{report_none, import_counted}
 
 -- two refusals of one kind
 refusals_same : (refused one other : Reply) (was : Bool) (before : Book) (first second : List Event)
@@ -39,11 +41,11 @@ refusals_same refused one other was before first second is_one is_other a b = re
 }
 
 -- a report that is not unavailable is the definitions' one
-reply_tells : (kind : Kind) (outcome : Book → Outcome (List ℕ))
-    (answer : Result (List ℕ) LedgerFault) (was : Bool) (before : Book) (events : List Event) (is : Bool)
-    → Calls (λ (text : List ℕ). text) outcome answer was before events is
-    → (report_reply kind answer).status ≢ Unavailable → (outcome before).answer ≡ answer
-reply_tells kind outcome (Ok text) was before events is called served = called.makes.0
+reply_tells : (kind : Kind) (outcome : Book → Outcome Told) (told : Result Told LedgerFault)
+    (was : Bool) (before : Book) (events : List Event) (is : Bool)
+    → Calls (λ (told : Told). told) outcome told was before events is
+    → (office_reply kind told).status ≢ Unavailable → (outcome before).answer ≡ told
+reply_tells kind outcome (Ok told) was before events is called served = called.makes.0
 reply_tells kind outcome (Err NoSuchPeriod) was before events is called served = called.makes.0
 reply_tells kind outcome (Err fault) was before events is called served = absurd (served refl)
 
@@ -53,16 +55,16 @@ reports_same : (naming : Naming) (wanted : Report) (one other : Reply) (was : Bo
     → AnswersReport naming wanted other was before second is_other → other.status ≢ Unavailable
     → IsSame one other first second
 reports_same naming wanted one other was before first second is_one is_other a served b served_too =
-    let outcome = report_outcome naming wanted in
+    let outcome = telling Text (report_outcome naming wanted) in
     let kind = kind_of wanted in
-    let left : (outcome before).answer ≡ a.answer =
-    reply_tells kind outcome a.answer was before first is_one a.called
+    let left : (outcome before).answer ≡ a.told =
+    reply_tells kind outcome a.told was before first is_one a.made
     (subst (λ (r : Reply). r.status ≢ Unavailable) a.replied served) in
-    let right : (outcome before).answer ≡ b.answer =
-    reply_tells kind outcome b.answer was before second is_other b.called
+    let right : (outcome before).answer ≡ b.told =
+    reply_tells kind outcome b.told was before second is_other b.made
     (subst (λ (r : Reply). r.status ≢ Unavailable) b.replied served_too) in
     record {
-      reply = a.replied ∙ ap (report_reply kind) (sym left ∙ right) ∙ sym b.replied;
+      reply = a.replied ∙ ap (office_reply kind) (sym left ∙ right) ∙ sym b.replied;
       events =
           report_none naming wanted one was before first is_one a
           ∙ sym (report_none naming wanted other was before second is_other b);
@@ -110,15 +112,20 @@ imports_same : (naming : Naming) (layout : Layout) (body : List ℕ) (one other 
     → other.status ≢ Unavailable → IsSame one other first second
 imports_same naming layout body one other was before first second is_one is_other a served b
     served_too =
-    let dump = front layout body in
-    let stop = stop_behind None dump in
-    let left = import_tells naming stop dump.records a.receipt was before first is_one a.imported
-    (subst (λ (r : Reply). r.status ≢ Unavailable) a.replied served) in
+    let found = front layout body in
+    let stop = stop_behind None found in
+    let dump = whole_dump layout body in
+    let first_one = import_counted naming dump a.told was before first is_one a.made in
+    let second_one = import_counted naming dump b.told was before second is_other b.made in
+    let reply_one = a.replied ∙ ap (office_reply kinds.Text) first_one.counted in
+    let reply_two = b.replied ∙ ap (office_reply kinds.Text) second_one.counted in
+    let left = import_tells naming stop found.records first_one.receipt was before first is_one
+    first_one.imported (subst (λ (r : Reply). r.status ≢ Unavailable) reply_one served) in
     let right =
-    import_tells naming stop dump.records b.receipt was before second is_other b.imported
-    (subst (λ (r : Reply). r.status ≢ Unavailable) b.replied served_too) in
+    import_tells naming stop found.records second_one.receipt was before second is_other
+    second_one.imported (subst (λ (r : Reply). r.status ≢ Unavailable) reply_two served_too) in
     record {
-      reply = a.replied ∙ ap receipt_reply (sym left.receipt ∙ right.receipt) ∙ sym b.replied;
+      reply = reply_one ∙ ap receipt_reply (sym left.receipt ∙ right.receipt) ∙ sym reply_two;
       events = sym left.events ∙ right.events;
     }
 

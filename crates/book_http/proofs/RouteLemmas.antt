@@ -8,9 +8,9 @@ use Rattle.matchit.specs.Rows.{param_token}
 use Rattle.smf_frames.specs.declared.dump.Layout.TheVariants.{Rdw, Bdw}
 use Rattle.book_http.specs.declared.route.Page.{Page}
 use Rattle.book_http.specs.declared.route.Page.TheVariants as page
-use Rattle.book_http.specs.declared.route.Report.{Report}
-use Rattle.book_http.specs.declared.route.Report.TheVariants.{Periods, Statement, StatementCsv}
-use Rattle.book_http.specs.declared.route.Report.TheVariants.{Adjustments, Disputes}
+use Rattle.office.specs.declared.request.Report.{Report}
+use Rattle.office.specs.declared.request.Report.TheVariants.{Statement, StatementTable}
+use Rattle.office.specs.declared.request.Report.TheVariants.{AdjustmentList, DisputeList, PeriodList}
 use Rattle.book_http.specs.declared.route.Route.{Route}
 use Rattle.book_http.specs.declared.route.Route.TheVariants as route_to
 use Rattle.book_http.specs.Paths.{IsNamed, IsPathOf, IsServed, path_text}
@@ -38,9 +38,9 @@ page_route page.Periods path h = (tt, h)
 page_route page.Statement path h =
     report_found path Statement _ (swapped _ _ _ (behind_named (codes "/statement/") path))
 page_route page.StatementCsv path h =
-    report_found path StatementCsv _ (swapped _ _ _ (behind_named (codes "/statement-csv/") path))
+    report_found path StatementTable _ (swapped _ _ _ (behind_named (codes "/statement-csv/") path))
 page_route page.Adjustments path h =
-    report_found path Adjustments _ (swapped _ _ _ (behind_named (codes "/adjustments/") path))
+    report_found path AdjustmentList _ (swapped _ _ _ (behind_named (codes "/adjustments/") path))
 page_route page.Disputes path h = (tt, h)
 page_route page.Import path h = (tt, h)
 page_route page.ImportBdw path h = (tt, h)
@@ -108,17 +108,17 @@ at_front make front n named =
 -- what is served is found at its path
 pub served_found : (asked : Route) → IsServed asked → route (path_text asked) ≡ Some asked
 unfolding route_at
-served_found (route_to.Report Periods) served = on_page page.Periods _ _ periods_found refl
+served_found (route_to.Report PeriodList) served = on_page page.Periods _ _ periods_found refl
 served_found (route_to.Report (Statement n)) served =
     on_page page.Statement _ _ (statement_found n served)
     (at_front Statement (codes "/statement/") n served)
-served_found (route_to.Report (StatementCsv n)) served =
+served_found (route_to.Report (StatementTable n)) served =
     on_page page.StatementCsv _ _ (statement_csv_found n served)
-    (at_front StatementCsv (codes "/statement-csv/") n served)
-served_found (route_to.Report (Adjustments n)) served =
+    (at_front StatementTable (codes "/statement-csv/") n served)
+served_found (route_to.Report (AdjustmentList n)) served =
     on_page page.Adjustments _ _ (adjustments_found n served)
-    (at_front Adjustments (codes "/adjustments/") n served)
-served_found (route_to.Report Disputes) served = on_page page.Disputes _ _ disputes_found refl
+    (at_front AdjustmentList (codes "/adjustments/") n served)
+served_found (route_to.Report DisputeList) served = on_page page.Disputes _ _ disputes_found refl
 served_found (route_to.Import Rdw) served = on_page page.Import _ _ import_found refl
 served_found (route_to.Import Bdw) served = on_page page.ImportBdw _ _ import_bdw_found refl
 

@@ -1,61 +1,54 @@
 -- What a request is answered, and what it does to the books: by the book before it, and by the
 -- bytes of the request.
 use Rattle.std.specs.Prelude.{◌≡◌, ◌<◌, ℕ, Bool, true, false, List, length, take, nat_lt}
-use Rattle.std.specs.Prelude.{None, Result, Ok, Err}
+use Rattle.std.specs.Prelude.{Result, Ok, Err}
 use Rattle.httparse.specs.Grammar.{RequestHead}
 use Rattle.smf_frames.specs.declared.dump.Layout.{Layout}
 use Rattle.book_model.specs.declared.fault.LedgerFault.{LedgerFault}
 use Rattle.book_model.specs.declared.fault.LedgerFault.TheVariants.{NoSuchPeriod}
-use Rattle.book_model.specs.Words.{Naming, Book, Event, Outcome}
+use Rattle.book_model.specs.Words.{Naming, Book, Event}
 use Rattle.book_core.specs.Work.{Work, NoEvent}
-use Rattle.book_core.specs.Calls.{Calls}
-use Rattle.book_import.specs.declared.receipt.Receipt.{Receipt}
-use Rattle.book_import.specs.Imports.{Imports}
-use Rattle.book_reports.specs.BookTexts.{statement_outcome, statement_csv_outcome}
-use Rattle.book_reports.specs.BookTexts.{adjustment_list_outcome, dispute_list_outcome}
-use Rattle.book_reports.specs.BookTexts.{period_list_outcome}
+use Rattle.office.specs.declared.request.Report.{Report}
+use Rattle.office.specs.declared.request.Report.TheVariants as report
+use Rattle.office.specs.declared.request.Asked.TheVariants as requests
+use Rattle.office.specs.Requests as tells
+use Rattle.office.specs.Requests.{Told, Asks, Receives, whole_dump, no_dump}
 use Rattle.book_http.specs.declared.answer_head.Kind.{Kind}
 use Rattle.book_http.specs.declared.answer_head.Kind.TheVariants.{Text, Csv}
 use Rattle.book_http.specs.declared.asked.Asked.{Asked}
 use Rattle.book_http.specs.declared.asked.Asked.TheVariants as asks
-use Rattle.book_http.specs.declared.route.Report.{Report}
-use Rattle.book_http.specs.declared.route.Report.TheVariants as report
 use Rattle.book_http.specs.declared.status.Status.TheVariants.{BadRequest, NotFound, Unavailable}
 use Rattle.book_http.specs.Asked.{asked}
 use Rattle.book_http.specs.Head.{HasHead, HasNoHead}
 use Rattle.book_http.specs.Replies.{Reply, success, refusal, other_method, receipt_reply}
 
--- the text that a report is, by the book
-abbrev pub report_outcome : Naming → Report → Book → Outcome (List ℕ)
-report_outcome naming report.Periods = period_list_outcome
-report_outcome naming (report.Statement period) = statement_outcome period
-report_outcome naming (report.StatementCsv period) = statement_csv_outcome period
-report_outcome naming (report.Adjustments period) = adjustment_list_outcome naming period
-report_outcome naming report.Disputes = dispute_list_outcome naming
-
 abbrev pub kind_of : Report → Kind
-kind_of (report.StatementCsv period) = Csv
+kind_of (report.StatementTable period) = Csv
 kind_of report = Text
 
--- what the books answered, as a reply
-abbrev pub report_reply : Kind → Result (List ℕ) LedgerFault → Reply
-report_reply kind (Ok text) = success kind text
-report_reply kind (Err NoSuchPeriod) = refusal NotFound
-report_reply kind (Err fault) = refusal Unavailable
+-- What the office told, as a reply. No ruling is asked over HTTP.
+abbrev pub office_reply : Kind → Result Told LedgerFault → Reply
+office_reply kind (Ok (tells.Text text)) = success kind text
+office_reply kind (Ok (tells.Count receipt)) = receipt_reply receipt
+office_reply kind (Err NoSuchPeriod) = refusal NotFound
+office_reply kind told = refusal Unavailable
 
--- The books answered the text of a report, in one call that is no event, or they refused.
-pub record AnswersReport (naming : Naming) (report : Report) (reply : Reply) (was : Bool)
-    (before : Book) (events : List Event) (is : Bool) : Type 0 where
-  pub answer : Result (List ℕ) LedgerFault
-  pub called : Calls (λ text. text) (report_outcome naming report) answer was before events is
-  pub replied : reply ≡ report_reply (kind_of report) answer
+-- the office was asked, and what it told is the reply
+pub record AnswersOffice (kind : Kind) (Making : Result Told LedgerFault → Work) (reply : Reply)
+    (was : Bool) (before : Book) (events : List Event) (is : Bool) : Type 0 where
+  pub told : Result Told LedgerFault
+  pub made : Making told was before events is
+  pub replied : reply ≡ office_reply kind told
+
+-- a report of the books
+abbrev pub AnswersReport : Naming → Report → Reply → Work
+AnswersReport naming report reply =
+    AnswersOffice (kind_of report) (Asks naming (requests.Report report) no_dump) reply
 
 -- the import of a body, which is a whole dump
-pub record AnswersImport (naming : Naming) (layout : Layout) (body : List ℕ) (reply : Reply)
-    (was : Bool) (before : Book) (events : List Event) (is : Bool) : Type 0 where
-  pub receipt : Receipt
-  pub imported : Imports naming layout None body receipt was before events is
-  pub replied : reply ≡ receipt_reply receipt
+abbrev pub AnswersImport : Naming → Layout → List ℕ → Reply → Work
+AnswersImport naming layout body reply =
+    AnswersOffice Text (Receives naming (whole_dump layout body)) reply
 
 -- nothing is done, and this is the reply
 pub record Refuses (refused reply : Reply) (was : Bool) (before : Book) (events : List Event)

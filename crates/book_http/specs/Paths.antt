@@ -1,8 +1,8 @@
 -- The paths that are served, as texts.
 use Rattle.std.specs.Prelude.{◌≡◌, ℕ, ◌≤◌, List, ◌++◌, codes, decimal, ⊤}
 use Rattle.smf_frames.specs.declared.dump.Layout.TheVariants.{Rdw, Bdw}
-use Rattle.book_http.specs.declared.route.Report.TheVariants.{Periods, Statement, StatementCsv}
-use Rattle.book_http.specs.declared.route.Report.TheVariants.{Adjustments, Disputes}
+use Rattle.office.specs.declared.request.Report.TheVariants.{Statement, StatementTable}
+use Rattle.office.specs.declared.request.Report.TheVariants.{AdjustmentList, DisputeList, PeriodList}
 use Rattle.book_http.specs.declared.route.Route.{Route}
 use Rattle.book_http.specs.declared.route.Route.TheVariants as route_to
 
@@ -12,20 +12,20 @@ IsNamed n = (1 ≤ n) × (n ≤ 9999)
 
 -- what is served: each report that names no period, and the others of such a period
 abbrev pub IsServed : Route → Type 0
-IsServed (route_to.Report Periods) = ⊤
+IsServed (route_to.Report PeriodList) = ⊤
 IsServed (route_to.Report (Statement n)) = IsNamed n
-IsServed (route_to.Report (StatementCsv n)) = IsNamed n
-IsServed (route_to.Report (Adjustments n)) = IsNamed n
-IsServed (route_to.Report Disputes) = ⊤
+IsServed (route_to.Report (StatementTable n)) = IsNamed n
+IsServed (route_to.Report (AdjustmentList n)) = IsNamed n
+IsServed (route_to.Report DisputeList) = ⊤
 IsServed (route_to.Import layout) = ⊤
 
 -- the path of what is served
 abbrev pub path_text : Route → List ℕ
-path_text (route_to.Report Periods) = codes "/periods"
+path_text (route_to.Report PeriodList) = codes "/periods"
 path_text (route_to.Report (Statement n)) = codes "/statement/" ++ decimal n
-path_text (route_to.Report (StatementCsv n)) = codes "/statement-csv/" ++ decimal n
-path_text (route_to.Report (Adjustments n)) = codes "/adjustments/" ++ decimal n
-path_text (route_to.Report Disputes) = codes "/disputes"
+path_text (route_to.Report (StatementTable n)) = codes "/statement-csv/" ++ decimal n
+path_text (route_to.Report (AdjustmentList n)) = codes "/adjustments/" ++ decimal n
+path_text (route_to.Report DisputeList) = codes "/disputes"
 path_text (route_to.Import Rdw) = codes "/import"
 path_text (route_to.Import Bdw) = codes "/import-bdw"
 

@@ -10,10 +10,10 @@ use Rattle.matchit.specs.Router.{RouteOf, route_from}
 use Rattle.matchit.specs.Seek.{first}
 use Rattle.matchit.specs.declared.error.InsertError.{InsertError}
 use Rattle.smf_frames.specs.declared.dump.Layout.TheVariants.{Rdw, Bdw}
+use Rattle.office.specs.declared.request.Report.{Report}
+use Rattle.office.specs.declared.request.Report.TheVariants as report_of
 use Rattle.book_http.specs.declared.route.Page.{Page}
 use Rattle.book_http.specs.declared.route.Page.TheVariants as page
-use Rattle.book_http.specs.declared.route.Report.{Report}
-use Rattle.book_http.specs.declared.route.Report.TheVariants as report_of
 use Rattle.book_http.specs.declared.route.Route.{Route}
 use Rattle.book_http.specs.declared.route.Route.TheVariants as route_to
 use Rattle.book_http.specs.Numbers.{number}
@@ -38,12 +38,12 @@ report_behind report front path =
 
 -- what a page is for at a path
 unfoldable pub route_at : Page → List ℕ → Option Route
-route_at page.Periods path = Some (route_to.Report report_of.Periods)
+route_at page.Periods path = Some (route_to.Report report_of.PeriodList)
 route_at page.Statement path = report_behind report_of.Statement (codes "/statement/") path
 route_at page.StatementCsv path =
-    report_behind report_of.StatementCsv (codes "/statement-csv/") path
-route_at page.Adjustments path = report_behind report_of.Adjustments (codes "/adjustments/") path
-route_at page.Disputes path = Some (route_to.Report report_of.Disputes)
+    report_behind report_of.StatementTable (codes "/statement-csv/") path
+route_at page.Adjustments path = report_behind report_of.AdjustmentList (codes "/adjustments/") path
+route_at page.Disputes path = Some (route_to.Report report_of.DisputeList)
 route_at page.Import path = Some (route_to.Import Rdw)
 route_at page.ImportBdw path = Some (route_to.Import Bdw)
 

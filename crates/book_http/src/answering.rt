@@ -18,8 +18,7 @@ ghost use Rattle.book_http.specs.Served.{IsAnswerTo};
 use crate::answer::Answer;
 use crate::asked::{Asked, asked_framed};
 use crate::body::{BodyFault, read_body};
-use crate::import_answer::answer_import;
-use crate::report_answers::answer_report;
+use crate::office_answers::{answer_import, answer_report};
 use crate::request::Request;
 use crate::route::find_route;
 use crate::status::Status;
@@ -57,7 +56,7 @@ fn answer_body<R: Read + Drop, L: Ledger>(
         (has_ended source.new) (R.remaining (reader_of source.new)) }
 {
     match read_body(alloc, source, front, size) {
-        Ok(body) => Ok(answer_import(alloc, ledger, layout, &body)),
+        Ok(body) => Ok(answer_import(alloc, ledger, layout, body)),
         Err(BodyFault::Short) => Ok(Answer::Refusal(Status::BadRequest)),
         Err(BodyFault::Memory) => Ok(Answer::Refusal(Status::Unavailable)),
         Err(BodyFault::Read) => Err(ReadFailed),

@@ -7,8 +7,9 @@ ghost use Rattle.book_http.specs.Asked.{IsServable};
 use crate::body::MAX_BODY;
 use crate::framing::Framing;
 use crate::method::{Method, is_method};
-use crate::route::{Report, Route};
+use crate::route::Route;
 use crate::status::Status;
+use office::Report;
 use smf_frames::Layout;
 
 /// What the head of a request asks.

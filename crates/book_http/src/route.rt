@@ -8,24 +8,10 @@ ghost use Rattle.book_http.specs.Routes.{route_rows};
 
 use crate::number::number;
 use matchit::{InsertError, Router};
+use office::Report;
 use smf_frames::Layout;
 use std::alloc::{AllocError, Global};
 use std::str;
-
-/// A report that a path names.
-#[derive(Clone, Copy, Debug, PartialEq, Eq)]
-pub enum Report {
-    /// The list of the periods.
-    Periods,
-    /// The statement of a period.
-    Statement(u16),
-    /// The same as rows with commas.
-    StatementCsv(u16),
-    /// The adjustments of a period.
-    Adjustments(u16),
-    /// The list of the disputes.
-    Disputes,
-}
 
 /// What a path is for.
 #[derive(Clone, Copy, Debug, PartialEq, Eq)]
@@ -116,20 +102,20 @@ fn route_at(page: Page, path: &[u8]) -> Option<Route>
     ensures { result ≡ spec.route_at page path.now }
 {
     match page {
-        Page::Periods => Some(Route::Report(Report::Periods)),
+        Page::Periods => Some(Route::Report(Report::PeriodList)),
         Page::Statement => {
             let period = period_behind(b"/statement/", path)?;
             Some(Route::Report(Report::Statement(period)))
         }
         Page::StatementCsv => {
             let period = period_behind(b"/statement-csv/", path)?;
-            Some(Route::Report(Report::StatementCsv(period)))
+            Some(Route::Report(Report::StatementTable(period)))
         }
         Page::Adjustments => {
             let period = period_behind(b"/adjustments/", path)?;
-            Some(Route::Report(Report::Adjustments(period)))
+            Some(Route::Report(Report::AdjustmentList(period)))
         }
-        Page::Disputes => Some(Route::Report(Report::Disputes)),
+        Page::Disputes => Some(Route::Report(Report::DisputeList)),
         Page::Import => Some(Route::Import(Layout::Rdw)),
         Page::ImportBdw => Some(Route::Import(Layout::Bdw)),
     }

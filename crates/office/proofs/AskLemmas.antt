@@ -14,7 +14,7 @@ use Rattle.office.specs.declared.request.Asked.{Asked}
 use Rattle.office.specs.declared.request.Asked.TheVariants.{Tariff, Close, Import, ImportBytes}
 use Rattle.office.specs.declared.request.Asked.TheVariants.{Report}
 use Rattle.office.specs.declared.request.Answer.{Answer}
-use Rattle.office.specs.Requests.{Dump, Told, telling, told_by, IsAskable, IsAskableAnew, Gives, Asks, IsAsked}
+use Rattle.office.specs.Requests.{Dump, Told, telling, told_by, IsAskable, IsAskableAnew, IsAskableAlone, dump_here, Gives, Asks, IsAsked}
 use Rattle.office.specs.Sides.{ReaderSeen, Books, Input}
 
 -- a call of the ledger, told
@@ -88,3 +88,32 @@ askable_anew (Import layout) reader may reads failed ended =
     record { reads = omega arith; failed = failed; ended = ended }
 askable_anew (ImportBytes layout bytes) reader may reads failed ended = tt
 askable_anew (Report report) reader may reads failed ended = tt
+
+-- it may be asked whatever reader is at hand
+pub askable_with : (asked : Asked) (reader : ReaderSeen) → IsAskableAlone asked
+    → IsAskable asked reader
+askable_with (Tariff text) reader alone = tt
+askable_with (Close period through) reader alone = alone
+askable_with (Import layout) reader alone = absurd alone
+askable_with (ImportBytes layout bytes) reader alone = tt
+askable_with (Report report) reader alone = tt
+
+-- a request with no reader at hand has the dump that it brings
+pub asked_alone : (asked : Asked) {answer : Result Answer LedgerFault} {books : Books}
+    {input : Input} → IsAskableAlone asked → IsAsked asked answer books input
+    → IsWork books.old books.new
+    (Asks books.old.naming asked (dump_here asked) (told_by answer))
+asked_alone (Tariff text) {answer = answer} {books = books} alone asked =
+    subst (λ dump. IsWork books.old books.new
+    (Asks books.old.naming (Tariff text) dump (told_by answer))) asked.given.is asked.work
+asked_alone (Close period through) {answer = answer} {books = books} alone asked =
+    subst (λ dump. IsWork books.old books.new
+    (Asks books.old.naming (Close period through) dump (told_by answer))) asked.given.is asked.work
+asked_alone (Import layout) alone asked = absurd alone
+asked_alone (ImportBytes layout bytes) {answer = answer} {books = books} alone asked =
+    subst (λ dump. IsWork books.old books.new
+    (Asks books.old.naming (ImportBytes layout bytes) dump (told_by answer))) asked.given.is
+    asked.work
+asked_alone (Report report) {answer = answer} {books = books} alone asked =
+    subst (λ dump. IsWork books.old books.new
+    (Asks books.old.naming (Report report) dump (told_by answer))) asked.given.is asked.work

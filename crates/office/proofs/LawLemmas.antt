@@ -1,6 +1,6 @@
 -- Requests, one after the other, and the history that they make.
 use Rattle.std.proofs.Common.{◌≡◌, ◌∙◌, Bool, true, false, List, [], ◌∷◌, ◌++◌, Result, Ok, Err}
-use Rattle.std.proofs.Common.{inr, refl, sym, ap, subst}
+use Rattle.std.proofs.Common.{None, inr, refl, sym, ap, subst}
 use Rattle.std.specs.Prelude.{string_bytes}
 use Rattle.book_model.specs.declared.fault.LedgerFault.{LedgerFault}
 use Rattle.book_model.specs.declared.fault.LedgerFault.TheVariants.{Memory, Store, Reopen}
@@ -47,27 +47,22 @@ told_answered naming say outcome told makes =
     (event_answered naming outcome makes)
 
 -- a report is no event
+pub report_event : (naming : Naming) (report : report.Report) (book : Book)
+    → (report_outcome naming report book).event ≡ None
+report_event naming (Statement period) book = refl
+report_event naming (StatementTable period) book = refl
+report_event naming (AdjustmentList period) book = refl
+report_event naming DisputeList book = refl
+report_event naming PeriodList book = refl
+
 report_answered : (naming : Naming) (report : report.Report) (told : Result Told LedgerFault)
     → MakesAnswered naming (Calls (λ told. told) (telling Text (report_outcome naming report)) told)
-report_answered naming (Statement period) told =
-    calls_answered naming (λ told. told) (telling Text (report_outcome naming (Statement period)))
-    told (λ history answered. answered)
-report_answered naming (StatementTable period) told =
-    calls_answered naming (λ told. told)
-    (telling Text (report_outcome naming (StatementTable period))) told
-    (λ history answered. answered)
-report_answered naming (AdjustmentList period) told =
-    calls_answered naming (λ told. told)
-    (telling Text (report_outcome naming (AdjustmentList period))) told
-    (λ history answered. answered)
-report_answered naming DisputeList told =
-    calls_answered naming (λ told. told) (telling Text (report_outcome naming DisputeList)) told
-    (λ history answered. answered)
-report_answered naming PeriodList told =
-    calls_answered naming (λ told. told) (telling Text (report_outcome naming PeriodList)) told
-    (λ history answered. answered)
+report_answered naming report told =
+    calls_answered naming (λ told. told) (telling Text (report_outcome naming report)) told
+    (λ history answered. subst (λ event. IsAnswered naming (listed event ++ history))
+    (sym (report_event naming report (book_after history))) answered)
 
-receives_answered : (naming : Naming) (dump : Dump) (told : Result Told LedgerFault)
+pub receives_answered : (naming : Naming) (dump : Dump) (told : Result Told LedgerFault)
     → MakesAnswered naming (Receives naming dump told)
 receives_answered naming dump (Ok (Count receipt)) =
     let found = front dump.layout dump.bytes in

@@ -80,6 +80,12 @@ abbrev pub IsAskableAnew : Asked → Type 0
 IsAskableAnew (Close period through) = IsDay through
 IsAskableAnew asked = Unit {0}
 
+-- what may be asked with no reader at hand: it brings its dump, if it has one
+abbrev pub IsAskableAlone : Asked → Type 0
+IsAskableAlone (Close period through) = IsDay through
+IsAskableAlone (Import layout) = ⊥
+IsAskableAlone asked = Unit {0}
+
 -- what cut the reading short, if anything did
 abbrev pub cut_by : ReaderSeen → Option Stop
 cut_by reader =
@@ -116,6 +122,11 @@ whole_dump layout bytes = record { layout = layout; cut = None; bytes = bytes }
 -- the dump of a request that has none
 abbrev pub no_dump : Dump
 no_dump = whole_dump Rdw []
+
+-- the dump that a request brings
+abbrev pub dump_here : Asked → Dump
+dump_here (ImportBytes layout bytes) = whole_dump layout bytes.items
+dump_here asked = no_dump
 
 -- The dump of what was asked, and what it took of the reader: an import alone has one, and one that
 -- is here is not read.

@@ -8,7 +8,7 @@ mod request;
 mod shelf;
 
 pub use answering::answer;
-pub use asking::ask;
+pub use asking::{ask, ask_alone};
 pub use laws::{answers_are_free, answers_follow_history};
 pub use request::{Answer, Asked, Report};
 pub use shelf::{Shelf, ShelfFault, Visit};

@@ -1,8 +1,6 @@
-use Rattle.std.proofs.Common.{subst, ap, ℕ, List, ◌++◌, [], Err}
+use Rattle.std.proofs.Common.{ap, ◌++◌, [], Err}
 use Rattle.std.proofs.KnownBytes.{Consumes-nil}
 use Rattle.streams.specs.Sources.{reader_of}
-use Rattle.book_core.specs.Work.{IsWork}
-use Rattle.book_http.specs.Answer.{AnswersImport}
 use Rattle.book_http.specs.Replies.{reply_of}
 use Rattle.book_http.proofs.AskedLemmas.{whole_body, short_body, wanting}
 use Rattle.book_http.proofs.answering.answer_body.Goals as goal
@@ -17,9 +15,7 @@ returns-in-Ok-clause-answer g c =
       read.1,
       whole_body old new _ c.args.layout c.args.size (c.args.front.now ++ read.0)
           c.in-Ok.body.items reply read.2.enough read.2.bytes
-          (subst (λ (body : List ℕ). IsWork old new
-          (AnswersImport old.naming c.args.layout body reply)) c.deref.ensures.value
-          c.answer_import.ensures),
+          c.answer_import.ensures,
     )
 
 pub returns-in-Err-Short-clause-answer : goal.returns-in-Err-Short-clause-answer

@@ -1,0 +1,18 @@
+use Rattle.book_core.proofs.WorkLemmas.{work_as}
+use Rattle.office.specs.Requests.{told_by}
+use Rattle.book_http.specs.Answer.{AnswersImport}
+use Rattle.book_http.specs.Replies.{reply_of}
+use Rattle.book_http.proofs.office_answers.answer_import.Goals as goal
+
+pub returns : goal.returns
+returns g c =
+    let old = g.L.Ledger.seen c.args.ledger.now in
+    let new = g.L.Ledger.seen c.ask_alone.new.ledger in
+    work_as old new _
+    (AnswersImport old.naming c.args.layout c.args.body.items (reply_of c.answer_of.result))
+    (λ was before events is asked. record {
+      told = told_by c.ask_alone.result;
+      made = asked;
+      replied = c.answer_of.ensures;
+    })
+    c.ask_alone.ensures
