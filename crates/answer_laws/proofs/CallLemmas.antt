@@ -7,9 +7,9 @@ use Rattle.book_model.specs.declared.fault.LedgerFault.TheVariants.{Memory, Stor
 use Rattle.book_model.specs.Words.{Book, Event, after_all, Outcome, Naming}
 use Rattle.book_core.specs.Calls.{Makes, Calls, is_store, is_reopen}
 use Rattle.book_core.specs.Ledgers.{Seen, IsOpenAt}
+use Rattle.office.proofs.LeavingLemmas.{Leaves, work_leaves}
 use Rattle.answer_laws.specs.CallLaws.{IsCalled, OneAnswer, OneRefusal, OneBook}
 use Rattle.answer_laws.specs.CallLaws.{RefusalChangesNothing}
-use Rattle.answer_laws.proofs.OpenLemmas.{Leads, leads}
 
 -- another fault is none of the store
 pub not_store : (V : Type 0) (fault : LedgerFault) → fault ≢ Store
@@ -39,11 +39,13 @@ made_none view outcome fault events store made = made.1
 called : {V A : Type 0} {view : V → A} {outcome : Book → Outcome A} {naming : Naming} {start : Book}
     {old new : Seen} {result : Result V LedgerFault}
     → IsCalled view outcome naming start old new result → is_store result ≡ false
-    → Leads (Calls view outcome result) naming start new
+    → Leaves naming (Calls view outcome result) start new
 called {result = result} come store =
-    leads come.opened come.honest
-    (come.call.reopens.store ∙ ap (λ was. was || is_store result) come.opened.is_open ∙ store)
-    come.call.work
+    work_leaves come.opened come.call.work (record {
+      is_open = come.call.reopens.store ∙ ap (λ was. was || is_store result) come.opened.is_open
+          ∙ store;
+      honest = come.honest;
+    })
 
 pub one_answer : {L : Type 0} (V A : Type 0) (seen : L → Seen) → OneAnswer V A seen
 one_answer V A seen view outcome naming start old new value come =

@@ -6,8 +6,8 @@ use Rattle.book_core.specs.Work.{IsWork}
 use Rattle.book_import.specs.Dumps.{stop_behind}
 use Rattle.book_import.specs.Imports.{Imports}
 use Rattle.book_import.proofs.RepeatLemmas.{is_whole}
+use Rattle.office.proofs.LeavingLemmas.{work_leaves}
 use Rattle.answer_laws.specs.ImportLaws.{OneReceipt}
-use Rattle.answer_laws.proofs.OpenLemmas.{leads}
 
 pub one_receipt : {L : Type 0} (seen : L → Seen) → OneReceipt seen
 one_receipt seen naming start old new dump receipt come =
@@ -15,7 +15,7 @@ one_receipt seen naming start old new dump receipt come =
     (Imports naming dump.layout dump.cut dump.bytes receipt) =
     subst (λ naming. IsWork (seen old) (seen new)
     (Imports naming dump.layout dump.cut dump.bytes receipt)) come.opened.naming come.work in
-    let gone = leads come.opened come.honest come.is_open work in
+    let gone = work_leaves come.opened work come.still in
     let found = front dump.layout dump.bytes in
     let all = is_whole naming (stop_behind dump.cut found) found.records start receipt gone.events
     false gone.made come.unhindered in

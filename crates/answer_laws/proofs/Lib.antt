@@ -1,6 +1,5 @@
--- What work leaves of an open ledger; single calls; reports; imports; and lists of commands.
-pub mod OpenLemmas
+-- Single calls; reports; imports; and lists of requests.
 pub mod CallLemmas
 pub mod ReportLemmas
 pub mod ImportLemmas
-pub mod CommandLemmas
+pub mod RunLemmas

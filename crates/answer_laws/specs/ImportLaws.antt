@@ -1,22 +1,16 @@
 -- The law of imports: a dump has one receipt, and leaves one book.
-use Rattle.std.specs.Prelude.{◌≡◌, ℕ, false, List, Option}
-use Rattle.smf_frames.specs.declared.dump.Layout.{Layout}
+use Rattle.std.specs.Prelude.{◌≡◌}
 use Rattle.book_model.specs.Words.{front, Naming, Book, after_all}
 use Rattle.book_core.specs.Ledgers.{Seen, IsOpenAt}
 use Rattle.book_core.specs.Work.{IsWork}
 use Rattle.book_import.specs.declared.receipt.Receipt.{Receipt}
-use Rattle.book_import.specs.declared.receipt.Stop.{Stop}
 use Rattle.book_import.specs.Dumps.{stop_behind}
 use Rattle.book_import.specs.Handled.{Imported}
 use Rattle.book_import.specs.Imports.{Imports}
 use Rattle.book_import.specs.Laws.{import_of_records}
 use Rattle.book_import.specs.Repeats.{IsUnhindered}
-
--- the bytes of a dump, and what cut their reading short, if anything did
-pub record Dump : Type 0 where
-  pub layout : Layout
-  pub cut : Option Stop
-  pub bytes : List ℕ
+use Rattle.office.specs.Laws.{IsStillOpen}
+use Rattle.office.specs.Requests.{Dump}
 
 -- the import of a dump into a book, as the definitions have it
 abbrev pub imported_into : Naming → Dump → Book → Imported
@@ -29,8 +23,7 @@ imported_into naming dump book =
 pub record IsImported (naming : Naming) (start : Book) (old new : Seen) (dump : Dump)
     (receipt : Receipt) : Type 0 where
   pub opened : IsOpenAt naming start old
-  pub honest : new.is_honest
-  pub is_open : new.must_reopen ≡ false
+  pub still : IsStillOpen new
   pub work : IsWork old new (Imports old.naming dump.layout dump.cut dump.bytes receipt)
   pub unhindered : IsUnhindered receipt
 

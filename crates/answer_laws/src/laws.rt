@@ -2,7 +2,7 @@
 //! nothing.
 
 ghost use Rattle.answer_laws.specs.CallLaws.{OneAnswer, OneBook, OneRefusal, RefusalChangesNothing};
-ghost use Rattle.answer_laws.specs.CommandLaws.{OneRun};
+ghost use Rattle.answer_laws.specs.RunLaws.{OneRun};
 ghost use Rattle.answer_laws.specs.ImportLaws.{OneReceipt};
 ghost use Rattle.answer_laws.specs.ReportLaws.{OneFront, OneRefusedReport, OneText};
 
@@ -48,7 +48,7 @@ pub fn one_receipt<L: Ledger>()
     ensures { OneReceipt L.seen }
 {}
 
-/// The replies to a list of commands are the definitions' ones, and so is the book behind them.
+/// The answers to a list of requests are the definitions' ones, and so is the book behind them.
 pub fn one_run<L: Ledger>()
     ensures { OneRun L.seen }
 {}

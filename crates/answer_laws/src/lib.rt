@@ -1,5 +1,5 @@
 //! Laws of single calls of a ledger, and of what is made of them: a call, a report, an import and a
-//! list of commands have one answer, by the book before them. So whatever body meets their contracts
+//! list of requests have one answer, by the book before them. So whatever body meets their contracts
 //! answers that, save for want of memory and faults of the store.
 #![tactic(auto)]
 

@@ -41,42 +41,20 @@ fn settled<S: Alter + Drop>(
     }
 }
 
-/// The books of a database, which name records by SHA-256.
-fn opened<S: Alter + Drop>(
-    alloc: Global,
-    conn: Connection<S>,
-) -> Result<TableLedger<S, ShaNames>, ShelfFault>
-    requires { conn.in_transaction ≡ false }
-{
-    match TableLedger::open(alloc, conn, ShaNames) {
-        Ok(books) => Ok(books),
-        Err((fault, _)) => Err(ShelfFault::Ledger(fault)),
-    }
-}
-
-/// New books in a database that has no tables.
-fn created<S: Alter + Drop>(
-    alloc: Global,
-    conn: Connection<S>,
-) -> Result<TableLedger<S, ShaNames>, ShelfFault>
-    requires { conn.in_transaction ≡ false }
-{
-    match TableLedger::create(alloc, conn, ShaNames) {
-        Ok(books) => Ok(books),
-        Err((fault, _)) => Err(ShelfFault::Ledger(fault)),
-    }
-}
-
-/// The books over a connection, found or made.
+/// The books over a connection, found or made. They name records by SHA-256.
 fn books_over<S: Alter + Drop>(
     alloc: Global,
     connected: Result<Connection<S>, Error>,
     found: Found,
 ) -> Result<TableLedger<S, ShaNames>, ShelfFault> {
     let conn = settled(connected)?;
-    match found {
-        Found::Books => opened(alloc, conn),
-        Found::Nothing => created(alloc, conn),
+    let books = match found {
+        Found::Books => TableLedger::open(alloc, conn, ShaNames),
+        Found::Nothing => TableLedger::create(alloc, conn, ShaNames),
+    };
+    match books {
+        Ok(books) => Ok(books),
+        Err((fault, _)) => Err(ShelfFault::Ledger(fault)),
     }
 }
 

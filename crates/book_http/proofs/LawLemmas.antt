@@ -14,10 +14,12 @@ use Rattle.book_model.specs.declared.fault.LedgerFault.{LedgerFault}
 use Rattle.book_import.specs.declared.receipt.Receipt.{Receipt}
 use Rattle.book_import.specs.Dumps.{stop_behind}
 use Rattle.book_import.specs.Imports.{Imports}
-use Rattle.office.specs.declared.request.Report.{Report}
-use Rattle.office.specs.Requests.{Dump, Told, Ruling, Count, Text, telling, report_outcome}
+use Rattle.book_reports.specs.declared.report.Report.{Report}
+use Rattle.book_reports.specs.BookTexts.{report_outcome}
+use Rattle.book_reports.proofs.ReadingLemmas.{report_event}
+use Rattle.office.specs.Requests.{Dump, Told, Ruling, Count, Text, telling}
 use Rattle.office.specs.Requests.{Receives, whole_dump}
-use Rattle.office.proofs.LawLemmas.{report_event, receives_answered}
+use Rattle.office.proofs.LawLemmas.{receives_answered}
 use Rattle.book_import.proofs.RepeatLemmas.{twice_is_once}
 use Rattle.book_http.specs.declared.asked.Asked.{Asked}
 use Rattle.book_http.specs.declared.asked.Asked.TheVariants as asks

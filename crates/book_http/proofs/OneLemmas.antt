@@ -15,8 +15,9 @@ use Rattle.book_import.specs.Handled.{Imported, Answering, answers_of, handle, h
 use Rattle.book_import.specs.Handled.{start_of}
 use Rattle.book_import.specs.Imports.{Handles, IsTold, whole, out_of_memory, store_failed}
 use Rattle.book_import.specs.Receipts.{is_stop_of_books}
-use Rattle.office.specs.declared.request.Report.{Report}
-use Rattle.office.specs.Requests.{Told, Text, telling, report_outcome, whole_dump}
+use Rattle.book_reports.specs.declared.report.Report.{Report}
+use Rattle.book_reports.specs.BookTexts.{report_outcome}
+use Rattle.office.specs.Requests.{Told, Text, telling, whole_dump}
 use Rattle.book_http.specs.declared.answer_head.Kind.{Kind}
 use Rattle.book_http.specs.declared.answer_head.Kind.TheVariants as kinds
 use Rattle.book_http.specs.declared.asked.Asked.{Asked}

@@ -8,9 +8,9 @@ use Rattle.matchit.specs.Rows.{param_token}
 use Rattle.smf_frames.specs.declared.dump.Layout.TheVariants.{Rdw, Bdw}
 use Rattle.book_http.specs.declared.route.Page.{Page}
 use Rattle.book_http.specs.declared.route.Page.TheVariants as page
-use Rattle.office.specs.declared.request.Report.{Report}
-use Rattle.office.specs.declared.request.Report.TheVariants.{Statement, StatementTable}
-use Rattle.office.specs.declared.request.Report.TheVariants.{AdjustmentList, DisputeList, PeriodList}
+use Rattle.book_reports.specs.declared.report.Report.{Report}
+use Rattle.book_reports.specs.declared.report.Report.TheVariants.{Statement, StatementTable}
+use Rattle.book_reports.specs.declared.report.Report.TheVariants.{AdjustmentList, DisputeList, PeriodList}
 use Rattle.book_http.specs.declared.route.Route.{Route}
 use Rattle.book_http.specs.declared.route.Route.TheVariants as route_to
 use Rattle.book_http.specs.Paths.{IsNamed, IsPathOf, IsServed, path_text}

@@ -8,8 +8,8 @@ use Rattle.book_model.specs.declared.fault.LedgerFault.{LedgerFault}
 use Rattle.book_model.specs.declared.fault.LedgerFault.TheVariants.{NoSuchPeriod}
 use Rattle.book_model.specs.Words.{Naming, Book, Event}
 use Rattle.book_core.specs.Work.{Work, NoEvent}
-use Rattle.office.specs.declared.request.Report.{Report}
-use Rattle.office.specs.declared.request.Report.TheVariants as report
+use Rattle.book_reports.specs.declared.report.Report.{Report}
+use Rattle.book_reports.specs.declared.report.Report.TheVariants as report
 use Rattle.office.specs.declared.request.Asked.TheVariants as requests
 use Rattle.office.specs.Requests as tells
 use Rattle.office.specs.Requests.{Told, Asks, Receives, whole_dump, no_dump}

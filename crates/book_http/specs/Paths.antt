@@ -1,8 +1,8 @@
 -- The paths that are served, as texts.
 use Rattle.std.specs.Prelude.{◌≡◌, ℕ, ◌≤◌, List, ◌++◌, codes, decimal, ⊤}
 use Rattle.smf_frames.specs.declared.dump.Layout.TheVariants.{Rdw, Bdw}
-use Rattle.office.specs.declared.request.Report.TheVariants.{Statement, StatementTable}
-use Rattle.office.specs.declared.request.Report.TheVariants.{AdjustmentList, DisputeList, PeriodList}
+use Rattle.book_reports.specs.declared.report.Report.TheVariants.{Statement, StatementTable}
+use Rattle.book_reports.specs.declared.report.Report.TheVariants.{AdjustmentList, DisputeList, PeriodList}
 use Rattle.book_http.specs.declared.route.Route.{Route}
 use Rattle.book_http.specs.declared.route.Route.TheVariants as route_to
 

@@ -10,8 +10,8 @@ use Rattle.matchit.specs.Router.{RouteOf, route_from}
 use Rattle.matchit.specs.Seek.{first}
 use Rattle.matchit.specs.declared.error.InsertError.{InsertError}
 use Rattle.smf_frames.specs.declared.dump.Layout.TheVariants.{Rdw, Bdw}
-use Rattle.office.specs.declared.request.Report.{Report}
-use Rattle.office.specs.declared.request.Report.TheVariants as report_of
+use Rattle.book_reports.specs.declared.report.Report.{Report}
+use Rattle.book_reports.specs.declared.report.Report.TheVariants as report_of
 use Rattle.book_http.specs.declared.route.Page.{Page}
 use Rattle.book_http.specs.declared.route.Page.TheVariants as page
 use Rattle.book_http.specs.declared.route.Route.{Route}

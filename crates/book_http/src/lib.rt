@@ -12,7 +12,6 @@ mod laws;
 mod method;
 mod number;
 mod office_answers;
-mod receipt_line;
 mod request;
 mod route;
 mod sending;

@@ -9,12 +9,11 @@ ghost use Rattle.book_http.specs.Served.{IsSent, is_write_fault};
 use crate::answer::Answer;
 use crate::answer_head::{Kind, answer_head, status_body};
 use crate::method::Method;
-use crate::receipt_line::receipt_line;
 use crate::served::Served;
 use crate::status::Status;
 use book_core::Sink;
 use book_import::Stop;
-use book_reports::{write_bytes, write_text};
+use book_reports::{receipt_line_text, write_bytes, write_text};
 use std::io::Write;
 
 /// The status that the stop of an import has.
@@ -61,7 +60,7 @@ pub fn send<W: Write + Drop>(sink: &mut Sink<W>, answer: &Answer) -> Served
     match answer {
         Answer::Report(kind, text) => send_reply(sink, Status::Done, *kind, None, text),
         Answer::Receipt(receipt) => {
-            let line = receipt_line(receipt);
+            let line = receipt_line_text(receipt);
             let body = line.as_str().as_bytes();
             send_reply(sink, stop_status(receipt.stop), Kind::Text, None, body)
         }

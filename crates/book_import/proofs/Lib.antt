@@ -1,12 +1,13 @@
--- Records that are handed in, what stops an import, and commands that are run; the events that they
--- make; the book that those leave, what it holds, and the same import again; what a stop tells.
+-- Records that are handed in, and what stops an import; how a joiner goes through a dump, and what
+-- an import does with the records that it finds; the events that it makes; the book that those
+-- leave, what it holds, and the same import again; what a stop tells.
 pub mod ImportLemmas
 pub mod StopLemmas
 pub mod PieceLemmas
+pub mod GoingLemmas
 pub mod ComeLemmas
 pub mod JoinLemmas
-pub mod CommandLemmas
-pub mod ReplyLemmas
+pub mod EventLemmas
 pub mod BookLemmas
 pub mod KeepingLemmas
 pub mod LawLemmas

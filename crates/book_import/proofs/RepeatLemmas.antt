@@ -1,18 +1,16 @@
 -- The same import twice in a row is a whole one, and then one that adds nothing.
 use Rattle.std.proofs.Common.{◌≡◌, ◌∙◌, ℕ, zero, suc, List, [], ◌∷◌, length, take, take_all, refl}
-use Rattle.std.proofs.Common.{sym, ap, subst, Bool, false, ◌⊎◌, inl, inr, Ok, Err, arith, None}
-use Rattle.std.proofs.Common.{◌++◌}
-use Rattle.book_model.specs.Words.{front, Book, Naming, Event, after_all, accept_outcome}
+use Rattle.std.proofs.Common.{sym, ap, subst, Bool, false, ◌⊎◌, inl, inr, Ok, Err, arith}
+use Rattle.book_model.specs.Words.{Book, Naming, Event, after_all, accept_outcome}
 use Rattle.book_model.specs.declared.fault.LedgerFault.TheVariants.{Memory, Store}
 use Rattle.book_core.proofs.WorkLemmas.{after_all-append}
 use Rattle.book_import.specs.declared.receipt.Receipt.{Receipt}
 use Rattle.book_import.specs.declared.receipt.Stop.{Stop}
 use Rattle.book_import.specs.declared.receipt.Stop.TheVariants.{Ledger}
-use Rattle.book_import.specs.Dumps.{stop_behind}
 use Rattle.book_import.specs.Handled.{Imported, Answering, handle, go_on, handle_all, start_of}
 use Rattle.book_import.specs.Imports.{IsTold, Handles, whole, out_of_memory, store_failed}
 use Rattle.book_import.specs.Laws.{import_of_records, book_left}
-use Rattle.book_import.specs.Repeats.{IsUnhindered, TwiceIsOnce, RunTwiceIsOnce}
+use Rattle.book_import.specs.Repeats.{IsUnhindered, TwiceIsOnce}
 use Rattle.book_import.proofs.BookLemmas.{left_is}
 use Rattle.book_import.proofs.OnceLemmas.{again_from}
 
@@ -112,32 +110,3 @@ twice_is_once naming before stop again records once twice first second between i
     after_all-append second first before
     ∙ ap (λ events. after_all events book) (sym those.events)
     ∙ first_again naming before book stop those.stop those.count records left
-
--- the law of it in a list of commands
-pub run_twice_is_once : RunTwiceIsOnce
-run_twice_is_once naming before layout bytes once twice events is ran unhindered =
-    let dump = front layout bytes.items in
-    let stop = stop_behind None dump in
-    let again = ran.next in
-    let all = is_whole naming stop dump.records before once ran.early ran.between ran.first
-    unhindered in
-    let second : Handles naming stop dump.records twice ran.between (after_all ran.early before)
-    again.early again.between = again.first in
-    let late : ran.late ≡ again.early =
-    again.all ∙ ap (λ late. late ++ again.early) again.next.none in
-    record {
-      events = ran.early;
-      made = record {
-        between = false;
-        early = ran.early;
-        late = [];
-        first = subst (λ b. Handles naming stop dump.records once false before ran.early b)
-            all.stays_open ran.first;
-        next = record { none = refl; same = refl };
-        all = refl;
-      };
-      leads = ap (λ events. after_all events before)
-          (ran.all ∙ ap (λ late. late ++ ran.early) late)
-          ∙ twice_is_once naming before stop stop dump.records once twice ran.early again.early
-          ran.between again.between ran.first unhindered second;
-    }

@@ -1,13 +1,12 @@
 -- Read in this order: why reading stops, what a dump is that was read, what a receipt counts, how
--- records are handled one after another, what the import of a dump does, also piece by piece, what
--- commands do, and laws that follow.
+-- records are handled one after another, what the import of a dump does, also piece by piece, and laws that
+-- follow.
 pub mod Reading
 pub mod Dumps
 pub mod Receipts
 pub mod Handled
 pub mod Imports
 pub mod Pieces
-pub mod Commands
 pub mod Laws
 pub mod Repeats
 pub mod Stops

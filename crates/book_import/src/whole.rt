@@ -1,4 +1,4 @@
-ghost use Rattle.std.specs.Prelude.{◌≡◌, ◌+◌, ◌≤◌, ◌^◌, ℕ, List, false};
+ghost use Rattle.std.specs.Prelude.{◌≡◌, ◌+◌, ◌≤◌, ◌^◌, ℕ, List, None, false};
 ghost use Rattle.std.specs.Io.KnownBytes.{Consumes};
 ghost use Rattle.streams.specs.Sources.{reader_of, reads_of, has_failed, has_ended};
 ghost use Rattle.streams.specs.Marks.{NothingIsLeft};
@@ -6,7 +6,7 @@ ghost use Rattle.book_core.specs.Work.{IsWork};
 ghost use Rattle.book_import.specs.Imports.{Imports};
 ghost use Rattle.book_import.specs.Reading.{ReadsOutFor, cut_of, most_reads};
 
-use crate::ending::reading_end;
+use crate::ending::{dump_end, reading_end};
 use crate::pieces::import_piece;
 use crate::reading::{PIECE, read_out, read_piece};
 use crate::receipt::{Receipt, Stop};
@@ -56,4 +56,24 @@ pub fn import<R: Read + Drop, L: Ledger>(
         }
     }
     receipt.stopped_by(reading_end(source, &joiner))
+}
+
+/// Hands the records of a dump to the books, in order. These bytes are the whole dump.
+pub fn import_bytes<L: Ledger>(
+    alloc: Global,
+    ledger: &mut L,
+    layout: Layout,
+    bytes: &[u8],
+) -> Receipt
+    ensures { IsWork (L.seen ledger.old) (L.seen ledger.new)
+        (Imports (L.seen ledger.old).naming layout None bytes.now result) }
+{
+    let Ok(mut joiner) = Joiner::new(alloc, layout) else {
+        return Receipt::stopped(Stop::Ledger(LedgerFault::Memory));
+    };
+    let mut receipt = Receipt::stopped(Stop::End);
+    match import_piece(ledger, &mut joiner, &mut receipt, bytes) {
+        Some(stop) => receipt.stopped_by(stop),
+        None => receipt.stopped_by(dump_end(&joiner)),
+    }
 }

@@ -5,6 +5,10 @@ use Rattle.book_model.specs.declared.fault.LedgerFault.{LedgerFault}
 use Rattle.book_model.specs.Words.{Book, open_period, disputes_in, Outcome, reading}
 use Rattle.book_model.specs.Words.{charges_outcome, adjustments_outcome, disputes_outcome}
 use Rattle.book_model.specs.Words.{periods_outcome, Naming, rows_for}
+use Rattle.book_reports.specs.declared.report.Report.{Report}
+use Rattle.book_reports.specs.declared.report.Report.TheVariants.{Statement, StatementTable}
+use Rattle.book_reports.specs.declared.report.Report.TheVariants.{AdjustmentList, DisputeList}
+use Rattle.book_reports.specs.declared.report.Report.TheVariants.{PeriodList}
 use Rattle.book_reports.specs.Statements.{statement_text}
 use Rattle.book_reports.specs.StatementTables.{statement_table}
 use Rattle.book_reports.specs.AdjustmentLists.{adjustment_list_text}
@@ -49,6 +53,14 @@ dispute_list_outcome naming book =
 -- the list of the periods, by the days that the books answer
 abbrev pub period_list_outcome : Book → Outcome (List ℕ)
 period_list_outcome book = reading (shown_by period_list_text (periods_outcome book).answer)
+
+-- the text of a report, by the book
+abbrev pub report_outcome : Naming → Report → Book → Outcome (List ℕ)
+report_outcome naming (Statement period) = statement_outcome period
+report_outcome naming (StatementTable period) = statement_csv_outcome period
+report_outcome naming (AdjustmentList period) = adjustment_list_outcome naming period
+report_outcome naming DisputeList = dispute_list_outcome naming
+report_outcome naming PeriodList = period_list_outcome
 
 -- the statement of the one period of books that were never closed
 abbrev pub open_statement : Book → List ℕ

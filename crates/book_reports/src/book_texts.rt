@@ -10,6 +10,7 @@ ghost use Rattle.book_reports.specs.BookTexts as spec;
 use crate::adjustment_lists::adjustment_list_text;
 use crate::dispute_lists::dispute_list_text;
 use crate::period_lists::period_list_text;
+use crate::report::Report;
 use crate::statement_tables::statement_table;
 use crate::statements::statement_text;
 use book_core::{Ledger, LedgerFault};
@@ -26,7 +27,7 @@ fn through_of<L: Ledger>(ledger: &mut L, period: u16) -> Result<Option<i32>, Led
 }
 
 /// The statement of a period.
-pub fn statement_of<L: Ledger>(
+fn statement_of<L: Ledger>(
     alloc: Global,
     ledger: &mut L,
     period: u16,
@@ -40,7 +41,7 @@ pub fn statement_of<L: Ledger>(
 }
 
 /// The statement of a period as a table of comma-separated values.
-pub fn statement_csv_of<L: Ledger>(
+fn statement_csv_of<L: Ledger>(
     alloc: Global,
     ledger: &mut L,
     period: u16,
@@ -53,7 +54,7 @@ pub fn statement_csv_of<L: Ledger>(
 }
 
 /// The adjustments of a period.
-pub fn adjustment_list_of<L: Ledger>(
+fn adjustment_list_of<L: Ledger>(
     alloc: Global,
     ledger: &mut L,
     period: u16,
@@ -67,7 +68,7 @@ pub fn adjustment_list_of<L: Ledger>(
 }
 
 /// The disputes.
-pub fn dispute_list_of<L: Ledger>(alloc: Global, ledger: &mut L) -> Result<Vec<u8>, LedgerFault>
+fn dispute_list_of<L: Ledger>(alloc: Global, ledger: &mut L) -> Result<Vec<u8>, LedgerFault>
     ensures { IsCall (λ text. text.items) (L.seen ledger.old) (L.seen ledger.new) result
         (spec.dispute_list_outcome (L.seen ledger.old).naming) }
 {
@@ -76,10 +77,28 @@ pub fn dispute_list_of<L: Ledger>(alloc: Global, ledger: &mut L) -> Result<Vec<u
 }
 
 /// The periods, the open one last.
-pub fn period_list_of<L: Ledger>(alloc: Global, ledger: &mut L) -> Result<Vec<u8>, LedgerFault>
+fn period_list_of<L: Ledger>(alloc: Global, ledger: &mut L) -> Result<Vec<u8>, LedgerFault>
     ensures { IsCall (λ text. text.items) (L.seen ledger.old) (L.seen ledger.new) result
         spec.period_list_outcome }
 {
     let closes = ledger.periods()?;
     Ok(period_list_text(alloc, &closes)?.into_bytes())
+}
+
+/// The text of a report.
+pub fn report_text<L: Ledger>(
+    alloc: Global,
+    ledger: &mut L,
+    report: Report,
+) -> Result<Vec<u8>, LedgerFault>
+    ensures { IsCall (λ text. text.items) (L.seen ledger.old) (L.seen ledger.new) result
+        (spec.report_outcome (L.seen ledger.old).naming report) }
+{
+    match report {
+        Report::Statement(period) => statement_of(alloc, ledger, period),
+        Report::StatementTable(period) => statement_csv_of(alloc, ledger, period),
+        Report::AdjustmentList(period) => adjustment_list_of(alloc, ledger, period),
+        Report::DisputeList => dispute_list_of(alloc, ledger),
+        Report::PeriodList => period_list_of(alloc, ledger),
+    }
 }

@@ -4,7 +4,7 @@ ghost use Rattle.std.specs.Prelude.{◌≡◌, ◌++◌, OnOk, string_bytes};
 ghost use Rattle.book_reports.specs.CheckLists as spec;
 
 use crate::columns::push_number;
-use crate::receipt_lines::{push_fault, push_stop};
+use crate::receipt_lines::stop_text;
 use book_import::Stop;
 use smf_frames::Header;
 use smf_type30::{Class, class};
@@ -32,7 +32,11 @@ fn push_class(out: &mut String, class: Class) -> Result<(), AllocError>
         Class::Other => out.push_str("OTHER"),
         Class::Continuation => out.push_str("CONTINUED"),
         Class::Usage => out.push_str("USAGE"),
-        Class::Damaged(damage) => push_fault(out, "DAMAGED", damage.number()),
+        Class::Damaged(damage) => {
+            out.push_str("DAMAGED")?;
+            out.push(' ')?;
+            push_number(out, u64::from(damage.number()))
+        }
     }
 }
 
@@ -58,6 +62,6 @@ pub fn push_last_line(out: &mut String, count: u64, stop: Stop) -> Result<(), Al
     out.push_str("RECORDS ")?;
     push_number(out, count)?;
     out.push_str(" STOP ")?;
-    push_stop(out, stop)?;
+    out.push_str(stop_text(stop).as_str())?;
     out.push('\n')
 }

@@ -12,22 +12,23 @@ mod output;
 mod period_lists;
 mod periods;
 mod receipt_lines;
+mod report;
 mod reports;
 mod statement_tables;
 mod statements;
 
 pub use adjustment_lists::adjustment_list_text;
-pub use book_texts::{
-    adjustment_list_of, dispute_list_of, period_list_of, statement_csv_of, statement_of,
-};
+pub use book_texts::report_text;
 pub use check_lists::{push_last_line, push_record_line};
 pub use dispute_lists::dispute_list_text;
 pub use fault::ReportFault;
 pub use output::{write_bytes, write_text};
 pub use period_lists::period_list_text;
 pub use receipt_lines::receipt_line_text;
+pub use report::Report;
 pub use reports::{
     adjustment_list, dispute_list, period_list, receipt_line, statement, statement_csv,
+    write_report,
 };
 pub use statement_tables::statement_table;
 pub use statements::statement_text;

@@ -1,19 +1,18 @@
 //! Reports, written to any writer. The text is made before its first byte is written: where the
 //! books refuse, or memory runs out, nothing is.
 
-ghost use Rattle.std.specs.Prelude.{◌≡◌, ◌∷◌, [], false, true, IfErr};
+ghost use Rattle.std.specs.Prelude.{◌≡◌, ◌∷◌, [], false, IfErr};
 ghost use Rattle.streams.specs.Sinks.{writer_of, has_failed};
 ghost use Rattle.book_reports.specs.BookTexts as spec;
 ghost use Rattle.book_reports.specs.ReceiptLines as lines;
 ghost use Rattle.book_reports.specs.Reports.{IsPassedOn, IsReport};
-ghost use Rattle.book_reports.specs.Writing.{Writes, is_write_fault, is_write_or_memory};
+ghost use Rattle.book_reports.specs.Writing.{Writes, is_write_fault};
 
-use crate::book_texts::{
-    adjustment_list_of, dispute_list_of, period_list_of, statement_csv_of, statement_of,
-};
+use crate::book_texts::report_text;
 use crate::fault::ReportFault;
 use crate::output::{write_bytes, write_text};
 use crate::receipt_lines::receipt_line_text;
+use crate::report::Report;
 use book_core::{Ledger, LedgerFault, Sink};
 use book_import::Receipt;
 use std::alloc::Global;
@@ -21,7 +20,6 @@ use std::io::Write;
 
 /// Writes the receipt line.
 pub fn receipt_line<W: Write + Drop>(
-    alloc: Global,
     receipt: &Receipt,
     sink: &mut Sink<W>,
 ) -> Result<(), ReportFault>
@@ -29,10 +27,9 @@ pub fn receipt_line<W: Write + Drop>(
     ensures text { Writes (lines.receipt_line_text receipt.now ∷ [])
         (W.contents (writer_of sink.old)) (W.contents (writer_of sink.new)) result }
     ensures failed { has_failed sink.new ≡ is_write_fault result }
-    ensures fault { IfErr result (λ fault. is_write_or_memory fault ≡ true) }
+    ensures fault { IfErr result (λ fault. fault ≡ ReportFault.Write) }
 {
-    let line = receipt_line_text(alloc, receipt)?;
-    write_text(sink, line.as_str())
+    write_text(sink, receipt_line_text(receipt).as_str())
 }
 
 /// Writes what the books answered.
@@ -51,6 +48,22 @@ fn pass_on<W: Write + Drop>(
     }
 }
 
+/// Writes a report.
+pub fn write_report<L: Ledger, W: Write + Drop>(
+    alloc: Global,
+    ledger: &mut L,
+    report: Report,
+    sink: &mut Sink<W>,
+) -> Result<(), ReportFault>
+    requires { has_failed sink.old ≡ false }
+    ensures report { IsReport (L.seen ledger.old) (L.seen ledger.new)
+        (spec.report_outcome (L.seen ledger.old).naming report)
+        (W.contents (writer_of sink.old)) (W.contents (writer_of sink.new)) result }
+    ensures failed { has_failed sink.new ≡ is_write_fault result }
+{
+    pass_on(report_text(alloc, ledger, report), sink)
+}
+
 /// Writes the statement of a period.
 pub fn statement<L: Ledger, W: Write + Drop>(
     alloc: Global,
@@ -64,7 +77,7 @@ pub fn statement<L: Ledger, W: Write + Drop>(
         (W.contents (writer_of sink.old)) (W.contents (writer_of sink.new)) result }
     ensures failed { has_failed sink.new ≡ is_write_fault result }
 {
-    pass_on(statement_of(alloc, ledger, period), sink)
+    write_report(alloc, ledger, Report::Statement(period), sink)
 }
 
 /// Writes the statement of a period as a table of comma-separated values.
@@ -80,7 +93,7 @@ pub fn statement_csv<L: Ledger, W: Write + Drop>(
         (W.contents (writer_of sink.old)) (W.contents (writer_of sink.new)) result }
     ensures failed { has_failed sink.new ≡ is_write_fault result }
 {
-    pass_on(statement_csv_of(alloc, ledger, period), sink)
+    write_report(alloc, ledger, Report::StatementTable(period), sink)
 }
 
 /// Writes the adjustments of a period.
@@ -96,7 +109,7 @@ pub fn adjustment_list<L: Ledger, W: Write + Drop>(
         (W.contents (writer_of sink.old)) (W.contents (writer_of sink.new)) result }
     ensures failed { has_failed sink.new ≡ is_write_fault result }
 {
-    pass_on(adjustment_list_of(alloc, ledger, period), sink)
+    write_report(alloc, ledger, Report::AdjustmentList(period), sink)
 }
 
 /// Writes the disputes.
@@ -111,7 +124,7 @@ pub fn dispute_list<L: Ledger, W: Write + Drop>(
         (W.contents (writer_of sink.old)) (W.contents (writer_of sink.new)) result }
     ensures failed { has_failed sink.new ≡ is_write_fault result }
 {
-    pass_on(dispute_list_of(alloc, ledger), sink)
+    write_report(alloc, ledger, Report::DisputeList, sink)
 }
 
 /// Writes the list of periods.
@@ -125,5 +138,5 @@ pub fn period_list<L: Ledger, W: Write + Drop>(
         (W.contents (writer_of sink.old)) (W.contents (writer_of sink.new)) result }
     ensures failed { has_failed sink.new ≡ is_write_fault result }
 {
-    pass_on(period_list_of(alloc, ledger), sink)
+    write_report(alloc, ledger, Report::PeriodList, sink)
 }

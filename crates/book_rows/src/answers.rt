@@ -1,8 +1,9 @@
 //! Answers, as lines.
 
 use book_core::{Accepted, LedgerFault, Ruled};
-use book_import::{Receipt, Reply};
+use book_import::Receipt;
 use book_reports::receipt_line_text;
+use office::Answer;
 use program_answers::ledger_refused;
 use row_scripts::{Answered, push_line};
 use std::io::Write;
@@ -43,16 +44,17 @@ pub(crate) fn push_accepted(out: &mut Vec<u8>, answer: Result<Accepted, LedgerFa
 
 /// Adds the line of a receipt.
 pub(crate) fn push_receipt(out: &mut Vec<u8>, receipt: &Receipt) -> Answered {
-    let line = receipt_line_text(*out.allocator(), receipt)?;
-    out.extend_from_slice(line.as_bytes())?;
+    out.extend_from_slice(receipt_line_text(receipt).as_bytes())?;
     Ok(())
 }
 
-/// Adds the reply to a command.
-pub(crate) fn push_reply(out: &mut Vec<u8>, reply: &Reply) -> Answered {
-    match reply {
-        Reply::Receipt(receipt) => push_receipt(out, receipt),
-        Reply::Ruled(ruled) => push_ruled(out, Ok(*ruled)),
-        Reply::Refused(fault) => push_ruled(out, Err(*fault)),
+/// Adds the answer to a request.
+pub(crate) fn push_answer(out: &mut Vec<u8>, answer: &Result<Answer, LedgerFault>) -> Answered {
+    match answer {
+        Ok(Answer::Ruled(ruled)) => push_ruled(out, Ok(*ruled))?,
+        Ok(Answer::Receipt(receipt)) => push_receipt(out, receipt)?,
+        Ok(Answer::Text(text)) => out.extend_from_slice(text)?,
+        Err(fault) => push_fault(out, *fault),
     }
+    Ok(())
 }

@@ -2,10 +2,10 @@
 
 use crate::answers::{push_accepted, push_receipt, push_ruled};
 use crate::changes::push_changes;
-use crate::commands::push_replies;
 use crate::day::Day;
 use crate::lines::BookLines;
 use crate::reading::Reading;
+use crate::request_lists::push_answers;
 use crate::texts::{BookText, TextOf};
 use crate::writing::push_text;
 use book_core::{Ledger, Ruled, Source};
@@ -91,7 +91,7 @@ impl BookLines {
             ("closes", [periods, day]) => close_each(ledger, periods, Day::of(day)?, out),
             ("import", parts) => read_in(alloc, ledger, reading, &named.read_dump(parts)?, out),
             ("accept", parts) => accept_each(alloc, ledger, &named.read_dump(parts)?, out),
-            ("list", _) => push_replies(named, reading.layout, ledger, ask.body, out),
+            ("list", _) => push_answers(named, reading.layout, ledger, ask.body, out),
             ("changes", []) => {
                 let shown = self.shown.get_or_insert_with(|| BTreeMap::new(alloc));
                 push_changes(alloc, shown, ledger, out)

@@ -8,7 +8,7 @@
 //! | `closes FROM..END DAY`: a period a day | how many were done, behind the first other answer |
 //! | `import PARTS..` | the receipt |
 //! | `accept PARTS..` | `KEPT`, `KNOWN`, `UNPRICED` or the fault's line, of each usage record |
-//! | `list`, with a body of `tariff`, `import` and `close` | the reply to each |
+//! | `list`, with a body of `tariff`, `import` and `close` | the answer to each |
 //! | `statement PERIOD`, `table PERIOD`, `adjustments PERIOD`, `disputes`, `periods` | the text |
 //! | `changes` | each text, but for tables, that is not as at the last `changes` of the row |
 //!
@@ -35,7 +35,6 @@ mod alone;
 mod answers;
 mod books;
 mod changes;
-mod commands;
 mod day;
 mod dumps;
 mod faults;
@@ -44,6 +43,7 @@ mod plans;
 mod prices;
 mod reading;
 mod receipts;
+mod request_lists;
 mod sayings;
 mod texts;
 mod trials;

@@ -47,7 +47,7 @@ fn try_out(
     let answer = trial(alloc, &mut source, reading.layout, reads, tariff, &mut sink);
     let mut written = Written::of(alloc, sink, answer.map(|receipt| receipt.stop));
     if let Ok(receipt) = answer {
-        let line = receipt_line_text(alloc, &receipt)?;
+        let line = receipt_line_text(&receipt);
         if !written.taker.taken.starts_with(line.as_bytes()) {
             written.said.extend_from_slice(line.as_bytes())?;
         }
@@ -61,7 +61,7 @@ impl Writes for Alone<'_> {
         let mut sink = Sink::new(Taker::new(alloc, limits));
         let answer = match &*self {
             Alone::Text(text) => write_text(&mut sink, text),
-            Alone::Receipt(receipt) => receipt_line(alloc, receipt, &mut sink),
+            Alone::Receipt(receipt) => receipt_line(receipt, &mut sink),
             Alone::Check(reading, dump) => return check(alloc, *reading, dump, limits),
             Alone::Trial(reading, rates, dump) => {
                 let [cpu, excp, record] = *rates;

@@ -1,17 +1,15 @@
 -- What statements do to the charge rows, as a map by period and place.
-use Rattle.std.proofs.Common.{◌≡◌, ℕ, ℤ, pos, List, [], ◌∷◌, true, Ok, None, Some, Option, is_some}
-use Rattle.std.proofs.Common.{map, refl, sym, ap, subst, ◌∙◌}
+use Rattle.std.proofs.Common.{◌≡◌, ℕ, ℤ, List, [], ◌∷◌, true, Ok, None, Some, Option, is_some}
+use Rattle.std.proofs.Common.{map, refl, sym, ap, ap₂, subst, ◌∙◌}
 use Rattle.std.specs.FinMap.{get, insert, remove}
-use Rattle.sqlite.proofs.Callers.{IsPlain}
 use Rattle.sqlite.specs.Cast.{cast_row}
-use Rattle.sqlite.specs.Listing.{understood}
 use Rattle.sqlite.specs.Order.{Row}
 use Rattle.sqlite.specs.State.{Executes, State}
 use Rattle.sqlite.specs.declared.types.Value.TheVariants.{Int}
 use Rattle.sql_rows.proofs.Entries.{found_has, get_found}
 use Rattle.sql_rows.proofs.Queries.{was_mapped}
 use Rattle.sql_rows.proofs.Values.{cast_int, cast_null}
-use Rattle.sql_rows.proofs.Writing.{RanOn, changed_in, put_in, taken_out}
+use Rattle.sql_rows.proofs.Writing.{changed_in, put_in, taken_out}
 use Rattle.sql_rows.specs.Queries.{shows}
 use Rattle.sql_rows.specs.RowMaps.{HoldsMap, change_found, changed_at}
 use Rattle.book_model.specs.declared.row.ChargeRow.{ChargeRow}
@@ -20,28 +18,16 @@ use Rattle.kept_tables.specs.Tables.{DayTable, Tables}
 use Rattle.kept_tables.specs.TablesOf.{place_of}
 use Rattle.book_statements.proofs.DayMeaning.{delete_day_is, given_terms, insert_day_is, set_day_is}
 use Rattle.book_statements.proofs.DayMeaning.{set_terms}
-use Rattle.book_statements.proofs.KeptParts.{days_kept, days_simple}
+use Rattle.book_statements.proofs.KeptParts.{days_kept, days_simple, ran_on}
 use Rattle.book_statements.proofs.Orders.{places_exact, places_total}
-use Rattle.book_statements.proofs.RowLayouts.{Day, Place, day_index, day_key, day_layout}
+use Rattle.book_statements.proofs.RowLayouts.{Day, Place, day_cast, day_index, day_key}
+use Rattle.book_statements.proofs.RowLayouts.{day_layout}
 use Rattle.book_statements.specs.Changes.{drop_day_row, put_day_row}
 use Rattle.book_statements.specs.Columns.{day_columns, day_entry}
 use Rattle.book_statements.specs.Days.{HasDay, place_columns}
 use Rattle.book_statements.specs.Keeps.{Keeps}
 use Rattle.book_statements.specs.Schema.{books_schema, day_sum_here}
 use Rattle.book_statements.specs.Texts as text
-
--- a statement on charge rows that was done
-pub ran_on : (sql : List ℕ) (params : Row) (old new : State) (tables : Tables) (count : ℕ)
-    → IsPlain (understood books_schema sql) → Keeps old.now tables
-    → Executes sql params old new (Ok count)
-    → RanOn sql params old new books_schema 4 day_sum_here
-ran_on sql params old new tables count plain keeps ran = record {
-  schema_is = keeps.schema;
-  plain = plain;
-  simple = days_simple;
-  count = count;
-  ran = ran;
-}
 
 -- an INSERT puts the row into the map
 pub day_inserted : (old new : State) (period : ℕ) (row : ChargeRow) (tables : Tables) (count : ℕ)
@@ -52,17 +38,9 @@ day_inserted old new period row tables count keeps ran =
     let params = day_columns (period, row) in
     days_kept old new tables keeps (insert tables.days (period, place_of row) row)
     (put_in day_layout text.insert_day params old new books_schema 4 day_sum_here
-    (ran_on text.insert_day params old new tables count insert_day_is.plain keeps ran)
+    (ran_on days_simple insert_day_is.plain keeps count ran)
     tables.days keeps.holds.days (period, row) given_terms 9 insert_day_is.command
-    (rw (
-      cast_null,
-      cast_int (pos period),
-      cast_int row.day,
-      cast_int (pos row.count),
-      cast_int (pos row.cpu),
-      cast_int (pos row.blocks),
-      cast_int (pos row.amount),
-    ) refl)
+    (ap (λ row. row ∷ []) (ap₂ ◌∷◌ cast_null (day_cast (period, row))))
     3 day_index day_key)
 
 -- the row with the sums of another
@@ -79,16 +57,7 @@ sets : (period : ℕ) (row : ChargeRow) (n : ℤ) (day : Day)
     → cast_row day_sum_here
     (shows set_terms (day_columns (period, row)) (Int n ∷ day_columns day))
     ≡ Int n ∷ day_columns (day.0, with_sums row day.1)
-sets period row n day =
-    rw (
-      cast_int n,
-      cast_int (pos day.0),
-      cast_int day.1.day,
-      cast_int (pos row.count),
-      cast_int (pos row.cpu),
-      cast_int (pos row.blocks),
-      cast_int (pos row.amount),
-    ) refl
+sets period row n day = ap₂ ◌∷◌ (cast_int n) (day_cast (day.0, with_sums row day.1))
 
 -- an UPDATE of the row at a place gives it the sums of the row
 day_updated : (old new : State) (period : ℕ) (row : ChargeRow) (tables : Tables) (count : ℕ)
@@ -102,7 +71,7 @@ day_updated old new period row tables count keeps ran =
     days_kept old new tables keeps
     (changed_at tables.days (period, place_of row) (with_sums row))
     (changed_in day_layout text.set_day params old new books_schema 4 day_sum_here
-    (ran_on text.set_day params old new tables count set_day_is.plain keeps ran)
+    (ran_on days_simple set_day_is.plain keeps count ran)
     tables.days keeps.holds.days ((1, 0) ∷ (2, 1) ∷ (3, 2) ∷ (4, 3) ∷ []) (period, place_of row)
     (record { places = refl; values = refl }) set_terms set_day_is.command
     (λ (day : Day). (day.0, with_sums row day.1)) (sets period row) (with_sums row)
@@ -159,6 +128,6 @@ day_deleted old new period place tables count keeps ran =
     let params = place_columns period place in
     days_kept old new tables keeps (remove tables.days (period, place))
     (taken_out day_layout text.delete_day params old new books_schema 4 day_sum_here
-    (ran_on text.delete_day params old new tables count delete_day_is.plain keeps ran)
+    (ran_on days_simple delete_day_is.plain keeps count ran)
     tables.days keeps.holds.days ((1, 0) ∷ (2, 1) ∷ (3, 2) ∷ (4, 3) ∷ []) (period, place)
     (record { places = refl; values = refl }) delete_day_is.command)

@@ -10,6 +10,7 @@ use Rattle.sql_rows.specs.Queries.{equals}
 use Rattle.book_model.specs.declared.row.ChargeRow.{ChargeRow}
 use Rattle.book_model.specs.declared.row.RowKey.{RowKey}
 use Rattle.kept_tables.specs.Tables.{Tables}
+use Rattle.book_statements.proofs.Meaning.{shown_on}
 use Rattle.book_statements.proofs.DayMeaning.{day_names, day_terms, find_day_is, list_days_is}
 use Rattle.book_statements.proofs.RowLayouts.{Place, day_layout}
 use Rattle.book_statements.specs.Days.{place_columns}
@@ -25,12 +26,8 @@ module _ (old new : State) (tables : Tables) (rows : List Row) (keeps : Keeps ol
       → ShowsDay period place tables rows
   day_found period place shown =
       found_at day_layout text.find_day (place_columns period place) old new books_schema rows
-      (record {
-        schema_is = keeps.schema;
-        plain = find_day_is.plain;
-        unlisted = find_day_is.listing;
-        shown = shown;
-      }) 7 tables.days keeps.holds.days day_terms day_names day_shown (λ n day. refl)
+      (shown_on find_day_is keeps shown) 7 tables.days keeps.holds.days
+      day_terms day_names day_shown (λ n day. refl)
       ((1, 0) ∷ (2, 1) ∷ (3, 2) ∷ (4, 3) ∷ []) (period, place)
       (record { places = refl; values = refl }) find_day_is.command
 
@@ -39,12 +36,8 @@ module _ (old new : State) (tables : Tables) (rows : List Row) (keeps : Keeps ol
       → ShowsDays period tables rows
   days_found period shown =
       listed_in day_layout text.list_days (Int (pos period) ∷ []) old new books_schema rows
-      (record {
-        schema_is = keeps.schema;
-        plain = list_days_is.plain;
-        unlisted = list_days_is.listing;
-        shown = shown;
-      }) 7 tables.days keeps.holds.days day_terms day_names day_shown (λ n day. refl)
+      (shown_on list_days_is keeps shown) 7 tables.days keeps.holds.days
+      day_terms day_names day_shown (λ n day. refl)
       (equals 1 0 ∷ []) (λ (entry : Place × ChargeRow). entry.0.0 == period)
       (λ n day. alone_is _ ∙ numbers_equal day.0 period ∙ nat_same day.0 period)
       list_days_is.command

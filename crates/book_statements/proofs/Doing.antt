@@ -1,5 +1,5 @@
 -- What statements do inside a transaction, and what queries look up, by what they were told.
-use Rattle.std.proofs.Common.{ℕ, List, Ok, Err, Result, IfOk, IsTrue, Vec, Global}
+use Rattle.std.proofs.Common.{◌≡◌, ℕ, List, Ok, Err, Result, IfOk, IsTrue, Vec, Global}
 use Rattle.std.specs.Prelude.{IfErr}
 use Rattle.sqlite.proofs.Callers.{IsPlain}
 use Rattle.sqlite.specs.Effect.{Database}
@@ -66,6 +66,20 @@ pub shows_by : (sql : List ℕ) → IsPlain (understood books_schema sql) → (p
     → LooksUp result old new (λ tables rows. Shows tables rows.items)
 shows_by sql plain params old new =
     looks_up Keeps books_schema (λ database tables keeps. keeps.schema) sql plain params old new
+
+-- the same, where the parameters are these values
+pub shows_given : (sql : List ℕ) → IsPlain (understood books_schema sql) → (params : Row)
+    (old new : State) (Shows : Tables → List Row → Type 0)
+    → ((tables : Tables) (rows : List Row) → Keeps old.now tables → Shown sql params old new rows
+    → Shows tables rows)
+    → (result : Result (Vec Row Global) Error) {given : Row} → given ≡ params
+    → (HasCleanDisk new → IfOk result (λ rows. Shown sql given old new rows.items))
+    → (HasCleanDisk new → IfErr result (FailsToQuery sql given old new))
+    → Survives old new (CommitsShowing sql given old)
+    → LooksUp result old new (λ tables rows. Shows tables rows.items)
+shows_given sql plain params old new Shows finds result same ok err survives =
+    shows_by sql plain params old new Shows finds result
+    (λ clean. rw same at (ok clean)) (λ clean. rw same at (err clean)) (rw same at survives)
 
 module _ {A B : Type 0} (old new : State) (Shows : Tables → A → Type 0)
     (Answers : Tables → B → Type 0) where

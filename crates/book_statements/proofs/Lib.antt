@@ -4,13 +4,13 @@ pub mod Orders
 pub mod KeptParts
 pub mod Doing
 pub mod Layouts
+pub mod Meaning
 pub mod BookMeaning
 pub mod TheBook
 pub mod RulingMeaning
 pub mod Rulings
 pub mod ReadRows
 pub mod RulingReading
-pub mod Meaning
 pub mod RowLayouts
 pub mod RecordMeaning
 pub mod RecordChanges

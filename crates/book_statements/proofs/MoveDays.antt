@@ -1,5 +1,5 @@
 -- A close moves the charge rows that are dated after its day to the next period.
-use Rattle.std.proofs.Common.{◌≡◌, ℕ, ℤ, suc, pos, ◌∷◌, Bool, true, false, Ok, refl, ap₂, ◌∙◌}
+use Rattle.std.proofs.Common.{◌≡◌, ℕ, ℤ, suc, ◌∷◌, Bool, true, false, Ok, refl, ap₂, ◌∙◌}
 use Rattle.std.specs.Prelude.{◌&&◌, ◌==◌, if◌then◌else◌, int_lt}
 use Rattle.std.proofs.lemmas.Bool.{and_parts, eqb-true}
 use Rattle.sqlite.specs.Cast.{cast_row}
@@ -12,10 +12,9 @@ use Rattle.sql_rows.specs.Queries.{passes, shows}
 use Rattle.kept_tables.specs.MapChanges.{moved}
 use Rattle.kept_tables.specs.TableChanges.{move_on}
 use Rattle.kept_tables.specs.Tables.{Tables}
-use Rattle.book_statements.proofs.DayChanges.{ran_on}
 use Rattle.book_statements.proofs.DayMeaning.{later_terms, move_days_is, moved_terms}
-use Rattle.book_statements.proofs.KeptParts.{days_kept}
-use Rattle.book_statements.proofs.RowLayouts.{Day, Place, day_layout}
+use Rattle.book_statements.proofs.KeptParts.{days_kept, days_simple, ran_on}
+use Rattle.book_statements.proofs.RowLayouts.{Day, Place, day_cast, day_layout}
 use Rattle.book_statements.specs.Changes.{move_day_rows}
 use Rattle.book_statements.specs.Columns.{day_columns, day_entry}
 use Rattle.book_statements.specs.Days.{NoneNext, move_columns}
@@ -31,16 +30,7 @@ goes period day place = (place.0 == period) && int_lt day place.1.day
 moves : (period : ℕ) (day n : ℤ) (row : Day)
     → cast_row day_sum_here (shows moved_terms (move_columns period day) (Int n ∷ day_columns row))
     ≡ Int n ∷ day_columns (suc period, row.1)
-moves period day n row =
-    rw (
-      cast_int n,
-      cast_int (pos (suc period)),
-      cast_int row.1.day,
-      cast_int (pos row.1.count),
-      cast_int (pos row.1.cpu),
-      cast_int (pos row.1.blocks),
-      cast_int (pos row.1.amount),
-    ) refl
+moves period day n row = ap₂ ◌∷◌ (cast_int n) (day_cast (suc period, row.1))
 
 -- which rows it takes
 takes : (period : ℕ) (day n : ℤ) (row : Day)
@@ -66,7 +56,7 @@ days_moved old new period day tables count keeps none ran =
     let params = move_columns period day in
     days_kept old new tables keeps (moved (move_on period day) tables.days)
     (moved_in day_layout text.move_days params old new books_schema 4 day_sum_here
-    (ran_on text.move_days params old new tables count move_days_is.plain keeps ran)
+    (ran_on days_simple move_days_is.plain keeps count ran)
     tables.days keeps.holds.days later_terms moved_terms move_days_is.command
     (λ (row : Day). goes period day (day_entry row).0) (takes period day)
     (λ (row : Day). (suc period, row.1)) (moves period day) (move_on period day)

@@ -1,5 +1,5 @@
 -- A close posts records: the UPDATE of those whose marks differ, as a change of all records.
-use Rattle.std.proofs.Common.{◌≡◌, ℕ, ℤ, pos, List, [], ◌∷◌, Bool, true, false, not, Ok, refl, sym}
+use Rattle.std.proofs.Common.{◌≡◌, ℕ, ℤ, List, [], ◌∷◌, Bool, true, false, not, Ok, refl, sym}
 use Rattle.std.proofs.Common.{ap, ap₂, ◌∙◌, arith}
 use Rattle.std.specs.Prelude.{◌&&◌, if◌then◌else◌, int_le, int_lt}
 use Rattle.std.proofs.lemmas.Int.{ints}
@@ -14,10 +14,9 @@ use Rattle.sql_rows.proofs.Writing.{updated_in}
 use Rattle.sql_rows.specs.Queries.{shows}
 use Rattle.kept_tables.specs.MapChanges.{updated}
 use Rattle.kept_tables.specs.Tables.{RecordRow, Tables}
-use Rattle.book_statements.proofs.KeptParts.{records_kept}
-use Rattle.book_statements.proofs.RecordChanges.{ran_on}
+use Rattle.book_statements.proofs.KeptParts.{ran_on, records_kept, records_simple}
 use Rattle.book_statements.proofs.RecordMeaning.{post_records_is, posted_terms, to_post_terms}
-use Rattle.book_statements.proofs.RowLayouts.{Entry, record_layout}
+use Rattle.book_statements.proofs.RowLayouts.{Entry, record_cast, record_layout}
 use Rattle.book_statements.specs.Changes.{post_by, post_rows}
 use Rattle.book_statements.specs.Columns.{flag, itself, record_columns}
 use Rattle.book_statements.specs.Keeps.{Keeps}
@@ -85,16 +84,7 @@ posts_each day entry =
 posts : (day n : ℤ) (entry : Entry)
     → cast_row record_here (shows posted_terms (Int day ∷ []) (Int n ∷ record_columns entry))
     ≡ Int n ∷ record_columns (entry.0, posted entry.1)
-posts day n entry =
-    let priced = entry.1.priced in
-    rw (
-      cast_int n,
-      cast_int priced.day,
-      cast_int (pos priced.cpu),
-      cast_int (pos priced.excp),
-      cast_int (pos priced.amount),
-      cast_int (flag entry.1.charged),
-    ) refl
+posts day n entry = ap₂ ◌∷◌ (cast_int n) (record_cast (entry.0, posted entry.1))
 
 -- an UPDATE posts the records that are dated by the day
 pub records_posted : (old new : State) (day : ℤ) (tables : Tables) (count : ℕ)
@@ -105,7 +95,7 @@ records_posted old new day tables count keeps ran =
     let params : Row = Int day ∷ [] in
     records_kept old new tables keeps (updated (post_by day) tables.records)
     (updated_in record_layout text.post_records params old new books_schema 3 record_here
-    (ran_on text.post_records params old new tables count post_records_is.plain keeps ran)
+    (ran_on records_simple post_records_is.plain keeps count ran)
     tables.records keeps.holds.records to_post_terms posted_terms post_records_is.command
     (λ (entry : Entry). is_to_post day entry.1)
     (λ n entry. ap₂ ◌&&◌ (int_at_most entry.1.priced.day day)

@@ -4,8 +4,11 @@ use Rattle.std.proofs.Common.{[], ◌∷◌, ◌++◌, length, take, slice_index
 use Rattle.std.proofs.Common.{map, refl, subst, arith, Err, Global, IfOk, Ok, Result, Vec}
 use Rattle.std.specs.List.{AllZip}
 use Rattle.sqlite.specs.Order.{Row}
+use Rattle.sqlite.specs.State.{State}
 use Rattle.sqlite.specs.declared.error.Error.{Error}
 use Rattle.kept_tables.specs.Tables.{Tables}
+use Rattle.book_statements.proofs.Doing.{reads_by}
+use Rattle.book_statements.specs.Steps.{LooksUp}
 
 -- one row more is read
 pub zip_next : {A B : Type 0} (Says : A → B → Type 0) (rows : List A) (at : ℕ) (values : List B)
@@ -33,14 +36,25 @@ each_read Says show of one (it ∷ list) (value ∷ values) said =
     let rest = each_read Says show of one list values said.1 in
     λ i. here i ∷ rest i
 
--- the values that are read of rows, by what the rows show of the tables
-pub all_said : {E T : Type 0} (Says : Row → T → Type 0) (show : E → Row) (of : T → E)
-    → ((it : E) (value : T) → Says (show it) value → of value ≡ it)
-    → (table : Tables → List E) (rows : List Row) (result : Result (Vec T Global) Error)
-    → IfOk result (λ all. AllZip Says rows all.items)
-    → IfOk result (λ all. (tables : Tables) → rows ≡ map show (table tables)
-    → map of all.items ≡ table tables)
-all_said Says show of one table rows (Err error) said = tt
-all_said Says show of one table rows (Ok all) said = λ tables shown.
-    each_read Says show of one (table tables) all.items
-    (subst (λ given. AllZip Says given all.items) shown said)
+module _ {E T : Type 0} (Says : Row → T → Type 0) (show : E → Row) (of : T → E)
+    (one : (it : E) (value : T) → Says (show it) value → of value ≡ it)
+    (table : Tables → List E) where
+  -- the values that are read of rows, by what the rows show of the tables
+  all_said : (rows : List Row) (result : Result (Vec T Global) Error)
+      → IfOk result (λ all. AllZip Says rows all.items)
+      → IfOk result (λ all. (tables : Tables) → rows ≡ map show (table tables)
+      → map of all.items ≡ table tables)
+  all_said rows (Err error) said = tt
+  all_said rows (Ok all) said = λ tables shown.
+      each_read Says show of one (table tables) all.items
+      (subst (λ given. AllZip Says given all.items) shown said)
+
+  -- so a query whose rows are read lists what it shows
+  pub list_read : (old new : State) (rows : Vec Row Global) (result : Result (Vec T Global) Error)
+      → LooksUp (Ok rows) old new (λ tables rows. rows.items ≡ map show (table tables))
+      → IfOk result (λ all. AllZip Says rows.items all.items)
+      → LooksUp result old new (λ tables all. map of all.items ≡ table tables)
+  list_read old new rows result looked said =
+      reads_by old new (λ tables rows. rows.items ≡ map show (table tables))
+      (λ tables all. map of all.items ≡ table tables) rows result looked
+      (all_said rows.items result said)

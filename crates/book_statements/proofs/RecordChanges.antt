@@ -1,42 +1,28 @@
 -- What statements do to the records, as a map by name.
-use Rattle.std.proofs.Common.{◌≡◌, ℕ, ℤ, pos, List, [], ◌∷◌, false, Ok, None, Some, Option, refl}
-use Rattle.std.proofs.Common.{subst}
+use Rattle.std.proofs.Common.{◌≡◌, ℕ, ℤ, List, [], ◌∷◌, false, Ok, None, Some, Option, refl}
+use Rattle.std.proofs.Common.{ap, ap₂, subst}
 use Rattle.std.specs.FinMap.{get, insert}
-use Rattle.sqlite.proofs.Callers.{IsPlain}
 use Rattle.sqlite.specs.Cast.{cast_row}
-use Rattle.sqlite.specs.Listing.{understood}
 use Rattle.sqlite.specs.Order.{Row}
 use Rattle.sqlite.specs.State.{Executes, State}
 use Rattle.sqlite.specs.Term.{lit}
 use Rattle.sqlite.specs.declared.types.Value.TheVariants.{Blob, Int, Null}
 use Rattle.sql_rows.proofs.Values.{cast_int, cast_null}
-use Rattle.sql_rows.proofs.Writing.{RanOn, changed_in, put_in}
+use Rattle.sql_rows.proofs.Writing.{changed_in, put_in}
 use Rattle.sql_rows.specs.Queries.{shows}
 use Rattle.sql_rows.specs.RowMaps.{change_found}
 use Rattle.kept_tables.specs.RowChanges.{unmark_at}
 use Rattle.kept_tables.specs.Tables.{RecordRow, RecordTable, Tables}
-use Rattle.book_statements.proofs.KeptParts.{records_kept, records_simple}
+use Rattle.book_statements.proofs.KeptParts.{ran_on, records_kept, records_simple}
 use Rattle.book_statements.proofs.RecordMeaning.{eleven, insert_record_is, unmark_record_is}
 use Rattle.book_statements.proofs.RecordMeaning.{unmarked_terms}
-use Rattle.book_statements.proofs.RowLayouts.{Entry, record_index, record_key, record_layout}
+use Rattle.book_statements.proofs.RowLayouts.{Entry, record_cast, record_index, record_key}
+use Rattle.book_statements.proofs.RowLayouts.{record_layout}
 use Rattle.book_statements.specs.Changes.{put_record_row, unmark_row}
-use Rattle.book_statements.specs.Columns.{flag, record_columns}
+use Rattle.book_statements.specs.Columns.{record_columns}
 use Rattle.book_statements.specs.Keeps.{Keeps}
 use Rattle.book_statements.specs.Schema.{books_schema, record_here}
 use Rattle.book_statements.specs.Texts as text
-
--- a statement on records that was done
-pub ran_on : (sql : List ℕ) (params : Row) (old new : State) (tables : Tables) (count : ℕ)
-    → IsPlain (understood books_schema sql) → Keeps old.now tables
-    → Executes sql params old new (Ok count)
-    → RanOn sql params old new books_schema 3 record_here
-ran_on sql params old new tables count plain keeps ran = record {
-  schema_is = keeps.schema;
-  plain = plain;
-  simple = records_simple;
-  count = count;
-  ran = ran;
-}
 
 -- an INSERT puts the record into the map
 pub record_inserted : (old new : State) (entry : Entry) (tables : Tables) (count : ℕ)
@@ -45,20 +31,11 @@ pub record_inserted : (old new : State) (entry : Entry) (tables : Tables) (count
     → Keeps new.now (put_record_row entry.0 entry.1 tables)
 record_inserted old new entry tables count keeps ran =
     let params = record_columns entry in
-    let priced = entry.1.priced in
     records_kept old new tables keeps (insert tables.records entry.0 entry.1)
     (put_in record_layout text.insert_record params old new books_schema 3 record_here
-    (ran_on text.insert_record params old new tables count insert_record_is.plain keeps ran)
+    (ran_on records_simple insert_record_is.plain keeps count ran)
     tables.records keeps.holds.records entry (lit Null ∷ eleven 0 0) 12 insert_record_is.command
-    (rw (
-      cast_null,
-      cast_int priced.day,
-      cast_int (pos priced.cpu),
-      cast_int (pos priced.excp),
-      cast_int (pos priced.amount),
-      cast_int (flag entry.1.charged),
-      cast_int (flag entry.1.posted),
-    ) refl)
+    (ap (λ row. row ∷ []) (ap₂ ◌∷◌ cast_null (record_cast entry)))
     2 record_index record_key)
 
 -- the record without its mark
@@ -70,17 +47,7 @@ unmarks : (name : List ℕ) (n : ℤ) (entry : Entry)
     → cast_row record_here
     (shows unmarked_terms (Blob name ∷ []) (Int n ∷ record_columns entry))
     ≡ Int n ∷ record_columns (entry.0, unmarked entry.1)
-unmarks name n entry =
-    let priced = entry.1.priced in
-    rw (
-      cast_int n,
-      cast_int priced.day,
-      cast_int (pos priced.cpu),
-      cast_int (pos priced.excp),
-      cast_int (pos priced.amount),
-      cast_int (pos 0),
-      cast_int (flag entry.1.posted),
-    ) refl
+unmarks name n entry = ap₂ ◌∷◌ (cast_int n) (record_cast (entry.0, unmarked entry.1))
 
 -- the map with the mark taken away, in the words of the tables
 unmarked_is : (name : List ℕ) (records : RecordTable) (found : Option RecordRow)
@@ -99,7 +66,7 @@ record_unmarked old new name tables count keeps ran =
     (unmarked_is name tables.records (get tables.records name))
     (records_kept old new tables keeps _
     (changed_in record_layout text.unmark_record params old new books_schema 3 record_here
-    (ran_on text.unmark_record params old new tables count unmark_record_is.plain keeps ran)
+    (ran_on records_simple unmark_record_is.plain keeps count ran)
     tables.records keeps.holds.records ((1, 0) ∷ []) name
     (record { places = refl; values = refl }) unmarked_terms unmark_record_is.command
     (λ (entry : Entry). (entry.0, unmarked entry.1)) (unmarks name) unmarked (λ entry. refl)))

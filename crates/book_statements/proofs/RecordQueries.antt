@@ -16,6 +16,7 @@ use Rattle.sql_rows.proofs.Values.{alone_is, blobs_equal, int_at_least, ints_equ
 use Rattle.sql_rows.specs.Queries.{equals}
 use Rattle.book_model.specs.Words.{by_bytes, same_bytes}
 use Rattle.kept_tables.specs.Tables.{Tables}
+use Rattle.book_statements.proofs.Meaning.{shown_on}
 use Rattle.book_statements.proofs.PostRecords.{no_later}
 use Rattle.book_statements.proofs.RecordMeaning.{dated_terms, eleven, find_dated_is, find_record_is}
 use Rattle.book_statements.proofs.RecordMeaning.{find_sharing_is, list_uncharged_is, names}
@@ -45,12 +46,8 @@ module _ (old new : State) (tables : Tables) (rows : List Row) (keeps : Keeps ol
       → ShowsRecord name tables rows
   record_found name shown =
       found_at record_layout text.find_record (Blob name ∷ []) old new books_schema rows
-      (record {
-        schema_is = keeps.schema;
-        plain = find_record_is.plain;
-        unlisted = find_record_is.listing;
-        shown = shown;
-      }) 5 tables.records keeps.holds.records (eleven 1 1) names record_columns (λ n entry. refl)
+      (shown_on find_record_is keeps shown) 5 tables.records keeps.holds.records
+      (eleven 1 1) names record_columns (λ n entry. refl)
       ((1, 0) ∷ []) name (record { places = refl; values = refl }) find_record_is.command
 
   -- a SELECT by identity answers the first two that have it
@@ -59,12 +56,8 @@ module _ (old new : State) (tables : Tables) (rows : List Row) (keeps : Keeps ol
       → ShowsSharing identity tables rows
   sharing_found identity shown =
       first_in record_layout text.find_sharing (Blob identity ∷ []) old new books_schema rows
-      (record {
-        schema_is = keeps.schema;
-        plain = find_sharing_is.plain;
-        unlisted = find_sharing_is.listing;
-        shown = shown;
-      }) 5 tables.records keeps.holds.records (eleven 1 1) names record_columns (λ n entry. refl)
+      (shown_on find_sharing_is keeps shown) 5 tables.records keeps.holds.records
+      (eleven 1 1) names record_columns (λ n entry. refl)
       (equals 2 0 ∷ []) (λ (entry : Entry). same_bytes entry.1.identity identity)
       (λ n entry. alone_is _ ∙ blobs_equal entry.1.identity identity) 2 find_sharing_is.command
 
@@ -76,12 +69,8 @@ module _ (old new : State) (tables : Tables) (rows : List Row) (keeps : Keeps ol
       let show = λ (entry : Entry). Int entry.1.priced.day ∷ [] in
       some_passes show test (entries tables.records) 0 rows
       (some_of record_layout text.find_dated (Int day ∷ []) old new books_schema rows
-      (record {
-        schema_is = keeps.schema;
-        plain = find_dated_is.plain;
-        unlisted = find_dated_is.listing;
-        shown = shown;
-      }) 5 tables.records keeps.holds.records (col 1 4 ∷ []) _ show (λ n entry. refl) dated_terms
+      (shown_on find_dated_is keeps shown) 5 tables.records keeps.holds.records
+      (col 1 4 ∷ []) _ show (λ n entry. refl) dated_terms
       test
       (λ n entry. alone_is _ ∙ int_at_least entry.1.priced.day day
       ∙ no_later day entry.1.priced.day) [] 1 find_dated_is.command)
@@ -91,12 +80,8 @@ module _ (old new : State) (tables : Tables) (rows : List Row) (keeps : Keeps ol
   pub uncharged_found : Shown text.list_uncharged [] old new rows → ShowsUncharged tables rows
   uncharged_found shown =
       sorted_by record_layout text.list_uncharged [] old new books_schema rows
-      (record {
-        schema_is = keeps.schema;
-        plain = list_uncharged_is.plain;
-        unlisted = list_uncharged_is.listing;
-        shown = shown;
-      }) 5 tables.records keeps.holds.records (eleven 1 1) names record_columns (λ n entry. refl)
+      (shown_on list_uncharged_is keeps shown) 5 tables.records keeps.holds.records
+      (eleven 1 1) names record_columns (λ n entry. refl)
       uncharged_terms is_uncharged
       (λ n entry. alone_is _ ∙ ints_equal (flag entry.1.charged) (pos 0)
       ∙ not_charged entry.1.charged) uncharged_order by_identity

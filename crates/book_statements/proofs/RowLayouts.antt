@@ -1,11 +1,13 @@
 -- How records, charge rows and lines stand in their columns.
-use Rattle.std.proofs.Common.{ℕ, pos, List, [], ◌∷◌, Bool, refl, ap, ◌∙◌}
+use Rattle.std.proofs.Common.{◌≡◌, ℕ, pos, List, [], ◌∷◌, Bool, refl, ap, ◌∙◌}
 use Rattle.std.specs.Ordering.{int_cmp, nat_cmp, ordering_then}
+use Rattle.sqlite.specs.Cast.{cast_all}
 use Rattle.sqlite.specs.Order.{Row}
 use Rattle.sqlite.specs.declared.types.Value.TheVariants.{Blob, Int, Text}
 use Rattle.sqlite_catalog.specs.Listing.{automatic}
 use Rattle.sqlite_schema.specs.declared.schema.Index.{Index}
 use Rattle.sql_rows.proofs.KeyValues.{blob_last, int_then, number_then, text_last, text_then}
+use Rattle.sql_rows.proofs.Values.{cast_int}
 use Rattle.sql_rows.specs.Layouts.{IsKeyIndex, Layout}
 use Rattle.book_model.specs.Words.{by_bytes, by_key}
 use Rattle.book_model.specs.declared.row.ChargeRow.{ChargeRow}
@@ -14,7 +16,7 @@ use Rattle.kept_tables.specs.Numbered.{by_period}
 use Rattle.kept_tables.specs.Tables.{RecordRow}
 use Rattle.book_statements.proofs.Orders.{lines_exact, lines_total, names_exact, names_total}
 use Rattle.book_statements.proofs.Orders.{places_exact, places_total}
-use Rattle.book_statements.specs.Columns.{day_columns, day_entry, itself, line_columns}
+use Rattle.book_statements.specs.Columns.{day_columns, day_entry, flag, itself, line_columns}
 use Rattle.book_statements.specs.Columns.{record_columns}
 use Rattle.book_statements.specs.Days.{place_columns}
 use Rattle.book_statements.specs.Schema.{books_schema, day_sum_here, line_here, record_here}
@@ -36,6 +38,20 @@ record_layout = record {
   ordered = blob_last;
   valued = λ name. (refl, tt);
 }
+
+-- their columns take a record as it is written
+pub record_cast : (entry : Entry)
+    → cast_all record_here.columns (record_columns entry) ≡ record_columns entry
+record_cast entry =
+    let priced = entry.1.priced in
+    rw (
+      cast_int priced.day,
+      cast_int (pos priced.cpu),
+      cast_int (pos priced.excp),
+      cast_int (pos priced.amount),
+      cast_int (flag entry.1.charged),
+      cast_int (flag entry.1.posted),
+    ) refl
 
 -- the third index guards their names
 abbrev pub record_index : Index
@@ -81,6 +97,18 @@ day_layout = record {
       (text_last one.1.shift other.1.shift)));
   valued = λ place. (refl, (refl, (refl, (refl, tt))));
 }
+
+-- their columns take a charge row as it is written
+pub day_cast : (day : Day) → cast_all day_sum_here.columns (day_columns day) ≡ day_columns day
+day_cast day =
+    rw (
+      cast_int (pos day.0),
+      cast_int day.1.day,
+      cast_int (pos day.1.count),
+      cast_int (pos day.1.cpu),
+      cast_int (pos day.1.blocks),
+      cast_int (pos day.1.amount),
+    ) refl
 
 -- the fourth index guards their places
 abbrev pub day_index : Index

@@ -41,19 +41,14 @@ use Rattle.book_statements.specs.Schema.{book_table, books_schema}
 use Rattle.book_statements.specs.Texts.{find_book, insert_book, set_book}
 use Rattle.book_statements.proofs.BookMeaning.{find_book_is, first_values, four, insert_book_is}
 use Rattle.book_statements.proofs.BookMeaning.{is_first, renewed, set_book_is}
-use Rattle.book_statements.proofs.KeptParts.{same_held}
+use Rattle.book_statements.proofs.KeptParts.{kept_all, others_hold, simple_at}
 use Rattle.book_statements.proofs.Orders.{days_total, days_exact, periods_total, periods_exact}
 use Rattle.book_statements.proofs.Orders.{names_total, names_exact, places_total, places_exact}
 use Rattle.book_statements.proofs.Orders.{lines_total, lines_exact}
 
 -- the book's table counts nothing, and nothing acts on it
 pub book_simple : IsSimple books_schema 0 book_table
-book_simple = record {
-  listed = refl;
-  uncounted = refl;
-  unstamped = refl;
-  childless = λ olds news. refl;
-}
+book_simple = simple_at 0 book_table refl refl refl
 
 -- the first row goes into a table that has none
 put_first : (trees : Trees) → trees 0 ≡ []
@@ -138,23 +133,13 @@ module _ (old new : State) (tables : Tables) (keeps : Keeps old.now tables) wher
       keeps.holds.book ∙ ap (map (shows renewed params)) (book_passes params tables.book) in
       let answer : did.0 ≡ (Int (pos 1) ∷ book_columns other) ∷ [] =
       one_permutation _ did.0 (subst (λ list. IsPermutation list did.0) found said) in
-      let others = did.2.applied.tables in
-      record {
-        schema = did.2.schema_is;
-        holds = record {
-          book = did.2.applied.rows
-              ∙ ap (λ rows. edited old.now.trees
-              (edit_of old.now.trees book_table (ids_of rows) Given 1 rows)) answer
-              ∙ book_edited old.now.trees tables.book other keeps.holds.book;
-          tariffs = same_held _ _ _ (others.1.0 (λ same. omega (arith, same))) keeps.holds.tariffs;
-          closes = same_held _ _ _ (others.1.1.0 (λ same. omega (arith, same))) keeps.holds.closes;
-          records = same_held _ _ _ (others.1.1.1.0 (λ same. omega (arith, same)))
-              keeps.holds.records;
-          days = same_held _ _ _ (others.1.1.1.1.0 (λ same. omega (arith, same))) keeps.holds.days;
-          lines = same_held _ _ _ (others.1.1.1.1.1.0 (λ same. omega (arith, same)))
-              keeps.holds.lines;
-        };
-      }
+      let is = others_hold old new tables keeps 0 did.2.applied.tables in
+      kept_all did.2.schema_is
+      (did.2.applied.rows
+      ∙ ap (λ rows. edited old.now.trees
+      (edit_of old.now.trees book_table (ids_of rows) Given 1 rows)) answer
+      ∙ book_edited old.now.trees tables.book other keeps.holds.book)
+      is.tariffs is.closes is.records is.days is.lines
 
   -- the row of the book is shown
   pub book_found : (rows : List Row) → Shown find_book [] old new rows → ShowsBook tables rows

@@ -9,7 +9,7 @@ use Rattle.sqlite.specs.declared.error.Error.{Error}
 use Rattle.book_model.specs.Words.{data_of, IsPriced, accept_answer, Book, RecordKept, keep}
 use Rattle.book_model.specs.Words.{most_held, most_cost, accept_outcome, accept_event, Naming}
 use Rattle.book_model.specs.Words.{IsUsageRecord, name_of, same_bytes, price_in, price_under}
-use Rattle.book_model.specs.Words.{identity_of}
+use Rattle.book_model.specs.Words.{identity_of, Tariffed}
 use Rattle.tariff_rules.specs.declared.priced.Priced.{Priced}
 use Rattle.book_model.specs.declared.answer.Accepted.{Accepted}
 use Rattle.book_model.specs.declared.answer.Accepted.TheVariants.{Kept, Known, Unpriced}
@@ -27,6 +27,7 @@ use Rattle.table_readings.proofs.CallsLemmas.{calls_stay}
 use Rattle.table_readings.proofs.ReadableLemmas.{calls_read}
 use Rattle.table_readings.proofs.RulingsReading.{closes_back}
 use Rattle.book_statements.specs.RecordAnswers.{FindsRecord}
+use Rattle.book_statements.specs.Steps.{LooksUp}
 use Rattle.book_statements.specs.Stored.{stored_entry}
 use Rattle.book_statements.specs.declared.stored_record.StoredRecord.{StoredRecord}
 use Rattle.book_tables.specs.Commits.{Sees, Looks, CommitsOne}
@@ -37,8 +38,8 @@ use Rattle.book_tables.specs.Tries.{IsPlain, Tries}
 use Rattle.book_tables.specs.declared.summary.Summary.{Summary}
 use Rattle.book_tables.proofs.Answering.{makes_answer, makes_refused}
 use Rattle.book_tables.proofs.Refusals.{looks_failed, commit_failed}
-use Rattle.book_tables.proofs.TryLemmas.{IsEvent, sees_none, sees_so, try_answered, try_refused}
-use Rattle.book_tables.proofs.TryLemmas.{try_done, try_undone}
+use Rattle.book_tables.proofs.TryLemmas.{IsEvent, looks_up, sees_found, sees_none, sees_so}
+use Rattle.book_tables.proofs.TryLemmas.{try_answered, try_done, try_refused, try_undone}
 
 -- ---- the answer by a row that is found
 
@@ -60,7 +61,8 @@ data_other false = λ is. cc
 row_answers : (book : BookRow) (bytes : List ℕ) (price : Option Priced) (name : List ℕ)
     (stored : StoredRecord) (found : Option RecordRow)
     → option_map stored_entry (Some stored) ≡ option_map (λ (row : RecordRow). (name, row)) found
-    → row_answer book found bytes price ≡ by_data (same_bytes stored.data_bytes.items (data_of bytes))
+    → row_answer book found bytes price
+    ≡ by_data (same_bytes stored.data_bytes.items (data_of bytes))
 row_answers book bytes price name stored None is = cc
 row_answers book bytes price name stored (Some row) is =
     ap (λ behind. by_data (same_bytes behind (data_of bytes)))
@@ -74,11 +76,19 @@ none_found : (name : List ℕ) (found : Option RecordRow)
 none_found name None is = refl
 none_found name (Some row) is = cc
 
--- what was found is this
+-- what was looked up and found is this
 pub sees_as : {old new : State} (name : List ℕ) {found shape : Option StoredRecord}
-    → found ≡ shape → Sees old new (λ tables. FindsRecord name tables found)
+    → found ≡ shape → LooksUp (Ok found) old new (FindsRecord name)
     → Sees old new (λ tables. FindsRecord name tables shape)
-sees_as name is sees = sees_so sees (λ tables known. subst (FindsRecord name tables) is known)
+sees_as name is looks =
+    sees_so (sees_found {Answers = FindsRecord name} (looks_up looks))
+    (λ tables known. subst (FindsRecord name tables) is known)
+
+-- the price that was found is that of the tariffs, for the record's bytes
+pub price_is : {tariffs given : List Tariffed} {bytes own : List ℕ} {found shape : Option Priced}
+    → found ≡ price_under given own → given ≡ tariffs → own ≡ bytes → found ≡ shape
+    → price_under tariffs bytes ≡ shape
+price_is is same whose shape = sym (is ∙ (λ i. price_under (same i) (whose i))) ∙ shape
 
 -- ---- an answer that is no event
 
@@ -253,7 +263,8 @@ module _ (naming : Naming) (was : Summary) (bytes name : List ℕ) (usage : IsUs
               (effects_of (view_in tables (identity_of bytes)) (named i) priced) tables)
               ∙ (λ i. put_new naming (record book.rulings { closes = ready.remembers.closes i })
               (length (ready.remembers.closes i) + 1) bytes priced
-              (effects_of (view_in tables (identity_of bytes)) (name_of naming bytes) priced) tables)
+              (effects_of (view_in tables (identity_of bytes)) (name_of naming bytes) priced)
+              tables)
               ∙ sym (tables_kept book ready known);
         }
 

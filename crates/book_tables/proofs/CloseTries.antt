@@ -38,7 +38,7 @@ use Rattle.book_tables.specs.Ready.{IsReadyAt, Remembers}
 use Rattle.book_tables.specs.Summaries.{book_ruled}
 use Rattle.book_tables.specs.Tries.{IsPlain}
 use Rattle.book_tables.specs.declared.summary.Summary.{Summary}
-use Rattle.book_tables.proofs.Answering.{makes_answer, makes_refused}
+use Rattle.book_tables.proofs.Answering.{ruled_makes}
 use Rattle.book_tables.proofs.TryLemmas.{IsEvent}
 
 -- ---- the answer
@@ -80,12 +80,9 @@ close_remembered summary book number day remembers =
 pub close_makes : (answer : Result Ruled LedgerFault) (number : ℕ) (day : ℤ)
     (book : Book) → close_answer book number day ≡ answer → answer ≢ Ok Done
     → Makes (λ (ruled : Ruled). ruled) (close_outcome number day book) answer []
-close_makes (Ok Done) number day book is other = absurd (other refl)
-close_makes (Ok Already) number day book is other =
-    makes_answer (λ (ruled : Ruled). ruled) (close_outcome number day book) Already is
-    (ap (close_event day) is)
-close_makes (Err fault) number day book is other =
-    makes_refused (λ (ruled : Ruled). ruled) (close_outcome number day book) fault is
+close_makes answer number day book is other =
+    ruled_makes (close_outcome number day book) answer is other
+    (λ already. ap (close_event day) (is ∙ already))
 
 -- an answer that is Done is not that of the last period
 not_full : (open_one : ℕ) (closed is_open early full : Bool)
@@ -114,10 +111,13 @@ close_room summary number day items done is =
   where
     room : (n m : ℕ) → n ≡ length summary.closes.items + 1 → m ≡ length summary.closes.items + 1
         → length summary.closes.items < last_period → (n ≡ last_period → ⊥) → m < last_period
-    room n m is more few differs = elim (nat_lt m last_period) as (λ b. nat_lt m last_period ≡ b → m < last_period) [
-      | true ↦ λ e. ltb-true m last_period e
-      | false ↦ λ e. absurd (differs (let least = ltb-false m last_period e in omega (arith, is, more, few, least)))
-    ] refl
+    room n m is more few differs =
+        elim (nat_lt m last_period) as (λ b. nat_lt m last_period ≡ b → m < last_period) [
+          | true ↦ λ e. ltb-true m last_period e
+          | false ↦ λ e.
+              let least = ltb-false m last_period e in
+              absurd (differs (omega (arith, is, more, few, least)))
+        ] refl
 
 -- ---- what is written
 
@@ -127,7 +127,8 @@ find_beyond : {K V : Type 0} (R : K → K → Ordering) (q : ℕ × K) (n : ℕ)
     → find (by_period R) q (numbered n periods) ≡ None
 find_beyond R q n [] beyond = refl
 find_beyond {K} {V} R q n (rows ∷ periods) beyond =
-    let other : is_number q.0 n ≡ false = not_number q.0 n (λ same. absurd (omega (arith, same, beyond))) in
+    let other : is_number q.0 n ≡ false =
+    not_number q.0 n (λ same. absurd (omega (arith, same, beyond))) in
     let later : suc n + length periods ≤ q.0 = omega (arith, beyond) in
     find-both (by_period R) q (under n rows) (numbered (suc n) periods)
     ∙ (λ i. else_find (find-under R q n rows i) (find_beyond R q (suc n) periods later i))

@@ -101,7 +101,8 @@ module _ (period : ℕ) (change : Option DayChange) (write : Option DayWrite) (e
       → Looks result old new (Writes period change)
   look_none {old} none leave stays =
       looks_told write error result told
-      (subst (λ new. Sees old new (λ tables. IfSome write (Writes period change tables))) (sym stays)
+      (subst (λ new. Sees old new (λ tables. IfSome write (Writes period change tables)))
+      (sym stays)
       (sees_so (sees_none {state = old}) (λ tables known.
       subst (λ write. IfSome write (Writes period change tables)) (sym leave)
       (subst (λ change. Writes period change tables Leave) (sym none)
@@ -117,9 +118,35 @@ module _ (period : ℕ) (change : Option DayChange) (write : Option DayWrite) (e
       → Looks result old new (Writes period change)
   one_made {old} {middle} {new} place found made is stays looks writes =
       looks_told write error result told
-      (subst (λ new. Sees old new (λ tables. IfSome write (Writes period change tables))) (sym stays)
+      (subst (λ new. Sees old new (λ tables. IfSome write (Writes period change tables)))
+      (sym stays)
       (sees_so (sees_found looks) (λ tables known.
       subst (λ write. IfSome write (Writes period change tables)) (sym is) (writes tables known))))
+
+  -- a price turns its row, as the change says: what is made of the row that was found is written
+  look_made : {old middle new : State} (turn : Priced → DayChange)
+      (Says : Option ChargeRow → Priced → DayWrite → Type 0)
+      → ((priced : Priced) (tables : Tables) (found : Option ChargeRow) (write : DayWrite)
+      → found ≡ get tables.days (period, key_of priced)
+      → IfSome found (λ row. place_of row ≡ key_of priced) → Says found priced write
+      → Writes period (Some (turn priced)) tables write)
+      → (place : RowKey) (priced : Priced) (found : Option ChargeRow) (made : Option DayWrite)
+      → change ≡ Some (turn priced) → place ≡ key_of priced → write ≡ made → new ≡ middle
+      → Looks (Ok found) old middle (λ tables found. found ≡ get tables.days (period, place))
+      → IfSome found (λ row. place_of row ≡ place) → IfSome made (Says found priced)
+      → Looks result old new (Writes period change)
+  look_made turn Says writes place priced found made turns at is stays looks placed says =
+      one_made place found made is stays looks (λ tables known. by_made made tables known says)
+    where
+      by_made : (made : Option DayWrite) (tables : Tables)
+          → found ≡ get tables.days (period, place) → IfSome made (Says found priced)
+          → IfSome made (Writes period change tables)
+      by_made None tables known says = tt
+      by_made (Some made) tables known says =
+          subst (λ change. Writes period change tables made) (sym turns)
+          (writes priced tables found made
+          (known ∙ ap (λ place. get tables.days (period, place)) at)
+          (subst (λ place. IfSome found (λ row. place_of row ≡ place)) at placed) says)
 
   -- a price joins its row
   pub look_added : {old middle new : State} (place : RowKey) (priced : Priced)
@@ -128,18 +155,7 @@ module _ (period : ℕ) (change : Option DayChange) (write : Option DayWrite) (e
       → Looks (Ok found) old middle (λ tables found. found ≡ get tables.days (period, place))
       → IfSome found (λ row. place_of row ≡ place) → IfSome made (IsAdded found priced)
       → Looks result old new (Writes period change)
-  look_added place priced found made adds at is stays looks placed added =
-      one_made place found made is stays looks (λ tables known. by_made made tables known added)
-    where
-      by_made : (made : Option DayWrite) (tables : Tables)
-          → found ≡ get tables.days (period, place) → IfSome made (IsAdded found priced)
-          → IfSome made (Writes period change tables)
-      by_made None tables known added = tt
-      by_made (Some made) tables known added =
-          subst (λ change. Writes period change tables made) (sym adds)
-          (writes_added period priced tables found made
-          (known ∙ ap (λ place. get tables.days (period, place)) at)
-          (subst (λ place. IfSome found (λ row. place_of row ≡ place)) at placed) added)
+  look_added = look_made Add IsAdded (writes_added period)
 
   -- a price leaves its row
   pub look_taken : {old middle new : State} (place : RowKey) (priced : Priced)
@@ -148,15 +164,4 @@ module _ (period : ℕ) (change : Option DayChange) (write : Option DayWrite) (e
       → Looks (Ok found) old middle (λ tables found. found ≡ get tables.days (period, place))
       → IfSome found (λ row. place_of row ≡ place) → IfSome made (IsTaken found priced)
       → Looks result old new (Writes period change)
-  look_taken place priced found made takes at is stays looks placed taken =
-      one_made place found made is stays looks (λ tables known. by_made made tables known taken)
-    where
-      by_made : (made : Option DayWrite) (tables : Tables)
-          → found ≡ get tables.days (period, place) → IfSome made (IsTaken found priced)
-          → IfSome made (Writes period change tables)
-      by_made None tables known taken = tt
-      by_made (Some made) tables known taken =
-          subst (λ change. Writes period change tables made) (sym takes)
-          (writes_taken period priced tables found made
-          (known ∙ ap (λ place. get tables.days (period, place)) at)
-          (subst (λ place. IfSome found (λ row. place_of row ≡ place)) at placed) taken)
+  look_taken = look_made Take IsTaken (writes_taken period)

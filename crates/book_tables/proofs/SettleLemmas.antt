@@ -1,6 +1,6 @@
 -- A call that was tried and settled is served.
 use Rattle.std.proofs.Common.{◌≡◌, ◌∙◌, inl, inr, Bool, false, true≢false, Result, Ok, Err, refl}
-use Rattle.std.proofs.Common.{sym, ap, subst, [], rules}
+use Rattle.std.proofs.Common.{sym, ap, subst, []}
 use Rattle.sqlite.specs.Held.{Held, state}
 use Rattle.sqlite.specs.Store.{Ghosts}
 use Rattle.sqlite.specs.Effect.{Database}

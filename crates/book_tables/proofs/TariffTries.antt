@@ -27,7 +27,7 @@ use Rattle.book_tables.specs.Summaries.{ruled_in, terms_ruled}
 use Rattle.book_tables.specs.Tries.{IsPlain}
 use Rattle.book_tables.specs.Unread.{IsUnread}
 use Rattle.book_tables.specs.declared.summary.Summary.{Summary}
-use Rattle.book_tables.proofs.Answering.{makes_answer, makes_refused}
+use Rattle.book_tables.proofs.Answering.{makes_refused, ruled_makes}
 use Rattle.book_tables.proofs.TryLemmas.{IsEvent}
 
 -- ---- a text that is no tariff
@@ -35,7 +35,8 @@ use Rattle.book_tables.proofs.TryLemmas.{IsEvent}
 pub unread_plain : {V : Type 0} (text : List ℕ) (fault : LedgerFault) → IsUnread text fault
     → IsPlain {V = V} (Err fault)
 unread_plain {V} text fault (inl wanting) =
-    subst (λ fault. IsPlain {V = V} (Err fault)) (sym wanting) (record { stored = refl; served = refl })
+    subst (λ fault. IsPlain {V = V} (Err fault)) (sym wanting)
+    (record { stored = refl; served = refl })
 unread_plain {V} text fault (inr refused) =
     subst (λ fault. IsPlain {V = V} (Err fault)) (sym refused.1)
     (record { stored = refl; served = refl })
@@ -100,7 +101,8 @@ module _ (summary : Summary) (text : List ℕ) (terms : Terms) where
   pub tariff_rising : terms_ruled (ruled_in summary) text terms ≡ Ok Done
       → are_rising (summary.tariffs.items ++ record { text = Some text; terms = terms } ∷ []) ≡ true
   tariff_rising done =
-      rising-behind summary.tariffs.items (record { text = Some text; terms = terms }) summary.rising
+      rising-behind summary.tariffs.items (record { text = Some text; terms = terms })
+      summary.rising
       (later-before terms.effective (ruled_in summary)
       (later_by (list_any (has_text text) summary.tariffs.items)
       (list_any (is_effective terms.effective) summary.tariffs.items)
@@ -148,6 +150,13 @@ module _ (summary : Summary) (text : List ℕ) (terms : Terms) where
         (ap (λ rulings. answer_by rulings false) (sym same) ∙ done)
         ∙ ap (λ (found : Bool). if found then Err RecordsDated else Ok Done) (sym is)
 
+    -- so it is Done where no record is dated from that day on
+    pub tariff_done : terms_ruled (ruled_in summary) text terms ≡ Ok Done → (found : Bool)
+        → found ≡ dated → found ≡ false → (tariff_outcome text book).answer ≡ Ok Done
+    tariff_done done found is none =
+        tariff_decided done found is
+        ∙ ap (λ (found : Bool). if found then Err RecordsDated else Ok Done) none
+
     -- the answer to the terms of the text
     pub terms_told : terms_answer book text terms ≡ (tariff_outcome text book).answer
     terms_told = sym (ap (tariff_answer book text) said)
@@ -156,7 +165,8 @@ module _ (summary : Summary) (text : List ℕ) (terms : Terms) where
     pub tables_behind : terms_answer book text terms ≡ Ok Done
         → tables_of naming (put_in_force (Some text) terms book)
         ≡ put_tariff_row terms.effective text (tables_of naming book)
-    tables_behind done = terms_follow.done naming book text terms (calls_read naming book ready.calls) done
+    tables_behind done =
+        terms_follow.done naming book text terms (calls_read naming book ready.calls) done
 
     -- A tariff that is answered Done is an event.
     abbrev pub tariff_is_event : IsDay terms.effective → (tariff_outcome text book).answer ≡ Ok Done
@@ -174,7 +184,8 @@ module _ (summary : Summary) (text : List ℕ) (terms : Terms) where
 
     -- and it is remembered
     pub tariff_remembered : (is : Summary) → (tariff_outcome text book).answer ≡ Ok Done
-        → is.tariffs.items ≡ summary.tariffs.items ++ record { text = Some text; terms = terms } ∷ []
+        → is.tariffs.items
+        ≡ summary.tariffs.items ++ record { text = Some text; terms = terms } ∷ []
         → is.closes.items ≡ summary.closes.items → is.held ≡ summary.held → is.total ≡ summary.total
         → Remembers is (put_in_force (Some text) terms book)
     tariff_remembered is answer tariffs closes held total = record {
@@ -191,9 +202,7 @@ module _ (summary : Summary) (text : List ℕ) (terms : Terms) where
 pub tariff_makes : (answer : Result Ruled LedgerFault) (text : List ℕ) (terms : Terms) (book : Book)
     → terms_in text ≡ Ok terms → (tariff_outcome text book).answer ≡ answer → answer ≢ Ok Done
     → Makes (λ (ruled : Ruled). ruled) (tariff_outcome text book) answer []
-tariff_makes (Ok Done) text terms book said is other = absurd (other refl)
-tariff_makes (Ok Already) text terms book said is other =
-    makes_answer (λ (ruled : Ruled). ruled) (tariff_outcome text book) Already is
-    (ap (tariff_event text (terms_in text)) is ∙ ap (λ said. tariff_event text said (Ok Already)) said)
-tariff_makes (Err fault) text terms book said is other =
-    makes_refused (λ (ruled : Ruled). ruled) (tariff_outcome text book) fault is
+tariff_makes answer text terms book said is other =
+    ruled_makes (tariff_outcome text book) answer is other
+    (λ already. ap (tariff_event text (terms_in text)) (is ∙ already)
+    ∙ ap (λ said. tariff_event text said (Ok Already)) said)

@@ -1,4 +1,4 @@
--- The days of closes in their order, and the periods that they end.
+-- The days of closes in their order, the periods that they end and open, and what they post.
 use Rattle.std.proofs.Common.{◌≡◌, ℕ, suc, ◌+◌, ◌≤◌, List, [], ◌∷◌, ◌++◌, length, refl, ap, ◌∙◌}
 use Rattle.std.proofs.Common.{true, false, true≢false, Bool, cond, not, Option, Some, None, Ok, Err}
 use Rattle.std.proofs.Common.{Result, arith}
@@ -12,12 +12,38 @@ use Rattle.book_model.specs.declared.answer.Ruled.{Ruled}
 use Rattle.book_model.specs.declared.answer.Ruled.TheVariants.{Done, Already}
 use Rattle.book_model.specs.declared.fault.LedgerFault.{LedgerFault}
 use Rattle.book_model.specs.declared.fault.LedgerFault.TheVariants.{WrongPeriod, NotLater, Full}
-use Rattle.book_model.specs.Words.{Book, open_number, close, last_period, is_closed, close_answer}
-use Rattle.book_model.specs.Words.{last_close}
+use Rattle.book_model.specs.Words.{Book, open_number, all_periods, close, last_period, is_closed}
+use Rattle.book_model.specs.Words.{close_answer, last_close, Records, Period, period_by, charged_of}
+use Rattle.book_model.specs.Words.{charged_through, is_dated_after}
+use Rattle.book_model.proofs.ListLemmas.{last_or-behind}
 use Rattle.book_model.proofs.RecordSets.{is}
 use Rattle.book_core.specs.Effects.{is_after}
 use Rattle.kept_tables.specs.TablesOf.{close_entries}
 use Rattle.kept_tables.proofs.MoveLemmas.{not_number}
+
+-- a record is current: dated after the last close of a book
+abbrev pub is_current : Book → List ℕ → Bool
+is_current book = is_dated_after (last_close book.rulings)
+
+-- the records that a close posts, by its day
+abbrev pub posted_by : ℤ → Book → Records
+posted_by day book = charged_through book.rulings day book.held
+
+-- the period that it ends
+abbrev pub ended_by : ℤ → Book → Period
+ended_by day book = period_by (last_close book.rulings) book.posted (posted_by day book)
+
+-- and the one that it opens
+abbrev pub opened_by : ℤ → Book → Period
+opened_by day book = period_by (Some day) (posted_by day book) (charged_of book)
+
+-- these two are the last periods after the close
+pub periods_closed : (book : Book) (day : ℤ) → all_periods (close day book)
+    ≡ (book.past ++ ended_by day book ∷ []) ++ opened_by day book ∷ []
+periods_closed book day =
+    ap (λ last. (book.past ++ ended_by day book ∷ [])
+    ++ period_by last (posted_by day book) (charged_of book) ∷ [])
+    (last_or-behind None book.rulings.closes day)
 
 -- a day after a close is after one before it
 pub after_both : (last : Option ℤ) (close day : ℤ)

@@ -10,9 +10,9 @@ use Rattle.std.proofs.Math.Bool.{and_comm}
 use Rattle.std.proofs.lemmas.Cmp.{nat_list_cmp_total}
 use Rattle.std.proofs.lemmas.Map.Lookups.{exact_bytes}
 use Rattle.tariff_rules.specs.declared.priced.Priced.{Priced}
-use Rattle.book_model.specs.Words.{Book, open_number, charged_of, is_dated_by, charged_through}
-use Rattle.book_model.specs.Words.{close, IsAfterLastClose, Records, Naming, name_of, by_bytes}
-use Rattle.book_model.specs.Words.{Rulings, price_in, last_close, with_close, members, has, IsSound}
+use Rattle.book_model.specs.Words.{Book, open_number, charged_of, is_dated_by, close}
+use Rattle.book_model.specs.Words.{IsAfterLastClose, Records, Naming, name_of, by_bytes, price_in}
+use Rattle.book_model.specs.Words.{with_close, members, has, IsSound}
 use Rattle.book_model.proofs.CallLemmas.{calls_go_forward}
 use Rattle.book_model.proofs.GivenLemmas.{map-filter_map}
 use Rattle.book_model.proofs.SetChanges.{pick-agree}
@@ -22,7 +22,7 @@ use Rattle.kept_tables.specs.TableChanges.{post, close_tables}
 use Rattle.kept_tables.specs.Tables.{RecordRow}
 use Rattle.kept_tables.specs.TablesOf.{record_row, record_entry, record_entries, close_entries}
 use Rattle.kept_tables.specs.TablesOf.{tables_of}
-use Rattle.kept_tables.proofs.CloseDays.{close_free, close_more, closed_open}
+use Rattle.kept_tables.proofs.CloseDays.{posted_by, close_free, close_more, closed_open}
 use Rattle.kept_tables.proofs.ClosedLines.{lines_closed}
 use Rattle.kept_tables.proofs.ClosedRows.{days_closed}
 use Rattle.kept_tables.proofs.CostLemmas.{day-price}
@@ -32,34 +32,20 @@ use Rattle.kept_tables.proofs.TableParts.{same_tables}
 
 module _ (naming : Naming) (book : Book) (sound : IsSound naming book) (day : ℤ)
     (forward : IsAfterLastClose book.rulings day) where
-  -- the day of the close before
-  abbrev last : Option ℤ
-  last = last_close book.rulings
-
-  -- what is charged, and what the close posts
-  abbrev charged : Records
-  charged = charged_of book
-
-  -- what this close posts
-  abbrev posted : Records
-  posted = charged_through book.rulings day book.held
-
-  -- the rulings with the close
-  abbrev ruled : Rulings
-  ruled = with_close day book.rulings
-
   -- each record that is charged and dated by the day is posted
   records_posted : from_entries {R = by_bytes}
-      (record_entries naming ruled book.held charged posted)
+      (record_entries naming (with_close day book.rulings) book.held (charged_of book)
+      (posted_by day book))
       ≡ updated (post day)
       (from_entries {R = by_bytes}
-      (record_entries naming book.rulings book.held charged book.posted))
+      (record_entries naming book.rulings book.held (charged_of book) book.posted))
   records_posted =
       let change : List ℕ × RecordRow → List ℕ × RecordRow = λ row. (row.0, post day row.1) in
+      let charged : Records = charged_of book in
       let old : List ℕ → Option (List ℕ × RecordRow) =
       record_entry naming book.rulings charged book.posted in
       ap from_entries
-      (pick-agree (record_entry naming ruled charged posted)
+      (pick-agree (record_entry naming (with_close day book.rulings) charged (posted_by day book))
       (λ bytes. option_map change (old bytes)) book.held
       (λ bytes there. one_posted bytes (price_in book.rulings bytes) refl)
       ∙ sym (map-filter_map change old (members book.held)))
@@ -68,14 +54,21 @@ module _ (naming : Naming) (book : Book) (sound : IsSound naming book) (day : �
     where
       one_posted : (bytes : List ℕ) (price : Option Priced) → price_in book.rulings bytes ≡ price
           → option_map {T = Priced} {U = List ℕ × RecordRow}
-          (λ priced. (name_of naming bytes, record_row ruled charged posted bytes priced)) price
+          (λ priced. (
+            name_of naming bytes,
+            record_row (with_close day book.rulings) (charged_of book) (posted_by day book) bytes
+                priced,
+          )) price
           ≡ option_map {T = List ℕ × RecordRow} {U = List ℕ × RecordRow}
           (λ row. (row.0, post day row.1))
           (option_map {T = Priced} {U = List ℕ × RecordRow}
-          (λ priced.
-          (name_of naming bytes, record_row book.rulings charged book.posted bytes priced)) price)
+          (λ priced. (
+            name_of naming bytes,
+            record_row book.rulings (charged_of book) book.posted bytes priced,
+          )) price)
       one_posted bytes None none = refl
       one_posted bytes (Some priced) some =
+          let charged : Records = charged_of book in
           let row : RecordRow = record_row book.rulings charged book.posted bytes priced in
           ap {B = Option (List ℕ × RecordRow)}
           (λ p. Some (name_of naming bytes, record row { posted = p }))

@@ -55,7 +55,7 @@ days-alike alike =
     ap (map {B = RowKey × ChargeRow} (λ row. (place_of row, row))) (rows_of-alike alike)
 
 -- the row of a place, by what is charged there
-abbrev row_of : RowKey → List Priced → ChargeRow
+abbrev pub row_of : RowKey → List Priced → ChargeRow
 row_of key here = record {
   day = key.day;
   centre = key.centre;

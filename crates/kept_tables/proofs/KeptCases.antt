@@ -26,8 +26,8 @@ use Rattle.kept_tables.proofs.LineChanges.{added-gone, added-posted, added-gone_
 use Rattle.kept_tables.proofs.LineChanges.{taken-posted, taken-gone}
 use Rattle.kept_tables.proofs.OpenChanges.{open_days, open_lines, days_is, lines_is, days-add}
 use Rattle.kept_tables.proofs.OpenChanges.{days-take, lines-plus, lines-drop, lines-minus}
-use Rattle.kept_tables.proofs.OpenNames.{unnamed_in, before_held, added_before, added_fresh}
-use Rattle.kept_tables.proofs.OpenNames.{taken_posted, taken_gone}
+use Rattle.kept_tables.proofs.OpenNames.{plus_of, minus_of, unnamed_in, before_held, added_before}
+use Rattle.kept_tables.proofs.OpenNames.{added_fresh, taken_posted, taken_gone}
 use Rattle.kept_tables.proofs.RecordChanges.{record_table, records-with, records-agree}
 use Rattle.kept_tables.proofs.RecordChanges.{records-unmark, book_row-with}
 use Rattle.kept_tables.proofs.TableParts.{same_tables}
@@ -45,14 +45,6 @@ module _ (naming : Naming) (book : Book) (sound : IsSound naming book) where
   -- what was charged before
   abbrev before : Records
   before = charged_of book
-
-  -- what was added and taken back
-  abbrev plus_before : Records
-  plus_before = added last book.posted before
-
-  -- what was taken back
-  abbrev minus_before : Records
-  minus_before = taken book.posted before
 
   -- a record is dated after the last close
   abbrev current : List ℕ → Bool
@@ -166,7 +158,7 @@ module _ (naming : Naming) (book : Book) (sound : IsSound naming book) where
         ∙ (λ i. open_lines naming book
         (added-late last book.posted before bytes new_posted is_late i)
         (taken-new last book.posted before bytes new_posted i))
-        ∙ lines-plus naming book sound.closed plus_before minus_before bytes
+        ∙ lines-plus naming book sound.closed (plus_of book) (minus_of book) bytes
         (λ other in_it. unnamed other
         (before_held naming book sound other (added_before naming book sound other in_it))))
 
@@ -214,13 +206,13 @@ module _ (naming : Naming) (book : Book) (sound : IsSound naming book) where
           (ap lines_by charged
           ∙ (λ i. open_lines naming book (added-posted last book.posted before one posted i)
           (taken-posted last book.posted before one posted i))
-          ∙ lines-minus naming book sound.closed plus_before minus_before one
-          (unnamed_in naming book sound one plus_before there
+          ∙ lines-minus naming book sound.closed (plus_of book) (minus_of book) one
+          (unnamed_in naming book sound one (plus_of book) there
           (λ other in_it. before_held naming book sound other
           (added_before naming book sound other in_it))
           (λ other in_it. differ_back other
           (not_new book.posted one other posted (added_fresh naming book sound other in_it))))
-          (unnamed_in naming book sound one minus_before there
+          (unnamed_in naming book sound one (minus_of book) there
           (λ other in_it. sound.posted other (taken_posted naming book sound other in_it))
           (λ other in_it. differ_back other
           (not_new before one other was (taken_gone naming book sound other in_it)))))
@@ -251,7 +243,7 @@ module _ (naming : Naming) (book : Book) (sound : IsSound naming book) where
           ≡ put_with naming book bytes priced
           (unmarks (name_of naming one) None (Some (DropPlus (name_of naming one)))) tables_before
       kept-dropped fresh is_late =
-          let plus : Records = plus_before in
+          let plus : Records = plus_of book in
           tables-kept (unmarks (name_of naming one) None (Some (DropPlus (name_of naming one))))
           not_marked unmarked
           (ap days_by charged
@@ -259,7 +251,7 @@ module _ (naming : Naming) (book : Book) (sound : IsSound naming book) where
           (ap lines_by charged
           ∙ (λ i. open_lines naming book (added-gone last book.posted before one i)
           (taken-gone last book.posted before one fresh i))
-          ∙ lines-drop naming book sound.closed plus minus_before one
+          ∙ lines-drop naming book sound.closed plus (minus_of book) one
           (has_those (λ b. not (current b)) (those (λ b. not (has book.posted b)) before) one
           ∙ (λ i. not (is_late i) && has_those (λ b. not (has book.posted b)) before one i)
           ∙ (λ i. not (fresh i) && was i))
@@ -268,7 +260,7 @@ module _ (naming : Naming) (book : Book) (sound : IsSound naming book) where
           (added_before naming book sound other (in_those (λ b. not (is b one)) plus other in_it)))
           (λ other in_it. not_true (is other one)
           (passes_those (λ b. not (is b one)) plus other in_it)))
-          (unnamed_in naming book sound one minus_before there
+          (unnamed_in naming book sound one (minus_of book) there
           (λ other in_it. sound.posted other (taken_posted naming book sound other in_it))
           (λ other in_it. not_new book.posted other one (taken_posted naming book sound other in_it)
           fresh)))

@@ -2,12 +2,13 @@
 use Rattle.std.proofs.Common.{ℕ, List, [], ◌∷◌, sym, ◌∙◌, subst, true≢false}
 use Rattle.std.specs.Prelude.{ℤ}
 use Rattle.std.proofs.lemmas.List.Elements.{All-append, All-cons, All-nil}
-use Rattle.book_model.specs.Words.{IsFramed, Terms, Book, new_book, flat_book, charged_through}
-use Rattle.book_model.specs.Words.{keep, close, Period, period_by, Records, last_close}
+use Rattle.book_model.specs.Words.{IsFramed, Terms, Book, new_book, flat_book, keep, close, Period}
+use Rattle.book_model.specs.Words.{last_close}
 use Rattle.book_model.proofs.RecordSets.{one_or}
 use Rattle.book_model.proofs.SoundLemmas.{none_in}
 use Rattle.kept_tables.specs.Reading.{IsApart, HasLines}
 use Rattle.kept_tables.specs.ReadingLaws.{LinesStay}
+use Rattle.kept_tables.proofs.CloseDays.{posted_by, ended_by}
 use Rattle.kept_tables.proofs.HeldPeriods.{period_apart}
 
 -- new books hold nothing, and have closed no period
@@ -37,14 +38,14 @@ keep_lines book bytes lines framed = record {
 -- a period that is closed takes back nothing that it adds
 close_lines : (book : Book) (day : ℤ) → HasLines book → HasLines (close day book)
 close_lines book day lines =
-    let charged : Records = charged_through book.rulings day book.held in
-    let ended : Period = period_by (last_close book.rulings) book.posted charged in
+    let ended : Period = ended_by day book in
     record {
       framed = lines.framed;
       apart =
           All-append IsApart book.past (ended ∷ []) lines.apart
           (All-cons IsApart ended []
-          (period_apart (last_close book.rulings) book.posted charged) (All-nil IsApart));
+          (period_apart (last_close book.rulings) book.posted (posted_by day book))
+          (All-nil IsApart));
     }
 
 -- the law of it

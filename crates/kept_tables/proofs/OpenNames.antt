@@ -1,7 +1,5 @@
 -- Names of records that are held, and which of them the open period adds and takes back.
 use Rattle.std.proofs.Common.{◌≡◌, ℕ, List, refl, sym, ap, ◌∙◌, true, false, true≢false, not}
-use Rattle.std.proofs.Common.{Option}
-use Rattle.std.specs.Prelude.{ℤ}
 use Rattle.std.proofs.lemmas.Map.Lookups.{exact_bytes}
 use Rattle.std.proofs.lemmas.Map.Views.{tells_apart}
 use Rattle.book_model.specs.Words.{Book, charged_of, Records, Naming, name_of, last_close, has}
@@ -10,23 +8,15 @@ use Rattle.book_model.proofs.RecordSets.{is, is_itself, in_those, passes_those, 
 use Rattle.book_model.proofs.SetChanges.{IsUnnamed}
 use Rattle.kept_tables.proofs.LineChanges.{added, taken}
 
+-- the records that the open period adds
+abbrev pub plus_of : Book → Records
+plus_of book = added (last_close book.rulings) book.posted (charged_of book)
+
+-- and those that it takes back
+abbrev pub minus_of : Book → Records
+minus_of book = taken book.posted (charged_of book)
+
 module _ (naming : Naming) (book : Book) (sound : IsSound naming book) where
-  -- the last close's day
-  abbrev last : Option ℤ
-  last = last_close book.rulings
-
-  -- what was charged before
-  abbrev before : Records
-  before = charged_of book
-
-  -- what was added and taken back
-  abbrev plus_before : Records
-  plus_before = added last book.posted before
-
-  -- what was taken back
-  abbrev minus_before : Records
-  minus_before = taken book.posted before
-
   -- two records that are held and differ have two names
   pub names_differ : (one other : List ℕ) → has book.held one ≡ true → has book.held other ≡ true
       → is other one ≡ false
@@ -51,25 +41,33 @@ module _ (naming : Naming) (book : Book) (sound : IsSound naming book) where
       names_differ one other there (within other in_it) (differ other in_it)
 
   -- what was charged is held
-  pub before_held : (other : List ℕ) → has before other ≡ true → has book.held other ≡ true
+  pub before_held : (other : List ℕ) → has (charged_of book) other ≡ true
+      → has book.held other ≡ true
   before_held other in_it = in_those _ book.held other in_it
 
   -- what is added was charged
-  pub added_before : (other : List ℕ) → has plus_before other ≡ true → has before other ≡ true
+  pub added_before : (other : List ℕ) → has (plus_of book) other ≡ true
+      → has (charged_of book) other ≡ true
   added_before other in_it =
+      let before : Records = charged_of book in
       in_those _ before other (in_those _ (those (λ b. not (has book.posted b)) before) other in_it)
 
   -- and was not posted
-  pub added_fresh : (other : List ℕ) → has plus_before other ≡ true → has book.posted other ≡ false
+  pub added_fresh : (other : List ℕ) → has (plus_of book) other ≡ true
+      → has book.posted other ≡ false
   added_fresh other in_it =
+      let before : Records = charged_of book in
       not_true (has book.posted other) (passes_those (λ b. not (has book.posted b)) before other
       (in_those _ (those (λ b. not (has book.posted b)) before) other in_it))
 
   -- what is taken back was posted
-  pub taken_posted : (other : List ℕ) → has minus_before other ≡ true → has book.posted other ≡ true
+  pub taken_posted : (other : List ℕ) → has (minus_of book) other ≡ true
+      → has book.posted other ≡ true
   taken_posted other in_it = in_those _ book.posted other in_it
 
   -- and is charged no more
-  pub taken_gone : (other : List ℕ) → has minus_before other ≡ true → has before other ≡ false
+  pub taken_gone : (other : List ℕ) → has (minus_of book) other ≡ true
+      → has (charged_of book) other ≡ false
   taken_gone other in_it =
+      let before : Records = charged_of book in
       not_true (has before other) (passes_those (λ b. not (has before b)) book.posted other in_it)

@@ -14,7 +14,9 @@ use Rattle.office.specs.declared.request.Asked.{Asked}
 use Rattle.office.specs.declared.request.Asked.TheVariants.{Tariff, Close, Import, ImportBytes}
 use Rattle.office.specs.declared.request.Asked.TheVariants.{Report}
 use Rattle.office.specs.declared.request.Answer.{Answer}
-use Rattle.office.specs.Requests.{Dump, Told, telling, told_by, IsAskable, IsAskableAnew, IsAskableAlone, dump_here, Gives, Asks, IsAsked}
+use Rattle.office.specs.Requests.{Dump, Told, telling, told_by, IsAskable, IsAskableAnew, Gives, Asks}
+use Rattle.office.specs.Requests.{IsAsked}
+use Rattle.office.specs.Runs.{AsksAlone, IsAskableAlone}
 use Rattle.office.specs.Sides.{ReaderSeen, Books, Input}
 
 -- a call of the ledger, told
@@ -101,8 +103,7 @@ askable_with (Report report) reader alone = tt
 -- a request with no reader at hand has the dump that it brings
 pub asked_alone : (asked : Asked) {answer : Result Answer LedgerFault} {books : Books}
     {input : Input} → IsAskableAlone asked → IsAsked asked answer books input
-    → IsWork books.old books.new
-    (Asks books.old.naming asked (dump_here asked) (told_by answer))
+    → IsWork books.old books.new (AsksAlone books.old.naming asked answer)
 asked_alone (Tariff text) {answer = answer} {books = books} alone asked =
     subst (λ dump. IsWork books.old books.new
     (Asks books.old.naming (Tariff text) dump (told_by answer))) asked.given.is asked.work

@@ -15,14 +15,14 @@ use Rattle.book_core.proofs.FollowLemmas.{close_answered}
 use Rattle.book_core.proofs.WorkLemmas.{after_all-append}
 use Rattle.book_import.specs.Dumps.{stop_behind}
 use Rattle.book_import.proofs.RepeatLemmas.{is_whole}
-use Rattle.book_import.proofs.ReplyLemmas.{import_answered}
-use Rattle.office.specs.declared.request.Report as report
-use Rattle.office.specs.declared.request.Report.TheVariants.{Statement, StatementTable}
-use Rattle.office.specs.declared.request.Report.TheVariants.{AdjustmentList, DisputeList, PeriodList}
+use Rattle.book_import.proofs.EventLemmas.{import_answered}
+use Rattle.book_reports.specs.declared.report.Report as report
+use Rattle.book_reports.specs.BookTexts.{report_outcome}
+use Rattle.book_reports.proofs.ReadingLemmas.{report_event}
 use Rattle.office.specs.declared.request.Asked.{Asked}
 use Rattle.office.specs.declared.request.Asked.TheVariants.{Tariff, Close, Import, ImportBytes}
 use Rattle.office.specs.declared.request.Asked.TheVariants.{Report}
-use Rattle.office.specs.Requests.{Dump, Told, Ruling, Count, Text, told_by, telling, report_outcome}
+use Rattle.office.specs.Requests.{Dump, Told, Ruling, Count, Text, told_by, telling}
 use Rattle.office.specs.Requests.{Receives, Asks}
 use Rattle.office.specs.Does.{Done, events_by, done_by, import_done, does, is_hindering, is_hindered}
 use Rattle.office.specs.Laws.{Exchange, ledger_after, AreAnswered}
@@ -47,14 +47,6 @@ told_answered naming say outcome told makes =
     (event_answered naming outcome makes)
 
 -- a report is no event
-pub report_event : (naming : Naming) (report : report.Report) (book : Book)
-    → (report_outcome naming report book).event ≡ None
-report_event naming (Statement period) book = refl
-report_event naming (StatementTable period) book = refl
-report_event naming (AdjustmentList period) book = refl
-report_event naming DisputeList book = refl
-report_event naming PeriodList book = refl
-
 report_answered : (naming : Naming) (report : report.Report) (told : Result Told LedgerFault)
     → MakesAnswered naming (Calls (λ told. told) (telling Text (report_outcome naming report)) told)
 report_answered naming report told =
@@ -124,7 +116,7 @@ receives_done naming dump (Ok (Ruling ruled)) book events made free = absurd mad
 receives_done naming dump (Ok (Text text)) book events made free = absurd made
 receives_done naming dump (Err fault) book events made free = absurd made
 
-asks_done : (naming : Naming) (asked : Asked) (dump : Dump) (told : Result Told LedgerFault)
+pub asks_done : (naming : Naming) (asked : Asked) (dump : Dump) (told : Result Told LedgerFault)
     (book : Book) (events : List Event) → Asks naming asked dump told false book events false
     → is_hindered told ≡ false
     → does naming asked dump book ≡ record { told = told; events = events }

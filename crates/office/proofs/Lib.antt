@@ -1,4 +1,6 @@
--- One request to the books, as work; what work leaves of an open ledger; and the laws.
+-- One request to the books, as work; what work leaves of an open ledger; the laws; and requests one
+-- after another.
 pub mod AskLemmas
 pub mod LeavingLemmas
 pub mod LawLemmas
+pub mod RunLemmas

@@ -9,10 +9,11 @@ use Rattle.book_import.specs.declared.receipt.Stop.{Stop}
 use Rattle.book_import.specs.declared.receipt.Stop.TheVariants.{Ledger}
 use Rattle.book_import.specs.Dumps.{stop_behind}
 use Rattle.book_import.specs.Laws.{import_of_records}
+use Rattle.book_reports.specs.BookTexts.{report_outcome}
 use Rattle.office.specs.declared.request.Asked.{Asked}
 use Rattle.office.specs.declared.request.Asked.TheVariants.{Tariff, Close, Import, ImportBytes}
 use Rattle.office.specs.declared.request.Asked.TheVariants.{Report}
-use Rattle.office.specs.Requests.{Dump, Told, Ruling, Count, Text, telling, report_outcome}
+use Rattle.office.specs.Requests.{Dump, Told, Ruling, Count, Text, telling}
 
 -- what the books tell, and the events that they make, the newest first
 pub record Done : Type 0 where

@@ -14,15 +14,9 @@ use Rattle.book_core.specs.Work.{Work, IsWork}
 use Rattle.book_import.specs.declared.receipt.Receipt as receipt
 use Rattle.book_import.specs.declared.receipt.Stop.{Stop}
 use Rattle.book_import.specs.declared.receipt.Stop.TheVariants.{Read, ReadLimit, Ledger}
-use Rattle.book_import.specs.Commands.{Never}
 use Rattle.book_import.specs.Imports.{Imports}
 use Rattle.book_import.specs.Reading.{most_reads}
-use Rattle.book_reports.specs.BookTexts.{shown_by, statement_outcome, statement_csv_outcome}
-use Rattle.book_reports.specs.BookTexts.{adjustment_list_outcome, dispute_list_outcome}
-use Rattle.book_reports.specs.BookTexts.{period_list_outcome}
-use Rattle.office.specs.declared.request.Report as report
-use Rattle.office.specs.declared.request.Report.TheVariants.{Statement, StatementTable}
-use Rattle.office.specs.declared.request.Report.TheVariants.{AdjustmentList, DisputeList, PeriodList}
+use Rattle.book_reports.specs.BookTexts.{shown_by, report_outcome}
 use Rattle.office.specs.declared.request.Asked.{Asked}
 use Rattle.office.specs.declared.request.Asked.TheVariants.{Tariff, Close, Import, ImportBytes}
 use Rattle.office.specs.declared.request.Asked.TheVariants.{Report}
@@ -55,36 +49,21 @@ abbrev pub telling : {A : Type 0} → (A → Told) → (Book → Outcome A) → 
 telling say outcome book =
     record { answer = shown_by say (outcome book).answer; event = (outcome book).event }
 
--- the text of a report, by the book
-abbrev pub report_outcome : Naming → report.Report → Book → Outcome (List ℕ)
-report_outcome naming (Statement period) = statement_outcome period
-report_outcome naming (StatementTable period) = statement_csv_outcome period
-report_outcome naming (AdjustmentList period) = adjustment_list_outcome naming period
-report_outcome naming DisputeList = dispute_list_outcome naming
-report_outcome naming PeriodList = period_list_outcome
-
 -- a reader may be asked on
 pub record IsReady (reader : ReaderSeen) : Type 0 where
   pub reads : reader.reads ≤ 2 ^ 62
   pub failed : reader.has_failed ≡ false
   pub ended : reader.has_ended ≡ false
 
--- What may be asked: a close is through a day, and a dump is read of a reader that may be asked.
-abbrev pub IsAskable : Asked → ReaderSeen → Type 0
-IsAskable (Close period through) reader = IsDay through
-IsAskable (Import layout) reader = IsReady reader
-IsAskable asked reader = Unit {0}
-
--- the same with a reader that was not asked yet
+-- What may be asked with a reader that was not asked yet: a close is through a day.
 abbrev pub IsAskableAnew : Asked → Type 0
 IsAskableAnew (Close period through) = IsDay through
 IsAskableAnew asked = Unit {0}
 
--- what may be asked with no reader at hand: it brings its dump, if it has one
-abbrev pub IsAskableAlone : Asked → Type 0
-IsAskableAlone (Close period through) = IsDay through
-IsAskableAlone (Import layout) = ⊥
-IsAskableAlone asked = Unit {0}
+-- the same with any reader: a dump is read of one that may be asked
+abbrev pub IsAskable : Asked → ReaderSeen → Type 0
+IsAskable (Import layout) reader = IsReady reader
+IsAskable asked reader = IsAskableAnew asked
 
 -- what cut the reading short, if anything did
 abbrev pub cut_by : ReaderSeen → Option Stop
@@ -123,11 +102,6 @@ whole_dump layout bytes = record { layout = layout; cut = None; bytes = bytes }
 abbrev pub no_dump : Dump
 no_dump = whole_dump Rdw []
 
--- the dump that a request brings
-abbrev pub dump_here : Asked → Dump
-dump_here (ImportBytes layout bytes) = whole_dump layout bytes.items
-dump_here asked = no_dump
-
 -- The dump of what was asked, and what it took of the reader: an import alone has one, and one that
 -- is here is not read.
 abbrev pub Gives : Asked → Dump → Result Told LedgerFault → Input → Type 0
@@ -135,6 +109,10 @@ Gives (Import layout) dump told input = IsReadOf layout dump told input
 Gives (ImportBytes layout bytes) dump told input =
     IsUnread (whole_dump layout bytes.items) dump input
 Gives asked dump told input = IsUnread no_dump dump input
+
+-- no such work is done
+abbrev pub Never : Work
+Never was before events is = ⊥
 
 -- a dump was imported, and that is its receipt
 abbrev pub Receives : Naming → Dump → Result Told LedgerFault → Work

@@ -14,21 +14,14 @@ use std::alloc::Global;
 use std::io::{Read, Write};
 
 /// Writes the text of an answer.
-fn tell<W: Write + Drop>(
-    alloc: Global,
-    answer: &Answer,
-    sink: &mut Sink<W>,
-) -> Result<(), ReportFault>
+fn tell<W: Write + Drop>(answer: &Answer, sink: &mut Sink<W>) -> Result<(), ReportFault>
     requires { has_failed sink.old ≡ false }
     ensures { Tells (text_of (told_of answer.now)) (output W.contents sink.old sink.new) result }
 {
     match answer {
         Answer::Ruled(Ruled::Done) => write_text(sink, "DONE\n"),
         Answer::Ruled(Ruled::Already) => write_text(sink, "ALREADY\n"),
-        Answer::Receipt(receipt) => {
-            let line = receipt_line_text(alloc, receipt)?;
-            write_text(sink, line.as_str())
-        }
+        Answer::Receipt(receipt) => write_text(sink, receipt_line_text(receipt).as_str()),
         Answer::Text(text) => write_bytes(sink, text.as_slice()),
     }
 }
@@ -48,6 +41,6 @@ pub fn answer<L: Ledger, R: Read + Drop, W: Write + Drop>(
         (input R.remaining source.old source.new) (output W.contents sink.old sink.new) }
 {
     let answer = ask(alloc, ledger, asked, source)?;
-    tell(alloc, &answer, sink)?;
+    tell(&answer, sink)?;
     Ok(answer)
 }

@@ -5,10 +5,13 @@ mod answering;
 mod asking;
 mod laws;
 mod request;
+mod running;
 mod shelf;
 
 pub use answering::answer;
 pub use asking::{ask, ask_alone};
-pub use laws::{answers_are_free, answers_follow_history};
-pub use request::{Answer, Asked, Report};
+pub use book_reports::Report;
+pub use laws::{answers_are_free, answers_follow_history, run_twice_is_once};
+pub use request::{Answer, Asked};
+pub use running::run;
 pub use shelf::{Shelf, ShelfFault, Visit};

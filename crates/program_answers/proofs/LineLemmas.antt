@@ -5,19 +5,16 @@ use Rattle.std.specs.Fmt.{decimal}
 use Rattle.std.proofs.lemmas.Fmt.{length-decimal-le}
 use Rattle.byteorder.specs.Numbers.{big_from-lt}
 use Rattle.smf_frames.specs.declared.fault.FrameFault.{FrameFault}
-use Rattle.smf_frames.specs.declared.fault.FrameFault.TheVariants as frame
+use Rattle.smf_frames.specs.declared.fault.FrameFault.TheVariants.{SegmentLength}
 use Rattle.book_model.specs.Words.{frame_number, type_of, class_of, damage_number, ledger_number}
 use Rattle.smf_type30.specs.declared.classes.Class.{Class}
-use Rattle.smf_type30.specs.declared.classes.Class.TheVariants.{DumpHeader, DumpTrailer, DataLost}
-use Rattle.smf_type30.specs.declared.classes.Class.TheVariants.{Other, Continuation, Usage, Damaged}
+use Rattle.smf_type30.specs.declared.classes.Class.TheVariants.{Damaged}
 use Rattle.smf_type30.specs.declared.damage.Damage.{Damage}
-use Rattle.smf_type30.specs.declared.damage.Damage.TheVariants.{Short, Date, Time, NoIdentification}
-use Rattle.smf_type30.specs.declared.damage.Damage.TheVariants.{Identification, Processor}
-use Rattle.smf_type30.specs.declared.damage.Damage.TheVariants.{InputOutput, Completion, Accounting}
+use Rattle.smf_type30.specs.declared.damage.Damage.TheVariants.{Short}
 use Rattle.book_model.specs.declared.fault.LedgerFault.{LedgerFault}
-use Rattle.book_model.specs.declared.fault.LedgerFault.TheVariants as ledger
+use Rattle.book_model.specs.declared.fault.LedgerFault.TheVariants.{Memory}
 use Rattle.book_import.specs.declared.receipt.Stop.{Stop}
-use Rattle.book_import.specs.declared.receipt.Stop.TheVariants as stop
+use Rattle.book_import.specs.declared.receipt.Stop.TheVariants.{Frame, Ledger}
 use Rattle.book_reports.specs.ReceiptLines.{fault_text, stop_text}
 use Rattle.book_reports.specs.CheckLists.{type_text, class_text, record_line, last_line}
 
@@ -32,63 +29,34 @@ fault_short word number small =
       length-decimal-le 2 number (lit≤ tt) (omega arith) (omega arith),
     )
 
+-- the number of a damage has two digits at most
 damage_small : (damage : Damage) → damage_number damage < 100
 damage_small Short = lit≤ tt
-damage_small Date = lit≤ tt
-damage_small Time = lit≤ tt
-damage_small NoIdentification = lit≤ tt
-damage_small Identification = lit≤ tt
-damage_small Processor = lit≤ tt
-damage_small InputOutput = lit≤ tt
-damage_small Completion = lit≤ tt
-damage_small Accounting = lit≤ tt
+damage_small damage = lit≤ tt
 
+-- so has that of a fault at a descriptor
 frame_small : (fault : FrameFault) → frame_number fault < 100
-frame_small frame.SegmentLength = lit≤ tt
-frame_small frame.BlockLength = lit≤ tt
-frame_small frame.ExtendedBlock = lit≤ tt
-frame_small frame.SegmentCrossesBlock = lit≤ tt
-frame_small frame.OrphanSegment = lit≤ tt
-frame_small frame.MissingLast = lit≤ tt
-frame_small frame.RecordTooLong = lit≤ tt
-frame_small frame.Truncated = lit≤ tt
+frame_small SegmentLength = lit≤ tt
+frame_small fault = lit≤ tt
 
+-- and that of a refusal of the books
 ledger_small : (fault : LedgerFault) → ledger_number fault < 100
-ledger_small ledger.Memory = lit≤ tt
-ledger_small ledger.Store = lit≤ tt
-ledger_small ledger.Reopen = lit≤ tt
-ledger_small ledger.Full = lit≤ tt
-ledger_small ledger.DigestClash = lit≤ tt
-ledger_small ledger.TariffDate = lit≤ tt
-ledger_small ledger.TariffExists = lit≤ tt
-ledger_small ledger.RecordsDated = lit≤ tt
-ledger_small (ledger.WrongPeriod number) = lit≤ tt
-ledger_small ledger.NotLater = lit≤ tt
-ledger_small ledger.NoSuchPeriod = lit≤ tt
-ledger_small ledger.NoSuchRecord = lit≤ tt
-ledger_small ledger.NotDisputed = lit≤ tt
-ledger_small ledger.OldRule = lit≤ tt
-ledger_small (ledger.TariffRefused fault) = lit≤ tt
-ledger_small ledger.NotBooks = lit≤ tt
+ledger_small Memory = lit≤ tt
+ledger_small fault = lit≤ tt
 
+-- the text of a class
 class_short : (class : Class) → length (class_text class) ≤ 12
-class_short DumpHeader = lit≤ tt
-class_short DumpTrailer = lit≤ tt
-class_short DataLost = lit≤ tt
-class_short Other = lit≤ tt
-class_short Continuation = lit≤ tt
-class_short Usage = lit≤ tt
 class_short (Damaged damage) =
     omega (arith, fault_short (codes "DAMAGED") (damage_number damage) (damage_small damage))
+class_short class = lit≤ tt
 
+-- the text of a stop
 stop_short : (stop : Stop) → length (stop_text stop) ≤ 12
-stop_short stop.End = lit≤ tt
-stop_short (stop.Frame fault) =
+stop_short (Frame fault) =
     omega (arith, fault_short (codes "FRAME") (frame_number fault) (frame_small fault))
-stop_short stop.Read = lit≤ tt
-stop_short stop.ReadLimit = lit≤ tt
-stop_short (stop.Ledger fault) =
+stop_short (Ledger fault) =
     omega (arith, fault_short (codes "LEDGER") (ledger_number fault) (ledger_small fault))
+stop_short stop = lit≤ tt
 
 -- the type is a byte
 type_short : (bytes : List ℕ) → ((k : ℕ) → slice_index bytes k < 256)

@@ -1,8 +1,8 @@
 -- What makes a trial: new books, the import, and what was written.
-use Rattle.std.proofs.Common.{◌≡◌, ◌≢◌, ◌∙◌, ℕ, false, List, [], ◌∷◌, Option, Result, Err, refl}
-use Rattle.std.proofs.Common.{ap, subst}
+use Rattle.std.proofs.Common.{◌≡◌, ◌≢◌, ◌∙◌, ℕ, false, List, [], ◌∷◌, ◌++◌, Option, Result, Err}
+use Rattle.std.proofs.Common.{refl, ap, subst}
 use Rattle.std.specs.Prelude.{IfOk}
-use Rattle.std.specs.Io.KnownBytes.{Consumes}
+use Rattle.std.specs.Io.KnownBytes.{Appends, Consumes}
 use Rattle.std.proofs.KnownBytes.{Consumes-nil}
 use Rattle.sha2.specs.Sha256.{sha256}
 use Rattle.smf_frames.specs.declared.dump.Layout.{Layout}
@@ -23,7 +23,7 @@ use Rattle.book_reports.specs.declared.fault.ReportFault.TheVariants.{Write}
 use Rattle.book_reports.specs.ReceiptLines.{receipt_line_text}
 use Rattle.book_reports.specs.BookTexts.{dispute_text, open_statement}
 use Rattle.book_reports.specs.Writing.{Writes}
-use Rattle.book_reports.proofs.WritingLemmas.{nothing_written}
+use Rattle.book_reports.proofs.WritingLemmas.{nothing_written, others_written}
 use Rattle.program_answers.specs.Trials.{IsTrial, trial_texts}
 
 -- what the import made of new books under a tariff
@@ -58,6 +58,18 @@ never_closed terms layout cut bytes told left is =
     is.events false is.booked in
     ap (λ (book : Book). book.rulings.closes) is.leads
     ∙ ap (λ (rulings : Rulings). rulings.closes) (rulings_stay is.events kept (flat_book terms))
+
+-- the receipt line and the statement were written, and then the disputes, up to a fault
+pub texts_written : (told : Receipt) (book after : Book) (held one two holds : Option (List ℕ))
+    (answer : Result Receipt ReportFault) → after ≡ book
+    → Appends held one (receipt_line_text told ++ []) → Appends one two (open_statement book ++ [])
+    → Writes (dispute_text after ∷ []) two holds answer
+    → Writes (trial_texts told book) held holds answer
+texts_written told book after held one two holds answer stays line statement disputes =
+    others_written (receipt_line_text told) (open_statement book ∷ dispute_text book ∷ []) held one
+    holds answer line
+    (others_written (open_statement book) (dispute_text book ∷ []) one two holds answer statement
+    (subst (λ book. Writes (dispute_text book ∷ []) two holds answer) stays disputes))
 
 module _ {terms : Terms} {layout : Layout} {cut : Option Stop} {MayStop : Stop → Type 0} where
   -- new books, the import, and what was written

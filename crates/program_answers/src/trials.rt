@@ -50,7 +50,7 @@ pub fn trial<R: Read + Drop, W: Write + Drop>(
 {
     let mut ledger = PlainLedger::flat(alloc, ShaNames, tariff)?;
     let receipt = import(alloc, source, layout, reads, &mut ledger);
-    receipt_line(alloc, &receipt, sink)?;
+    receipt_line(&receipt, sink)?;
     statement(alloc, &mut ledger, 1, sink)?;
     dispute_list(alloc, &mut ledger, sink)?;
     Ok(receipt)

@@ -10,12 +10,12 @@ use Rattle.book_core.specs.Work.{NoEvent, IsWork}
 use Rattle.book_core.proofs.FollowLemmas.{MakesAnswered, then_answered, calls_answered}
 use Rattle.book_core.proofs.FollowLemmas.{accept_event-answered}
 use Rattle.book_core.proofs.WorkLemmas.{no_work, work_then, after_all-append}
-use Rattle.book_import.proofs.ReplyLemmas.{runs_answered}
 use Rattle.book_reports.proofs.ReadingLemmas.{IsReading}
 use Rattle.office.proofs.LawLemmas.{asks_answered}
 use Rattle.office.proofs.LeavingLemmas.{work_leaves}
+use Rattle.office.proofs.RunLemmas.{runs_answered}
 use Rattle.run_laws.specs.CallLaws.{CallsFollowHistory}
-use Rattle.run_laws.specs.Calls.{Call, RunCommands, Request, AcceptRecord, ReadCharges}
+use Rattle.run_laws.specs.Calls.{Call, Request, RunRequests, AcceptRecord, ReadCharges}
 use Rattle.run_laws.specs.Calls.{ReadAdjustments, ReadDisputes, ReadPeriods, Step, AreDone}
 use Rattle.run_laws.specs.Calls.{calls_of, ledger_after, work_of, works_of}
 
@@ -35,8 +35,8 @@ none_answered naming = λ history was events is none answered.
 
 -- each call makes only events that the books answered
 call_answered : (naming : Naming) (call : Call) → MakesAnswered naming (work_of naming call)
-call_answered naming (RunCommands commands replies) = runs_answered naming commands replies
 call_answered naming (Request asked dump told) = asks_answered naming asked dump told
+call_answered naming (RunRequests requests answers) = runs_answered naming requests answers
 call_answered naming (AcceptRecord bytes answer) =
     calls_answered naming (λ answer. answer) (accept_outcome naming bytes) answer (λ history.
     accept_event-answered naming bytes history (accept_answer naming (book_after history) bytes)

@@ -16,9 +16,9 @@ use Rattle.history_laws.proofs.ClosedLemmas.{closed_stays}
 use Rattle.history_laws.proofs.NetLemmas.{charged_once}
 use Rattle.history_laws.proofs.ReadLemmas.{conserved}
 use Rattle.book_core.proofs.WorkLemmas.{after_all-append}
-use Rattle.book_import.proofs.ReplyLemmas.{runs_answered}
 use Rattle.book_reports.specs.BookTexts.{open_statement, dispute_text}
 use Rattle.book_reports.specs.Statements.{statement_text}
+use Rattle.office.proofs.RunLemmas.{runs_answered}
 use Rattle.run_laws.specs.Laws.{RunsMakeHistory, RunsFollowHistory, ChargesOnce, RunsChargeOnce}
 use Rattle.run_laws.specs.Laws.{RunsConserve, RunOrderIsFree, ClosedStatementsStay}
 use Rattle.run_laws.specs.Laws.{OpenStatementIsFirst}
@@ -34,7 +34,7 @@ left_after history run = sym (after_all-append run.events history new_book)
 next_answered : (naming : Naming) (history : List Event) (run : Run)
     → IsRunAfter naming history run → IsAnswered naming (history_with history run)
 next_answered naming history run after =
-    runs_answered naming run.commands run.replies history after.was run.events after.is after.runs
+    runs_answered naming run.requests run.answers history after.was run.events after.is after.runs
     after.answered
 
 -- the law of it

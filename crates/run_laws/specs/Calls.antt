@@ -11,17 +11,16 @@ use Rattle.book_model.specs.Words.{adjustments_outcome, disputes_outcome, period
 use Rattle.book_core.specs.Calls.{Calls}
 use Rattle.book_core.specs.Ledgers.{Seen}
 use Rattle.book_core.specs.Work.{Work, NoEvent, Then, IsWork}
-use Rattle.book_import.specs.declared.command.Command.{Command}
-use Rattle.book_import.specs.declared.command.Reply.{Reply}
-use Rattle.book_import.specs.Commands.{Runs}
 use Rattle.office.specs.declared.request.Asked.{Asked}
+use Rattle.office.specs.declared.request.Answer.{Answer}
 use Rattle.office.specs.Requests.{Dump, Told, Asks}
+use Rattle.office.specs.Runs.{Runs}
 
--- What was asked of a ledger, and what it answered: commands by `run`; a request to the office, with
--- the dump that it gave; a record; or a list of a period, of the disputes or of the closes.
+-- What was asked of a ledger, and what it answered: a request to the office, with the dump that it
+-- gave, or many by `run`; a record; or a list of a period, of the disputes or of the closes.
 pub data Call : Type 0 where
-  RunCommands : List Command → List Reply → Call
   Request : Asked → Dump → Result Told LedgerFault → Call
+  RunRequests : List Asked → List (Result Answer LedgerFault) → Call
   AcceptRecord : List ℕ → Result Accepted LedgerFault → Call
   ReadCharges : ℕ → Result (Vec ChargeRow Global) LedgerFault → Call
   ReadAdjustments : ℕ → Result (Vec Line Global) LedgerFault → Call
@@ -30,8 +29,8 @@ pub data Call : Type 0 where
 
 -- the work that the contract of the call says
 abbrev pub work_of : Naming → Call → Work
-work_of naming (RunCommands commands replies) = Runs naming commands replies
 work_of naming (Request asked dump told) = Asks naming asked dump told
+work_of naming (RunRequests requests answers) = Runs naming requests answers
 work_of naming (AcceptRecord bytes answer) =
     Calls (λ answer. answer) (accept_outcome naming bytes) answer
 work_of naming (ReadCharges period answer) =

@@ -1,4 +1,4 @@
--- The laws of runs: what any list of commands leaves behind.
+-- The laws of runs: what any list of requests leaves behind.
 use Rattle.std.specs.Prelude.{◌≡◌, ◌&&◌, ℕ, Bool, List, [], ◌∷◌, None, Some, pos}
 use Rattle.book_model.specs.Words.{Terms, has, Naming, is_undisputed, Book, new_book, flat_book}
 use Rattle.book_model.specs.Words.{all_periods, Event, TariffAccepted, book_after, book_of}
@@ -48,7 +48,7 @@ RunsConserve =
     (naming : Naming) (history : List Event) (run : Run) → IsRunAfter naming history run
     → IsBalanced naming (book_left history run)
 
--- It makes no difference how records are cut into dumps, commands and runs, in which order they
+-- It makes no difference how records are cut into dumps, requests and runs, in which order they
 -- come between two rulings, and how often: histories with the same rulings in the same order, and
 -- the same sets of records between neighbouring rulings, leave books that tell alike.
 abbrev pub RunOrderIsFree : Type 0
@@ -59,7 +59,7 @@ RunOrderIsFree =
     → stretches (history_with before_one one) ≡ stretches (history_with before_other other)
     → TellAlike (book_left before_one one) (book_left before_other other)
 
--- A closed statement never changes: whatever commands are run after a period is closed.
+-- A closed statement never changes: whatever requests are run after a period is closed.
 abbrev pub ClosedStatementsStay : Type 0
 ClosedStatementsStay =
     (naming : Naming) (history : List Event) (run : Run) (number : ℕ)

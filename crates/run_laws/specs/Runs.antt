@@ -1,19 +1,20 @@
--- Runs: lists of commands, on books that calls made.
-use Rattle.std.specs.Prelude.{Bool, List, ◌++◌}
+-- Runs: lists of requests, on books that calls made.
+use Rattle.std.specs.Prelude.{Bool, List, ◌++◌, Result}
+use Rattle.book_model.specs.declared.fault.LedgerFault.{LedgerFault}
 use Rattle.book_model.specs.Words.{Naming, Book, Event, after_all, book_after, IsAnswered}
-use Rattle.book_import.specs.declared.command.Command.{Command}
-use Rattle.book_import.specs.declared.command.Reply.{Reply}
-use Rattle.book_import.specs.Commands.{Runs}
+use Rattle.office.specs.declared.request.Asked.{Asked}
+use Rattle.office.specs.declared.request.Answer.{Answer}
+use Rattle.office.specs.Runs.{Runs}
 
--- commands, what was replied to them, and the events that they made, the newest first
+-- requests, what was answered to them, and the events that they made, the newest first
 pub record Run : Type 0 where
-  pub commands : List Command
-  pub replies : List Reply
+  pub requests : List Asked
+  pub answers : List (Result Answer LedgerFault)
   pub events : List Event
 
 -- the run was on these books, which were to be reopened before it or not, and are after it or not
 abbrev pub IsRunOn : Naming → Book → Bool → Run → Bool → Type 0
-IsRunOn naming before was run is = Runs naming run.commands run.replies was before run.events is
+IsRunOn naming before was run is = Runs naming run.requests run.answers was before run.events is
 
 -- The run came after a history that calls made: it was on the books of that history.
 pub record IsRunAfter (naming : Naming) (history : List Event) (run : Run) : Type 0 where

@@ -32,13 +32,13 @@ pub fn runs_conserve()
     ensures { RunsConserve }
 {}
 
-/// However records are cut into dumps, commands and runs, repeated or reordered between two
+/// However records are cut into dumps, requests and runs, repeated or reordered between two
 /// rulings: the books are the same, and so are their statements and their list of disputes.
 pub fn run_order_is_free()
     ensures { RunOrderIsFree }
 {}
 
-/// A closed statement never changes, whatever commands are run after the close.
+/// A closed statement never changes, whatever requests are run after the close.
 pub fn closed_statements_stay()
     ensures { ClosedStatementsStay }
 {}

@@ -1,4 +1,4 @@
-//! Laws of runs: whatever commands are run on books, each record is charged once, all amounts are
+//! Laws of runs: whatever requests are run on books, each record is charged once, all amounts are
 //! conserved, cuts and order make no difference, and a closed statement never changes; and what
 //! calls of any kind, one after another, leave of a ledger and are told of its lists.
 #![tactic(auto)]

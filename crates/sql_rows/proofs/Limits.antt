@@ -1,5 +1,5 @@
 -- What a query of one table with a LIMIT answers, whichever table it is.
-use Rattle.std.proofs.Common.{◌≡◌, ℕ, pos, List, [], ◌∷◌, map, take, false, ap, ◌∙◌, subst}
+use Rattle.std.proofs.Common.{◌≡◌, ℕ, pos, List, [], map, take, false, ap, ◌∙◌}
 use Rattle.std.specs.Prelude.{filter}
 use Rattle.std.specs.Ordering.{is_gt}
 use Rattle.std.specs.declared.cmp.Ordering.{Ordering}
@@ -7,16 +7,14 @@ use Rattle.std.specs.List.Sorted.{IsPermutation}
 use Rattle.sqlite.specs.declared.types.Value.TheVariants.{Null, Int}
 use Rattle.sqlite.specs.Order.{Row}
 use Rattle.sqlite.specs.Term.{Term, lit}
-use Rattle.sqlite.specs.Query.{Output, IsAnswer, output, output_cmp}
+use Rattle.sqlite.specs.Query.{Output, IsAnswer}
 use Rattle.sqlite.specs.Program.{overlay}
 use Rattle.sqlite.specs.Effect.{Database, Answers}
 use Rattle.sqlite.specs.Tree.{IsAscending}
 use Rattle.sqlite_value.specs.declared.keys.Key.{Key}
-use Rattle.sqlite_exec.proofs.PartitionLemmas.{ascending_from_sorted}
-use Rattle.sqlite_sql.proofs.QueryLemmas.{output_cmp_total}
-use Rattle.sqlite_trees.proofs.ListLemmas.{map-map, pull_back, ascending_from_map}
-use Rattle.sql_rows.proofs.Queries.{all_matches, drop_none}
 use Rattle.sql_rows.specs.Queries.{over, passes, shows, in_order}
+use Rattle.sql_rows.proofs.Ordered.{all_in_order}
+use Rattle.sql_rows.proofs.Queries.{drop_none}
 
 -- the first of the rows that pass, in an order that ORDER BY allows, each as it is shown
 pub record StartsInOrder (found : List Row) (show : Row → Row) (cmp : Row → Row → Ordering)
@@ -36,21 +34,13 @@ module _ (db : Database) (t : ℕ) (terms project : List Term) (params : Row)
       (in_order order params) most rows
   limited_by rows h =
       let limit = lit (Int (pos most)) in
-      let q = over t terms project order limit in
-      let found = filter (passes terms params) (db.trees t) in
-      let shape = λ (r : Row). output q (params ∷ r ∷ []) in
-      let a : IsAnswer q (overlay db.trees []) params rows = h.answer Null in
-      let staged = a.grouped ∙ all_matches db t terms project params order limit in
-      let kept : a.kept ≡ map shape found = a.distinct ∙ ap (map (output q)) staged
-      ∙ map-map (output q) (λ r. params ∷ r ∷ []) found in
-      let back = pull_back shape a.kept a.ordered a.same found kept in
-      let up = ascending_from_sorted (output_cmp q) (output_cmp_total q) a.ordered a.sorted in
+      let a : IsAnswer (over t terms project order limit) (overlay db.trees []) params rows =
+      h.answer Null in
+      let all = all_in_order db t terms project params order limit rows a in
       record {
-        ordered = back.0;
-        same = back.1;
-        rising = ascending_from_map (λ (x y : Output). is_gt (output_cmp q x y)
-            ≡ false) shape back.0
-            (subst (IsAscending (λ (x y : Output). is_gt (output_cmp q x y) ≡ false)) back.2 up);
-        shown = a.shown ∙ ap (take most) (drop_none (map (λ (o : Output). o.1) a.ordered)
-            ∙ ap (map (λ (o : Output). o.1)) back.2 ∙ map-map (λ (o : Output). o.1) shape back.0);
+        ordered = all.ordered;
+        same = all.same;
+        rising = all.rising;
+        shown = a.shown
+            ∙ ap (take most) (drop_none (map (λ (o : Output). o.1) a.ordered) ∙ all.shown);
       }

@@ -28,17 +28,16 @@ pub record IsInOrder (found : List Row) (show : Row → Row) (cmp : Row → Row 
 
 module _ (db : Database) (t : ℕ) (terms project : List Term) (params : Row)
     (order : List (Term × Key)) where
-  -- a SELECT with ORDER BY answers the rows that pass in an order that it allows
-  pub ordered_by : (rows : List Row)
-      → Answers db (record { lets = []; body = over t terms project order no_limit }) params rows
+  -- before its LIMIT an answer has the rows that pass, in an order that ORDER BY allows
+  pub all_in_order : (limit : Term) (rows : List Row)
+      (a : IsAnswer (over t terms project order limit) (overlay db.trees []) params rows)
       → IsInOrder (filter (passes terms params) (db.trees t)) (shows project params)
-      (in_order order params) rows
-  ordered_by rows h =
-      let q = over t terms project order no_limit in
+      (in_order order params) (map (λ (o : Output). o.1) a.ordered)
+  all_in_order limit rows a =
+      let q = over t terms project order limit in
       let found = filter (passes terms params) (db.trees t) in
       let shape = λ (r : Row). output q (params ∷ r ∷ []) in
-      let a : IsAnswer q (overlay db.trees []) params rows = h.answer Null in
-      let staged = a.grouped ∙ all_matches db t terms project params order no_limit in
+      let staged = a.grouped ∙ all_matches db t terms project params order limit in
       let kept : a.kept ≡ map shape found = a.distinct ∙ ap (map (output q)) staged
       ∙ map-map (output q) (λ r. params ∷ r ∷ []) found in
       let back = pull_back shape a.kept a.ordered a.same found kept in
@@ -49,6 +48,22 @@ module _ (db : Database) (t : ℕ) (terms project : List Term) (params : Row)
         rising = ascending_from_map (λ (x y : Output). is_gt (output_cmp q x y)
             ≡ false) shape back.0
             (subst (IsAscending (λ (x y : Output). is_gt (output_cmp q x y) ≡ false)) back.2 up);
-        shown = a.shown ∙ drop_none (map (λ (o : Output). o.1) a.ordered)
-            ∙ ap (map (λ (o : Output). o.1)) back.2 ∙ map-map (λ (o : Output). o.1) shape back.0;
+        shown = ap (map (λ (o : Output). o.1)) back.2
+            ∙ map-map (λ (o : Output). o.1) shape back.0;
+      }
+
+  -- a SELECT with ORDER BY answers the rows that pass in an order that it allows
+  pub ordered_by : (rows : List Row)
+      → Answers db (record { lets = []; body = over t terms project order no_limit }) params rows
+      → IsInOrder (filter (passes terms params) (db.trees t)) (shows project params)
+      (in_order order params) rows
+  ordered_by rows h =
+      let a : IsAnswer (over t terms project order no_limit) (overlay db.trees []) params rows =
+      h.answer Null in
+      let all = all_in_order no_limit rows a in
+      record {
+        ordered = all.ordered;
+        same = all.same;
+        rising = all.rising;
+        shown = a.shown ∙ drop_none (map (λ (o : Output). o.1) a.ordered) ∙ all.shown;
       }

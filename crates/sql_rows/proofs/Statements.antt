@@ -43,6 +43,10 @@ module _ (sql : List ℕ) (params : Row) (old new : State) (schema : Schema) (ha
     ≡ schema) (plain : IsPlain (understood schema sql)) (at : ℕ) (table : Table)
     (simple : IsSimple schema at table) (count : ℕ)
     (ran : Executes sql params old new (Ok count)) where
+  -- the statement's text
+  abbrev text : List ℕ
+  text = statement_of sql (understood schema sql)
+
   -- this statement on the table
   task : Task
   task = task_on old schema table params
@@ -51,9 +55,9 @@ module _ (sql : List ℕ) (params : Row) (old new : State) (schema : Schema) (ha
   changed_by : (edit : Edit) (next : Trees) → edit.table.tree ≡ table.tree
       → Writes schema Enforced old.now.trees edit (Ok next) → new.now
       ≡ record { schema = schema; trees = next }
-      → (text : List ℕ) (command : Command) → state.Writes old new None command text params count
+      → (command : Command) → state.Writes old new None command text params count
       → Changes old new schema edit
-  changed_by edit next same wrote now text command w =
+  changed_by edit next same wrote now command w =
       let applied = one_step schema Enforced old.now.trees next edit
       (subst (λ t. works schema Enforced 0 t (taken_by old.now.trees edit) edit.news ≡ [])
       (sym same) (simple.childless _ _)) wrote in
@@ -65,21 +69,31 @@ module _ (sql : List ℕ) (params : Row) (old new : State) (schema : Schema) (ha
         marks = w.marks;
       }
 
-  -- what the statement writes to the rows of the table
-  on_rows : (command : Command) (text : List ℕ) (tally : Tally)
+  -- what the statement does, under the schema
+  done_under : (command : Command) (w : state.Writes old new None command text params count)
+      → Does old.step_limit (mode_of old) params (record old.now { schema = schema }) text None
+      command (Ok (w.tally, new.now))
+  done_under command w =
+      subst (λ s. Does old.step_limit (mode_of old) params (record old.now { schema = s }) text
+      None command (Ok (w.tally, new.now))) has w.changed
+
+  -- what it writes to the rows of the table, and that an edit which writes so is the change
+  on_rows : (command : Command) (w : state.Writes old new None command text params count)
       → OnTable old.step_limit (mode_of old) params (record old.now { schema = schema }) at
-      (λ t. OnRows t (mode_of old) None command old.now.trees) (Ok (tally, new.now))
-      → (w : Written) × WritesRows task old.now.trees command (Ok w)
-      × (new.now ≡ record { schema = schema; trees = w.trees })
+      (λ t. OnRows t (mode_of old) None command old.now.trees) (Ok (w.tally, new.now))
+      → (wrote : Written) × WritesRows task old.now.trees command (Ok wrote)
+      × ((edit : Edit) → edit.table.tree ≡ table.tree
+      → Writes schema Enforced old.now.trees edit (Ok wrote.trees) → Changes old new schema edit)
   unfolding task
-  on_rows command text tally whole =
-      let pair : Tally × Database = (tally, new.now) in
+  on_rows command w whole =
+      let pair : Tally × Database = (w.tally, new.now) in
       let on = on_table old.step_limit (mode_of old) params (record old.now { schema = schema }) at
       (λ t. OnRows t (mode_of old) None command old.now.trees)
       (Ok pair) table simple.listed whole in
       let a = through (WritesRows task old.now.trees command) (Concludes task (mode_of old) None)
       pair on in
-      (a.0, a.1, concluded task (mode_of old) a.0 tally new.now a.2)
+      let now = concluded task (mode_of old) a.0 w.tally new.now a.2 in
+      (a.0, a.1, λ edit same wrote. changed_by edit a.0.trees same wrote now command w)
 
   -- INSERT of given values
   pub inserted : (terms : List Term) (width : ℕ) → command_of (understood schema sql)
@@ -92,19 +106,14 @@ module _ (sql : List ℕ) (params : Row) (old new : State) (schema : Schema) (ha
       let from = Values terms width in
       let command = Insert at from in
       let w = runs_as sql params old new schema has command is plain count ran in
-      let text = statement_of sql (understood schema sql) in
-      let whole =
-      subst (λ s. Does old.step_limit (mode_of old) params (record old.now { schema = s }) text
-      None command (Ok (w.tally, new.now))) has w.changed in
-      let done = on_rows command text w.tally whole in
+      let done = on_rows command w (done_under command w) in
       let it = inserts task from old.now.trees done.0 simple.uncounted done.1 in
       let rows : it.0 ≡ value_rows params width (length terms / width) terms = it.1.1
       ∙ ap (λ p. value_rows p width (length terms / width) terms)
       (no_stamps table params simple.unstamped) in
-      changed_by _ done.0.trees refl
+      done.2 _ refl
       (subst (λ r. Writes schema Enforced old.now.trees
-      (edit_of old.now.trees table [] Chosen 0 r) (Ok done.0.trees)) rows it.2) done.2 text
-      command w
+      (edit_of old.now.trees table [] Chosen 0 r) (Ok done.0.trees)) rows it.2)
 
   -- DELETE of the rows that a query answers
   pub deleted : (q : Program) → command_of (understood schema sql) ≡ Delete at q
@@ -114,13 +123,9 @@ module _ (sql : List ℕ) (params : Row) (old new : State) (schema : Schema) (ha
   deleted q is =
       let command = Delete at q in
       let w = runs_as sql params old new schema has command is plain count ran in
-      let text = statement_of sql (understood schema sql) in
-      let whole =
-      subst (λ s. Does old.step_limit (mode_of old) params (record old.now { schema = s }) text
-      None command (Ok (w.tally, new.now))) has w.changed in
-      let done = on_rows command text w.tally whole in
+      let done = on_rows command w (done_under command w) in
       let it = deletes task q old.now.trees done.0 done.1 in
-      (it.0, it.1, changed_by _ done.0.trees refl it.2 done.2 text command w)
+      (it.0, it.1, done.2 _ refl it.2)
 
   -- UPDATE of the rows that a query answers
   pub updated : (q : Program) → command_of (understood schema sql) ≡ Update at q
@@ -130,10 +135,6 @@ module _ (sql : List ℕ) (params : Row) (old new : State) (schema : Schema) (ha
   updated q is =
       let command = Update at q in
       let w = runs_as sql params old new schema has command is plain count ran in
-      let text = statement_of sql (understood schema sql) in
-      let whole =
-      subst (λ s. Does old.step_limit (mode_of old) params (record old.now { schema = s }) text
-      None command (Ok (w.tally, new.now))) has w.changed in
-      let done = on_rows command text w.tally whole in
+      let done = on_rows command w (done_under command w) in
       let it = updates task q old.now.trees done.0 done.1 in
-      (it.0, it.1, changed_by _ done.0.trees refl it.2 done.2 text command w)
+      (it.0, it.1, done.2 _ refl it.2)

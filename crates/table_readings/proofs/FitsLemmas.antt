@@ -1,7 +1,7 @@
 -- 64 bits with a sign hold the numbers of the tables.
 use Rattle.std.proofs.Common.{◌≡◌, ℕ, suc, ◌+◌, List, [], ◌∷◌, map, length, refl, sym, ap}
 use Rattle.std.proofs.Common.{◌∙◌, subst, true, Bool, ◌||◌, Option, Some, None, arith}
-use Rattle.std.specs.Prelude.{◌<◌, ◌≤◌, ◌^◌, slice_get, sum_by, All, ℤ}
+use Rattle.std.specs.Prelude.{◌<◌, ◌≤◌, slice_get, sum_by, All, ℤ}
 use Rattle.std.specs.FinMap.{get, find, get-from_entries, int_cmp-IsAntisymmetric}
 use Rattle.std.specs.FinMap as fin
 use Rattle.std.specs.FinMap.{nat_cmp-IsAntisymmetric}
@@ -13,7 +13,6 @@ use Rattle.std.proofs.Math.Bool.{or-true}
 use Rattle.std.proofs.lemmas.Cmp.{nat_list_cmp_total}
 use Rattle.std.proofs.lemmas.List.{length-append}
 use Rattle.std.proofs.lemmas.List.Elements.{All-head, All-tail, All-filter}
-use Rattle.std.proofs.lemmas.List.Sums.{sum_by-le}
 use Rattle.std.proofs.lemmas.Map.Lookups.{exact_bytes}
 use Rattle.std.proofs.lemmas.Map.Views.{tells_apart}
 use Rattle.std.proofs.lemmas.Option.{slice_get_within}
@@ -26,20 +25,20 @@ use Rattle.book_model.specs.declared.row.ChargeRow.{ChargeRow}
 use Rattle.book_model.specs.declared.row.RowKey.{RowKey}
 use Rattle.book_model.proofs.RecordSets.{is, is_itself}
 use Rattle.book_model.proofs.RowLemmas.{by_key_total, by_key_exact, same_key_ties}
-use Rattle.book_model.proofs.SumsAlike.{length-sum_by}
 use Rattle.kept_tables.specs.Numbered.{numbered}
 use Rattle.kept_tables.specs.Tables.{RecordRow}
 use Rattle.kept_tables.specs.TablesOf.{tariff_entries, close_entries, day_entries, line_entries}
 use Rattle.kept_tables.specs.TablesOf.{tables_of}
-use Rattle.kept_tables.proofs.DayChanges.{days-found, found_at}
+use Rattle.kept_tables.proofs.DayChanges.{row_of, days-found, found_at}
 use Rattle.kept_tables.proofs.HeldPeriods.{one_of, all_held}
 use Rattle.kept_tables.proofs.NumberedLemmas.{by_period_total}
 use Rattle.table_readings.specs.AnswerLaws.{NumbersFit}
 use Rattle.table_readings.specs.BookIn.{record_of}
-use Rattle.table_readings.specs.Fits.{IsPeriod, RecordFits, DayFits, TablesFit, signed_end}
+use Rattle.table_readings.specs.Fits.{IsPeriod, RecordFits, DayFits, TablesFit}
 use Rattle.table_readings.specs.Readable.{IsTexted, IsReadable}
 use Rattle.table_readings.proofs.Finding.{find_one, find_numbered, one_mapped, first_passes}
-use Rattle.table_readings.proofs.PriceSums.{part_within, costs, all_priced, few_prices, some_within}
+use Rattle.table_readings.proofs.PriceSums.{part_within, FitSigned, costs, all_priced, some_within}
+use Rattle.table_readings.proofs.PriceSums.{within_fits}
 use Rattle.table_readings.proofs.RecordReading.{entry, entry_at, all_entries}
 
 -- tariffs have days
@@ -74,25 +73,6 @@ record_fits row usage priced =
       excp = omega arith;
       amount = omega arith;
     }
-
--- the sums of some prices fit
-record HereFits (here : List Priced) : Type 0 where
-  count : length here < signed_end
-  cpu : sum_by (λ one. one.cpu) here < signed_end
-  blocks : sum_by (λ one. one.excp) here < signed_end
-  amount : sum_by (λ one. one.amount) here < signed_end
-
--- the row of a place with some prices
-abbrev sums_at : RowKey → List Priced → ChargeRow
-sums_at key here = record {
-  day = key.day;
-  centre = key.centre;
-  shift = key.shift;
-  count = length here;
-  cpu = sum_by (λ one. one.cpu) here;
-  blocks = sum_by (λ one. one.excp) here;
-  amount = sum_by (λ one. one.amount) here;
-}
 
 module _ (naming : Naming) (book : Book) (whole : IsReadable naming book) where
   -- the rows of records
@@ -155,30 +135,10 @@ module _ (naming : Naming) (book : Book) (whole : IsReadable naming book) where
 
   -- so its sums fit
   here_fits : (period : Period) (key : RowKey) → AreAmong period.counted book.held
-      → HereFits (charged_at (costs naming book whole period.counted) key)
+      → FitSigned (charged_at (costs naming book whole period.counted) key)
   here_fits period key held =
-      let here : List Priced = charged_at (costs naming book whole period.counted) key in
-      let all : List Priced = costs naming book whole book.held in
-      let each = all_priced naming book whole book.held (λ bytes there. there) in
-      let few = few_prices naming book whole in
-      let each_cpu : All (λ one. one.cpu ≤ 2 ^ 33) all = λ k d within. (each k d within).cpu in
-      let each_excp : All (λ one. one.excp ≤ 2 ^ 32) all =
-      λ k d within. let below = (each k d within).excp in omega arith in
-      let all_cpu = sum_by-le (λ one. one.cpu) (2 ^ 33) all each_cpu in
-      let all_blocks = sum_by-le (λ one. one.excp) (2 ^ 32) all each_excp in
-      let cost = whole.limits.cost in
-      let ones = length-sum_by here in
-      let all_ones = length-sum_by all in
-      let count = here_within (λ _. 1) period key held in
-      let cpu = here_within (λ one. one.cpu) period key held in
-      let blocks = here_within (λ one. one.excp) period key held in
-      let amount = here_within (λ one. one.amount) period key held in
-      record {
-        count = omega arith;
-        cpu = omega arith;
-        blocks = omega arith;
-        amount = omega arith;
-      }
+      within_fits naming book whole (charged_at (costs naming book whole period.counted) key)
+      (λ f. here_within f period key held)
 
   -- and something that is charged at a place tells of the place what each price tells
   here_priced : (period : Period) (key : RowKey) (one : Priced) (rest : List Priced)
@@ -209,8 +169,8 @@ module _ (naming : Naming) (book : Book) (whole : IsReadable naming book) where
           → DayFits (number, key) row
       by_here [] none is = cc
       by_here (one ∷ rest) some is =
-          let fits = subst HereFits some (here_fits period key held) in
-          let own : sums_at key (one ∷ rest) ≡ row = cc in
+          let fits = subst FitSigned some (here_fits period key held) in
+          let own : row_of key (one ∷ rest) ≡ row = cc in
           let priced = here_priced period key one rest held some in
           subst (DayFits (number, key)) own (record {
             period = named;

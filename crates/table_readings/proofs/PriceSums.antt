@@ -1,14 +1,14 @@
 -- What some of the records that are held cost together.
 use Rattle.std.proofs.Common.{◌≡◌, ℕ, List, [], ◌∷◌, length, refl, sym, ap, ◌∙◌, subst, true}
 use Rattle.std.proofs.Common.{false, Bool, cond, ◌||◌, ◌&&◌, Option, Some, None, arith}
-use Rattle.std.specs.Prelude.{◌≤◌, filter, sum_by, All}
+use Rattle.std.specs.Prelude.{◌<◌, ◌≤◌, ◌^◌, filter, sum_by, All}
 use Rattle.std.specs.FinMap as fin
 use Rattle.std.specs.List.{filter_map, cons_option, list_any}
 use Rattle.std.specs.Option.{option_map_or}
 use Rattle.std.proofs.Math.Bool.{or-true}
 use Rattle.std.proofs.lemmas.Cmp.{nat_list_cmp_total}
 use Rattle.std.proofs.lemmas.List.Elements.{All-nil, All-cons}
-use Rattle.std.proofs.lemmas.List.Sums.{sum_by-le-sum_by}
+use Rattle.std.proofs.lemmas.List.Sums.{sum_by-le, sum_by-le-sum_by}
 use Rattle.std.proofs.lemmas.Map.Lookups.{exact_bytes}
 use Rattle.book_model.specs.Words.{IsPriced, Book, most_held, Records, Naming, price_in, prices}
 use Rattle.book_model.specs.Words.{members, has, those, AreAmong}
@@ -16,6 +16,7 @@ use Rattle.tariff_rules.specs.declared.priced.Priced.{Priced}
 use Rattle.book_model.proofs.RecordSets.{is, is_itself, same_records, has_those}
 use Rattle.book_model.proofs.SetLemmas.{members-those}
 use Rattle.book_model.proofs.SumsAlike.{sum_by-filter, sum_by-filter_map, length-sum_by}
+use Rattle.table_readings.specs.Fits.{signed_end}
 use Rattle.table_readings.specs.Readable.{IsReadable}
 
 -- a sum over those that pass a test is within the whole
@@ -43,6 +44,13 @@ given_few {X} {Y} h xs =
     one : (given : Option Y) → option_map_or (λ (y : Y). 1) given 0 ≤ 1
     one None = omega arith
     one (Some y) = omega arith
+
+-- the number of some prices and their sums fit into 64 bits with a sign
+pub record FitSigned (some : List Priced) : Type 0 where
+  pub count : length some < signed_end
+  pub cpu : sum_by (λ one. one.cpu) some < signed_end
+  pub blocks : sum_by (λ one. one.excp) some < signed_end
+  pub amount : sum_by (λ one. one.amount) some < signed_end
 
 module _ (naming : Naming) (book : Book) (whole : IsReadable naming book) where
   -- what some of them cost
@@ -73,7 +81,7 @@ module _ (naming : Naming) (book : Book) (whole : IsReadable naming book) where
           held other (ap (λ b. is other k || b) behind ∙ or-true (is other k))))
 
   -- there are no more prices than records may be held
-  pub few_prices : length (costs book.held) ≤ most_held
+  few_prices : length (costs book.held) ≤ most_held
   few_prices =
       let given = given_few (price_in book.rulings) (members book.held) in
       let few = whole.limits.held in
@@ -100,3 +108,29 @@ module _ (naming : Naming) (book : Book) (whole : IsReadable naming book) where
       both : (a b : Bool) → (a ≡ true → b ≡ true) → (a && b) ≡ a
       both true b there = there refl
       both false b there = refl
+
+  -- so prices fit whose sums are no more than those of all that is held
+  pub within_fits : (some : List Priced)
+      → ((f : Priced → ℕ) → sum_by f some ≤ sum_by f (costs book.held)) → FitSigned some
+  within_fits some within =
+      let all : List Priced = costs book.held in
+      let each = all_priced book.held (λ bytes there. there) in
+      let few = few_prices in
+      let each_cpu : All (λ one. one.cpu ≤ 2 ^ 33) all = λ k d inside. (each k d inside).cpu in
+      let each_excp : All (λ one. one.excp ≤ 2 ^ 32) all =
+      λ k d inside. let below = (each k d inside).excp in omega arith in
+      let all_cpu = sum_by-le (λ one. one.cpu) (2 ^ 33) all each_cpu in
+      let all_blocks = sum_by-le (λ one. one.excp) (2 ^ 32) all each_excp in
+      let cost = whole.limits.cost in
+      let ones = length-sum_by some in
+      let all_ones = length-sum_by all in
+      let count = within (λ _. 1) in
+      let cpu = within (λ one. one.cpu) in
+      let blocks = within (λ one. one.excp) in
+      let amount = within (λ one. one.amount) in
+      record {
+        count = omega arith;
+        cpu = omega arith;
+        blocks = omega arith;
+        amount = omega arith;
+      }

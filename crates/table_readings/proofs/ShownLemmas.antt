@@ -9,7 +9,7 @@ use Rattle.std.specs.Ordering.{match_ordering}
 use Rattle.std.specs.declared.cmp.Ordering.{Ordering}
 use Rattle.std.specs.declared.cmp.Ordering.TheVariants.{Less, Equal, Greater}
 use Rattle.std.proofs.lemmas.List.Elements.{All-from_recursion, recursion_from_All}
-use Rattle.std.proofs.lemmas.List.Sums.{sum_by-cons, sum_by-le, sum_by-append}
+use Rattle.std.proofs.lemmas.List.Sums.{sum_by-cons, sum_by-append}
 use Rattle.book_model.specs.Words.{IsDay, Book, most_cost, AreLines, lines_for, lines_of, Records}
 use Rattle.book_model.specs.Words.{Naming, name_of, FitSums, AreRows, AreAmong, AreHeld, price_in}
 use Rattle.book_model.specs.Words.{set_of, members, job_of}
@@ -18,7 +18,6 @@ use Rattle.book_model.specs.declared.line.Line.{Line}
 use Rattle.book_model.proofs.GivenLemmas.{map-filter_map}
 use Rattle.book_model.proofs.LineOrder.{by_line_total}
 use Rattle.book_model.proofs.SetLemmas.{members-empty, members-with}
-use Rattle.book_model.proofs.SumsAlike.{length-sum_by}
 use Rattle.kept_tables.proofs.LineReading.{lines_follow}
 use Rattle.std.specs.Option.{option_map}
 use Rattle.table_readings.proofs.ListOrder.{all_joined, all_unmapped}
@@ -31,7 +30,7 @@ use Rattle.kept_tables.proofs.RowReading.{rows_follow}
 use Rattle.table_readings.specs.ListsRead.{is_period}
 use Rattle.table_readings.specs.Readable.{IsReadable}
 use Rattle.table_readings.proofs.ListLemmas.{period_there}
-use Rattle.table_readings.proofs.PriceSums.{costs, all_priced, few_prices, some_within}
+use Rattle.table_readings.proofs.PriceSums.{costs, all_priced, some_within, within_fits}
 
 module _ {K : Type 0} {R : K → K → Ordering} (o : IsTotalOrder R) where
   -- what holds of a list and of one element more holds where that is put in its place
@@ -96,22 +95,13 @@ module _ (naming : Naming) (book : Book) (whole : IsReadable naming book) where
   some_fit : (some : Records) → AreAmong some book.held
       → FitSums (costs naming book whole some) × (length (costs naming book whole some) < 2 ^ 64)
   some_fit some among =
-      let all : List Priced = costs naming book whole book.held in
       let own : List Priced = costs naming book whole some in
-      let each = all_priced naming book whole book.held (λ bytes there. there) in
-      let few = few_prices naming book whole in
-      let each_cpu : All (λ one. one.cpu ≤ 2 ^ 33) all = λ k d within. (each k d within).cpu in
-      let each_excp : All (λ one. one.excp ≤ 2 ^ 32) all =
-      λ k d within. let below = (each k d within).excp in omega arith in
-      let all_cpu = sum_by-le (λ one. one.cpu) (2 ^ 33) all each_cpu in
-      let all_blocks = sum_by-le (λ one. one.excp) (2 ^ 32) all each_excp in
-      let cost = whole.limits.cost in
-      let ones = length-sum_by own in
-      let all_ones = length-sum_by all in
-      let count = some_within naming book whole (λ _. 1) some among in
-      let cpu = some_within naming book whole (λ one. one.cpu) some among in
-      let blocks = some_within naming book whole (λ one. one.excp) some among in
-      let amount = some_within naming book whole (λ one. one.amount) some among in
+      let fits = within_fits naming book whole own
+      (λ f. some_within naming book whole f some among) in
+      let count = fits.count in
+      let cpu = fits.cpu in
+      let blocks = fits.blocks in
+      let amount = fits.amount in
       (record { cpu = omega arith; blocks = omega arith; amount = omega arith }, omega arith)
 
   -- so the rows of a period can be shown

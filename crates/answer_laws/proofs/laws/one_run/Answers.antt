@@ -1,4 +1,4 @@
-use Rattle.answer_laws.proofs.CommandLemmas.{one_run}
+use Rattle.answer_laws.proofs.RunLemmas.{one_run}
 use Rattle.answer_laws.proofs.laws.one_run.Goals as goal
 
 pub returns : goal.returns

@@ -1,11 +1,15 @@
-use Rattle.std.proofs.Common.{length}
-use Rattle.book_import.proofs.ComeLemmas.{HasCome}
+use Rattle.std.proofs.Common.{◌+◌, ◌≤◌, length}
+use Rattle.book_import.specs.Receipts.{counted}
+use Rattle.book_import.proofs.GoingLemmas.{Goes}
+use Rattle.book_import.proofs.ComeLemmas.{LeadsOver}
 use Rattle.book_import.proofs.pieces.import_piece.Given as goal
 
+-- no more records were counted than bytes were seen
 abbrev pub invariant-loop-fault : goal.invariant-loop-fault
 invariant-loop-fault g l = record {
-  come : HasCome (g.L.Ledger.seen l.fn.ledger) (g.L.Ledger.seen l.ledger) l.fn.joiner l.piece l.rest
-      l.joiner l.fn.receipt l.receipt;
+  goes : Goes l.fn.joiner l.piece l.rest l.joiner
+      (LeadsOver (g.L.Ledger.seen l.fn.ledger) (g.L.Ledger.seen l.ledger) l.fn.receipt l.receipt);
+  few : counted l.receipt + length l.rest ≤ counted l.fn.receipt + length l.piece;
 }
 
 abbrev pub decreases-loop-fault : goal.decreases-loop-fault

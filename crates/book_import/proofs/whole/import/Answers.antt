@@ -60,9 +60,8 @@ returns-in_default-read_piece-clause-booked g c =
           (g.R.Read.remaining (reader_of c.read_piece.new.source))) (append-nil joins.0)
           (Consumes-trans _ _ _ joins.0 [] joins.1 c.in_default-read_piece.ensures.taken),
       joins_ended (g.L.Ledger.seen c.args.ledger.now) (g.L.Ledger.seen c.loop-turn.ledger)
-          c.args.layout joins.0 c.loop-turn.joiner c.loop-turn.receipt c.stopped_by.result
-          c.reading_end.result (cut_of c.read_piece.new.source) joins.2 c.reading_end.ensures
-          c.stopped_by.ensures,
+          c.loop-turn.receipt joins.2 c.stopped_by.result c.reading_end.result
+          (cut_of c.read_piece.new.source) c.reading_end.ensures c.stopped_by.ensures,
     )
 
 pub returns-clause-booked : goal.returns-clause-booked
@@ -71,9 +70,8 @@ returns-clause-booked g c =
       joins.0,
       joins.1,
       joins_ended (g.L.Ledger.seen c.args.ledger.now) (g.L.Ledger.seen c.loop-turn.ledger)
-          c.args.layout joins.0 c.loop-turn.joiner c.loop-turn.receipt c.stopped_by-2.result
-          c.reading_end-2.result (cut_of c.loop-turn.source) joins.2 c.reading_end-2.ensures
-          c.stopped_by-2.ensures,
+          c.loop-turn.receipt joins.2 c.stopped_by-2.result c.reading_end-2.result
+          (cut_of c.loop-turn.source) c.reading_end-2.ensures c.stopped_by-2.ensures,
     )
 
 pub returns-in-Some-import_piece-clause-booked : goal.returns-in-Some-import_piece-clause-booked
@@ -85,11 +83,10 @@ returns-in-Some-import_piece-clause-booked g c =
       Consumes-trans _ _ _ (joins.0 ++ part) later.0
           (Consumes-trans _ _ _ joins.0 part joins.1 c.in-Some.ensures.taken) later.1,
       joins_stopped (g.L.Ledger.seen c.args.ledger.now) (g.L.Ledger.seen c.loop-turn.ledger)
-          (g.L.Ledger.seen c.import_piece.new.ledger) c.args.layout joins.0 part
-          c.loop-turn.joiner c.loop-turn.receipt c.import_piece.new.receipt
-          c.stopped_by-in-Some-import_piece.result c.in-Some-import_piece.stop joins.2
-          c.in-Some-import_piece.ensures.handled c.stopped_by-in-Some-import_piece.ensures later.0
-          (cut_of c.read_out.new.source),
+          c.loop-turn.receipt joins.2 (g.L.Ledger.seen c.import_piece.new.ledger) part
+          c.import_piece.new.receipt c.stopped_by-in-Some-import_piece.result
+          c.in-Some-import_piece.stop c.in-Some-import_piece.ensures.handled
+          c.stopped_by-in-Some-import_piece.ensures later.0 (cut_of c.read_out.new.source),
     )
 
 pub loop-turn-preserved : goal.loop-turn-preserved
@@ -111,9 +108,8 @@ loop-turn-preserved g c =
         joins.0 ++ part,
         Consumes-trans _ _ _ joins.0 part joins.1 c.in-Some.ensures.taken,
         joins_more (g.L.Ledger.seen c.args.ledger.now) (g.L.Ledger.seen c.loop-turn.ledger)
-            (g.L.Ledger.seen c.import_piece.new.ledger) c.args.layout joins.0 part
-            c.loop-turn.joiner c.import_piece.new.joiner c.loop-turn.receipt
-            c.import_piece.new.receipt joins.2
-            (c.in_default-import_piece.ensures.taken refl) c.in_default-import_piece.ensures.handled,
+            c.loop-turn.receipt joins.2 (g.L.Ledger.seen c.import_piece.new.ledger)
+            c.import_piece.new.receipt (c.in_default-import_piece.ensures.taken refl)
+            c.in_default-import_piece.ensures.handled,
       );
     }

@@ -3,7 +3,8 @@ use Rattle.std.specs.Io.KnownBytes.{Consumes}
 use Rattle.streams.specs.Sources.{reader_of, reads_of, has_failed, has_ended}
 use Rattle.book_import.specs.Reading.{piece_length}
 use Rattle.book_import.specs.Receipts.{counted}
-use Rattle.book_import.proofs.JoinLemmas.{Joins}
+use Rattle.book_import.proofs.GoingLemmas.{HasPassed}
+use Rattle.book_import.proofs.JoinLemmas.{LeadsFrom}
 use Rattle.book_import.proofs.whole.import.Given as goal
 
 -- as many reads as turns, none of which failed or was the end; their bytes, and what became of them
@@ -16,6 +17,6 @@ invariant-loop-turn g l = record {
   joins : (bytes : List ℕ)
       × Consumes (g.R.Read.remaining (reader_of l.initial.source))
       (g.R.Read.remaining (reader_of l.source)) bytes
-      × Joins (g.L.Ledger.seen l.initial.ledger) (g.L.Ledger.seen l.ledger) l.fn.layout bytes l.joiner
-      l.receipt;
+      × HasPassed l.fn.layout bytes l.joiner
+      (LeadsFrom (g.L.Ledger.seen l.initial.ledger) (g.L.Ledger.seen l.ledger) l.receipt);
 }

@@ -1,20 +1,14 @@
 use Rattle.std.proofs.Common.{◌∙◌, [], ◌∷◌, subst}
-use Rattle.std.proofs.lemmas.Result.{err_from_is_err_and}
 use Rattle.streams.specs.Sinks.{writer_of}
 use Rattle.book_reports.specs.Writing.{Writes}
-use Rattle.book_reports.proofs.WritingLemmas.{memory_not_write, nothing_written, text_written}
+use Rattle.book_reports.proofs.WritingLemmas.{text_written}
 use Rattle.book_reports.proofs.reports.receipt_line.Goals as goal
-
-pub returns-in_err-line-clause-text : goal.returns-in_err-line-clause-text
-returns-in_err-line-clause-text g c =
-    let failed = err_from_is_err_and c.from_residual.result c.from_residual.ensures.1 in
-    rw failed.1 (nothing_written failed.0 _ _ [] (memory_not_write failed.2))
 
 pub returns-clause-text : goal.returns-clause-text
 returns-clause-text g c =
     let held = g.W.Write.contents (writer_of c.args.sink.now) in
     let holds = g.W.Write.contents (writer_of c.write_text.new.sink) in
-    let text = c.as_str.ensures.value ∙ c.in_ok-line.ensures in
+    let text = c.as_str.ensures.value ∙ c.receipt_line_text.ensures in
     subst (λ text. Writes (text ∷ []) held holds c.write_text.result) text
     (text_written _ held holds c.as_str.result.now c.write_text.result
     c.write_text.ensures.whole c.write_text.ensures.fault c.write_text.ensures.prefix)

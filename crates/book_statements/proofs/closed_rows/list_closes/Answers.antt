@@ -1,19 +1,13 @@
-use Rattle.std.proofs.Common.{◌≡◌, map}
 use Rattle.std.specs.FinMap.{entries}
 use Rattle.sqlite.specs.Held.{state}
 use Rattle.book_statements.specs.Columns.{closed_columns}
-use Rattle.book_statements.specs.Queries.{ShowsCloses}
 use Rattle.book_statements.specs.RulingAnswers.{close_of}
-use Rattle.book_statements.proofs.Doing.{reads_by}
-use Rattle.book_statements.proofs.ReadRows.{all_said}
+use Rattle.book_statements.proofs.ReadRows.{list_read}
 use Rattle.book_statements.proofs.RulingReading.{close_read}
 use Rattle.book_statements.proofs.closed_rows.list_closes.Goals as goal
 
 pub returns-clause-looks : goal.returns-clause-looks
 returns-clause-looks g c =
-    reads_by (state g.S.Store c.args.conn.now) (state g.S.Store c.show_closes.new.conn)
-    (λ tables rows. ShowsCloses tables rows.items)
-    (λ tables list. map close_of list.items ≡ entries tables.closes)
-    c.in_ok-rows.rows c.read_all.result c.in_ok-rows.ensures.looks
-    (all_said _ closed_columns close_of close_read (λ tables. entries tables.closes)
-    c.in_ok-rows.rows.items c.read_all.result c.read_all.ensures.read)
+    list_read _ closed_columns close_of close_read (λ tables. entries tables.closes)
+    (state g.S.Store c.args.conn.now) (state g.S.Store c.show_closes.new.conn)
+    c.in_ok-rows.rows c.read_all.result c.in_ok-rows.ensures.looks c.read_all.ensures.read

@@ -11,6 +11,6 @@ pub returns-clause-looks : goal.returns-clause-looks
 returns-clause-looks g c =
     let old = state g.S.Store c.args.conn.now in
     let new = state g.S.Store c.query_all.new.self in
-    shows_by list_closes list_closes_is.1 [] old new ShowsCloses
+    shows_by list_closes list_closes_is.plain [] old new ShowsCloses
     (λ tables rows keeps. closes_listed old new tables keeps rows) c.query_all.result
     c.query_all.ensures.ok c.query_all.ensures.err c.query_all.ensures.survives

@@ -2,7 +2,7 @@ use Rattle.book_statements.specs.Queries.{ShowsLines}
 use Rattle.sqlite.specs.Held.{state}
 use Rattle.sqlite.specs.declared.types.Value.TheVariants.{Int}
 use Rattle.std.proofs.Common.{pos, [], ◌∷◌}
-use Rattle.book_statements.proofs.Doing.{shows_by}
+use Rattle.book_statements.proofs.Doing.{shows_given}
 use Rattle.book_statements.proofs.LineQueries.{lines_found}
 use Rattle.book_statements.proofs.LineMeaning.{list_lines_is}
 use Rattle.book_statements.proofs.line_rows.lines_of.Goals as goal
@@ -13,9 +13,8 @@ returns-clause-looks g c =
     let old = state g.S.Store c.args.conn.now in
     let new = state g.S.Store c.query_all.new.self in
     let period = c.args.period in
-    shows_by text.list_lines list_lines_is.plain (Int (pos period) ∷ []) old new (ShowsLines period)
+    shows_given text.list_lines list_lines_is.plain (Int (pos period) ∷ []) old new
+    (ShowsLines period)
     (λ tables rows keeps shown. lines_found old new tables rows keeps period shown)
-    c.query_all.result
-    (λ clean. rw c.period_value-values.ensures at (c.query_all.ensures.ok clean))
-    (λ clean. rw c.period_value-values.ensures at (c.query_all.ensures.err clean))
-    (rw c.period_value-values.ensures at c.query_all.ensures.survives)
+    c.query_all.result c.period_value-values.ensures c.query_all.ensures.ok c.query_all.ensures.err
+    c.query_all.ensures.survives

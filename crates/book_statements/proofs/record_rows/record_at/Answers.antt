@@ -2,7 +2,7 @@ use Rattle.book_statements.specs.Queries.{ShowsRecord}
 use Rattle.sqlite.specs.Held.{state}
 use Rattle.sqlite.specs.declared.types.Value.TheVariants.{Blob}
 use Rattle.std.proofs.Common.{[], ◌∷◌}
-use Rattle.book_statements.proofs.Doing.{shows_by}
+use Rattle.book_statements.proofs.Doing.{shows_given}
 use Rattle.book_statements.proofs.RecordQueries.{record_found}
 use Rattle.book_statements.proofs.RecordMeaning.{find_record_is}
 use Rattle.book_statements.proofs.record_rows.record_at.Goals as goal
@@ -13,9 +13,7 @@ returns-clause-looks g c =
     let old = state g.S.Store c.args.conn.now in
     let new = state g.S.Store c.query_all.new.self in
     let name = c.args.name.now in
-    shows_by text.find_record find_record_is.plain (Blob name ∷ []) old new (ShowsRecord name)
+    shows_given text.find_record find_record_is.plain (Blob name ∷ []) old new (ShowsRecord name)
     (λ tables rows keeps shown. record_found old new tables rows keeps name shown)
-    c.query_all.result
-    (λ clean. rw c.bytes_value-values.ensures at (c.query_all.ensures.ok clean))
-    (λ clean. rw c.bytes_value-values.ensures at (c.query_all.ensures.err clean))
-    (rw c.bytes_value-values.ensures at c.query_all.ensures.survives)
+    c.query_all.result c.bytes_value-values.ensures c.query_all.ensures.ok c.query_all.ensures.err
+    c.query_all.ensures.survives

@@ -11,9 +11,7 @@ pub returns-clause-looks : goal.returns-clause-looks
 returns-clause-looks g c =
     let old = state g.S.Store c.args.conn.now in
     let new = state g.S.Store c.query_all.new.self in
-    shows_by text.list_uncharged list_uncharged_is.plain ([]) old new ShowsUncharged
+    shows_by text.list_uncharged list_uncharged_is.plain [] old new ShowsUncharged
     (λ tables rows keeps shown. uncharged_found old new tables rows keeps shown)
-    c.query_all.result
-    (λ clean. (c.query_all.ensures.ok clean))
-    (λ clean. (c.query_all.ensures.err clean))
-    (c.query_all.ensures.survives)
+    c.query_all.result c.query_all.ensures.ok c.query_all.ensures.err
+    c.query_all.ensures.survives

@@ -11,6 +11,6 @@ pub returns-clause-looks : goal.returns-clause-looks
 returns-clause-looks g c =
     let old = state g.S.Store c.args.conn.now in
     let new = state g.S.Store c.query_all.new.self in
-    shows_by list_tariffs list_tariffs_is.1 [] old new ShowsTariffs
+    shows_by list_tariffs list_tariffs_is.plain [] old new ShowsTariffs
     (λ tables rows keeps. tariffs_listed old new tables keeps rows) c.query_all.result
     c.query_all.ensures.ok c.query_all.ensures.err c.query_all.ensures.survives

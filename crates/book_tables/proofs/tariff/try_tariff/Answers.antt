@@ -1,5 +1,5 @@
 use Rattle.std.proofs.Common.{◌≡◌, ◌≢◌, ◌∙◌, ℕ, ℤ, List, [], ◌∷◌, ◌++◌, ◌-◌, length, take, sym, ap}
-use Rattle.std.proofs.Common.{subst, arith, Bool, true, false, Ok, Err, Result, Some, refl, w32}
+use Rattle.std.proofs.Common.{subst, arith, Bool, Ok, Err, Result, Some, refl, w32}
 use Rattle.std.proofs.Common.{to_z, of_z}
 use Rattle.std.specs.Prelude.{if◌then◌else◌}
 use Rattle.std.specs.FinMap.{values}
@@ -21,8 +21,8 @@ use Rattle.book_tables.proofs.Answering.{makes_refused}
 use Rattle.book_tables.proofs.CodeDays.{kept_day}
 use Rattle.book_tables.proofs.LastClose.{popped}
 use Rattle.book_tables.proofs.TariffTries.{unread_plain, unread_makes, tariff_plain, tariff_rising}
-use Rattle.book_tables.proofs.TariffTries.{tariff_other, tariff_decided, tariff_is_event}
-use Rattle.book_tables.proofs.TariffTries.{tariff_remembered, tariff_makes}
+use Rattle.book_tables.proofs.TariffTries.{tariff_other, tariff_decided, tariff_done}
+use Rattle.book_tables.proofs.TariffTries.{tariff_is_event, tariff_remembered, tariff_makes}
 use Rattle.book_tables.proofs.TryLemmas.{looks_up, sees_none, sees_found, try_answered, try_stopped}
 use Rattle.book_tables.proofs.TryLemmas.{try_refused, try_done, try_undone, tries_so, tries_err}
 use Rattle.book_tables.proofs.TryLemmas.{tries_told}
@@ -49,8 +49,8 @@ committed_by : {T : Type 0} {result : Result T Error} {old new : State} {day eff
     → CommitsOne result old new (λ tables. Unit {0}) (put_tariff_row day text)
     → CommitsOne result old new (λ tables. Unit {0}) (put_tariff_row effective text)
 committed_by {result = result} {old = old} {new = new} text same commits =
-    subst (λ day. CommitsOne result old new (λ (tables : Tables). Unit {0}) (put_tariff_row day text))
-    same commits
+    subst (λ day. CommitsOne result old new (λ (tables : Tables). Unit {0})
+    (put_tariff_row day text)) same commits
 
 -- whether records are dated from that day on
 dated_by : {found : Bool} {day effective : ℤ} (tables : Tables) → day ≡ effective
@@ -150,9 +150,8 @@ returns-in-Err-keep_tariff-clause-tries g c = λ naming.
     (put_tariff_row terms.effective text)
     (sees_found (looks_up c.in_ok-is_dated.ensures.looks))
     (λ book ready known. tariff_is_event summary text terms said naming _ book ready day
-    (tariff_decided summary text terms said naming _ book ready done c.in_ok-is_dated.is_dated
-    (dated_by (tables_of naming book) same known)
-    ∙ ap (λ (found : Bool). if found then Err RecordsDated else Ok Done) c.if-is_dated.false))
+    (tariff_done summary text terms said naming _ book ready done c.in_ok-is_dated.is_dated
+    (dated_by (tables_of naming book) same known) c.if-is_dated.false))
     (committed_by text same c.in-Err-keep_tariff.ensures.commits))
     (λ book remembers. record {
       tariffs = c.pop.ensures.rest
@@ -179,19 +178,16 @@ returns-clause-tries g c = λ naming.
     (put_tariff_row terms.effective text)
     (sees_found (looks_up c.in_ok-is_dated.ensures.looks))
     (λ book ready known. tariff_is_event summary text terms said naming _ book ready day
-    (tariff_decided summary text terms said naming _ book ready done c.in_ok-is_dated.is_dated
-    (dated_by (tables_of naming book) same known)
-    ∙ ap (λ (found : Bool). if found then Err RecordsDated else Ok Done) c.if-is_dated.false))
+    (tariff_done summary text terms said naming _ book ready done c.in_ok-is_dated.is_dated
+    (dated_by (tables_of naming book) same known) c.if-is_dated.false))
     (committed_by text same c.in_default.ensures.commits)
     (λ book ready known.
-    tariff_decided summary text terms said naming _ book ready done c.in_ok-is_dated.is_dated
-    (dated_by (tables_of naming book) same known)
-    ∙ ap (λ (found : Bool). if found then Err RecordsDated else Ok Done) c.if-is_dated.false)
+    tariff_done summary text terms said naming _ book ready done c.in_ok-is_dated.is_dated
+    (dated_by (tables_of naming book) same known) c.if-is_dated.false)
     (λ book ready known.
     tariff_remembered summary text terms said naming _ book ready _
-    (tariff_decided summary text terms said naming _ book ready done c.in_ok-is_dated.is_dated
-    (dated_by (tables_of naming book) same known)
-    ∙ ap (λ (found : Bool). if found then Err RecordsDated else Ok Done) c.if-is_dated.false)
+    (tariff_done summary text terms said naming _ book ready done c.in_ok-is_dated.is_dated
+    (dated_by (tables_of naming book) same known) c.if-is_dated.false)
     (more summary.tariffs.items terms c.in_ok-push.ensures.items c.in_ok-from_str.ensures.ok)
     refl refl refl)
 

@@ -68,7 +68,7 @@ returns-in-Err-clause-check g c =
     let lists = c.loop-turn.invariant.lists in
     let part = take c.in-Some.count c.read_piece.new.piece in
     let later = c.read_out-in-Err.ensures.taken in
-    check_cut lists.0 part later.0 c.loop-turn.joiner c.loop-turn.listing
+    check_cut lists.0 part later.0 c.loop-turn.joiner c.loop-turn.listing c.list_piece.new.listing
     (g.R.Read.remaining (reader_of c.args.source.now))
     (g.R.Read.remaining (reader_of c.read_out-in-Err.new.source))
     (g.W.Write.contents (writer_of c.args.sink.now))
@@ -99,8 +99,7 @@ loop-turn-preserved g c =
       lists = (
         lists.0 ++ part,
         Consumes-trans _ _ _ lists.0 part lists.1 c.in-Some.ensures.taken,
-        lists_more c.args.layout lists.0 part c.loop-turn.joiner c.list_piece.new.joiner
-            c.loop-turn.listing c.list_piece.new.listing
+        lists_more c.loop-turn.listing c.list_piece.new.listing
             (g.W.Write.contents (writer_of c.args.sink.now))
             (g.W.Write.contents (writer_of c.loop-turn.sink))
             (g.W.Write.contents (writer_of c.list_piece.new.sink)) lists.2

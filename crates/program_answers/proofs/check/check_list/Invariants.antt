@@ -3,8 +3,9 @@ use Rattle.std.specs.Io.KnownBytes.{Consumes}
 use Rattle.streams.specs.Sinks as sinks
 use Rattle.streams.specs.Sources.{reader_of, reads_of, has_failed, has_ended}
 use Rattle.book_import.specs.Reading.{piece_length}
+use Rattle.book_import.proofs.GoingLemmas.{HasPassed}
 use Rattle.program_answers.specs.Listings.{count_of, waiting}
-use Rattle.program_answers.proofs.CheckLemmas.{Lists}
+use Rattle.program_answers.proofs.CheckLemmas.{AreListed}
 use Rattle.program_answers.proofs.check.check_list.Given as goal
 
 -- as many reads as turns, none of which failed or was the end; their bytes, and that all lines of
@@ -20,7 +21,7 @@ invariant-loop-turn g l = record {
   lists : (bytes : List ℕ)
       × Consumes (g.R.Read.remaining (reader_of l.initial.source))
       (g.R.Read.remaining (reader_of l.source)) bytes
-      × Lists l.fn.layout bytes l.joiner l.listing
-      (g.W.Write.contents (sinks.writer_of l.initial.sink))
-      (g.W.Write.contents (sinks.writer_of l.sink));
+      × HasPassed l.fn.layout bytes l.joiner
+      (AreListed (g.W.Write.contents (sinks.writer_of l.initial.sink))
+      (g.W.Write.contents (sinks.writer_of l.sink)) l.listing);
 }

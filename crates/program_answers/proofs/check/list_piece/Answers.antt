@@ -10,10 +10,10 @@ returns-in_err-flush-clause-listed g c =
     c.from_residual-in_err-flush.ensures.1 in
     let wrote = c.in_err-flush.ensures.written in
     rw failed.1 (come_unflushed c.args.joiner.now c.list_records.new.joiner c.args.piece.now
-    c.in_ok-found.found c.args.listing.now c.list_records.new.listing
+    c.in_ok-found.found c.args.listing.now c.list_records.new.listing c.flush.new.self
     (g.W.Write.contents (writer_of c.args.sink.now))
     (g.W.Write.contents (writer_of c.list_records.new.sink))
-    (g.W.Write.contents (writer_of c.flush.new.sink)) wrote.0 c.in_ok-found.ensures.taken
+    (g.W.Write.contents (writer_of c.flush.new.sink)) wrote.0 failed.0 c.in_ok-found.ensures.taken
     c.in_ok-found.ensures.listed wrote.1)
 
 pub returns-clause-listed : goal.returns-clause-listed

@@ -1,71 +1,65 @@
-use Rattle.std.proofs.Common.{sym, arith}
-use Rattle.std.proofs.lemmas.List.{take_all}
+use Rattle.std.proofs.Common.{arith}
 use Rattle.std.proofs.lemmas.Result.{err_from_is_err_and}
 use Rattle.streams.specs.Sinks.{writer_of}
-use Rattle.program_answers.proofs.PieceLemmas.{come_on, come_all, takes_all, come_broken, come_cut}
-use Rattle.program_answers.proofs.PieceLemmas.{come_moves, listed_broken}
+use Rattle.book_import.proofs.GoingLemmas.{goes_nowhere, shorter, goes_on, all_done, takes_all}
+use Rattle.book_import.proofs.GoingLemmas.{breaks, broken_done}
+use Rattle.program_answers.proofs.ListingLemmas.{listed_more}
+use Rattle.program_answers.proofs.PieceLemmas.{come_cut}
 use Rattle.program_answers.proofs.check.list_records.Goals as goal
 
+pub loop-fault-init : goal.loop-fault-init
+loop-fault-init g c = record {
+  goes = goes_nowhere c.args.joiner.now c.args.piece.now _ c.requires.none
+      (λ records held listed. listed);
+  few = omega arith;
+  room = c.requires.room;
+  unwritten = c.requires.unwritten;
+}
+
 pub returns-in-Err-clause-listed : goal.returns-in-Err-clause-listed
-returns-in-Err-clause-listed g c =
-    listed_broken c.args.joiner.now c.loop-fault.joiner c.feed.new.self c.args.piece.now
-    c.loop-fault.rest.now c.in-Err.fault c.args.listing.now c.loop-fault.listing
-    (g.W.Write.contents (writer_of c.args.sink.now))
-    (g.W.Write.contents (writer_of c.loop-fault.sink)) c.loop-fault.invariant.come c.in-Err.ensures
+returns-in-Err-clause-listed g c = λ text held stood.
+    broken_done c.loop-fault.invariant.goes c.in-Err.ensures text stood held
 
 pub returns-in-Err-clause-taken : goal.returns-in-Err-clause-taken
-returns-in-Err-clause-taken g c =
-    come_broken c.args.joiner.now c.loop-fault.joiner c.feed.new.self c.args.piece.now
-    c.loop-fault.rest.now c.in-Err.fault c.args.listing.now c.loop-fault.listing
-    (g.W.Write.contents (writer_of c.args.sink.now))
-    (g.W.Write.contents (writer_of c.loop-fault.sink)) c.loop-fault.invariant.come c.in-Err.ensures
+returns-in-Err-clause-taken g c = breaks c.loop-fault.invariant.goes c.in-Err.ensures
 
 pub returns-in_default-clause-listed : goal.returns-in_default-clause-listed
-returns-in_default-clause-listed g c =
-    let fed = c.in-Ok.ensures in
-    let none = sym c.in_default.ensures.exact in
-    come_all c.args.joiner.now c.loop-fault.joiner c.feed.new.self c.args.piece.now
-    c.loop-fault.rest.now c.in-Ok.taken c.args.listing.now c.loop-fault.listing
-    (g.W.Write.contents (writer_of c.args.sink.now))
-    (g.W.Write.contents (writer_of c.loop-fault.sink)) c.loop-fault.invariant.come fed none
-    (take_all c.in-Ok.taken c.loop-fault.rest.now (omega (arith, fed.all none)))
+returns-in_default-clause-listed g c = λ text held stood.
+    all_done c.loop-fault.invariant.goes c.in-Ok.ensures c.in_default.ensures.exact text stood held
 
 pub returns-in_default-clause-taken : goal.returns-in_default-clause-taken
 returns-in_default-clause-taken g c =
-    let fed = c.in-Ok.ensures in
-    let none = sym c.in_default.ensures.exact in
-    takes_all c.args.joiner.now c.loop-fault.joiner c.feed.new.self c.args.piece.now
-    c.loop-fault.rest.now c.in-Ok.taken c.args.listing.now c.loop-fault.listing
-    (g.W.Write.contents (writer_of c.args.sink.now))
-    (g.W.Write.contents (writer_of c.loop-fault.sink)) c.loop-fault.invariant.come fed none
-    (take_all c.in-Ok.taken c.loop-fault.rest.now (omega (arith, fed.all none)))
+    takes_all c.loop-fault.invariant.goes c.in-Ok.ensures c.in_default.ensures.exact
 
 pub returns-in_err-push_line-clause-listed : goal.returns-in_err-push_line-clause-listed
 returns-in_err-push_line-clause-listed g c =
     let failed = err_from_is_err_and c.from_residual.result c.from_residual.ensures.1 in
     let wrote = c.in_err-push_line.ensures.written in
-    rw failed.1 (come_cut c.args.joiner.now c.loop-fault.joiner c.feed.new.self c.args.piece.now
-    c.loop-fault.rest.now c.in-Ok.taken c.args.listing.now c.loop-fault.listing
+    rw failed.1 (come_cut c.args.listing.now c.loop-fault.listing c.push_line.new.self
     (g.W.Write.contents (writer_of c.args.sink.now))
     (g.W.Write.contents (writer_of c.loop-fault.sink))
-    (g.W.Write.contents (writer_of c.push_line.new.sink)) c.in-Some.bytes.now wrote.0
-    c.loop-fault.invariant.come c.in-Ok.ensures c.in-Some.ensures.exact wrote.1)
+    (g.W.Write.contents (writer_of c.push_line.new.sink)) c.in-Some.bytes.now wrote.0 failed.0
+    c.loop-fault.invariant.goes c.in-Ok.ensures c.in-Some.ensures.exact wrote.1)
+
+pub loop-fault-smaller : goal.loop-fault-smaller
+loop-fault-smaller g c =
+    shorter c.loop-fault.invariant.goes c.in-Ok.ensures c.in-Some.ensures.exact
+    c.split_at.ensures.back c.requires.stands
 
 pub loop-fault-preserved : goal.loop-fault-preserved
 loop-fault-preserved g c =
-    let come = c.loop-fault.invariant.come in
+    let goes = c.loop-fault.invariant.goes in
     let wrote = c.in_ok-push_line.ensures in
+    let less = shorter goes c.in-Ok.ensures c.in-Some.ensures.exact c.split_at.ensures.back
+    c.requires.stands in
     record {
-      come = come_on c.args.joiner.now c.loop-fault.joiner c.feed.new.self c.next.new.self
-          c.args.piece.now c.loop-fault.rest.now c.split_at.result.1.now c.in-Ok.taken
-          c.args.listing.now c.loop-fault.listing c.push_line.new.self
-          (g.W.Write.contents (writer_of c.args.sink.now))
+      goes = goes_on goes c.in-Ok.ensures c.in-Some.ensures.exact c.split_at.ensures.back
+          c.next.ensures.value c.next.ensures.stands
+          (λ first found lists held listed. listed_more found c.in-Some.bytes.now held
           (g.W.Write.contents (writer_of c.loop-fault.sink))
-          (g.W.Write.contents (writer_of c.push_line.new.sink)) c.in-Some.bytes.now come
-          c.in-Ok.ensures c.in-Some.ensures.exact
-          (come_moves _ _ _ _ _ c.requires.stands.0 _ _ _ _ _ _ come c.requires.stands.1
-          c.in-Ok.ensures c.in-Some.ensures.exact) c.split_at.ensures.back c.next.ensures.value
-          c.next.ensures.stands wrote.written wrote.count;
+          (g.W.Write.contents (writer_of c.push_line.new.sink)) c.loop-fault.listing
+          c.push_line.new.self (lists held listed) wrote.written wrote.count);
+      few = omega (arith, c.loop-fault.invariant.few, wrote.count, less);
       room = wrote.room;
       unwritten = wrote.failed;
     }

@@ -1,13 +1,16 @@
-use Rattle.std.proofs.Common.{◌≡◌, false, length}
+use Rattle.std.proofs.Common.{◌≡◌, ◌+◌, ◌≤◌, false, length}
 use Rattle.streams.specs.Sinks.{writer_of, has_failed}
-use Rattle.program_answers.specs.Listings.{HasRoom}
-use Rattle.program_answers.proofs.PieceLemmas.{HasCome}
+use Rattle.book_import.proofs.GoingLemmas.{Goes}
+use Rattle.program_answers.specs.Listings.{count_of, HasRoom}
+use Rattle.program_answers.proofs.PieceLemmas.{ListsOver}
 use Rattle.program_answers.proofs.check.list_records.Given as goal
 
+-- no more records got a line than bytes were seen
 abbrev pub invariant-loop-fault : goal.invariant-loop-fault
 invariant-loop-fault g l = record {
-  come : HasCome l.fn.joiner l.piece l.rest l.joiner l.fn.listing l.listing
-      (g.W.Write.contents (writer_of l.fn.sink)) (g.W.Write.contents (writer_of l.sink));
+  goes : Goes l.fn.joiner l.piece l.rest l.joiner (ListsOver l.fn.listing l.listing
+      (g.W.Write.contents (writer_of l.fn.sink)) (g.W.Write.contents (writer_of l.sink)));
+  few : count_of l.listing + length l.rest ≤ count_of l.fn.listing + length l.piece;
   room : HasRoom l.listing;
   unwritten : has_failed l.sink ≡ false;
 }

@@ -1,4 +1,4 @@
-use Rattle.std.proofs.Common.{◌≡◌, [], ◌∷◌, ◌∙◌, ap, refl, inr, subst, Result, Ok, Err}
+use Rattle.std.proofs.Common.{◌≡◌, [], ◌∷◌, ◌∙◌, ap, refl, inr, Result, Ok, Err}
 use Rattle.std.proofs.lemmas.Result.{err_from_is_err_and}
 use Rattle.streams.specs.Sinks.{writer_of}
 use Rattle.book_core.specs.PlainBook.{book_in}
@@ -7,11 +7,12 @@ use Rattle.book_import.specs.Reading.{cut_of}
 use Rattle.book_reports.specs.declared.fault.ReportFault.{ReportFault}
 use Rattle.book_reports.specs.ReceiptLines.{receipt_line_text}
 use Rattle.book_reports.specs.BookTexts.{dispute_text, open_statement, statement_outcome}
-use Rattle.book_reports.specs.Writing.{Writes, is_write_or_memory}
+use Rattle.book_reports.specs.Writing.{is_write_or_memory}
 use Rattle.book_reports.proofs.BookLemmas.{first_statement}
 use Rattle.book_reports.proofs.ReportLemmas.{report_fault, report_stays, report_writes}
 use Rattle.book_reports.proofs.WritingLemmas.{memory_not_write, others_unwritten, others_written}
-use Rattle.program_answers.proofs.TrialLemmas.{IsBooked, is_booked, never_closed, is_trial, no_trial}
+use Rattle.program_answers.proofs.TrialLemmas.{IsBooked, is_booked, never_closed, is_trial}
+use Rattle.program_answers.proofs.TrialLemmas.{no_trial, texts_written}
 use Rattle.program_answers.proofs.trials.trial.Given.{Over}
 use Rattle.program_answers.proofs.trials.trial.Goals as goal
 use Rattle.program_answers.proofs.trials.trial.Goals.{After-import-receipt}
@@ -83,20 +84,13 @@ returns-in_err-dispute_list-clause-trial g c =
     let book = book_in c.import-receipt.new.ledger in
     let import = c.import-receipt.ensures in
     let end = g.W.Write.contents (writer_of c.dispute_list.new.sink) in
-    let refused : Result Receipt ReportFault = Err failed.0 in
-    let disputes = subst (λ told. Writes (dispute_text told ∷ [])
-    (g.W.Write.contents (writer_of c.statement.new.sink)) end refused)
-    (report_stays c.in_ok-statement.ensures.report refl)
-    (rw failed.2 (report_writes c.in_err-dispute_list.ensures.report
-    (dispute_text (book_in c.statement.new.ledger)) refl)) in
-    let statement =
-    others_written (open_statement book) (dispute_text book ∷ []) _ _ end refused
-    (report_writes c.in_ok-statement.ensures.report (open_statement book)
-    (first g (goal.at.returns-in_err-dispute_list-clause-trial g c).After-import-receipt)) disputes in
+    let after = book_in c.statement.new.ledger in
     let written =
-    others_written (receipt_line_text c.import-receipt.result)
-    (open_statement book ∷ dispute_text book ∷ []) _ _ end refused
-    c.in_ok-receipt_line.ensures.text statement in
+    texts_written c.import-receipt.result book after _ _ _ end (Err failed.0)
+    (report_stays c.in_ok-statement.ensures.report refl) c.in_ok-receipt_line.ensures.text
+    (report_writes c.in_ok-statement.ensures.report (open_statement book)
+    (first g (goal.at.returns-in_err-dispute_list-clause-trial g c).After-import-receipt))
+    (rw failed.2 (report_writes c.in_err-dispute_list.ensures.report (dispute_text after) refl)) in
     rw failed.1
     (is_trial c.import-receipt.result import.booked.0 import.booked.1
     (booked g (goal.at.returns-in_err-dispute_list-clause-trial g c).After-import-receipt)
@@ -107,21 +101,13 @@ returns-clause-trial g c =
     let book = book_in c.import-receipt.new.ledger in
     let import = c.import-receipt.ensures in
     let end = g.W.Write.contents (writer_of c.dispute_list.new.sink) in
-    let answer : Result Receipt ReportFault = Ok c.import-receipt.result in
-    let done : Result (Unit {0}) ReportFault = Ok tt in
-    let disputes = subst (λ told. Writes (dispute_text told ∷ [])
-    (g.W.Write.contents (writer_of c.statement.new.sink)) end done)
-    (report_stays c.in_ok-statement.ensures.report refl)
-    (report_writes c.in_ok-dispute_list.ensures.report
-    (dispute_text (book_in c.statement.new.ledger)) refl) in
-    let statement =
-    others_written (open_statement book) (dispute_text book ∷ []) _ _ end answer
-    (report_writes c.in_ok-statement.ensures.report (open_statement book)
-    (first g (goal.at.returns-clause-trial g c).After-import-receipt)) disputes in
+    let after = book_in c.statement.new.ledger in
     let written =
-    others_written (receipt_line_text c.import-receipt.result)
-    (open_statement book ∷ dispute_text book ∷ []) _ _ end answer
-    c.in_ok-receipt_line.ensures.text statement in
+    texts_written c.import-receipt.result book after _ _ _ end (Ok c.import-receipt.result)
+    (report_stays c.in_ok-statement.ensures.report refl) c.in_ok-receipt_line.ensures.text
+    (report_writes c.in_ok-statement.ensures.report (open_statement book)
+    (first g (goal.at.returns-clause-trial g c).After-import-receipt))
+    (report_writes c.in_ok-dispute_list.ensures.report (dispute_text after) refl) in
     is_trial c.import-receipt.result import.booked.0 import.booked.1
     (booked g (goal.at.returns-clause-trial g c).After-import-receipt)
     import.read_out written refl

@@ -6,7 +6,7 @@ use Rattle.book_import.specs.Dumps.{stop_behind}
 use Rattle.book_import.specs.Imports.{Imports}
 use Rattle.book_import.proofs.ImportLemmas.{none_handled}
 use Rattle.book_import.proofs.JoinLemmas.{joins_nothing, joins_more, joins_stopped, joins_ended}
-use Rattle.book_import.proofs.command_list.import_bytes.Goals as goal
+use Rattle.book_import.proofs.whole.import_bytes.Goals as goal
 
 pub returns-in_default : goal.returns-in_default
 returns-in_default g c =
@@ -23,25 +23,24 @@ returns-in-Some g c =
     let seen = g.L.Ledger.seen c.args.ledger.now in
     let bytes = c.args.bytes.now in
     let told = c.stopped_by.result in
-    let joins = joins_nothing seen c.args.layout c.in-Ok.joiner c.stopped-receipt.result
-    c.in-Ok.ensures.value c.in-Ok.ensures.stands c.in-Ok.ensures.found c.stopped-receipt.ensures in
+    let receipt = c.stopped-receipt.result in
+    let none = joins_nothing seen c.args.layout c.in-Ok.joiner receipt c.in-Ok.ensures.value
+    c.in-Ok.ensures.stands c.in-Ok.ensures.found c.stopped-receipt.ensures in
     subst (λ (text : List ℕ).
     IsWork seen (g.L.Ledger.seen c.import_piece.new.ledger)
     (Imports seen.naming c.args.layout None text told)) (append-nil bytes)
-    (joins_stopped seen seen (g.L.Ledger.seen c.import_piece.new.ledger) c.args.layout [] bytes
-    c.in-Ok.joiner c.stopped-receipt.result c.import_piece.new.receipt told c.in-Some.stop joins
-    c.in-Some.ensures.handled c.stopped_by.ensures [] None)
+    (joins_stopped seen seen receipt none (g.L.Ledger.seen c.import_piece.new.ledger) bytes
+    c.import_piece.new.receipt told c.in-Some.stop c.in-Some.ensures.handled c.stopped_by.ensures []
+    None)
 
 pub returns : goal.returns
 returns g c =
     let seen = g.L.Ledger.seen c.args.ledger.now in
     let new = g.L.Ledger.seen c.import_piece.new.ledger in
-    let bytes = c.args.bytes.now in
-    let told = c.stopped_by-in-None.result in
-    let none = joins_nothing seen c.args.layout c.in-Ok.joiner c.stopped-receipt.result
-    c.in-Ok.ensures.value c.in-Ok.ensures.stands c.in-Ok.ensures.found c.stopped-receipt.ensures in
-    let joins = joins_more seen seen new c.args.layout [] bytes c.in-Ok.joiner
-    c.import_piece.new.joiner c.stopped-receipt.result c.import_piece.new.receipt none
+    let receipt = c.stopped-receipt.result in
+    let none = joins_nothing seen c.args.layout c.in-Ok.joiner receipt c.in-Ok.ensures.value
+    c.in-Ok.ensures.stands c.in-Ok.ensures.found c.stopped-receipt.ensures in
+    let joins = joins_more seen seen receipt none new c.import_piece.new.receipt
     (c.in-None.ensures.taken refl) c.in-None.ensures.handled in
-    joins_ended seen new c.args.layout bytes c.import_piece.new.joiner c.import_piece.new.receipt
-    told c.dump_end.result None joins c.dump_end.ensures c.stopped_by-in-None.ensures
+    joins_ended seen new c.import_piece.new.receipt joins c.stopped_by-in-None.result
+    c.dump_end.result None c.dump_end.ensures c.stopped_by-in-None.ensures

@@ -1,0 +1,48 @@
+-- The law of lists of requests: each has one answer, and they leave one book.
+use Rattle.std.specs.Prelude.{◌≡◌, false, All, List, [], ◌∷◌, map, Result}
+use Rattle.book_model.specs.declared.fault.LedgerFault.{LedgerFault}
+use Rattle.book_model.specs.Words.{Naming, Book, after_all}
+use Rattle.book_core.specs.Ledgers.{Seen, IsOpenAt}
+use Rattle.book_core.specs.Work.{IsWork}
+use Rattle.office.specs.declared.request.Asked.{Asked}
+use Rattle.office.specs.declared.request.Answer.{Answer}
+use Rattle.office.specs.Does.{does, is_hindered}
+use Rattle.office.specs.Laws.{IsStillOpen}
+use Rattle.office.specs.Requests.{Told, told_by}
+use Rattle.office.specs.Runs.{Runs, dump_here}
+
+-- what the definitions tell of requests, one after another
+abbrev pub told_to : Naming → List Asked → Book → List (Result Told LedgerFault)
+told_to naming [] book = []
+told_to naming (asked ∷ later) book =
+    let done = does naming asked (dump_here asked) book in
+    done.told ∷ told_to naming later (after_all done.events book)
+
+-- the book behind them
+abbrev pub book_behind : Naming → List Asked → Book → Book
+book_behind naming [] book = book
+book_behind naming (asked ∷ later) book =
+    book_behind naming later (after_all (does naming asked (dump_here asked) book).events book)
+
+-- Requests were run on a ledger that was open with this book, and is open now, on what is honest to
+-- the end. Neither want of memory nor the store hindered one.
+pub record IsRun (naming : Naming) (start : Book) (old new : Seen) (requests : List Asked)
+    (answers : List (Result Answer LedgerFault)) : Type 0 where
+  pub opened : IsOpenAt naming start old
+  pub still : IsStillOpen new
+  pub work : IsWork old new (Runs old.naming requests answers)
+  pub free : All (λ answer. is_hindered (told_by answer) ≡ false) answers
+
+-- what was told is what the definitions tell, and the ledger is open with the book behind them
+pub record RunsAsDefined (naming : Naming) (start : Book) (new : Seen) (requests : List Asked)
+    (answers : List (Result Answer LedgerFault)) : Type 0 where
+  pub told : map told_by answers ≡ told_to naming requests start
+  pub left : IsOpenAt naming (book_behind naming requests start) new
+
+-- So it is with all requests, imports with them.
+abbrev pub OneRun : {L : Type 0} → (L → Seen) → Type 0
+OneRun {L} seen =
+    (naming : Naming) (start : Book) (old new : L) (requests : List Asked)
+    (answers : List (Result Answer LedgerFault))
+    → IsRun naming start (seen old) (seen new) requests answers
+    → RunsAsDefined naming start (seen new) requests answers

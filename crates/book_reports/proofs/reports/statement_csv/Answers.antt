@@ -1,8 +1,0 @@
-use Rattle.std.proofs.Common.{refl}
-use Rattle.book_reports.proofs.ReportLemmas.{report_made}
-use Rattle.book_reports.proofs.reports.statement_csv.Goals as goal
-
-pub returns-clause-report : goal.returns-clause-report
-returns-clause-report g c =
-    report_made (λ book. refl) c.statement_csv_of.result c.statement_csv_of.ensures
-    c.pass_on.ensures.passed_on

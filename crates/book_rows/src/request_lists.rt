@@ -1,0 +1,57 @@
+//! Lists of requests.
+
+ghost use Rattle.std.specs.Prelude.{All, IfOk};
+ghost use Rattle.office.specs.Runs.{IsAskableAlone};
+
+use crate::answers::push_answer;
+use crate::day::Day;
+use book_core::Ledger;
+use office::{Asked, run};
+use row_scripts::{Answered, LineFault, Named};
+use smf_frames::Layout;
+
+/// The request of a line.
+fn asked_by(named: &Named, layout: Layout, line: &str) -> Answered<Asked>
+    ensures { IfOk result IsAskableAlone }
+{
+    let words: Vec<&str> = line.split_whitespace().collect(named.alloc())?;
+    match words.as_slice() {
+        ["tariff", names @ ..] => Ok(Asked::Tariff(named.read_texts(names, "")?)),
+        ["import", parts @ ..] => {
+            let bytes = named.read_dump(parts)?;
+            Ok(Asked::ImportBytes { layout, bytes })
+        }
+        ["close", period, day] => {
+            let (period, day) = (period.parse::<u16>()?, Day::of(day)?);
+            let through = day.number;
+            Ok(Asked::Close { period, through })
+        }
+        _ => Err(LineFault::Unread),
+    }
+}
+
+/// The requests of the lines of a body.
+fn requests(named: &Named, layout: Layout, body: &str) -> Answered<Vec<Asked>>
+    ensures { IfOk result (λ list. All IsAskableAlone list.items) }
+{
+    let mut list = Vec::new(named.alloc());
+    for line in body.lines() {
+        list.push(asked_by(named, layout, line)?)?;
+    }
+    Ok(list)
+}
+
+/// Asks the requests of a body of books, and adds the answer to each.
+pub(crate) fn push_answers<L: Ledger>(
+    named: &Named,
+    layout: Layout,
+    ledger: &mut L,
+    body: &str,
+    out: &mut Vec<u8>,
+) -> Answered {
+    let requests = requests(named, layout, body)?;
+    for answer in &run(named.alloc(), ledger, &requests)? {
+        push_answer(out, answer)?;
+    }
+    Ok(())
+}
