@@ -10,11 +10,14 @@ use Rattle.std.specs.BTreeMap.{is_at, insert_entry}
 use Rattle.std.specs.BTreeSet as set
 use Rattle.std.specs.List.{AllByRecursion, IsDistinct}
 use Rattle.std.specs.List.Sorted.{IsStrictlySortedBy}
+use Rattle.std.specs.Iterator.{Yields}
 use Rattle.std.specs.Map.{keys_of, lookup}
+use Rattle.std.specs.Map.Iter.{TakesFirst}
 use Rattle.std.specs.Option.{option_map_or, option_and_then, option_or}
 use Rattle.std.specs.Ordering.{eq_by_cmp}
 use Rattle.std.proofs.lemmas.Cmp.{nat_list_cmp_total, eq_by_cmp_equiv}
 use Rattle.std.proofs.lemmas.Map.Entries.{lookup_from_place}
+use Rattle.std.proofs.lemmas.Map.Iter.{rest_so_far, rest_more}
 use Rattle.std.proofs.lemmas.Map.Keys.{IsDistinct-from_sorted, IsDistinct-head, IsDistinct-tail}
 use Rattle.std.proofs.lemmas.Map.Lookups.{exact_bytes}
 use Rattle.std.proofs.lemmas.Map.Views.{tells_apart}
@@ -69,7 +72,7 @@ under_name-more done entry name missing =
     nothing_or (Some h) = refl
 
 -- an entry's name stands under none before it
-pub missing_so_far : (all done rest : List Entry) (entry : Entry) → all ≡ done ++ entry ∷ rest
+missing_so_far : (all done rest : List Entry) (entry : Entry) → all ≡ done ++ entry ∷ rest
     → IsStrictlySortedBy by_bytes (keys_of all) → under_name entry.0 done ≡ None
 missing_so_far all done rest entry is rising =
     missing done (IsDistinct-from_sorted by_bytes (keys_of (done ++ entry ∷ rest))
@@ -92,6 +95,18 @@ missing_so_far all done rest entry is rising =
         (IsDistinct-head (eq_by_cmp by_bytes) e.0 later apart) in
         ap (λ b. cond b (Some e.1) (under_name entry.0 done)) other
         ∙ missing done (IsDistinct-tail (eq_by_cmp by_bytes) e.0 later apart)
+
+-- so the name of what a loop over the entries takes next stands under none that it took before
+pub missing_next : {A : Type 0} (shows : A → Entry) (all start now after : List Entry)
+    (taken : List A) (next : Option A) (one : A) → start ≡ all
+    → Yields (TakesFirst shows) start taken now → next ≡ Some one
+    → TakesFirst shows now next after → IsStrictlySortedBy by_bytes (keys_of all)
+    → under_name (shows one).0 (map shows taken) ≡ None
+missing_next shows all start now after taken next one is_all so_far is takes rising =
+    missing_so_far all (map shows taken) after (shows one)
+    (sym is_all ∙ rest_so_far shows taken start now so_far
+    ∙ ap (λ rest. map shows taken ++ rest) (rest_more shows now after next one is takes))
+    rising
 
 -- the names so far, with one more
 pub names-more : (test : Entry → Bool) (done : List Entry) (entry : Entry) (names next : Names)

@@ -63,36 +63,18 @@ with-agree share other entries agree =
     λ i. record { counted = each is_counted i; added = each is_added i; taken = each is_taken i }
 
 -- what the shares are, by the tests
-counted_is : (charged posted new : Bool) → is_counted (share_of charged posted new)
-    ≡ (new && charged)
-counted_is true posted true = refl
-counted_is true true false = refl
-counted_is true false false = refl
-counted_is false true true = refl
-counted_is false true false = refl
-counted_is false false true = refl
-counted_is false false false = refl
-
-added_is : (charged posted new : Bool) → is_added (share_of charged posted new)
-    ≡ (not new && (not posted && charged))
-added_is true true true = refl
-added_is true false true = refl
-added_is true true false = refl
-added_is true false false = refl
-added_is false true true = refl
-added_is false true false = refl
-added_is false false true = refl
-added_is false false false = refl
-
-taken_is : (charged posted new : Bool) → is_taken (share_of charged posted new)
-    ≡ (not charged && posted)
-taken_is true posted true = refl
-taken_is true true false = refl
-taken_is true false false = refl
-taken_is false true true = refl
-taken_is false true false = refl
-taken_is false false true = refl
-taken_is false false false = refl
+shares_are : (charged posted new : Bool)
+    → (is_counted (share_of charged posted new) ≡ (new && charged))
+    × (is_added (share_of charged posted new) ≡ (not new && (not posted && charged)))
+    × (is_taken (share_of charged posted new) ≡ (not charged && posted))
+shares_are true true true = (refl, refl, refl)
+shares_are true true false = (refl, refl, refl)
+shares_are true false true = (refl, refl, refl)
+shares_are true false false = (refl, refl, refl)
+shares_are false true true = (refl, refl, refl)
+shares_are false true false = (refl, refl, refl)
+shares_are false false true = (refl, refl, refl)
+shares_are false false false = (refl, refl, refl)
 
 module _ {naming : Naming} {rulings : Rulings} {entries : List Entry} {total : ℕ}
     (kept : AreBooked naming rulings entries total)
@@ -177,7 +159,7 @@ module _ {naming : Naming} {rulings : Rulings} {entries : List Entry} {total : �
         where-agree _ (λ e. is_dated_after last (bytes_of e) && charged e) entries
         (λ k d within.
         let entry = get_or entries k d in
-        counted_is (charged entry) (posted entry) (new_entry entry)
+        (shares_are (charged entry) (posted entry) (new_entry entry)).0
         ∙ ap (λ b. b && charged entry) (new-held k d within))
         ∙ sym (those-where (is_dated_after last) charged entries)
 
@@ -192,7 +174,7 @@ module _ {naming : Naming} {rulings : Rulings} {entries : List Entry} {total : �
         && (not (has before (bytes_of e)) && charged e)) entries
         (λ k d within.
         let entry = get_or entries k d in
-        added_is (charged entry) (posted entry) (new_entry entry)
+        (shares_are (charged entry) (posted entry) (new_entry entry)).1
         ∙ (λ i. not (new-held k d within i)
         && (not (sym (has-where posted k d within) i) && charged entry)))
         ∙ sym (those-where (λ bytes. not (is_dated_after last bytes))
@@ -207,7 +189,7 @@ module _ {naming : Naming} {rulings : Rulings} {entries : List Entry} {total : �
         where-agree _ (λ e. not (has now (bytes_of e)) && posted e) entries
         (λ k d within.
         let entry = get_or entries k d in
-        taken_is (charged entry) (posted entry) (new_entry entry)
+        (shares_are (charged entry) (posted entry) (new_entry entry)).2
         ∙ ap (λ b. not b && posted entry) (sym (has-where charged k d within)))
         ∙ sym (those-where (λ bytes. not (has now bytes)) posted entries)
 

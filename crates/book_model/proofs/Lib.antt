@@ -2,6 +2,7 @@
 -- sound books, and what is read by two rulings; and last, whole histories.
 pub mod ListLemmas
 pub mod SumsAlike
+pub mod SumLemmas
 pub mod SetLemmas
 pub mod RecordSets
 pub mod MapLemmas

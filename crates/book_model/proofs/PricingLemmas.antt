@@ -1,8 +1,9 @@
 -- Prices by the tariff in force: the latest that has begun.
-use Rattle.std.proofs.Common.{◌≡◌, ℕ, List, [], ◌∷◌, ◌++◌, refl, sym, ap, cond, true, false, Bool}
+use Rattle.std.proofs.Common.{◌≡◌, ℕ, List, [], ◌∷◌, ◌++◌, ap, cond, true, false, Bool}
 use Rattle.std.proofs.Common.{not, Option, Some, None, arith}
 use Rattle.std.specs.Prelude.{ℤ, int_lt, filter}
 use Rattle.std.specs.Option.{option_map}
+use Rattle.std.proofs.lemmas.Bool.{not-false}
 use Rattle.std.proofs.lemmas.Cmp.{nat_list_cmp_total}
 use Rattle.std.proofs.lemmas.Map.Lookups.{exact_bytes}
 use Rattle.tariff_rules.specs.Terms.{Terms}
@@ -47,11 +48,6 @@ pub earlier_prices_stay : EarlierPricesStay
 earlier_prices_stay rulings text terms bytes before = price_in-behind rulings text terms bytes
     (grind arith)
 
--- what is not false is true
-not_false : (b : Bool) → not b ≡ false → b ≡ true
-not_false true e = refl
-not_false false e = sym e
-
 -- where no record that is held is dated on a tariff's first day or after it, their prices stay
 pub held_prices_stay : (rulings : Rulings) (held : Records) (text : Option (List ℕ)) (terms : Terms)
     → has_dated terms.effective held ≡ false
@@ -61,4 +57,4 @@ held_prices_stay rulings held text terms undated bytes there =
     let late : List ℕ → Bool = λ other. not (int_lt (day_of other) terms.effective) in
     let early = fails_too nat_list_cmp_total exact_bytes late held bytes undated there in
     price_in-behind rulings text terms bytes
-    (not_false (int_lt (day_of bytes) terms.effective) early)
+    (not-false (int_lt (day_of bytes) terms.effective) early)

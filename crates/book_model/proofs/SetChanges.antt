@@ -43,21 +43,21 @@ not_new s a b there new =
       | false ↦ λ e. refl
     ] refl
 
--- no member passes a test that each member fails
+-- none of some records passes a test that each of them fails
+pub none_among : (p : List ℕ → Bool) (ks : List (List ℕ))
+    → ((bytes : List ℕ) → list_any (is bytes) ks ≡ true → p bytes ≡ false) → list_any p ks ≡ false
+none_among p [] fails = refl
+none_among p (k ∷ ks) fails =
+    let first = fails k (ap (λ b. b || list_any (is k) ks) (is_itself k)) in
+    let rest = none_among p ks (λ bytes in_it.
+    fails bytes (ap (λ b. is bytes k || b) in_it ∙ or-true (is bytes k))) in
+    λ i. first i || rest i
+
+-- so no member passes a test that each member fails
 pub none_passes : (p : List ℕ → Bool) (s : Records)
     → ((bytes : List ℕ) → has s bytes ≡ true → p bytes ≡ false) → list_any p (members s) ≡ false
 none_passes p s fails =
-    among (members s) (λ bytes in_it. fails bytes (fin.contains_key-keys s bytes ∙ in_it))
-  where
-    among : (ks : List (List ℕ))
-        → ((bytes : List ℕ) → list_any (is bytes) ks ≡ true → p bytes ≡ false)
-        → list_any p ks ≡ false
-    among [] fails = refl
-    among (k ∷ ks) fails =
-        let first = fails k (ap (λ b. b || list_any (is k) ks) (is_itself k)) in
-        let rest = among ks (λ bytes in_it.
-        fails bytes (ap (λ b. is bytes k || b) in_it ∙ or-true (is bytes k))) in
-        λ i. first i || rest i
+    none_among p (members s) (λ bytes in_it. fails bytes (fin.contains_key-keys s bytes ∙ in_it))
 
 -- the members of a set with one more are its members and that one, in some order
 pub members_with : (s : Records) (k : List ℕ) → has s k ≡ false

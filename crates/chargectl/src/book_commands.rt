@@ -39,6 +39,26 @@ impl<R: Read + Drop, W: Write + Drop> Visit for Question<R, W> {
     }
 }
 
+/// Asks the books of a name, and writes what they answer.
+fn ask_books<S: Shelf, R: Read + Drop, O: Write + Drop>(
+    rt: &HostRuntime,
+    shelf: &S,
+    book: &str,
+    asked: Asked,
+    input: R,
+    output: O,
+) -> Result<Answer, Trouble>
+    requires { IsAskableAnew asked }
+{
+    let question = Question {
+        alloc: rt.alloc(),
+        asked,
+        input,
+        output,
+    };
+    shelf.open(book, question)?
+}
+
 /// Hands in a tariff.
 pub(crate) fn tariff<S: Shelf, O: Write + Drop>(
     rt: &HostRuntime,
@@ -48,13 +68,8 @@ pub(crate) fn tariff<S: Shelf, O: Write + Drop>(
     output: O,
 ) -> Result<(), Trouble> {
     shelf.expect(book)?;
-    let question = Question {
-        alloc: rt.alloc(),
-        asked: Asked::Tariff(tariff_text(rt, file)?),
-        input: io::empty(),
-        output,
-    };
-    shelf.open(book, question)??;
+    let asked = Asked::Tariff(tariff_text(rt, file)?);
+    ask_books(rt, shelf, book, asked, io::empty(), output)?;
     Ok(())
 }
 
@@ -87,13 +102,8 @@ pub(crate) fn close<S: Shelf, O: Write + Drop>(
         return Err(Trouble::Word);
     };
     shelf.expect(book)?;
-    let question = Question {
-        alloc: rt.alloc(),
-        asked: Asked::Close { period, through },
-        input: io::empty(),
-        output,
-    };
-    shelf.open(book, question)??;
+    let asked = Asked::Close { period, through };
+    ask_books(rt, shelf, book, asked, io::empty(), output)?;
     Ok(())
 }
 
@@ -106,13 +116,9 @@ pub(crate) fn import_dump<S: Shelf, O: Write + Drop>(
     output: O,
 ) -> Result<(), Trouble> {
     shelf.expect(book)?;
-    let question = Question {
-        alloc: rt.alloc(),
-        asked: Asked::Import(dump.layout),
-        input: watched(rt, dump)?,
-        output,
-    };
-    match shelf.open(book, question)?? {
+    let asked = Asked::Import(dump.layout);
+    let input = watched(rt, dump)?;
+    match ask_books(rt, shelf, book, asked, input, output)? {
         Answer::Receipt(receipt) => ended(receipt.stop),
         Answer::Ruled(_) | Answer::Text(_) => Ok(()),
     }
@@ -134,12 +140,7 @@ pub(crate) fn report<S: Shelf, O: Write + Drop>(
     output: O,
 ) -> Result<(), Trouble> {
     shelf.expect(book)?;
-    let question = Question {
-        alloc: rt.alloc(),
-        asked: Asked::Report(report),
-        input: io::empty(),
-        output,
-    };
-    shelf.open(book, question)??;
+    let asked = Asked::Report(report);
+    ask_books(rt, shelf, book, asked, io::empty(), output)?;
     Ok(())
 }

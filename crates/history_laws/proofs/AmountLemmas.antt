@@ -7,13 +7,13 @@ use Rattle.book_model.specs.Words.{Period, period_by, Event, book_after, Records
 use Rattle.book_model.specs.Words.{rows_for, Rulings, prices, price_in, members, total_of}
 use Rattle.book_model.specs.Words.{all_periods, charged_of, AreDatedBy}
 use Rattle.book_model.proofs.SetLemmas.{members-empty}
+use Rattle.book_model.proofs.SumLemmas.{sum_by-plus}
+use Rattle.book_model.proofs.SumsAlike.{sum_by-filter_map}
 use Rattle.history_laws.specs.Amounts.{rows_amount, added_amount, taken_amount}
 use Rattle.history_laws.specs.Laws.{ConservedInSets}
-use Rattle.history_laws.proofs.PeriodLemmas.{all_nets}
+use Rattle.history_laws.proofs.PeriodLemmas.{net, all_nets}
 use Rattle.history_laws.proofs.RowSums.{sum_by-rows_of}
 use Rattle.history_laws.proofs.SetSums.{over, one_period}
-use Rattle.book_model.proofs.SumsAlike.{sum_by-filter_map}
-use Rattle.history_laws.proofs.SumLemmas.{net, sum_by-plus}
 
 module _ (rulings : Rulings) where
   -- what a record costs, or nothing

@@ -1,10 +1,10 @@
 -- A closed period is read alike from then on.
 use Rattle.std.proofs.Common.{◌≡◌, ℕ, ◌-◌, ◌<◌, List, [], ◌∷◌, ◌++◌, length, refl, sym, ap}
-use Rattle.std.proofs.Common.{◌∙◌, subst, get_or, arith, true, false, Option, Some, None, Ok, ◌≢◌}
-use Rattle.std.specs.Prelude.{ℤ, slice_get, ◌==◌, if◌then◌else◌}
+use Rattle.std.proofs.Common.{◌∙◌, subst, get_or, arith, Option, Some, None, Ok}
+use Rattle.std.specs.Prelude.{ℤ, slice_get, if◌then◌else◌}
 use Rattle.std.specs.List.{list_any}
 use Rattle.std.specs.Option.{ok_or, option_map}
-use Rattle.std.proofs.lemmas.Bool.{eqb-true}
+use Rattle.std.proofs.lemmas.Bool.{ne_eqb}
 use Rattle.std.proofs.lemmas.List.{length-append}
 use Rattle.std.proofs.lemmas.Option.{slice_get-get_or}
 use Rattle.book_model.specs.Words.{Terms, IsAnswered, Book, open_number, open_period, period_of}
@@ -22,14 +22,6 @@ use Rattle.book_model.proofs.SoundLemmas.{undated}
 use Rattle.history_laws.specs.Closed.{IsClosed, IsReadAlike}
 use Rattle.history_laws.specs.Laws.{ClosedStays}
 
--- numbers that differ are told apart
-apart : (a b : ℕ) → a ≢ b → (a == b) ≡ false
-apart a b differ =
-    elim (a == b) as (λ t. (a == b) ≡ t → t ≡ false) [
-      | true ↦ λ tied. absurd (differ (eqb-true a b tied))
-      | false ↦ λ told. refl
-    ] refl
-
 -- a closed period stands among those that are past
 found_past : (number : ℕ) (book : Book) → IsClosed number book
     → period_of book number ≡ slice_get book.past (number - 1)
@@ -38,8 +30,8 @@ found_past number book closed =
     let past = closed.is_past in
     let current : Option Period = Some (open_period book) in
     let found : Option Period = slice_get book.past (number - 1) in
-    let is_one = apart number 0 (λ none. omega arith) in
-    let is_not_open = apart number (open_number book) (λ last. omega arith) in
+    let is_one = ne_eqb number 0 (λ none. omega arith) in
+    let is_not_open = ne_eqb number (open_number book) (λ last. omega arith) in
     λ i. if is_one i then None else if is_not_open i then current else found
 
 -- so there is one

@@ -22,6 +22,7 @@ use Rattle.book_model.specs.declared.line.Line.{Line}
 use Rattle.book_model.specs.Words.{plus_first, by_line, lines_for, lines_of, Period, Records}
 use Rattle.book_model.specs.Words.{Naming, name_of, by_bytes, Rulings, price_in, members, has}
 use Rattle.book_model.specs.Words.{total_of}
+use Rattle.book_model.proofs.SetChanges.{none_among}
 use Rattle.book_model.proofs.SetLemmas.{members_rise}
 use Rattle.book_model.proofs.PermutedSets.{Apart, apart_from_distinct, members_permuted}
 use Rattle.book_model.proofs.LineOrder.{by_line_total, name_ties, line_by, line_of}
@@ -42,17 +43,6 @@ any-given p give (x ∷ xs) =
       | Some y ↦ ap (λ b. p y || b) rest
     ]
 
--- none of some records passes a test that each of them fails
-none-among : (p : List ℕ → Bool) (ks : List (List ℕ))
-    → ((k : List ℕ) → list_any (is k) ks ≡ true → p k ≡ false) → list_any p ks ≡ false
-none-among p [] fails = refl
-none-among p (k ∷ ks) fails =
-    let first = fails k (ap (λ b. b || list_any (is k) ks) (is_itself k)) in
-    let rest =
-    none-among p ks
-    (λ other among. fails other (ap (λ b. is other k || b) among ∙ or-true (is other k))) in
-    λ i. first i || rest i
-
 -- what a partial function gives of records that are apart is apart, where it tells them apart
 given-apart : {Y : Type 0} (e : Y → Y → Bool) (give : List ℕ → Option Y) (ks : List (List ℕ))
     → ((a b : List ℕ) → list_any (is a) ks ≡ true → list_any (is b) ks ≡ true
@@ -70,7 +60,7 @@ given-apart {Y} e give (k ∷ ks) tells apart =
       | None ↦ λ none. rest
       | Some y ↦ λ some. (
         any-given (e y) give ks
-            ∙ none-among (λ other. option_map_or (e y) (give other) false) ks (λ other among.
+            ∙ none_among (λ other. option_map_or (e y) (give other) false) ks (λ other among.
             elim (give other) as (λ given. give other ≡ given → option_map_or (e y) given false
             ≡ false) [
               | None ↦ λ none. refl

@@ -1,8 +1,9 @@
 -- What the periods of a history give and take, each by what is charged before it and at its end.
 use Rattle.std.proofs.Common.{◌≡◌, ℕ, ◌+◌, List, [], ◌∷◌, ◌++◌, sym, ap, ◌∙◌}
 use Rattle.std.proofs.Common.{true≢false, Option, None, is_some, arith}
-use Rattle.std.specs.Prelude.{All, sum_by, ℤ}
+use Rattle.std.specs.Prelude.{All, sum_by, ℤ, pos, ◌-ℤ◌}
 use Rattle.std.specs.FinMap as map
+use Rattle.std.proofs.lemmas.Int.{ints}
 use Rattle.std.proofs.lemmas.List.Elements.{All-nil, All-cons, All-append}
 use Rattle.std.proofs.lemmas.List.Sums.{sum_by_push}
 use Rattle.book_model.specs.Words.{Period, period_by, Book, all_periods, charged_of, is_dated_after}
@@ -10,6 +11,10 @@ use Rattle.book_model.specs.Words.{charged_through, Event, RecordKept, TariffAcc
 use Rattle.book_model.specs.Words.{book_after, Records, by_bytes, last_close, AreDatedBy}
 use Rattle.book_model.proofs.ListLemmas.{last_or-behind}
 use Rattle.book_model.proofs.SoundLemmas.{through_dated}
+
+-- a difference of what is given and taken
+pub net : (given taken rest : ℕ) → given ≡ rest + taken → pos given -ℤ pos taken ≡ pos rest
+net given taken rest is = omega (arith, ints)
 
 -- what was charged at the last close is not dated after it
 pub posted_dated : (history : List Event)
@@ -24,12 +29,23 @@ posted_dated (PeriodClosed day ∷ older) bytes there =
     ∙ through_dated book.rulings day book.held bytes there
 
 -- If each period gives and takes the difference of what stands charged before it and at its end,
--- then all
--- periods give what stands charged now, and what they take.
+-- then all periods give what stands charged now, and what they take.
 module _ (given taken : Period → ℕ) (standing : Records → ℕ) (none : standing map.empty ≡ 0)
     (one_period : (last : Option ℤ) (before charged : Records) → AreDatedBy last before
     → given (period_by last before charged) + standing before
     ≡ standing charged + taken (period_by last before charged)) where
+  -- one period more
+  nets_with : (periods : List Period) (last : Option ℤ) (before charged : Records)
+      → AreDatedBy last before → sum_by given periods ≡ standing before + sum_by taken periods
+      → sum_by given (periods ++ period_by last before charged ∷ [])
+      ≡ standing charged + sum_by taken (periods ++ period_by last before charged ∷ [])
+  nets_with periods last before charged old nets =
+      let all_given = sum_by_push given periods (period_by last before charged) in
+      let all_taken = sum_by_push taken periods (period_by last before charged) in
+      let period = one_period last before charged old in
+      omega arith
+
+  -- the closed periods
   pub past_nets : (history : List Event)
       → sum_by given (book_after history).past
       ≡ standing (book_after history).posted + sum_by taken (book_after history).past
@@ -38,31 +54,22 @@ module _ (given taken : Period → ℕ) (standing : Records → ℕ) (none : sta
   past_nets (TariffAccepted text terms ∷ older) = past_nets older
   past_nets (PeriodClosed day ∷ older) =
       let book : Book = book_after older in
-      let charged : Records = charged_through book.rulings day book.held in
-      let ended : Period = period_by (last_close book.rulings) book.posted charged in
-      let all_given = sum_by_push given book.past ended in
-      let all_taken = sum_by_push taken book.past ended in
-      let before = past_nets older in
-      let period = one_period (last_close book.rulings) book.posted charged (posted_dated older) in
-      omega arith
+      nets_with book.past (last_close book.rulings) book.posted
+      (charged_through book.rulings day book.held) (posted_dated older) (past_nets older)
 
+  -- and all periods
   pub all_nets : (history : List Event)
       → sum_by given (all_periods (book_after history))
       ≡ standing (charged_of (book_after history)) + sum_by taken (all_periods (book_after history))
   all_nets history =
       let book : Book = book_after history in
-      let charged : Records = charged_of book in
-      let current : Period = period_by (last_close book.rulings) book.posted charged in
-      let all_given = sum_by_push given book.past current in
-      let all_taken = sum_by_push taken book.past current in
-      let before = past_nets history in
-      let period = one_period (last_close book.rulings) book.posted charged
-      (posted_dated history) in
-      omega arith
+      nets_with book.past (last_close book.rulings) book.posted (charged_of book)
+      (posted_dated history) (past_nets history)
 
 -- what holds of each period that some sets of records make holds of all periods
 module _ (P : Period → Type 0)
     (one : (last : Option ℤ) (before charged : Records) → P (period_by last before charged)) where
+  -- one period more
   one_more : (periods : List Period) (last : Option ℤ) (before charged : Records) → All P periods
       → All P (periods ++ period_by last before charged ∷ [])
   one_more periods last before charged all =
@@ -70,6 +77,7 @@ module _ (P : Period → Type 0)
       All-append P periods (period ∷ []) all
       (All-cons P period [] (one last before charged) (All-nil P))
 
+  -- the closed periods
   past_hold : (history : List Event) → All P (book_after history).past
   past_hold [] = All-nil P
   past_hold (RecordKept new ∷ older) = past_hold older
@@ -79,6 +87,7 @@ module _ (P : Period → Type 0)
       one_more book.past (last_close book.rulings) book.posted
       (charged_through book.rulings day book.held) (past_hold older)
 
+  -- and all periods
   pub all_hold : (history : List Event) → All P (all_periods (book_after history))
   all_hold history =
       let book : Book = book_after history in

@@ -1,17 +1,19 @@
 -- What is read of a sound book: its lines, each once; and the balance of rows and lines.
 use Rattle.std.proofs.Common.{◌≡◌, ℕ, ◌+◌, List, [], ◌∷◌, length, refl, ap, ◌∙◌, true, false, Bool}
-use Rattle.std.proofs.Common.{◌||◌, suc, Some, None, is_some, arith}
-use Rattle.std.specs.Prelude.{All, sum_by}
+use Rattle.std.proofs.Common.{◌||◌, suc, Some, None, is_some, arith, sym}
+use Rattle.std.specs.Prelude.{All, sum, sum_by}
 use Rattle.std.specs.FinMap as map
 use Rattle.std.specs.List.{list_any, filter_map, cons_option}
 use Rattle.std.proofs.Math.Bool.{or-true}
 use Rattle.std.proofs.lemmas.List.{length-append}
-use Rattle.std.proofs.lemmas.List.Elements.{All-nil, All-cons, All-head, All-tail, All-append}
+use Rattle.std.proofs.lemmas.List.Elements.{All-nil, All-cons, All-append, All-weaker}
+use Rattle.std.proofs.lemmas.List.Folds.{fold-map}
 use Rattle.std.proofs.lemmas.List.Sorted.{length_permutation}
-use Rattle.std.proofs.lemmas.List.Sums.{sum_by-cons}
+use Rattle.book_model.specs.declared.line.Line.{Line}
 use Rattle.book_model.specs.Words.{Period, Book, open_period, all_periods, charged_of}
 use Rattle.book_model.specs.Words.{is_undisputed, book_after, lines_of, Records, Naming, name_of}
 use Rattle.book_model.specs.Words.{price_in, last_close, members, has, total_of, IsSound, AreHeld}
+use Rattle.book_model.proofs.ListLemmas.{map-agree}
 use Rattle.book_model.proofs.RecordSets.{is, is_itself, in_those}
 use Rattle.book_model.proofs.SoundLemmas.{period_held}
 use Rattle.history_laws.specs.Amounts.{rows_amount, plus_of, minus_of, plus_amount, minus_amount}
@@ -22,25 +24,15 @@ use Rattle.history_laws.specs.Laws.{Conserved, LinesOnce}
 use Rattle.history_laws.proofs.AmountLemmas.{all_balance}
 use Rattle.book_model.proofs.LineOrder.{line_of, line_by}
 use Rattle.history_laws.proofs.LineLemmas.{read_once, plus_cost, minus_cost}
-use Rattle.history_laws.proofs.SumLemmas.{net}
+use Rattle.history_laws.proofs.PeriodLemmas.{net}
 
 -- sums of numbers that agree on each element
 sum_by-agree : {X : Type 0} (f g : X → ℕ) (xs : List X) → All (λ x. f x ≡ g x) xs
     → sum_by f xs ≡ sum_by g xs
-sum_by-agree f g [] agree = refl
-sum_by-agree f g (x ∷ xs) agree =
-    let first = All-head (λ x. f x ≡ g x) x xs agree in
-    let rest = sum_by-agree f g xs (All-tail (λ x. f x ≡ g x) x xs agree) in
-    let one = sum_by-cons f x xs in
-    let other = sum_by-cons g x xs in
-    omega arith
-
--- what holds of each element of a list follows from what does
-All-follows : {X : Type 0} (P Q : X → Type 0) → ((x : X) → P x → Q x) → (xs : List X) → All P xs
-    → All Q xs
-All-follows P Q so [] all = All-nil Q
-All-follows P Q so (x ∷ xs) all = All-cons Q x xs (so x (All-head P x xs all))
-    (All-follows P Q so xs (All-tail P x xs all))
+sum_by-agree f g xs agree =
+    sym (fold-map (λ a n. a + n) f 0 xs)
+    ∙ ap sum (map-agree f g xs agree)
+    ∙ fold-map (λ a n. a + n) g 0 xs
 
 module _ (naming : Naming) (book : Book) (sound : IsSound naming book) where
   -- what the open period speaks of is held too
@@ -63,24 +55,30 @@ module _ (naming : Naming) (book : Book) (sound : IsSound naming book) where
       → name_of naming a ≡ name_of naming b → a ≡ b
   named records held a b one two same = sound.named a b (held a one) (held b two) same
 
-  -- the lines of each period amount to what the records cost
+  -- where some lines of each period amount to what some of its records cost, so do those of all
+  amounts_cost : (amount : List Line → ℕ) (named_by : Period → Records)
+      → ((period : Period) → AreHeld book.held period
+      → amount (lines_of naming book.rulings period) ≡ total_of book.rulings (named_by period))
+      → sum_by (λ period. amount (lines_of naming book.rulings period)) (all_periods book)
+      ≡ sum_by (λ period. total_of book.rulings (named_by period)) (all_periods book)
+  amounts_cost amount named_by cost =
+      sum_by-agree (λ period. amount (lines_of naming book.rulings period))
+      (λ period. total_of book.rulings (named_by period)) (all_periods book)
+      (All-weaker (AreHeld book.held) _ cost (all_periods book) all_held)
+
+  -- so the plus lines amount to what the records cost that are added
   plus_costs : plus_amount naming book.rulings (all_periods book)
       ≡ added_amount book.rulings (all_periods book)
-  plus_costs =
-      sum_by-agree (λ period. plus_of (lines_of naming book.rulings period))
-      (λ period. total_of book.rulings period.added) (all_periods book)
-      (All-follows (AreHeld book.held) _ (λ period held.
+  plus_costs = amounts_cost plus_of (λ period. period.added) (λ period held.
       plus_cost naming book.rulings period (named period.added held.added)
-      (named period.taken held.taken)) (all_periods book) all_held)
+      (named period.taken held.taken))
 
+  -- and the minus lines to what those cost that are taken back
   minus_costs : minus_amount naming book.rulings (all_periods book)
       ≡ taken_amount book.rulings (all_periods book)
-  minus_costs =
-      sum_by-agree (λ period. minus_of (lines_of naming book.rulings period))
-      (λ period. total_of book.rulings period.taken) (all_periods book)
-      (All-follows (AreHeld book.held) _ (λ period held.
+  minus_costs = amounts_cost minus_of (λ period. period.taken) (λ period held.
       minus_cost naming book.rulings period (named period.added held.added)
-      (named period.taken held.taken)) (all_periods book) all_held)
+      (named period.taken held.taken))
 
   -- each record that has a price has a line
   lines_long : (plus : Bool) (ks : List (List ℕ))
@@ -130,7 +128,7 @@ module _ (naming : Naming) (book : Book) (sound : IsSound naming book) where
 -- the law of it
 pub lines_once : LinesOnce
 lines_once naming book sound =
-    All-follows (AreHeld book.held) (λ period. AreReadOnce naming book.rulings period)
+    All-weaker (AreHeld book.held) (λ period. AreReadOnce naming book.rulings period)
     (each_read_once naming book sound) (all_periods book) (all_held naming book sound)
 
 -- the amounts of rows and lines, as they are read, are conserved

@@ -1,22 +1,19 @@
 -- Charge rows sum what all prices sum to.
-use Rattle.std.proofs.Common.{◌≡◌, ℕ, ◌+◌, List, [], ◌∷◌, refl, sym, ap, ◌∙◌, subst, true, Bool}
+use Rattle.std.proofs.Common.{◌≡◌, ℕ, ◌+◌, List, [], ◌∷◌, refl, sym, ap, ◌∙◌, true, Bool}
 use Rattle.std.proofs.Common.{cond, ◌||◌, map, arith, length}
 use Rattle.std.specs.Prelude.{filter, sum_by}
 use Rattle.std.specs.Cmp.{IsEquivalence}
 use Rattle.std.specs.List.{list_any, IsDistinct}
-use Rattle.std.specs.Ordering.{eq_by_cmp}
 use Rattle.std.proofs.Math.Bool.{or-true}
-use Rattle.std.proofs.lemmas.Cmp.{eq_by_cmp_equiv}
 use Rattle.std.proofs.lemmas.List.Folds.{fold-map}
 use Rattle.std.proofs.lemmas.List.Sums.{sum_by-cons, length-filter}
-use Rattle.std.proofs.lemmas.Map.Keys.{IsDistinct-from_sorted}
 use Rattle.tariff_rules.specs.declared.priced.Priced.{Priced}
-use Rattle.book_model.specs.Words.{key_of, by_key, same_key, row_at, keys_of, rows_of, set_of}
-use Rattle.book_model.proofs.RowLemmas.{same_key_ties, by_key_total}
-use Rattle.book_model.proofs.ListLemmas.{count_by-distinct}
-use Rattle.book_model.proofs.SetLemmas.{any_tied-members, members_rise}
+use Rattle.book_model.specs.Words.{key_of, same_key, row_at, keys_of, rows_of}
+use Rattle.book_model.proofs.RowLemmas.{by_key_total, same_key_is, same_key_laws, keys_distinct}
+use Rattle.book_model.proofs.ListLemmas.{list_any-map, count_by-distinct}
+use Rattle.book_model.proofs.SetLemmas.{any_tied-members}
+use Rattle.book_model.proofs.SumLemmas.{sum_by-exchange}
 use Rattle.book_model.proofs.SumsAlike.{sum_by-filter}
-use Rattle.history_laws.proofs.SumLemmas.{sum_by-exchange}
 
 -- a number for each element of a list of one
 sum_by-one : {X : Type 0} (n : ℕ) (xs : List X) → length xs ≡ 1 → sum_by (λ _. n) xs ≡ n
@@ -63,26 +60,16 @@ module _ {X K : Type 0} {eq : K → K → Bool} (laws : IsEquivalence eq) (ks : 
       ∙ sum_by-exchange share ks xs
       ∙ at_their_keys xs there
 
--- one of a list passes a test of its key where one of the keys does
-any-keys : {X K : Type 0} (p : K → Bool) (key : X → K) (xs : List X)
-    → list_any p (map key xs) ≡ list_any (λ x. p (key x)) xs
-any-keys p key [] = refl
-any-keys p key (x ∷ xs) = ap (λ b. p (key x) || b) (any-keys p key xs)
-
 -- the rows of some prices amount to what the prices do
 pub sum_by-rows_of : (priced : List Priced) → sum_by (λ row. row.amount) (rows_of priced)
     ≡ sum_by (λ one. one.amount) priced
 sum_by-rows_of priced =
     let keys = keys_of priced in
-    let same : same_key ≡ eq_by_cmp by_key = λ i a b. same_key_ties a b i in
-    let laws = subst IsEquivalence (sym same) (eq_by_cmp_equiv by_key_total) in
-    let rising = members_rise by_key_total (set_of by_key (map key_of priced)) in
-    let apart = subst (λ eq. IsDistinct eq keys) (sym same)
-    (IsDistinct-from_sorted by_key keys rising) in
     fold-map (λ n row. n + row.amount) (row_at priced) 0 keys
-    ∙ sum_by-keys laws keys apart key_of (λ one. one.amount) priced (λ one among.
-    (λ i. list_any (same i (key_of one)) keys)
+    ∙ sum_by-keys same_key_laws keys (keys_distinct priced) key_of (λ one. one.amount) priced
+    (λ one among.
+    (λ i. list_any (same_key_is i (key_of one)) keys)
     ∙ any_tied-members by_key_total (map key_of priced) (key_of one)
-    ∙ (λ i. list_any (sym same i (key_of one)) (map key_of priced))
-    ∙ any-keys (same_key (key_of one)) key_of priced
+    ∙ (λ i. list_any (sym same_key_is i (key_of one)) (map key_of priced))
+    ∙ list_any-map (same_key (key_of one)) key_of priced
     ∙ among)

@@ -18,7 +18,7 @@ use Rattle.book_model.proofs.RecordSets.{is, has_those}
 use Rattle.history_laws.specs.Net.{one_if, net_count}
 use Rattle.history_laws.specs.Tried.{past_by, ChargedOnceBy, as_defined, no_minus, counts_early}
 use Rattle.history_laws.specs.Tried.{adds_late, WrongOnesFail}
-use Rattle.history_laws.proofs.NetLemmas.{charged_once}
+use Rattle.history_laws.proofs.NetLemmas.{has_without, in_counted, in_added, charged_once}
 
 -- the periods of the book are made as they are defined
 past_is : (history : List Event) → past_by as_defined history ≡ (book_after history).past
@@ -104,25 +104,24 @@ now_disputed rulings =
     (other ∷ one ∷ [])) (they_conflict rulings)
 
 -- who is counted, added and taken back
-in_counted : (close : Option ℤ) (before charged : Records) (now : Bool) → has charged one ≡ now
+one_counted : (close : Option ℤ) (before charged : Records) (now : Bool) → has charged one ≡ now
     → has (period_by close before charged).counted one ≡ (is_dated_after close one && now)
-in_counted close before charged now is_now = has_those (is_dated_after close) charged one
-    ∙ ap (λ b. is_dated_after close one && b) is_now
+one_counted close before charged now is_now =
+    in_counted close before charged one ∙ ap (λ b. is_dated_after close one && b) is_now
 
-in_fresh : (before charged : Records) (stood now : Bool) → has before one ≡ stood
+one_fresh : (before charged : Records) (stood now : Bool) → has before one ≡ stood
     → has charged one ≡ now
     → has (without charged before) one ≡ (not stood && now)
-in_fresh before charged stood now stood_is is_now = has_those (λ b. not (has before b)) charged one
-    ∙ (λ i. not (stood_is i) && is_now i)
+one_fresh before charged stood now stood_is is_now =
+    has_without charged before one ∙ (λ i. not (stood_is i) && is_now i)
 
-in_added : (close : Option ℤ) (before charged : Records) (stood now : Bool) → has before one ≡ stood
-    → has charged one ≡ now
+one_added : (close : Option ℤ) (before charged : Records) (stood now : Bool)
+    → has before one ≡ stood → has charged one ≡ now
     → has (period_by close before charged).added one
     ≡ (not (is_dated_after close one) && (not stood && now))
-in_added close before charged stood now stood_is is_now =
-    has_those (λ b. not (is_dated_after close b)) (without charged before) one
-    ∙ ap (λ b. not (is_dated_after close one) && b)
-    (in_fresh before charged stood now stood_is is_now)
+one_added close before charged stood now stood_is is_now =
+    in_added close before charged one
+    ∙ (λ i. not (is_dated_after close one) && (not (stood_is i) && is_now i))
 
 -- a net count of two periods, by their sets
 of_two : (p q : Period) (c d a b t u charged now : Bool)
@@ -154,9 +153,9 @@ added_fails law =
     let now = now_charged book.rulings in
     let twice =
     of_one (adds_late None before charged) true true false (has charged one) true
-    (in_counted None before charged true now)
-    (in_fresh before charged false true (nobody one) now)
-    (in_fresh charged before true false now (nobody one))
+    (one_counted None before charged true now)
+    (one_fresh before charged false true (nobody one) now)
+    (one_fresh charged before true false now (nobody one))
     now (law (RecordKept one ∷ []) one) in
     absurd (omega (arith, ints))
 
@@ -173,11 +172,11 @@ counted_fails law =
     of_two (counts_early None first.posted posted) (counts_early (Some last) posted charged)
     true true false false false false (has charged one) true
     was now
-    (in_added None first.posted posted false true (nobody one) was)
-    (in_added (Some last) posted charged true true was now
+    (one_added None first.posted posted false true (nobody one) was)
+    (one_added (Some last) posted charged true true was now
     ∙ and-false (not (is_dated_after (Some last) one)))
-    (in_fresh posted first.posted true false was (nobody one))
-    (in_fresh charged posted true true now was)
+    (one_fresh posted first.posted true false was (nobody one))
+    (one_fresh charged posted true true now was)
     now (law (PeriodClosed last ∷ RecordKept one ∷ []) one) in
     absurd (omega (arith, ints))
 
@@ -195,10 +194,10 @@ minus_fails law =
     let stays =
     of_two (no_minus None first.posted posted) (no_minus (Some last) posted charged)
     true false false false false false (has charged one) false
-    (in_counted None first.posted posted true was)
-    (in_counted (Some last) posted charged false now ∙ and-false early)
-    (in_added None first.posted posted false true (nobody one) was)
-    (in_added (Some last) posted charged true false was now ∙ and-false (not early))
+    (one_counted None first.posted posted true was)
+    (one_counted (Some last) posted charged false now ∙ and-false early)
+    (one_added None first.posted posted false true (nobody one) was)
+    (one_added (Some last) posted charged true false was now ∙ and-false (not early))
     (nobody one) (nobody one)
     now (law (RecordKept other ∷ PeriodClosed last ∷ RecordKept one ∷ []) one) in
     absurd (omega (arith, ints))

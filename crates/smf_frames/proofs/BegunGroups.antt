@@ -87,37 +87,44 @@ push_short segments segment may = omega (
   may.short,
 )
 
+-- The kinds of a group with a segment more: what is to be true of them is true of the kind of the
+-- segment where it comes first, and of the kinds of a begun group with that kind where it comes
+-- later.
+kinds_push : (P : List SegmentKind → Type 0) (lone later : SegmentKind) → P (lone ∷ [])
+    → ((head : SegmentKind) (rest : List SegmentKind) → AreBegun (head ∷ rest)
+    → P (head ∷ rest ++ later ∷ []))
+    → (segments : List (List ℕ)) (segment : List ℕ)
+    → (not (begins_record (kind_of segment)) ≡ false → kind_of segment ≡ lone)
+    → (begins_record (kind_of segment) ≡ false → kind_of segment ≡ later)
+    → AreBegun (map kind_of segments) → MayJoin (data_in segments) segment
+    → P (map kind_of (segments ++ segment ∷ []))
+kinds_push P lone later one more [] segment is_lone is_later begun may =
+    subst (λ k. P (k ∷ [])) (sym (is_lone may.joins)) one
+kinds_push P lone later one more (first ∷ rest) segment is_lone is_later begun may =
+    subst (λ ks. P (kind_of first ∷ ks)) (sym (map_push kind_of rest segment))
+    (subst (λ k. P (kind_of first ∷ map kind_of rest ++ k ∷ [])) (sym (is_later may.begins))
+    (more (kind_of first) (map kind_of rest) begun))
+
 -- where the record goes on, the group is still begun
 pub group_goes_on : (segments : List (List ℕ)) (segment : List ℕ) → IsBegunGroup segments
     → MayJoin (data_in segments) segment
     → goes_on (kind_of segment) ≡ true → IsBegunGroup (segments ++ segment ∷ [])
-group_goes_on segments segment begun may on = record
-    { kinds = kinds segments begun.kinds may; short = push_short segments segment may }
-  where
-    kinds : (segments : List (List ℕ)) → AreBegun (map kind_of segments)
-        → MayJoin (data_in segments) segment → AreBegun (map kind_of (segments ++ segment ∷ []))
-    kinds [] begun may = subst (λ k. AreBegun (k ∷ []))
-        (sym ((first_kind (kind_of segment) may.joins).0 on))
-        (spanning [] (All-nil (λ k. k ≡ Between)))
-    kinds (first ∷ rest) begun may =
-        subst (λ k. AreBegun (kind_of first ∷ k)) (sym (map_push kind_of rest segment))
-        (subst (λ k. AreBegun (kind_of first ∷ map kind_of rest ++ k ∷ []))
-        (sym ((later_kind (kind_of segment) may.begins).0 on))
-        (kinds_on (map kind_of (first ∷ rest)) begun (kind_of first) (map kind_of rest) refl).0)
+group_goes_on segments segment begun may on = record {
+  kinds = kinds_push AreBegun First Between (spanning [] (All-nil (λ k. k ≡ Between)))
+      (λ head rest begun. (kinds_on (head ∷ rest) begun head rest refl).0) segments segment
+      (λ first. (first_kind (kind_of segment) first).0 on)
+      (λ later. (later_kind (kind_of segment) later).0 on) begun.kinds may;
+  short = push_short segments segment may;
+}
 
 -- where it ends, the group is whole
 pub group_ends : (segments : List (List ℕ)) (segment : List ℕ) → IsBegunGroup segments
     → MayJoin (data_in segments) segment
     → goes_on (kind_of segment) ≡ false → IsGroup (segments ++ segment ∷ [])
-group_ends segments segment begun may off = record
-    { kinds = kinds segments begun.kinds may; short = push_short segments segment may }
-  where
-    kinds : (segments : List (List ℕ)) → AreBegun (map kind_of segments)
-        → MayJoin (data_in segments) segment → AreWhole (map kind_of (segments ++ segment ∷ []))
-    kinds [] begun may =
-        subst (λ k. AreWhole (k ∷ [])) (sym ((first_kind (kind_of segment) may.joins).1 off)) alone
-    kinds (first ∷ rest) begun may =
-        subst (λ k. AreWhole (kind_of first ∷ k)) (sym (map_push kind_of rest segment))
-        (subst (λ k. AreWhole (kind_of first ∷ map kind_of rest ++ k ∷ []))
-        (sym ((later_kind (kind_of segment) may.begins).1 off))
-        (kinds_on (map kind_of (first ∷ rest)) begun (kind_of first) (map kind_of rest) refl).1)
+group_ends segments segment begun may off = record {
+  kinds = kinds_push AreWhole Complete Last alone
+      (λ head rest begun. (kinds_on (head ∷ rest) begun head rest refl).1) segments segment
+      (λ first. (first_kind (kind_of segment) first).1 off)
+      (λ later. (later_kind (kind_of segment) later).1 off) begun.kinds may;
+  short = push_short segments segment may;
+}

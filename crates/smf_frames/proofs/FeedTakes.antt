@@ -40,84 +40,74 @@ record Takes (old : Joining) (piece : List ℕ) (n : ℕ) (new : Joining) : Type
   empty : IfSome new.standing (λ _. new.held ≡ [])
   all : new.standing ≡ None → (n ≡ length piece) × (fault_held new ≡ None)
 
--- it stands after the text and those bytes
-stands_behind : (text piece : List ℕ) (old new : Joining) (n : ℕ) → StandsAfter text old
-    → Takes old piece n new → StandsAfter (text ++ take n piece) new
-stands_behind text piece old new n stands takes =
-    stands_over text (take n piece) old new stands takes.goes takes.waits takes.empty
+module _ (text piece : List ℕ) (old new : Joining) (n : ℕ) (stands : StandsAfter text old)
+    (takes : Takes old piece n new) where
+  -- it stands after the text and those bytes
+  stands_behind : StandsAfter (text ++ take n piece) new
+  stands_behind =
+      stands_over text (take n piece) old new stands takes.goes takes.waits takes.empty
 
--- and the record that stands is the one that they complete
-completes : (text piece : List ℕ) (old new : Joining) (n : ℕ) → StandsAfter text old
-    → Takes old piece n new → (front old.layout (text ++ take n piece)).records
-    ≡ (front old.layout text).records ++ option_to_list new.standing
-completes text piece old new n stands takes =
-    records_over text (take n piece) old new stands takes.goes takes.waits
+  -- and the record that stands is the one that they complete
+  completes : (front old.layout (text ++ take n piece)).records
+      ≡ (front old.layout text).records ++ option_to_list new.standing
+  completes = records_over text (take n piece) old new stands takes.goes takes.waits
 
--- where none stands then, the front is not broken
-whole_is : (text piece : List ℕ) (old new : Joining) (n : ℕ) → StandsAfter text old
-    → Takes old piece n new → new.standing ≡ None
-    → (front old.layout (text ++ piece)).is_broken ≡ false
-whole_is text piece old new n stands takes none =
-    ap (λ b. (front old.layout (text ++ b)).is_broken)
-    (sym (take_all n piece (omega (arith, (takes.all none).0))))
-    ∙ ap (λ l. (front l (text ++ take n piece)).is_broken) (sym takes.goes.layout_is)
-    ∙ unbroken_after (text ++ take n piece) new (stands_behind text piece old new n stands takes)
-    (takes.all none).1
+  -- where none stands then, the front is not broken
+  whole_is : new.standing ≡ None → (front old.layout (text ++ piece)).is_broken ≡ false
+  whole_is none =
+      ap (λ b. (front old.layout (text ++ b)).is_broken)
+      (sym (take_all n piece (omega (arith, (takes.all none).0))))
+      ∙ ap (λ l. (front l (text ++ take n piece)).is_broken) (sym takes.goes.layout_is)
+      ∙ unbroken_after (text ++ take n piece) new stands_behind (takes.all none).1
 
--- where one does, bytes were taken
-moved : (text piece : List ℕ) (old new : Joining) (n : ℕ) → StandsAfter text old
-    → Takes old piece n new → (standing : Option (List ℕ)) → new.standing ≡ standing
-    → IsSome standing → (0 < n) ⊎ (n ≤ 0) → 0 < n
-moved text piece old new n stands takes standing is some (inl more) = more
-moved text piece old new n stands takes None is some (inr nothing) =
-    absurd (let never = some in cc)
-moved text piece old new n stands takes (Some one) is some (inr nothing) =
-    let records = (front old.layout text).records in
-    let n_is : n ≡ 0 = omega arith in
-    let empty_is : take n piece ≡ [] = ap (λ m. take m piece) n_is in
-    longer records [] one
-    (append-nil (records ++ one ∷ [])
-    ∙ ap (λ s. records ++ option_to_list s) (sym is)
-    ∙ sym (completes text piece old new n stands takes)
-    ∙ ap (λ b. (front old.layout (text ++ b)).records) empty_is
-    ∙ ap (λ b. (front old.layout b).records) (append-nil text))
+  -- where one does, bytes were taken
+  moved : (standing : Option (List ℕ)) → new.standing ≡ standing → IsSome standing
+      → (0 < n) ⊎ (n ≤ 0) → 0 < n
+  moved standing is some (inl more) = more
+  moved None is some (inr nothing) = absurd (let never = some in cc)
+  moved (Some one) is some (inr nothing) =
+      let records = (front old.layout text).records in
+      let n_is : n ≡ 0 = omega arith in
+      let empty_is : take n piece ≡ [] = ap (λ m. take m piece) n_is in
+      longer records [] one
+      (append-nil (records ++ one ∷ [])
+      ∙ ap (λ s. records ++ option_to_list s) (sym is)
+      ∙ sym completes
+      ∙ ap (λ b. (front old.layout (text ++ b)).records) empty_is
+      ∙ ap (λ b. (front old.layout b).records) (append-nil text))
 
--- the front of all of the piece has the record that stands
-has_more : (text piece : List ℕ) (old new : Joining) (n : ℕ) (one : List ℕ)
-    → StandsAfter text old → Takes old piece n new → new.standing ≡ Some one
-    → (front old.layout (text ++ piece)).records ≡ (front old.layout text).records
-    → {A : Type 0} → A
-has_more text piece old new n one stands takes is same =
-    let records = (front old.layout text).records in
-    let seen = text ++ take n piece in
-    let after = stands_behind text piece old new n stands takes in
-    let first : (front old.layout seen).records ≡ records ++ one ∷ [] =
-    completes text piece old new n stands takes
-    ∙ ap (λ s. records ++ option_to_list s) is in
-    let parts : seen ++ drop n piece ≡ text ++ piece =
-    append_assoc text (take n piece) (drop n piece)
-    ∙ ap (λ b. text ++ b) (take-append-drop n piece) in
-    let later = subst (λ l. (more : List ℕ) → front l (seen ++ more)
-    ≡ behind (front l seen).records (front_from l new.place (new.held ++ more)))
-    takes.goes.layout_is after.goes_on (drop n piece) in
-    let found = (front_from old.layout new.place (new.held ++ drop n piece)).records in
-    longer records found one
-    (ap (λ r. r ++ found) (sym first)
-    ∙ sym (ap (λ (f : Front). f.records) later)
-    ∙ ap (λ b. (front old.layout b).records) parts
-    ∙ same)
+  -- the front of all of the piece has the record that stands
+  has_more : (one : List ℕ) → new.standing ≡ Some one
+      → (front old.layout (text ++ piece)).records ≡ (front old.layout text).records
+      → {A : Type 0} → A
+  has_more one is same =
+      let records = (front old.layout text).records in
+      let seen = text ++ take n piece in
+      let first : (front old.layout seen).records ≡ records ++ one ∷ [] =
+      completes ∙ ap (λ s. records ++ option_to_list s) is in
+      let parts : seen ++ drop n piece ≡ text ++ piece =
+      append_assoc text (take n piece) (drop n piece)
+      ∙ ap (λ b. text ++ b) (take-append-drop n piece) in
+      let later = subst (λ l. (more : List ℕ) → front l (seen ++ more)
+      ≡ behind (front l seen).records (front_from l new.place (new.held ++ more)))
+      takes.goes.layout_is stands_behind.goes_on (drop n piece) in
+      let found = (front_from old.layout new.place (new.held ++ drop n piece)).records in
+      longer records found one
+      (ap (λ r. r ++ found) (sym first)
+      ∙ sym (ap (λ (f : Front). f.records) later)
+      ∙ ap (λ b. (front old.layout b).records) parts
+      ∙ same)
 
--- so no fault breaks the front behind the records of the text
-breaks_not : (text piece : List ℕ) (old new : Joining) (n : ℕ) (fault : FrameFault)
-    → StandsAfter text old → Takes old piece n new
-    → front old.layout (text ++ piece) ≡ broken_by (front old.layout text).records fault
-    → (standing : Option (List ℕ)) → new.standing ≡ standing → ⊥
-breaks_not text piece old new n fault stands takes is None none_now =
-    let here = whole_is text piece old new n stands takes none_now in
-    let said = ap (λ (f : Front). f.is_broken) is in
-    cc
-breaks_not text piece old new n fault stands takes is (Some one) some_now =
-    has_more text piece old new n one stands takes some_now (ap (λ (f : Front). f.records) is)
+  -- so no fault breaks the front behind the records of the text
+  breaks_not : (fault : FrameFault)
+      → front old.layout (text ++ piece) ≡ broken_by (front old.layout text).records fault
+      → (standing : Option (List ℕ)) → new.standing ≡ standing → ⊥
+  breaks_not fault is None none_now =
+      let here = whole_is none_now in
+      let said = ap (λ (f : Front). f.is_broken) is in
+      cc
+  breaks_not fault is (Some one) some_now =
+      has_more one some_now (ap (λ (f : Front). f.records) is)
 
 -- the answer of a joiner that takes bytes
 takes_feeds : (old new : Joining) (piece : List ℕ) (n : ℕ) → Takes old piece n new
@@ -138,7 +128,7 @@ takes_feeds old new piece n takes = record {
   unbroken = λ text stands none_now. whole_is text piece old new n stands takes none_now;
   fault = λ text fault stands _. (
     λ is. absurd cc,
-    λ is. absurd (breaks_not text piece old new n fault stands takes is new.standing refl),
+    λ is. absurd (breaks_not text piece old new n stands takes fault is new.standing refl),
   );
   lasting = tt;
   for_good = λ fault fails _. absurd (let never = sym takes.passes ∙ fails in cc);

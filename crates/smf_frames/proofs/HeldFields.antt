@@ -1,21 +1,14 @@
 -- What the fields of a joiner show of what it holds.
 use Rattle.std.proofs.Common.{◌≡◌, ℕ, ◌+◌, ◌-◌, ◌≤◌, ◌<◌, Bool, true, false, cond, nat_eq, List, []}
-use Rattle.std.proofs.Common.{◌∷◌, ◌++◌, length, take, drop, refl, sym, ap, ◌∙◌, arith}
+use Rattle.std.proofs.Common.{◌++◌, length, take, drop, refl, sym, ap, ◌∙◌, arith}
 use Rattle.std.proofs.Common.{length-append, length-drop, append-nil, Option, Some, None, inl, inr}
 use Rattle.std.proofs.lemmas.Bool.{cases_lt, ne_eqb}
-use Rattle.std.proofs.lemmas.List.{length-take-le}
+use Rattle.std.proofs.lemmas.List.{length-take-le, drop_all}
 use Rattle.smf_frames.specs.Faults.{descriptor_fault, end_fault}
 use Rattle.smf_frames.specs.Front.{data_len}
-use Rattle.smf_frames.specs.JoinerFields.{Fields, Keeps, begun_in, held_in}
-use Rattle.smf_frames.proofs.Waits.{fault_same}
-
--- nothing is there behind the end of a list
-pub drop_end : (n : ℕ) (xs : List ℕ) → n ≡ length xs → drop n xs ≡ []
-drop_end n xs is = empty (drop n xs) (omega (arith, length-drop n xs))
-  where
-    empty : (ys : List ℕ) → length ys ≡ 0 → ys ≡ []
-    empty [] none = refl
-    empty (y ∷ ys) none = absurd (omega arith)
+use Rattle.smf_frames.specs.Joining.{Joining, fault_held}
+use Rattle.smf_frames.specs.JoinerFields.{Fields, Keeps, begun_in, held_in, joining_in}
+use Rattle.smf_frames.proofs.Steps.{fault_same}
 
 -- how much data is begun
 pub begun_len : {fields : Fields} → Keeps fields → fields.is_begun ≡ true
@@ -33,7 +26,7 @@ pub held_short : {fields : Fields} → Keeps fields → fields.got < 4
 held_short {fields} keeps short =
     elim (cases_lt fields.mark (length fields.joined)) [
       | inl more ↦ let is = keeps.whole more in absurd (omega arith)
-      | inr all ↦ drop_end fields.mark fields.joined (omega (arith, keeps.marked))
+      | inr all ↦ drop_all fields.mark fields.joined all
     ]
 
 -- so many bytes of the descriptor are held
@@ -50,7 +43,7 @@ held_is_got {fields} keeps short =
     ∙ append-nil (take fields.got fields.descriptor))
 
 -- so the tests of a descriptor look at its own bytes alone
-pub fault_is : {fields : Fields} → Keeps fields → (begun : Option ℕ)
+fault_is : {fields : Fields} → Keeps fields → (begun : Option ℕ)
     → descriptor_fault fields.layout begun fields.left (take fields.got fields.descriptor)
     ≡ descriptor_fault fields.layout begun fields.left (held_in fields)
 fault_is {fields} keeps begun =
@@ -62,7 +55,7 @@ fault_is {fields} keeps begun =
     ]
 
 -- and so do those of the end
-pub end_is : {fields : Fields} → Keeps fields → (begun : Option ℕ)
+end_is : {fields : Fields} → Keeps fields → (begun : Option ℕ)
     → end_fault begun fields.left (take fields.got fields.descriptor)
     ≡ end_fault begun fields.left (held_in fields)
 end_is {fields} keeps begun =
@@ -77,6 +70,22 @@ end_is {fields} keeps begun =
           ne_eqb _ 0 (omega (arith, got_len keeps, length-append front behind)) in
           rw (here, there) refl
     ]
+
+-- both tests tell of what the joiner holds, where they are told how much data is begun
+pub tests_held : {fields : Fields} → Keeps fields → {joining : Joining}
+    → joining_in fields ≡ joining → {begun : Option ℕ} → begun ≡ data_len joining.place.begun
+    → (descriptor_fault fields.layout begun fields.left (take fields.got fields.descriptor)
+    ≡ fault_held joining)
+    × (end_fault begun fields.left (take fields.got fields.descriptor)
+    ≡ end_fault (data_len joining.place.begun) joining.place.left joining.held)
+tests_held {fields} keeps is told =
+    let front : List ℕ = take fields.got fields.descriptor in
+    let begun_is = told ∙ ap (λ (j : Joining). data_len j.place.begun) (sym is) in (
+      ap (λ begun. descriptor_fault fields.layout begun fields.left front) begun_is
+          ∙ fault_is keeps _ ∙ ap fault_held is,
+      ap (λ begun. end_fault begun fields.left front) begun_is ∙ end_is keeps _
+          ∙ ap (λ (j : Joining). end_fault (data_len j.place.begun) j.place.left j.held) is,
+    )
 
 -- how much is held
 pub held_len : {fields : Fields} → Keeps fields

@@ -1,61 +1,43 @@
 -- A fault at a descriptor stays, and the front before it, whatever bytes follow.
-use Rattle.std.proofs.Common.{◌≡◌, ℕ, ◌≤◌, Bool, true, false, cond, nat_lt, nat_le, List, [], ◌++◌}
-use Rattle.std.proofs.Common.{length, refl, sym, ap, ◌∙◌, arith, length-append, append_assoc}
-use Rattle.std.proofs.Common.{Option, Some, None}
+use Rattle.std.proofs.Common.{◌≡◌, ℕ, Bool, true, false, cond, nat_lt, List, [], ◌++◌}
+use Rattle.std.proofs.Common.{length, refl, sym, ap, ◌∙◌, append_assoc}
+use Rattle.std.proofs.Common.{Option, Some, None, inl, inr}
 use Rattle.std.specs.Prelude.{is_some, IsTrue}
 use Rattle.std.specs.Option.{option_or}
-use Rattle.std.proofs.lemmas.Bool.{cond-true, ltb-false, le-ltb}
+use Rattle.std.proofs.lemmas.Bool.{cond-true, lt-ltb, cases_lt}
 use Rattle.smf_frames.specs.declared.dump.Layout.{Layout}
 use Rattle.smf_frames.specs.declared.fault.FrameFault.{FrameFault}
 use Rattle.smf_frames.specs.declared.fault.FrameFault.TheVariants.{SegmentCrossesBlock}
-use Rattle.smf_frames.specs.declared.fault.FrameFault.TheVariants.{ExtendedBlock, BlockLength}
 use Rattle.smf_frames.specs.declared.next.Next.TheVariants.{Stops}
-use Rattle.smf_frames.specs.Segment.{named_len, kind_of}
-use Rattle.smf_frames.specs.Faults.{lacks_room, is_block_due, block_fault, segment_fault}
+use Rattle.smf_frames.specs.Faults.{lacks_room}
 use Rattle.smf_frames.specs.Faults.{descriptor_fault, end_fault, fault_at}
 use Rattle.smf_frames.specs.Longest.{Front}
 use Rattle.smf_frames.specs.Front.{start, data_len, behind, stopped, front}
-use Rattle.smf_frames.proofs.Numbers.{names_same}
+use Rattle.smf_frames.proofs.Steps.{fault_same}
 use Rattle.smf_frames.proofs.Ways.{next_at, Way, way_same, front_way, front_stops, leads}
 use Rattle.smf_frames.proofs.Cuts.{cut_way}
 use Rattle.smf_frames.proofs.Grown.{way_cut}
 use Rattle.smf_frames.proofs.Fronts.{front_led}
 
--- the tests of a descriptor, before some bytes and before more of them
-stays_by : (lacks short longer due : Bool) (block segment block' segment' : Option FrameFault)
-    → (short ≡ false → (longer ≡ false) × (block' ≡ block) × (segment' ≡ segment))
-    → is_some (cond lacks (Some SegmentCrossesBlock) (cond short None (cond due block segment)))
-    ≡ true
-    → cond lacks (Some SegmentCrossesBlock) (cond longer None (cond due block' segment'))
-    ≡ cond lacks (Some SegmentCrossesBlock) (cond short None (cond due block segment))
-stays_by true short longer due block segment block' segment' same broken = refl
-stays_by false true longer due block segment block' segment' same broken = absurd cc
-stays_by false false longer due block segment block' segment' same broken =
-    let is = same refl in
-    ap (λ l. cond l None (cond due block' segment')) is.0 ∙ λ i. cond due (is.1 i) (is.2 i)
+-- without the four bytes of a descriptor the one fault is that they have no room
+lacks_by : (lacks short : Bool) (fault other : Option FrameFault) → short ≡ true
+    → is_some (cond lacks (Some SegmentCrossesBlock) (cond short None fault)) ≡ true
+    → cond lacks (Some SegmentCrossesBlock) other
+    ≡ cond lacks (Some SegmentCrossesBlock) (cond short None fault)
+lacks_by true short fault other is broken = refl
+lacks_by false true fault other is broken = absurd cc
+lacks_by false false fault other is broken = absurd cc
 
 -- the fault at a descriptor
 pub descriptor_stays : (layout : Layout) (begun left : Option ℕ) (bytes more : List ℕ)
     → is_some (descriptor_fault layout begun left bytes) ≡ true
     → descriptor_fault layout begun left (bytes ++ more) ≡ descriptor_fault layout begun left bytes
 descriptor_stays layout begun left bytes more broken =
-    stays_by (lacks_room left) (nat_lt (length bytes) 4) (nat_lt (length (bytes ++ more)) 4)
-    (is_block_due layout left) (block_fault bytes)
-    (segment_fault begun left (named_len bytes) (kind_of bytes)) (block_fault (bytes ++ more))
-    (segment_fault begun left (named_len (bytes ++ more)) (kind_of (bytes ++ more))) same broken
-  where
-    same : nat_lt (length bytes) 4 ≡ false → (nat_lt (length (bytes ++ more)) 4 ≡ false)
-        × (block_fault (bytes ++ more) ≡ block_fault bytes)
-        × (segment_fault begun left (named_len (bytes ++ more)) (kind_of (bytes ++ more))
-        ≡ segment_fault begun left (named_len bytes) (kind_of bytes))
-    same there =
-        let long : 4 ≤ length bytes = ltb-false (length bytes) 4 there in
-        let names = names_same bytes more long in (
-          le-ltb (length (bytes ++ more)) 4 (omega (arith, length-append bytes more)),
-          (λ i. cond (nat_le 128 (names.first i)) (Some ExtendedBlock)
-              (cond (nat_lt (names.len i) 4) (Some BlockLength) None)),
-          λ i. segment_fault begun left (names.len i) (names.kind i),
-        )
+    elim (cases_lt (length bytes) 4) [
+      | inl short ↦ lacks_by (lacks_room left) (nat_lt (length bytes) 4) _ _
+          (lt-ltb (length bytes) 4 short) broken
+      | inr long ↦ fault_same layout begun left bytes more long
+    ]
 
 -- the fault before such bytes
 fault_stays : (layout : Layout) (begun left : Option ℕ) (bytes more : List ℕ)

@@ -18,10 +18,10 @@ use Rattle.smf_frames.specs.Front.{joined_with, after_segment, after_block}
 use Rattle.smf_frames.specs.Joining.{Joining, next_held, fault_held, broken_by}
 use Rattle.smf_frames.specs.JoinerSteps.{holding, made, past_block, past_segment, HoldsBlock}
 use Rattle.smf_frames.specs.JoinerSteps.{HoldsSegment, HoldsLess, Steps, over_block, over_segment}
+use Rattle.smf_frames.proofs.Steps.{segment_before, block_before}
 use Rattle.smf_frames.proofs.Ways.{next_at, front_stops, front_block, front_segment}
 use Rattle.smf_frames.proofs.Lasting.{descriptor_stays}
-use Rattle.smf_frames.proofs.Waits.{short_stops, less_stops, before_stops, segment_before}
-use Rattle.smf_frames.proofs.Waits.{block_before}
+use Rattle.smf_frames.proofs.Waits.{short_stops, less_stops, before_stops}
 
 -- A joiner goes on over these bytes, and is another then: whatever bytes follow, the record that
 -- stands then comes first, and then what is found from its place; and it is not whole sooner.
@@ -38,35 +38,6 @@ pub stops_without : (layout : Layout) (place : Progress) (bytes : List ℕ)
     → next_at layout place bytes ≡ Stops → (front_from layout place bytes).records ≡ []
 stops_without layout place bytes stops =
     ap (λ (f : Front). f.records) (front_stops layout place bytes stops)
-
--- not whole sooner, where all is at most one descriptor or one segment
-tight_soonest : (old : Joining) (bytes : List ℕ)
-    → (4 < length (old.held ++ bytes) → (is_block_due old.layout old.place.left ≡ false)
-    × (length (old.held ++ bytes) ≤ named_len (old.held ++ bytes)))
-    → (k : ℕ) → k < length bytes
-    → (front_from old.layout old.place (old.held ++ take k bytes)).records ≡ []
-tight_soonest old bytes tight k below =
-    let front : List ℕ = old.held ++ take k bytes in
-    let whole : front ++ drop k bytes ≡ old.held ++ bytes =
-    append_assoc old.held (take k bytes) (drop k bytes)
-    ∙ ap (λ b. old.held ++ b) (take-append-drop k bytes) in
-    stops_without old.layout old.place front
-    (before_stops old.layout (data_len old.place.begun) old.place.left front (drop k bytes)
-    (omega (arith, length-drop k bytes))
-    (subst (λ all. 4 < length all → (is_block_due old.layout old.place.left ≡ false)
-    × (length all ≤ named_len all)) (sym whole) tight))
-
--- bytes that are held
-pub goes_less : (old : Joining) (bytes : List ℕ) → old.standing ≡ None
-    → HoldsLess (holding old bytes) → GoesOver old bytes (holding old bytes)
-goes_less old bytes none less = record {
-  layout_is = refl;
-  on = λ more. ap (front_from old.layout old.place) (sym (append_assoc old.held bytes more))
-      ∙ ap (λ s. behind (option_to_list s)
-      (front_from old.layout old.place ((old.held ++ bytes) ++ more))) (sym none);
-  soonest = tight_soonest old bytes
-      (λ long. let is = less.less (omega arith) in (is.0, omega (arith, is.1)));
-}
 
 -- a joiner that holds less than one of them waits
 pub less_waits : (joining : Joining) → HoldsLess joining → next_held joining ≡ Stops
@@ -105,45 +76,73 @@ made_one begun segment = by (goes_on (kind_of segment)) (record_with (joined_wit
     by true one = refl
     by false one = refl
 
--- past a block's descriptor
-goes_block : (old : Joining) (bytes : List ℕ) → HoldsBlock (holding old bytes)
-    → GoesOver old bytes (past_block (holding old bytes))
-goes_block old bytes holds =
-    let all : List ℕ = old.held ++ bytes in
-    let is = block_is (holding old bytes) holds in
-    record {
-      layout_is = refl;
-      on = λ more. ap (front_from old.layout old.place) (sym (append_assoc old.held bytes more))
-          ∙ front_block old.layout old.place (all ++ more) (named_len all)
-          (block_before old.layout (data_len old.place.begun) old.place.left all more
-          (named_len all) is)
-          ∙ ap (front_from old.layout (after_block old.place (named_len all)))
-          (drop_at all more 4 holds.four);
-      soonest = tight_soonest old bytes (λ long. absurd (omega (arith, holds.four)));
-    }
+module _ (old : Joining) (bytes : List ℕ) where
+  -- what a joiner holds with bytes that come
+  abbrev all : List ℕ
+  all = old.held ++ bytes
 
--- past a segment
-goes_segment : (old : Joining) (bytes : List ℕ) → HoldsSegment (holding old bytes)
-    → GoesOver old bytes (past_segment (holding old bytes))
-goes_segment old bytes holds =
-    let all : List ℕ = old.held ++ bytes in
-    let is = segment_is (holding old bytes) holds in
-    record {
-      layout_is = refl;
-      on = λ more. ap (front_from old.layout old.place) (sym (append_assoc old.held bytes more))
-          ∙ front_segment old.layout old.place (all ++ more) (length all)
-          (segment_before old.layout (data_len old.place.begun) old.place.left all more
-          (length all) is)
-          ∙ (λ i. behind (completed old.place.begun (take_at all more (length all) refl i))
-          (front_from old.layout
-          (after_segment old.place (take_at all more (length all) refl i))
-          (drop_at all more (length all) refl i)))
-          ∙ ap (λ records. behind records
-          (front_from old.layout (after_segment old.place all) more))
-          (made_one old.place.begun all);
-      soonest = tight_soonest old bytes
-          (λ long. (holds.on.due, omega (arith, holds.named)));
-    }
+  -- Where that is at most one descriptor or one segment, no record is whole sooner; so the joiner
+  -- goes on over the bytes, if it finds what it should behind them.
+  goes_tight : (new : Joining) → new.layout ≡ old.layout
+      → ((more : List ℕ) → front_from old.layout old.place (all ++ more)
+      ≡ behind (option_to_list new.standing)
+      (front_from old.layout new.place (new.held ++ more)))
+      → (4 < length all → (is_block_due old.layout old.place.left ≡ false)
+      × (length all ≤ named_len all))
+      → GoesOver old bytes new
+  goes_tight new layout_is finds tight = record {
+    layout_is = layout_is;
+    on = λ more. ap (front_from old.layout old.place) (sym (append_assoc old.held bytes more))
+        ∙ finds more;
+    soonest = λ k below.
+        let front : List ℕ = old.held ++ take k bytes in
+        let whole : front ++ drop k bytes ≡ all =
+        append_assoc old.held (take k bytes) (drop k bytes)
+        ∙ ap (λ b. old.held ++ b) (take-append-drop k bytes) in
+        stops_without old.layout old.place front
+        (before_stops old.layout (data_len old.place.begun) old.place.left front (drop k bytes)
+        (omega (arith, length-drop k bytes))
+        (subst (λ all. 4 < length all → (is_block_due old.layout old.place.left ≡ false)
+        × (length all ≤ named_len all)) (sym whole) tight));
+  }
+
+  -- bytes that are held
+  pub goes_less : old.standing ≡ None → HoldsLess (holding old bytes)
+      → GoesOver old bytes (holding old bytes)
+  goes_less none less =
+      goes_tight (holding old bytes) refl
+      (λ more. ap (λ s. behind (option_to_list s)
+      (front_from old.layout old.place (all ++ more))) (sym none))
+      (λ long. let is = less.less (omega arith) in (is.0, omega (arith, is.1)))
+
+  -- past a block's descriptor
+  goes_block : HoldsBlock (holding old bytes)
+      → GoesOver old bytes (past_block (holding old bytes))
+  goes_block holds =
+      goes_tight (past_block (holding old bytes)) refl
+      (λ more. front_block old.layout old.place (all ++ more) (named_len all)
+      (block_before old.layout (data_len old.place.begun) old.place.left all more (named_len all)
+      (block_is (holding old bytes) holds))
+      ∙ ap (front_from old.layout (after_block old.place (named_len all)))
+      (drop_at all more 4 holds.four))
+      (λ long. absurd (omega (arith, holds.four)))
+
+  -- past a segment
+  goes_segment : HoldsSegment (holding old bytes)
+      → GoesOver old bytes (past_segment (holding old bytes))
+  goes_segment holds =
+      let n : ℕ = length all in
+      goes_tight (past_segment (holding old bytes)) refl
+      (λ more. front_segment old.layout old.place (all ++ more) n
+      (segment_before old.layout (data_len old.place.begun) old.place.left all more n
+      (segment_is (holding old bytes) holds))
+      ∙ (λ i. behind (completed old.place.begun (take_at all more n refl i))
+      (front_from old.layout (after_segment old.place (take_at all more n refl i))
+      (drop_at all more n refl i)))
+      ∙ ap (λ records. behind records
+      (front_from old.layout (after_segment old.place all) more))
+      (made_one old.place.begun all))
+      (λ long. (holds.on.due, omega (arith, holds.named)))
 
 -- past either: nothing is held then
 pub record Stepped (old : Joining) (bytes : List ℕ) (new : Joining) : Type 0 where

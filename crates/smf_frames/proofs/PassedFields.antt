@@ -4,7 +4,7 @@ use Rattle.std.proofs.Common.{length, take, drop, refl, sym, ap, ◌∙◌, arit
 use Rattle.std.proofs.Common.{Option, Some, None}
 use Rattle.std.specs.Prelude.{unwrap_or, not}
 use Rattle.std.proofs.lemmas.List.{take_all, length-take-le, take_at, drop_at, take-append-drop}
-use Rattle.std.proofs.lemmas.List.{drop-append-le}
+use Rattle.std.proofs.lemmas.List.{drop-append-le, drop_all}
 use Rattle.smf_frames.specs.Framed.{most_data, record_with}
 use Rattle.smf_frames.specs.Segment.{named_len, kind_of, goes_on}
 use Rattle.smf_frames.specs.Front.{data_len, joined_with, begun_after, left_after}
@@ -13,7 +13,7 @@ use Rattle.smf_frames.specs.JoinerFields.{Fields, Keeps, begun_in, held_in, join
 use Rattle.smf_frames.specs.JoinerSteps.{OnSegment, HoldsSegment, past_segment, made}
 use Rattle.smf_frames.proofs.Numbers.{names_same}
 use Rattle.smf_frames.proofs.Waits.{passes_shows}
-use Rattle.smf_frames.proofs.HeldFields.{drop_end, held_len, four_held, not_standing}
+use Rattle.smf_frames.proofs.HeldFields.{held_len, four_held, not_standing}
 
 -- the data that is begun ends at the mark
 marked_len : (fields : Fields) → Keeps fields → fields.stands ≡ false
@@ -140,61 +140,59 @@ passed_keeps keeps short left is_begun stands joined mark mark_is len_is begun_i
     neither true b is none standing = cc
     neither false b is none standing = cc
 
--- what is left of the block behind the segment that is held
-left_is : (fields : Fields) → SegmentHeld fields → HoldsSegment (joining_in fields)
-    → left_after fields.left (named_len fields.descriptor)
-    ≡ left_after fields.left (length (held_in fields))
-left_is fields held holds = ap (left_after fields.left) (sym held.named ∙ sym holds.named)
+module _ {fields : Fields} (keeps : Keeps fields) (holds : HoldsSegment (joining_in fields))
+    (none : fields.stands ≡ false) where
+  -- behind a whole segment nothing is held, and what is left of the block is less
+  behind_segment : (is_begun stands : Bool) (joined : List ℕ)
+      → length joined ≡ length fields.joined
+      → cond is_begun (Some (drop 4 (take (length fields.joined) joined))) None
+      ≡ begun_after (begun_in fields) (held_in fields)
+      → cond stands (Some joined) None ≡ made (begun_in fields) (held_in fields)
+      → joining_in (passed fields (left_after fields.left (named_len fields.descriptor)) is_begun
+      joined (length fields.joined) stands)
+      ≡ past_segment (joining_in fields)
+  behind_segment is_begun stands joined same_len begun_is made_is =
+      let held = segment_held fields keeps none holds.on.four in
+      λ i. record {
+        layout = fields.layout;
+        place = record {
+          begun = begun_is i;
+          left = ap (left_after fields.left) (sym held.named ∙ sym holds.named) i;
+        };
+        held = drop_all (length fields.joined) joined (omega arith) i;
+        standing = made_is i;
+      }
 
--- where its record goes on, these are the fields of the joiner behind the segment
-pub passed_on : {fields : Fields} → Keeps fields → HoldsSegment (joining_in fields)
-    → fields.stands ≡ false → goes_on (kind_of fields.descriptor) ≡ true
-    → joining_in (passed fields (left_after fields.left (named_len fields.descriptor)) true
-    fields.joined (length fields.joined) false)
-    ≡ past_segment (joining_in fields)
-passed_on {fields} keeps holds none goes =
-    let held : List ℕ = held_in fields in
-    let begun : Option (List ℕ) = begun_in fields in
-    let joined : List ℕ = fields.joined in
-    let is = segment_held fields keeps none holds.on.four in
-    let on : goes_on (kind_of held) ≡ true = ap goes_on is.kind ∙ goes in
-    let begun_is : Some (drop 4 (take (length joined) joined)) ≡ begun_after begun held =
-    ap (λ all. Some (drop 4 all)) (take_all (length joined) joined (omega arith))
-    ∙ ap Some (sym is.inside)
-    ∙ ap (λ b. cond b (Some (joined_with begun held)) None) (sym on) in
-    let made_is : None ≡ made begun held =
-    ap (λ b. cond b None (Some (record_with (joined_with begun held)))) (sym on) in
-    λ i. record {
-      layout = fields.layout;
-      place = record { begun = begun_is i; left = left_is fields is holds i };
-      held = drop_end (length joined) joined refl i;
-      standing = made_is i;
-    }
+  -- where its record goes on, these are the fields of the joiner behind the segment
+  pub passed_on : goes_on (kind_of fields.descriptor) ≡ true
+      → joining_in (passed fields (left_after fields.left (named_len fields.descriptor)) true
+      fields.joined (length fields.joined) false)
+      ≡ past_segment (joining_in fields)
+  passed_on goes =
+      let joined : List ℕ = fields.joined in
+      let all : List ℕ = joined_with (begun_in fields) (held_in fields) in
+      let is = segment_held fields keeps none holds.on.four in
+      let on : goes_on (kind_of (held_in fields)) ≡ true = ap goes_on is.kind ∙ goes in
+      behind_segment true false joined refl
+      (ap (λ bytes. Some (drop 4 bytes)) (take_all (length joined) joined (omega arith))
+      ∙ ap Some (sym is.inside) ∙ ap (λ b. cond b (Some all) None) (sym on))
+      (ap (λ b. cond b None (Some (record_with all))) (sym on))
 
--- and where it is whole now, with its descriptor written in front of its data
-pub passed_whole : {fields : Fields} → Keeps fields → HoldsSegment (joining_in fields)
-    → fields.stands ≡ false → goes_on (kind_of fields.descriptor) ≡ false
-    → (whole : List ℕ) → whole ≡ record_with (drop 4 fields.joined)
-    → length whole ≡ length fields.joined
-    → joining_in (passed fields (left_after fields.left (named_len fields.descriptor)) false
-    whole (length fields.joined) true)
-    ≡ past_segment (joining_in fields)
-passed_whole {fields} keeps holds none goes whole whole_is same_len =
-    let held : List ℕ = held_in fields in
-    let begun : Option (List ℕ) = begun_in fields in
-    let is = segment_held fields keeps none holds.on.four in
-    let off : goes_on (kind_of held) ≡ false = ap goes_on is.kind ∙ goes in
-    let begun_is : None ≡ begun_after begun held =
-    ap (λ b. cond b (Some (joined_with begun held)) None) (sym off) in
-    let made_is : Some whole ≡ made begun held =
-    ap Some (whole_is ∙ ap record_with (sym is.inside))
-    ∙ ap (λ b. cond b None (Some (record_with (joined_with begun held)))) (sym off) in
-    λ i. record {
-      layout = fields.layout;
-      place = record { begun = begun_is i; left = left_is fields is holds i };
-      held = drop_end (length fields.joined) whole (sym same_len) i;
-      standing = made_is i;
-    }
+  -- and where it is whole now, with its descriptor written in front of its data
+  pub passed_whole : goes_on (kind_of fields.descriptor) ≡ false
+      → (whole : List ℕ) → whole ≡ record_with (drop 4 fields.joined)
+      → length whole ≡ length fields.joined
+      → joining_in (passed fields (left_after fields.left (named_len fields.descriptor)) false
+      whole (length fields.joined) true)
+      ≡ past_segment (joining_in fields)
+  passed_whole goes whole whole_is same_len =
+      let all : List ℕ = joined_with (begun_in fields) (held_in fields) in
+      let is = segment_held fields keeps none holds.on.four in
+      let off : goes_on (kind_of (held_in fields)) ≡ false = ap goes_on is.kind ∙ goes in
+      behind_segment false true whole same_len
+      (ap (λ b. cond b (Some all) None) (sym off))
+      (ap Some (whole_is ∙ ap record_with (sym is.inside))
+      ∙ ap (λ b. cond b None (Some (record_with all))) (sym off))
 
 -- a record has as many bytes as its data behind a descriptor
 pub described_len : (joined : List ℕ) → 4 ≤ length joined

@@ -44,96 +44,85 @@ standing_framed text joining stands one is =
     subst IsFramed (get_or-append_seam last.1 one [] [])
     (framed (length last.1) [] (omega (arith, length-append last.1 (one ∷ []))))
 
--- the front of the text itself: its records are known, and why there are no more is what is held
-pub front_after : (text : List ℕ) (joining : Joining) → StandsAfter text joining
-    → front joining.layout text ≡ behind (front joining.layout text).records
-    (stopped joining.layout joining.place joining.held)
-front_after text joining stands =
-    let layout = joining.layout in
-    ap (front layout) (sym (append-nil text)) ∙ stands.goes_on []
-    ∙ ap (λ b. behind (front layout text).records (front_from layout joining.place b))
-    (append-nil joining.held)
-    ∙ ap (behind (front layout text).records)
-    (front_stops layout joining.place joining.held stands.waits)
+module _ (text : List ℕ) (joining : Joining) (stands : StandsAfter text joining) where
+  -- the front of the text itself: its records are known, and why there are no more is what is held
+  pub front_after : front joining.layout text ≡ behind (front joining.layout text).records
+      (stopped joining.layout joining.place joining.held)
+  front_after =
+      let layout = joining.layout in
+      ap (front layout) (sym (append-nil text)) ∙ stands.goes_on []
+      ∙ ap (λ b. behind (front layout text).records (front_from layout joining.place b))
+      (append-nil joining.held)
+      ∙ ap (behind (front layout text).records)
+      (front_stops layout joining.place joining.held stands.waits)
 
--- so its fault is that of the end, where the descriptor that is held has none
-pub fault_after : (text : List ℕ) (joining : Joining) → StandsAfter text joining
-    → (front joining.layout text).fault
-    ≡ fault_at joining.layout (data_len joining.place.begun) joining.place.left joining.held
-fault_after text joining stands = ap (λ (f : Front). f.fault) (front_after text joining stands)
+  -- so its fault is that of the end, where the descriptor that is held has none
+  pub fault_after : (front joining.layout text).fault
+      ≡ fault_at joining.layout (data_len joining.place.begun) joining.place.left joining.held
+  fault_after = ap (λ (f : Front). f.fault) front_after
 
--- what is behind a text, where a joiner went on over some bytes
-over : (text bytes : List ℕ) (old new : Joining) → StandsAfter text old
-    → GoesOver old bytes new → (more : List ℕ)
-    → front old.layout ((text ++ bytes) ++ more)
-    ≡ behind ((front old.layout text).records ++ option_to_list new.standing)
-    (front_from old.layout new.place (new.held ++ more))
-over text bytes old new stands goes more =
-    let records = (front old.layout text).records in
-    ap (front old.layout) (append_assoc text bytes more) ∙ stands.goes_on (bytes ++ more)
-    ∙ ap (behind records) (goes.on more)
-    ∙ sym (behind-append records (option_to_list new.standing) _)
+  -- and where the descriptor that is held has no fault, the front is not broken
+  pub unbroken_after : fault_held joining ≡ None → (front joining.layout text).is_broken ≡ false
+  unbroken_after passes =
+      ap (λ (f : Front). f.is_broken) front_after ∙ ap (λ f. is_some f) passes
 
--- the records of the text and the bytes
-pub records_over : (text bytes : List ℕ) (old new : Joining) → StandsAfter text old
-    → GoesOver old bytes new → next_held new ≡ Stops
-    → (front old.layout (text ++ bytes)).records
-    ≡ (front old.layout text).records ++ option_to_list new.standing
-records_over text bytes old new stands goes waits =
-    let records = (front old.layout text).records ++ option_to_list new.standing in
-    let here : next_at old.layout new.place (new.held ++ []) ≡ Stops =
-    ap (next_at old.layout new.place) (append-nil new.held)
-    ∙ subst (λ l. next_at l new.place new.held ≡ Stops) goes.layout_is waits in
-    ap (λ b. (front old.layout b).records) (sym (append-nil (text ++ bytes)))
-    ∙ ap (λ (f : Front). f.records) (over text bytes old new stands goes [])
-    ∙ ap (λ later. records ++ later)
-    (stops_without old.layout new.place (new.held ++ []) here)
-    ∙ append-nil records
+module _ (text bytes : List ℕ) (old new : Joining) (stands : StandsAfter text old)
+    (goes : GoesOver old bytes new) where
+  -- what is behind a text, where a joiner went on over some bytes
+  over : (more : List ℕ) → front old.layout ((text ++ bytes) ++ more)
+      ≡ behind ((front old.layout text).records ++ option_to_list new.standing)
+      (front_from old.layout new.place (new.held ++ more))
+  over more =
+      let records = (front old.layout text).records in
+      ap (front old.layout) (append_assoc text bytes more) ∙ stands.goes_on (bytes ++ more)
+      ∙ ap (behind records) (goes.on more)
+      ∙ sym (behind-append records (option_to_list new.standing) _)
 
--- behind the bytes over which a joiner went on
-pub stands_over : (text bytes : List ℕ) (old new : Joining) → StandsAfter text old
-    → GoesOver old bytes new → next_held new ≡ Stops
-    → IfSome new.standing (λ _. new.held ≡ [])
-    → StandsAfter (text ++ bytes) new
-stands_over text bytes old new stands goes waits empty = record {
-  goes_on = λ more. subst (λ l. front l ((text ++ bytes) ++ more)
-      ≡ behind (front l (text ++ bytes)).records (front_from l new.place (new.held ++ more)))
-      (sym goes.layout_is)
-      (over text bytes old new stands goes more
-      ∙ ap (λ records. behind records (front_from old.layout new.place (new.held ++ more)))
-      (sym all));
-  waits = waits;
-  stands = last new.standing empty
-      (subst (λ l. (front l (text ++ bytes)).records
-      ≡ (front old.layout text).records ++ option_to_list new.standing)
-      (sym goes.layout_is) all);
-}
-  where
-    all : (front old.layout (text ++ bytes)).records
-        ≡ (front old.layout text).records ++ option_to_list new.standing
-    all = records_over text bytes old new stands goes waits
+  -- the records of the text and the bytes
+  pub records_over : next_held new ≡ Stops
+      → (front old.layout (text ++ bytes)).records
+      ≡ (front old.layout text).records ++ option_to_list new.standing
+  records_over waits =
+      let records = (front old.layout text).records ++ option_to_list new.standing in
+      let here : next_at old.layout new.place (new.held ++ []) ≡ Stops =
+      ap (next_at old.layout new.place) (append-nil new.held)
+      ∙ subst (λ l. next_at l new.place new.held ≡ Stops) goes.layout_is waits in
+      ap (λ b. (front old.layout b).records) (sym (append-nil (text ++ bytes)))
+      ∙ ap (λ (f : Front). f.records) (over [])
+      ∙ ap (λ later. records ++ later)
+      (stops_without old.layout new.place (new.held ++ []) here)
+      ∙ append-nil records
 
-    last : (standing : Option (List ℕ)) → IfSome standing (λ _. new.held ≡ [])
-        → (front new.layout (text ++ bytes)).records
-        ≡ (front old.layout text).records ++ option_to_list standing
-        → IfSome standing (λ one. (new.held ≡ []) × (earlier : List (List ℕ))
-        × ((front new.layout (text ++ bytes)).records ≡ earlier ++ one ∷ []))
-    last None empty is = tt
-    last (Some one) empty is = (empty, (front old.layout text).records, is)
+  -- behind the bytes over which a joiner went on
+  pub stands_over : next_held new ≡ Stops → IfSome new.standing (λ _. new.held ≡ [])
+      → StandsAfter (text ++ bytes) new
+  stands_over waits empty = record {
+    goes_on = λ more. subst (λ l. front l ((text ++ bytes) ++ more)
+        ≡ behind (front l (text ++ bytes)).records (front_from l new.place (new.held ++ more)))
+        (sym goes.layout_is)
+        (over more
+        ∙ ap (λ records. behind records (front_from old.layout new.place (new.held ++ more)))
+        (sym (records_over waits)));
+    waits = waits;
+    stands = last new.standing empty
+        (subst (λ l. (front l (text ++ bytes)).records
+        ≡ (front old.layout text).records ++ option_to_list new.standing)
+        (sym goes.layout_is) (records_over waits));
+  }
+    where
+      last : (standing : Option (List ℕ)) → IfSome standing (λ _. new.held ≡ [])
+          → (front new.layout (text ++ bytes)).records
+          ≡ (front old.layout text).records ++ option_to_list standing
+          → IfSome standing (λ one. (new.held ≡ []) × (earlier : List (List ℕ))
+          × ((front new.layout (text ++ bytes)).records ≡ earlier ++ one ∷ []))
+      last None empty is = tt
+      last (Some one) empty is = (empty, (front old.layout text).records, is)
 
--- no record is whole sooner
-pub soonest_over : (text bytes : List ℕ) (old new : Joining) → StandsAfter text old
-    → GoesOver old bytes new → (k : ℕ) → k < length bytes
-    → (front old.layout (text ++ take k bytes)).records ≡ (front old.layout text).records
-soonest_over text bytes old new stands goes k below =
-    let records = (front old.layout text).records in
-    ap (λ (f : Front). f.records) (stands.goes_on (take k bytes))
-    ∙ ap (λ later. records ++ later) (goes.soonest k below)
-    ∙ append-nil records
-
--- where the descriptor that is held has no fault, the front is not broken
-pub unbroken_after : (text : List ℕ) (joining : Joining) → StandsAfter text joining
-    → fault_held joining ≡ None → (front joining.layout text).is_broken ≡ false
-unbroken_after text joining stands passes =
-    ap (λ (f : Front). f.is_broken) (front_after text joining stands)
-    ∙ ap (λ f. is_some f) passes
+  -- no record is whole sooner
+  pub soonest_over : (k : ℕ) → k < length bytes
+      → (front old.layout (text ++ take k bytes)).records ≡ (front old.layout text).records
+  soonest_over k below =
+      let records = (front old.layout text).records in
+      ap (λ (f : Front). f.records) (stands.goes_on (take k bytes))
+      ∙ ap (λ later. records ++ later) (goes.soonest k below)
+      ∙ append-nil records

@@ -10,7 +10,7 @@ use Rattle.smf_frames.specs.JoinerSteps.{holding, past_block, past_segment, Hold
 use Rattle.smf_frames.specs.JoinerSteps.{HoldsSegment, HoldsLess, Steps, over_block, over_segment}
 use Rattle.smf_frames.specs.JoinerSteps.{IsStep}
 use Rattle.smf_frames.proofs.Numbers.{names_same}
-use Rattle.smf_frames.proofs.Waits.{fault_same}
+use Rattle.smf_frames.proofs.Steps.{fault_same}
 
 -- bytes that are held one after another
 holding_twice : (joining : Joining) (bytes more : List ℕ)
@@ -21,28 +21,6 @@ holding_twice joining bytes more = λ i. record {
   held = append_assoc joining.held bytes more i;
   standing = joining.standing;
 }
-
--- a front of the rest, and then what comes behind it
-holding_on : (old mid : Joining) (rest more : List ℕ) (n : ℕ) → mid ≡ holding old (take n rest)
-    → more ≡ drop n rest → holding mid more ≡ holding old rest
-holding_on old mid rest more n mid_is more_is =
-    (λ i. holding (mid_is i) (more_is i)) ∙ holding_twice old (take n rest) (drop n rest)
-    ∙ ap (holding old) (take-append-drop n rest)
-
--- less than a descriptor
-pub step_short : (old mid : Joining) (rest : List ℕ) (n : ℕ) → mid ≡ holding old (take n rest)
-    → (length mid.held < 4 → n ≡ length rest) → length mid.held < 4 → fault_held mid ≡ None
-    → IsStep old rest None mid
-step_short old mid rest n mid_is all short passes =
-    let is : mid ≡ holding old rest =
-    mid_is ∙ ap (holding old) (take_all n rest (omega (arith, all short))) in
-    (is, subst HoldsLess is (record { passes = passes; less = λ four. absurd (omega arith) }))
-
--- a descriptor that its block awaits
-pub step_block : (old mid new : Joining) (rest : List ℕ) (n : ℕ) → mid ≡ holding old (take n rest)
-    → n ≤ length rest → HoldsBlock mid → new ≡ past_block mid → IsStep old rest (Some n) new
-step_block old mid new rest n mid_is within holds new_is =
-    (within, subst (λ j. Steps j new) mid_is (subst (Steps mid) (sym new_is) (over_block holds)))
 
 -- with more bytes behind it the same descriptor is held
 on_more : (mid : Joining) (more : List ℕ) → OnSegment mid
@@ -57,21 +35,6 @@ on_more mid more on = (
   (names_same mid.held more on.four).len,
 )
 
--- less than a segment
-pub step_less : (old mid new : Joining) (rest more : List ℕ) (n : ℕ)
-    → mid ≡ holding old (take n rest) → more ≡ drop n rest → OnSegment mid
-    → length more < named_len mid.held - length mid.held → new ≡ holding mid more
-    → IsStep old rest None new
-step_less old mid new rest more n mid_is more_is on less new_is =
-    let is = holding_on old mid rest more n mid_is more_is in
-    let later = on_more mid more on in (
-      new_is ∙ is,
-      subst HoldsLess is (record {
-        passes = later.0.passes;
-        less = λ four. (on.due, omega (arith, length-append mid.held more, later.1));
-      }),
-    )
-
 -- a whole segment
 pub holds_segment : (mid new : Joining) (more : List ℕ) → OnSegment mid
     → length mid.held ≤ named_len mid.held
@@ -84,19 +47,54 @@ holds_segment mid new more on enough len_is new_is =
       named = omega (arith, length-append mid.held more, later.1);
     })
 
--- and past it
-pub step_segment : (old mid whole new : Joining) (rest later more : List ℕ) (n m : ℕ)
-    → mid ≡ holding old (take n rest) → later ≡ drop n rest → more ≡ take m later
-    → n ≤ length rest → m ≤ length later
-    → whole ≡ holding mid more → HoldsSegment whole → new ≡ past_segment whole
-    → IsStep old rest (Some (n + m)) new
-step_segment old mid whole new rest later more n m mid_is later_is more_is within there whole_is
-    holds new_is =
-    let is : whole ≡ holding old (take (n + m) rest) =
-    whole_is ∙ (λ i. holding (mid_is i) (more_is i))
-    ∙ ap (λ b. holding (holding old (take n rest)) (take m b)) later_is
-    ∙ holding_twice old (take n rest) (take m (drop n rest))
-    ∙ ap (holding old) (sym (take-add n m rest)) in (
-      omega (arith, ap length later_is, length-drop n rest),
-      subst (λ j. Steps j new) is (subst (Steps whole) (sym new_is) (over_segment holds)),
-    )
+-- A step of a joiner over the rest of a piece, of which it holds a front first.
+module _ (old mid : Joining) (rest : List ℕ) (n : ℕ)
+    (mid_is : mid ≡ holding old (take n rest)) where
+  -- with what comes behind the front, it holds all
+  holding_on : (more : List ℕ) → more ≡ drop n rest → holding mid more ≡ holding old rest
+  holding_on more more_is =
+      (λ i. holding (mid_is i) (more_is i)) ∙ holding_twice old (take n rest) (drop n rest)
+      ∙ ap (holding old) (take-append-drop n rest)
+
+  -- less than a descriptor
+  pub step_short : (length mid.held < 4 → n ≡ length rest) → length mid.held < 4
+      → fault_held mid ≡ None → IsStep old rest None mid
+  step_short all short passes =
+      let is : mid ≡ holding old rest =
+      mid_is ∙ ap (holding old) (take_all n rest (omega (arith, all short))) in
+      (is, subst HoldsLess is (record { passes = passes; less = λ four. absurd (omega arith) }))
+
+  -- a descriptor that its block awaits
+  pub step_block : (new : Joining) → n ≤ length rest → HoldsBlock mid → new ≡ past_block mid
+      → IsStep old rest (Some n) new
+  step_block new within holds new_is =
+      (within, subst (λ j. Steps j new) mid_is (subst (Steps mid) (sym new_is) (over_block holds)))
+
+  -- less than a segment
+  pub step_less : (new : Joining) (more : List ℕ) → more ≡ drop n rest → OnSegment mid
+      → length more < named_len mid.held - length mid.held → new ≡ holding mid more
+      → IsStep old rest None new
+  step_less new more more_is on less new_is =
+      let is = holding_on more more_is in
+      let later = on_more mid more on in (
+        new_is ∙ is,
+        subst HoldsLess is (record {
+          passes = later.0.passes;
+          less = λ four. (on.due, omega (arith, length-append mid.held more, later.1));
+        }),
+      )
+
+  -- past a whole segment
+  pub step_segment : (whole new : Joining) (later more : List ℕ) (m : ℕ) → later ≡ drop n rest
+      → more ≡ take m later → n ≤ length rest → m ≤ length later
+      → whole ≡ holding mid more → HoldsSegment whole → new ≡ past_segment whole
+      → IsStep old rest (Some (n + m)) new
+  step_segment whole new later more m later_is more_is within there whole_is holds new_is =
+      let is : whole ≡ holding old (take (n + m) rest) =
+      whole_is ∙ (λ i. holding (mid_is i) (more_is i))
+      ∙ ap (λ b. holding (holding old (take n rest)) (take m b)) later_is
+      ∙ holding_twice old (take n rest) (take m (drop n rest))
+      ∙ ap (holding old) (sym (take-add n m rest)) in (
+        omega (arith, ap length later_is, length-drop n rest),
+        subst (λ j. Steps j new) is (subst (Steps whole) (sym new_is) (over_segment holds)),
+      )

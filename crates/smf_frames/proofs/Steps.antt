@@ -1,7 +1,9 @@
--- What the tests show of a step that a reader takes, and the other way round.
+-- What the tests show of a step that a reader takes, and the other way round; and that more bytes
+-- behind it change nothing of it.
 use Rattle.std.proofs.Common.{◌≡◌, ℕ, ◌+◌, ◌-◌, ◌≤◌, ◌<◌, Bool, true, false, not, ◌&&◌, cond}
-use Rattle.std.proofs.Common.{nat_lt, List, length, refl, sym, ap, ◌∙◌, Option, Some, None}
-use Rattle.std.specs.Prelude.{is_some, is_none, unwrap_or}
+use Rattle.std.proofs.Common.{nat_lt, List, ◌++◌, length, refl, sym, ap, ◌∙◌, Option, Some, None}
+use Rattle.std.proofs.Common.{arith, length-append, true≢false}
+use Rattle.std.specs.Prelude.{is_some, is_none, unwrap_or, nat_le}
 use Rattle.std.proofs.lemmas.Bool.{ltb-false, leb-false, le-ltb, lt-leb}
 use Rattle.smf_frames.specs.declared.dump.Layout.{Layout}
 use Rattle.smf_frames.specs.declared.dump.Layout.TheVariants.{Rdw, Bdw}
@@ -18,6 +20,7 @@ use Rattle.smf_frames.specs.Segment.{named_len, kind_of, begins_record}
 use Rattle.smf_frames.specs.Faults.{is_block_due, lacks_room, crosses_block, is_too_long}
 use Rattle.smf_frames.specs.Faults.{block_fault, segment_fault, descriptor_fault}
 use Rattle.smf_frames.specs.Front.{next_of}
+use Rattle.smf_frames.proofs.Numbers.{names_same}
 
 -- a segment of this length that a reader takes: no test speaks against it, and it is there
 pub record TakesSegment (layout : Layout) (begun left : Option ℕ) (bytes : List ℕ)
@@ -104,84 +107,148 @@ block_due Rdw left due = absurd cc
 block_due Bdw None due = (refl, refl)
 block_due Bdw (Some n) due = absurd cc
 
--- what the tests show of a segment that is taken
-pub takes_segment : (layout : Layout) (begun left : Option ℕ) (bytes : List ℕ) (len : ℕ)
-    → next_of layout begun left bytes ≡ Segment len → TakesSegment layout begun left bytes len
-takes_segment layout begun left bytes len taken =
-    let of_segment = segment_fault begun left (named_len bytes) (kind_of bytes) in
-    let tests = segment_by _ _ _ _ (named_len bytes) len taken in
-    let passes =
-    descriptor_by (lacks_room left) _ _ (block_fault bytes) of_segment tests.0 tests.1 in
-    let own : of_segment ≡ None =
-    ap (λ due. cond due (block_fault bytes) of_segment) (sym tests.2) ∙ passes.1 in
-    let parts = passes_segment _ _ _ _ _ own in
-    let named : named_len bytes ≡ len = tests.4 in
-    record {
-      room = passes.0;
-      four = ltb-false (length bytes) 4 tests.1;
-      due = tests.2;
-      named = named;
-      long = ltb-false len 4 (ap (λ n. nat_lt n 4) (sym named) ∙ parts.0);
-      fits = ap (crosses_block left) (sym named) ∙ parts.1;
-      joins = parts.2;
-      begins = parts.3;
-      short = ltb-false most_data (unwrap_or begun 0 + (len - 4))
-          (ap (is_too_long begun) (sym named) ∙ parts.4);
-      there = ltb-false (length bytes) len (ap (nat_lt (length bytes)) (sym named) ∙ tests.3);
-    }
+module _ (layout : Layout) (begun left : Option ℕ) (bytes : List ℕ) (len : ℕ) where
+  -- what the tests show of a segment that is taken
+  pub takes_segment : next_of layout begun left bytes ≡ Segment len
+      → TakesSegment layout begun left bytes len
+  takes_segment taken =
+      let of_segment = segment_fault begun left (named_len bytes) (kind_of bytes) in
+      let tests = segment_by _ _ _ _ (named_len bytes) len taken in
+      let passes =
+      descriptor_by (lacks_room left) _ _ (block_fault bytes) of_segment tests.0 tests.1 in
+      let own : of_segment ≡ None =
+      ap (λ due. cond due (block_fault bytes) of_segment) (sym tests.2) ∙ passes.1 in
+      let parts = passes_segment _ _ _ _ _ own in
+      let named : named_len bytes ≡ len = tests.4 in
+      record {
+        room = passes.0;
+        four = ltb-false (length bytes) 4 tests.1;
+        due = tests.2;
+        named = named;
+        long = ltb-false len 4 (ap (λ n. nat_lt n 4) (sym named) ∙ parts.0);
+        fits = ap (crosses_block left) (sym named) ∙ parts.1;
+        joins = parts.2;
+        begins = parts.3;
+        short = ltb-false most_data (unwrap_or begun 0 + (len - 4))
+            (ap (is_too_long begun) (sym named) ∙ parts.4);
+        there = ltb-false (length bytes) len (ap (nat_lt (length bytes)) (sym named) ∙ tests.3);
+      }
 
--- what the tests show of a block's descriptor that is taken
-pub takes_block : (layout : Layout) (begun left : Option ℕ) (bytes : List ℕ) (len : ℕ)
-    → next_of layout begun left bytes ≡ Block len → TakesBlock layout left bytes len
-takes_block layout begun left bytes len taken =
-    let of_segment = segment_fault begun left (named_len bytes) (kind_of bytes) in
-    let tests = block_by _ _ _ _ (named_len bytes) len taken in
-    let passes =
-    descriptor_by (lacks_room left) _ _ (block_fault bytes) of_segment tests.0 tests.1 in
-    let own : block_fault bytes ≡ None =
-    ap (λ due. cond due (block_fault bytes) of_segment) (sym tests.2) ∙ passes.1 in
-    let parts = passes_block _ _ own in
-    let due = block_due layout left tests.2 in
-    record {
-      layout_is = due.0;
-      none_left = due.1;
-      four = ltb-false (length bytes) 4 tests.1;
-      plain = leb-false 128 (number bytes 0 1) parts.0;
-      named = tests.3;
-      long = ltb-false len 4 (ap (λ n. nat_lt n 4) (sym tests.3) ∙ parts.1);
-    }
+  -- what the tests show of a block's descriptor that is taken
+  pub takes_block : next_of layout begun left bytes ≡ Block len → TakesBlock layout left bytes len
+  takes_block taken =
+      let of_segment = segment_fault begun left (named_len bytes) (kind_of bytes) in
+      let tests = block_by _ _ _ _ (named_len bytes) len taken in
+      let passes =
+      descriptor_by (lacks_room left) _ _ (block_fault bytes) of_segment tests.0 tests.1 in
+      let own : block_fault bytes ≡ None =
+      ap (λ due. cond due (block_fault bytes) of_segment) (sym tests.2) ∙ passes.1 in
+      let parts = passes_block _ _ own in
+      let due = block_due layout left tests.2 in
+      record {
+        layout_is = due.0;
+        none_left = due.1;
+        four = ltb-false (length bytes) 4 tests.1;
+        plain = leb-false 128 (number bytes 0 1) parts.0;
+        named = tests.3;
+        long = ltb-false len 4 (ap (λ n. nat_lt n 4) (sym tests.3) ∙ parts.1);
+      }
 
--- a segment against which no test speaks is taken
-pub segment_taken : (layout : Layout) (begun left : Option ℕ) (bytes : List ℕ) (len : ℕ)
-    → TakesSegment layout begun left bytes len → next_of layout begun left bytes ≡ Segment len
-segment_taken layout begun left bytes len takes =
-    let there : nat_lt (length bytes) 4 ≡ false = le-ltb (length bytes) 4 takes.four in
-    let short : is_too_long begun len ≡ false =
-    le-ltb most_data (unwrap_or begun 0 + (len - 4)) takes.short in
-    let passes : descriptor_fault layout begun left bytes ≡ None =
-    rw (
-      takes.room,
-      there,
-      takes.due,
-      takes.named,
-      le-ltb len 4 takes.long,
-      takes.fits,
-      takes.joins,
-      takes.begins,
-      short,
-    ) refl in
-    rw (passes, there, takes.due, takes.named, le-ltb (length bytes) len takes.there) refl
+  -- a segment against which no test speaks is taken
+  pub segment_taken : TakesSegment layout begun left bytes len
+      → next_of layout begun left bytes ≡ Segment len
+  segment_taken takes =
+      let there : nat_lt (length bytes) 4 ≡ false = le-ltb (length bytes) 4 takes.four in
+      let short : is_too_long begun len ≡ false =
+      le-ltb most_data (unwrap_or begun 0 + (len - 4)) takes.short in
+      let passes : descriptor_fault layout begun left bytes ≡ None =
+      rw (
+        takes.room,
+        there,
+        takes.due,
+        takes.named,
+        le-ltb len 4 takes.long,
+        takes.fits,
+        takes.joins,
+        takes.begins,
+        short,
+      ) refl in
+      rw (passes, there, takes.due, takes.named, le-ltb (length bytes) len takes.there) refl
 
--- the descriptor of a block against which no test speaks is taken
-pub block_taken : (layout : Layout) (begun left : Option ℕ) (bytes : List ℕ) (len : ℕ)
-    → TakesBlock layout left bytes len → next_of layout begun left bytes ≡ Block len
-block_taken layout begun left bytes len takes = rw (takes.layout_is, takes.none_left) (at_due)
-  where
-    at_due : next_of Bdw begun None bytes ≡ Block len
-    at_due = rw (
-      le-ltb (length bytes) 4 takes.four,
-      lt-leb 128
-          (number bytes 0 1) takes.plain,
-      takes.named,
-      le-ltb len 4 takes.long,
-    ) refl
+  -- the descriptor of a block against which no test speaks is taken
+  pub block_taken : TakesBlock layout left bytes len → next_of layout begun left bytes ≡ Block len
+  block_taken takes = rw (takes.layout_is, takes.none_left) (at_due)
+    where
+      at_due : next_of Bdw begun None bytes ≡ Block len
+      at_due = rw (
+        le-ltb (length bytes) 4 takes.four,
+        lt-leb 128
+            (number bytes 0 1) takes.plain,
+        takes.named,
+        le-ltb len 4 takes.long,
+      ) refl
+
+-- the four bytes of a descriptor are there with more bytes behind them
+four_there : (bytes more : List ℕ) → 4 ≤ length bytes
+    → nat_lt (length (bytes ++ more)) 4 ≡ nat_lt (length bytes) 4
+four_there bytes more long =
+    le-ltb (length (bytes ++ more)) 4 (omega (arith, length-append bytes more))
+    ∙ sym (le-ltb (length bytes) 4 long)
+
+module _ (layout : Layout) (begun left : Option ℕ) (bytes more : List ℕ) where
+  -- the tests of a descriptor look at four bytes
+  pub fault_same : 4 ≤ length bytes
+      → descriptor_fault layout begun left (bytes ++ more)
+      ≡ descriptor_fault layout begun left bytes
+  fault_same long =
+      let same = names_same bytes more long in
+      λ i. cond (lacks_room left) (Some SegmentCrossesBlock)
+      (cond (four_there bytes more long i) None
+      (cond (is_block_due layout left)
+      (cond (nat_le 128 (same.first i)) (Some ExtendedBlock)
+      (cond (nat_lt (same.len i) 4) (Some BlockLength) None))
+      (segment_fault begun left (same.len i) (same.kind i))))
+
+  -- what is whole stands there, whatever bytes follow
+  next_same : 4 ≤ length bytes
+      → (is_block_due layout left ≡ false → named_len bytes ≤ length bytes)
+      → next_of layout begun left (bytes ++ more) ≡ next_of layout begun left bytes
+  next_same long whole =
+      let len = (names_same bytes more long).len in
+      let cut : is_block_due layout left ≡ false
+      → nat_lt (length (bytes ++ more)) (named_len bytes)
+      ≡ nat_lt (length bytes) (named_len bytes) = λ due.
+      le-ltb (length (bytes ++ more)) (named_len bytes)
+      (omega (arith, length-append bytes more, whole due))
+      ∙ sym (le-ltb (length bytes) (named_len bytes) (whole due)) in
+      (λ i. cond (is_some (fault_same long i)) Stops (cond (four_there bytes more long i) Stops
+      (cond (is_block_due layout left) (Block (len i))
+      (cond (nat_lt (length (bytes ++ more)) (len i)) Stops (Segment (len i))))))
+      ∙ ap (λ next. cond (is_some (descriptor_fault layout begun left bytes)) Stops
+      (cond (nat_lt (length bytes) 4) Stops next))
+      (by (is_block_due layout left) (named_len bytes) cut)
+    where
+      by : (due : Bool) (named : ℕ)
+          → (due ≡ false → nat_lt (length (bytes ++ more)) named ≡ nat_lt (length bytes) named)
+          → cond due (Block named)
+          (cond (nat_lt (length (bytes ++ more)) named) Stops (Segment named))
+          ≡ cond due (Block named) (cond (nat_lt (length bytes) named) Stops (Segment named))
+      by true named cut = refl
+      by false named cut = ap (λ short. cond short Stops (Segment named)) (cut refl)
+
+  -- so does a whole segment,
+  pub segment_before : (len : ℕ) → next_of layout begun left bytes ≡ Segment len
+      → next_of layout begun left (bytes ++ more) ≡ Segment len
+  segment_before len is =
+      let takes = takes_segment layout begun left bytes len is in
+      next_same takes.four (λ due. omega (arith, takes.named, takes.there)) ∙ is
+
+  -- and a block's descriptor
+  pub block_before : (len : ℕ) → next_of layout begun left bytes ≡ Block len
+      → next_of layout begun left (bytes ++ more) ≡ Block len
+  block_before len is =
+      let takes = takes_block layout begun left bytes len is in
+      next_same takes.four
+      (λ due. absurd (true≢false
+      ((λ i. is_block_due (sym takes.layout_is i) (sym takes.none_left i)) ∙ due)))
+      ∙ is

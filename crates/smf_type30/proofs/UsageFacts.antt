@@ -2,10 +2,12 @@
 use Rattle.std.proofs.Common.{◌≡◌, ◌≢◌, ◌≤◌, ◌<◌, ◌==◌, ◌⊎◌, inl, inr, ℕ, List, length, nat_lt}
 use Rattle.std.proofs.Common.{Bool, true, false, not, ◌||◌, cond, Option, Some, None, is_none}
 use Rattle.std.proofs.Common.{if◌then◌else◌, is_some, is_err, IsTrue, refl, sym, ap, ◌∙◌, arith}
+use Rattle.std.proofs.Common.{subst}
 use Rattle.std.proofs.lemmas.Bool.{ltb-true, ltb-false, eqb-true, eqb-false, not-false, or_cases}
 use Rattle.std.proofs.lemmas.Bool.{and_from, and_parts, not_from_false, not_from_true, not-true}
 use Rattle.std.proofs.lemmas.Bool.{cond-false, le-ltb, ne_eqb}
 use Rattle.std.specs.Option.{option_or}
+use Rattle.std.specs.Prelude.{IsSome, ◌↔◌}
 use Rattle.smf_text.specs.PackedDate.{packed_day_of}
 use Rattle.smf_frames.specs.Header.{header_len, header_of}
 use Rattle.smf_frames.specs.declared.header.Header.{Header}
@@ -14,9 +16,9 @@ use Rattle.smf_type30.specs.Layout.{subtype_end, triplets_end, hundredths_per_da
 use Rattle.smf_type30.specs.Layout.{processor, io_activity, completion}
 use Rattle.smf_type30.specs.declared.classes.Class.{Class}
 use Rattle.smf_type30.specs.declared.classes.Class.TheVariants.{DumpHeader, DumpTrailer, DataLost}
-use Rattle.smf_type30.specs.declared.classes.Class.TheVariants.{Other, Usage, Damaged}
+use Rattle.smf_type30.specs.declared.classes.Class.TheVariants.{Other, Continuation, Usage, Damaged}
 use Rattle.smf_type30.specs.declared.damage.Damage.{Damage}
-use Rattle.smf_type30.specs.declared.damage.Damage.TheVariants.{Accounting}
+use Rattle.smf_type30.specs.declared.damage.Damage.TheVariants.{Short, Accounting}
 use Rattle.smf_type30.specs.Accounts.{HasNoAccounts}
 use Rattle.smf_type30.specs.Section.{fits, count_of}
 use Rattle.smf_type30.specs.Usage.{subtype_of, accounts_of}
@@ -35,14 +37,13 @@ pub record Undamaged (bytes : List ℕ) : Type 0 where
   pub completion : fits bytes completion ≡ true
   pub accounts : is_some (accounts_of bytes) ≡ true
 
--- the record has the triplets, is one of work, and undamaged
-pub record UsageFacts (bytes : List ℕ) : Type 0 where
+-- the record has the triplets, is one of work, and its class is that of its damage
+pub record WorkFacts (bytes : List ℕ) (class : Class) : Type 0 where
   pub long : triplets_end ≤ length bytes
   pub subtype : (subtype_of bytes ≡ step_end) ⊎ (subtype_of bytes ≡ job_end)
   pub processing : count_of bytes processor ≢ 0
   pub work : measures_work bytes ≡ true
-  pub none : damage_of bytes ≡ None
-  pub parts : Undamaged bytes
+  pub judged : usage_unless (damage_of bytes) ≡ class
 
 -- where the first test of a ladder would have given another answer, it failed, and the tests below
 -- gave the answer
@@ -124,29 +125,36 @@ step_or_job bytes e = elim (or_cases _ _ e) [
   | inr job ↦ inr (eqb-true _ _ job)
 ]
 
--- the ladder of classes
-pub usage_facts : (bytes : List ℕ) → IsUsage bytes → UsageFacts bytes
+-- classes that the ladder of classes gives at its end alone
+abbrev AtEnd : Class → Type 0
+AtEnd Usage = Unit {0}
+AtEnd (Damaged Accounting) = Unit {0}
+AtEnd earlier = ⊥
+
+-- the ladder of classes, where it comes to its end
+work_facts : (bytes : List ℕ) (class : Class) → AtEnd class → class_of bytes ≡ class
+    → WorkFacts bytes class
 unfolding class_of class_of_work measures_work
-usage_facts bytes usage =
-    let header = passed (nat_lt (length bytes) header_len) _ _ _ (λ e. cc) usage in
-    let dump_header = passed (type_of bytes == dump_header) _ _ _ (λ e. cc) header.below in
-    let dump_trailer = passed (type_of bytes == dump_trailer) _ _ _ (λ e. cc) dump_header.below in
-    let data_lost = passed (type_of bytes == data_lost) _ _ _ (λ e. cc) dump_trailer.below in
-    let type = held (type_of bytes == work) _ _ _ (λ e. cc) data_lost.below in
-    let long_header = passed (nat_lt (length bytes) subtype_end) _ _ _ (λ e. cc) type.gives in
+work_facts bytes class at_end is =
+    let differs = λ (other : Class) (e : other ≡ class). subst AtEnd (sym e) at_end in
+    let short = differs (Damaged Short) in
+    let header = passed (nat_lt (length bytes) header_len) _ _ _ short is in
+    let opens = passed (type_of bytes == dump_header) _ _ _ (differs DumpHeader) header.below in
+    let ends = passed (type_of bytes == dump_trailer) _ _ _ (differs DumpTrailer) opens.below in
+    let lost = passed (type_of bytes == data_lost) _ _ _ (differs DataLost) ends.below in
+    let type = held (type_of bytes == work) _ _ _ (differs Other) lost.below in
+    let long_header = passed (nat_lt (length bytes) subtype_end) _ _ _ short type.gives in
     let charged = subtype_of bytes == step_end || subtype_of bytes == job_end in
-    let subtype = passed (not charged) _ _ _ (λ e. cc) long_header.below in
-    let long = passed (nat_lt (length bytes) triplets_end) _ _ _ (λ e. cc) subtype.below in
-    let processor = passed (count_of bytes processor == 0) _ _ _ (λ e. cc) long.below in
-    let ends = and_from _ _ type.holds (not-false _ subtype.failed) in
-    let none = no_damage _ processor.below in
+    let subtype = passed (not charged) _ _ _ (differs Other) long_header.below in
+    let long = passed (nat_lt (length bytes) triplets_end) _ _ _ short subtype.below in
+    let measured = passed (count_of bytes processor == 0) _ _ _ (differs Continuation) long.below in
+    let work_ends = and_from _ _ type.holds (not-false _ subtype.failed) in
     record {
       long = ltb-false _ _ long.failed;
       subtype = step_or_job bytes (not-false _ subtype.failed);
-      processing = eqb-false _ _ processor.failed;
-      work = and_from _ _ ends (not_from_false _ processor.failed);
-      none = none;
-      parts = undamaged bytes none;
+      processing = eqb-false _ _ measured.failed;
+      work = and_from _ _ work_ends (not_from_false _ measured.failed);
+      judged = measured.below;
     }
 
 -- the class of a record that has a header, by its type
@@ -165,15 +173,21 @@ class_of-by bytes kind long is =
     cond-false (nat_lt (length bytes) header_len) _ _ (le-ltb _ _ long)
     ∙ ap (λ kind. class_by kind bytes) is
 
--- the same, of a header that was read
-pub class_of-read : (bytes : List ℕ) (header : Header) (kind : ℕ) → header_len ≤ length bytes
-    → header ≡ header_of bytes → header.kind ≡ kind → class_of bytes ≡ class_by kind bytes
-class_of-read bytes header kind long is is_kind =
-    class_of-by bytes kind long (sym (ap (λ (header : Header). header.kind) is) ∙ is_kind)
+-- that is the class, where a header was read
+pub class_told : (bytes : List ℕ) (header : Header) (kind : ℕ)
+    → (IsSome (Some header) ↔ (header_len ≤ length bytes)) → header ≡ header_of bytes
+    → header.kind ≡ kind → class_by kind bytes ≡ class_of bytes
+class_told bytes header kind long is is_kind =
+    let same = sym (ap (λ (header : Header). header.kind) is) ∙ is_kind in
+    sym (class_of-by bytes kind (long.0 refl) same)
+
+-- what it shows of a usage record
+usage_facts : (bytes : List ℕ) → IsUsage bytes → WorkFacts bytes Usage
+usage_facts bytes usage = work_facts bytes Usage tt usage
 
 -- a record of the class Usage has no damage
 pub usage_undamaged : (bytes : List ℕ) → IsUsage bytes → damage_of bytes ≡ None
-usage_undamaged bytes usage = (usage_facts bytes usage).none
+usage_undamaged bytes usage = no_damage _ (usage_facts bytes usage).judged
 
 -- and a record that measures work and has none is of that class
 pub undamaged_usage : (bytes : List ℕ) → IsTrue (measures_work bytes)
@@ -224,29 +238,12 @@ of_damage : (found : Option Damage) (damage : Damage) → usage_unless found ≡
 of_damage None damage e = cc
 of_damage (Some other) damage e = cc
 
--- the ladder of classes, where it ends at the accounting fields
-accounting_damage : (bytes : List ℕ) → class_of bytes ≡ Damaged Accounting
-    → damage_of bytes ≡ Some Accounting
-unfolding class_of class_of_work
-accounting_damage bytes e =
-    let header = passed (nat_lt (length bytes) header_len) _ _ _ (λ e. cc) e in
-    let dump_header = passed (type_of bytes == dump_header) _ _ _ (λ e. cc) header.below in
-    let dump_trailer = passed (type_of bytes == dump_trailer) _ _ _ (λ e. cc) dump_header.below in
-    let data_lost = passed (type_of bytes == data_lost) _ _ _ (λ e. cc) dump_trailer.below in
-    let type = held (type_of bytes == work) _ _ _ (λ e. cc) data_lost.below in
-    let long_header = passed (nat_lt (length bytes) subtype_end) _ _ _ (λ e. cc) type.gives in
-    let charged = subtype_of bytes == step_end || subtype_of bytes == job_end in
-    let subtype = passed (not charged) _ _ _ (λ e. cc) long_header.below in
-    let long = passed (nat_lt (length bytes) triplets_end) _ _ _ (λ e. cc) subtype.below in
-    let measured = passed (count_of bytes processor == 0) _ _ _ (λ e. cc) long.below in
-    of_damage _ _ measured.below
-
 -- a record with that damage has no accounting fields
 pub no_accounts : (bytes : List ℕ) → class_of bytes ≡ Damaged Accounting
     → HasNoAccounts bytes
 unfolding damage_of
 no_accounts bytes e fields are =
-    let damage = accounting_damage bytes e in
+    let damage = of_damage _ _ (work_facts bytes (Damaged Accounting) tt e).judged in
     let sections = other _ (section_damage bytes) (not_of_header (header_of bytes)) damage in
     let missing = accounts_missing bytes sections in
     let found = accounts_found bytes fields are in
@@ -268,30 +265,34 @@ usage_subtype bytes usage = (usage_facts bytes usage).subtype
 pub usage_processing : (bytes : List ℕ) → IsUsage bytes → count_of bytes processor ≢ 0
 usage_processing bytes usage = (usage_facts bytes usage).processing
 
+-- its parts are as they should be
+usage_parts : (bytes : List ℕ) → IsUsage bytes → Undamaged bytes
+usage_parts bytes usage = undamaged bytes (usage_undamaged bytes usage)
+
 pub usage_date : (bytes : List ℕ) → IsUsage bytes
     → is_err (packed_day_of (header_of bytes).date) ≡ false
-usage_date bytes usage = (usage_facts bytes usage).parts.date
+usage_date bytes usage = (usage_parts bytes usage).date
 
 pub usage_time : (bytes : List ℕ) → IsUsage bytes → (header_of bytes).time < hundredths_per_day
-usage_time bytes usage = (usage_facts bytes usage).parts.time
+usage_time bytes usage = (usage_parts bytes usage).time
 
 pub usage_identified : (bytes : List ℕ) → IsUsage bytes → count_of bytes identification ≢ 0
-usage_identified bytes usage = (usage_facts bytes usage).parts.identified
+usage_identified bytes usage = (usage_parts bytes usage).identified
 
 pub usage_identification : (bytes : List ℕ) → IsUsage bytes → fits bytes identification ≡ true
-usage_identification bytes usage = (usage_facts bytes usage).parts.identification
+usage_identification bytes usage = (usage_parts bytes usage).identification
 
 pub usage_processor : (bytes : List ℕ) → IsUsage bytes → fits bytes processor ≡ true
-usage_processor bytes usage = (usage_facts bytes usage).parts.processor
+usage_processor bytes usage = (usage_parts bytes usage).processor
 
 pub usage_io_activity : (bytes : List ℕ) → IsUsage bytes → fits bytes io_activity ≡ true
-usage_io_activity bytes usage = (usage_facts bytes usage).parts.io_activity
+usage_io_activity bytes usage = (usage_parts bytes usage).io_activity
 
 pub usage_completion : (bytes : List ℕ) → IsUsage bytes → fits bytes completion ≡ true
-usage_completion bytes usage = (usage_facts bytes usage).parts.completion
+usage_completion bytes usage = (usage_parts bytes usage).completion
 
 pub usage_accounts : (bytes : List ℕ) → IsUsage bytes → is_some (accounts_of bytes) ≡ true
-usage_accounts bytes usage = (usage_facts bytes usage).parts.accounts
+usage_accounts bytes usage = (usage_parts bytes usage).accounts
 
 -- all of them
 pub ruleset usage = (

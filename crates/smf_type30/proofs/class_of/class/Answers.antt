@@ -1,43 +1,25 @@
-use Rattle.std.proofs.Common.{◌∙◌, refl, sym}
-use Rattle.smf_type30.proofs.UsageFacts.{class_of-read, no_accounts, usage_measures_work}
+use Rattle.std.proofs.Common.{◌∙◌, sym}
+use Rattle.smf_type30.proofs.UsageFacts.{class_told, no_accounts, usage_measures_work}
 use Rattle.smf_type30.proofs.class_of.class.Goals as goal
 
-pub returns-in-2 : goal.returns-in-2
-returns-in-2 c =
-    let read = c.in-Some.ensures in
-    record {
-      class = sym (class_of-read c.args.bytes.now c.in-Some.header 2 (read.succeeds.0 refl) read.value
-          c.in-2.is);
-      work = λ e. cc;
-      accounts = λ e fields are. cc;
-    }
+pub returns-in-2-clause-class : goal.returns-in-2-clause-class
+returns-in-2-clause-class c =
+    class_told _ _ 2 c.in-Some.ensures.succeeds c.in-Some.ensures.value c.in-2.is
 
-pub returns-in-3 : goal.returns-in-3
-returns-in-3 c =
-    let read = c.in-Some.ensures in
-    record {
-      class = sym (class_of-read c.args.bytes.now c.in-Some.header 3 (read.succeeds.0 refl) read.value
-          c.in-3.is);
-      work = λ e. cc;
-      accounts = λ e fields are. cc;
-    }
+pub returns-in-3-clause-class : goal.returns-in-3-clause-class
+returns-in-3-clause-class c =
+    class_told _ _ 3 c.in-Some.ensures.succeeds c.in-Some.ensures.value c.in-3.is
 
-pub returns-in-7 : goal.returns-in-7
-returns-in-7 c =
-    let read = c.in-Some.ensures in
-    record {
-      class = sym (class_of-read c.args.bytes.now c.in-Some.header 7 (read.succeeds.0 refl) read.value
-          c.in-7.is);
-      work = λ e. cc;
-      accounts = λ e fields are. cc;
-    }
+pub returns-in-7-clause-class : goal.returns-in-7-clause-class
+returns-in-7-clause-class c =
+    class_told _ _ 7 c.in-Some.ensures.succeeds c.in-Some.ensures.value c.in-7.is
 
 pub returns-in-30 : goal.returns-in-30
 returns-in-30 c =
     let bytes = c.args.bytes.now in
     let read = c.in-Some.ensures in
     let same = c.class_of_work.ensures
-    ∙ sym (class_of-read bytes c.in-Some.header 30 (read.succeeds.0 refl) read.value c.in-30.is) in
+    ∙ class_told bytes c.in-Some.header 30 read.succeeds read.value c.in-30.is in
     record {
       class = same;
       work = λ usage. usage_measures_work bytes (sym same ∙ usage);

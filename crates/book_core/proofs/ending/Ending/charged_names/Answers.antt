@@ -1,10 +1,9 @@
-use Rattle.std.proofs.Common.{◌≡◌, ◌∙◌, ◌++◌, [], ◌∷◌, sym, ap, subst, map, None}
+use Rattle.std.proofs.Common.{◌≡◌, ◌∙◌, [], ◌∷◌, sym, subst, map, None}
 use Rattle.std.specs.Map.Iter.{deref_pair}
 use Rattle.std.proofs.lemmas.List.{map-append}
-use Rattle.std.proofs.lemmas.Map.Iter.{rest_so_far, rest_more}
 use Rattle.book_core.specs.Plain.{Entry}
 use Rattle.book_core.specs.Shares.{NamesOf, charges, under_name}
-use Rattle.book_core.proofs.NameLemmas.{missing_so_far, names-more, names-skip}
+use Rattle.book_core.proofs.NameLemmas.{missing_next, names-more, names-skip}
 use Rattle.book_core.proofs.ending.Ending.charged_names.Goals as goal
 use Rattle.book_core.proofs.ending.Ending.charged_names.Goals.{After-charges}
 
@@ -12,15 +11,9 @@ use Rattle.book_core.proofs.ending.Ending.charged_names.Goals.{After-charges}
 missing : (c : After-charges)
     → under_name c.in-Some.name.now (map deref_pair c.loop-name.yielded) ≡ None
 missing c =
-    let done = map deref_pair c.loop-name.yielded in
-    let entry : Entry = (c.in-Some.name.now, c.in-Some.kept.now) in
     let held = c.into_iter-name-iterator.ensures.into_iter_gives in
-    let left = rest_more deref_pair _ _ _ (c.in-Some.name, c.in-Some.kept) c.in-Some.is
-    c.next.ensures.steps in
-    missing_so_far c.args.held.now.entries done c.next.new.self entry
-    (sym held.0 ∙ rest_so_far deref_pair _ _ _ c.loop-name.yielded_by
-    ∙ ap (λ rest. done ++ rest) left)
-    held.5
+    missing_next deref_pair _ _ _ _ _ _ (c.in-Some.name, c.in-Some.kept) held.0
+    c.loop-name.yielded_by c.in-Some.is c.next.ensures.steps held.5
 
 pub loop-name-preserved-in_ok-insert : goal.loop-name-preserved-in_ok-insert
 loop-name-preserved-in_ok-insert c =

@@ -1,12 +1,12 @@
-use Rattle.std.proofs.Common.{◌≡◌, ◌∙◌, ◌++◌, [], ◌∷◌, sym, ap, subst, map, None, rules}
+use Rattle.std.proofs.Common.{◌≡◌, ◌∙◌, [], ◌∷◌, sym, ap, subst, map, None, rules}
 use Rattle.std.specs.BTreeSet.{contains}
 use Rattle.std.specs.Map.Iter.{deref_pair}
 use Rattle.std.proofs.lemmas.List.{map-append}
-use Rattle.std.proofs.lemmas.Map.Iter.{rest_so_far, rest_more, iter_end}
+use Rattle.std.proofs.lemmas.Map.Iter.{iter_end}
 use Rattle.book_model.specs.Words.{by_bytes}
 use Rattle.book_core.specs.Plain.{Entry}
 use Rattle.book_core.specs.Shares.{SharesOf, share_at, under_name}
-use Rattle.book_core.proofs.NameLemmas.{missing_so_far, shares-more, shares-skip}
+use Rattle.book_core.proofs.NameLemmas.{missing_next, shares-more, shares-skip}
 use Rattle.book_core.proofs.ending.Ending.shares.Goals as goal
 use Rattle.book_core.proofs.ending.Ending.shares.Goals.{After-share}
 
@@ -14,15 +14,9 @@ use Rattle.book_core.proofs.ending.Ending.shares.Goals.{After-share}
 missing : (c : After-share)
     → under_name c.in-Some.name.now (map deref_pair c.loop-name.yielded) ≡ None
 missing c =
-    let done = map deref_pair c.loop-name.yielded in
-    let entry : Entry = (c.in-Some.name.now, c.in-Some.kept.now) in
     let held = c.into_iter-name-iterator.ensures.into_iter_gives in
-    let left = rest_more deref_pair _ _ _ (c.in-Some.name, c.in-Some.kept) c.in-Some.is
-    c.next.ensures.steps in
-    missing_so_far c.args.held.now.entries done c.next.new.self entry
-    (sym held.0 ∙ rest_so_far deref_pair _ _ _ c.loop-name.yielded_by
-    ∙ ap (λ rest. done ++ rest) left)
-    held.5
+    missing_next deref_pair _ _ _ _ _ _ (c.in-Some.name, c.in-Some.kept) held.0
+    c.loop-name.yielded_by c.in-Some.is c.next.ensures.steps held.5
 
 -- its share, by whether its name is posted
 share_is : (c : After-share)

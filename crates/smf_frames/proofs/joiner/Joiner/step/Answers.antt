@@ -24,8 +24,8 @@ returns-then-is_block_due-clause-step c =
     let mid = c.hold_descriptor-first.new.self in
     let long = c.has_descriptor.ensures.0 c.if-not-has_descriptor.false in
     let short = c.is_block_due.ensures.short c.if-is_block_due.true in
-    step_block c.args.self.now mid c.pass_block.new.self c.args.rest.now
-    c.hold_descriptor-first.result c.hold_descriptor-first.ensures.value
+    step_block c.args.self.now mid c.args.rest.now c.hold_descriptor-first.result
+    c.hold_descriptor-first.ensures.value c.pass_block.new.self
     c.hold_descriptor-first.ensures.within
     (record {
       four = omega (arith, long, short);
@@ -38,8 +38,9 @@ pub returns-then-later-missing-clause-step : goal.returns-then-later-missing-cla
 returns-then-later-missing-clause-step c =
     let mid = c.hold_descriptor-first.new.self in
     let lacks = c.if-later-missing.true in
-    step_less c.args.self.now mid c.hold_data.new.self c.args.rest.now c.split_at.result.1.now
-    c.hold_descriptor-first.result c.hold_descriptor-first.ensures.value c.split_at.ensures.back
+    step_less c.args.self.now mid c.args.rest.now c.hold_descriptor-first.result
+    c.hold_descriptor-first.ensures.value c.hold_data.new.self c.split_at.result.1.now
+    c.split_at.ensures.back
     (record {
       four = c.has_descriptor.ensures.0 c.if-not-has_descriptor.false;
       passes = sym c.fault.ensures ∙ c.in_default.is;
@@ -86,7 +87,7 @@ returns-clause-step c =
     (ap length c.split_at-2.ensures.front ∙ length-take-le missing later there
     ∙ c.missing-missing.ensures.exact)
     c.hold_data-2.ensures in
-    step_segment c.args.self.now mid whole c.pass_segment.new.self c.args.rest.now later
-    c.split_at-2.result.0.now c.hold_descriptor-first.result missing
-    c.hold_descriptor-first.ensures.value c.split_at.ensures.back c.split_at-2.ensures.front
+    step_segment c.args.self.now mid c.args.rest.now c.hold_descriptor-first.result
+    c.hold_descriptor-first.ensures.value whole c.pass_segment.new.self later
+    c.split_at-2.result.0.now missing c.split_at.ensures.back c.split_at-2.ensures.front
     c.hold_descriptor-first.ensures.within there c.hold_data-2.ensures holds c.pass_segment.ensures
