@@ -14,7 +14,6 @@ pub mod ShownLemmas
 pub mod RepeatLemmas
 pub mod IdentityLemmas
 pub mod TariffLemmas
-pub mod DayLemmas
 pub mod NameLemmas
 pub mod ShareLemmas
 pub mod BookLemmas

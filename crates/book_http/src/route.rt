@@ -44,19 +44,25 @@ pub enum Page {
 /// The most digits of a period.
 const PERIOD_DIGITS: usize = 4;
 
+/// A router with one page more.
+fn with_page(mut router: Router<Page>, route: &str, page: Page) -> Result<Router<Page>, InsertError>
+    ensures { IfOk result (λ more. more ≡ spec.with_route route.now page router) }
+{
+    router.insert(route, page)?;
+    Ok(router)
+}
+
 /// The pages by their paths. An error is want of memory.
 fn pages(alloc: Global) -> Result<Router<Page>, InsertError>
     ensures { IfOk result (λ router. router ≡ route_rows) }
 {
-    let mut router = Router::new(alloc);
-    router.insert("/periods", Page::Periods)?;
-    router.insert("/statement/{n}", Page::Statement)?;
-    router.insert("/statement-csv/{n}", Page::StatementCsv)?;
-    router.insert("/adjustments/{n}", Page::Adjustments)?;
-    router.insert("/disputes", Page::Disputes)?;
-    router.insert("/import", Page::Import)?;
-    router.insert("/import-bdw", Page::ImportBdw)?;
-    Ok(router)
+    let router = with_page(Router::new(alloc), "/periods", Page::Periods)?;
+    let router = with_page(router, "/statement/{n}", Page::Statement)?;
+    let router = with_page(router, "/statement-csv/{n}", Page::StatementCsv)?;
+    let router = with_page(router, "/adjustments/{n}", Page::Adjustments)?;
+    let router = with_page(router, "/disputes", Page::Disputes)?;
+    let router = with_page(router, "/import", Page::Import)?;
+    with_page(router, "/import-bdw", Page::ImportBdw)
 }
 
 /// The page of a path, if it has one.

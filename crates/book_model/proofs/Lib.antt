@@ -1,5 +1,6 @@
 -- Lists and sets first; then what tariffs are in force and what records cost; what calls answer;
 -- sound books, and what is read by two rulings; and last, whole histories.
+pub mod DayLemmas
 pub mod ListLemmas
 pub mod SumsAlike
 pub mod SumLemmas

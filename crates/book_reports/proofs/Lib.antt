@@ -1,9 +1,6 @@
-pub mod ColumnLemmas
 pub mod ListLemmas
 pub mod NumberLemmas
 pub mod WritingLemmas
 pub mod BookLemmas
 pub mod ReadingLemmas
 pub mod ReportLemmas
-pub mod TableLemmas
-pub mod AmountLemmas

@@ -9,11 +9,11 @@ use Rattle.book_reports.specs.declared.report.Report.{Report}
 use Rattle.book_reports.specs.declared.report.Report.TheVariants.{Statement, StatementTable}
 use Rattle.book_reports.specs.declared.report.Report.TheVariants.{AdjustmentList, DisputeList}
 use Rattle.book_reports.specs.declared.report.Report.TheVariants.{PeriodList}
-use Rattle.book_reports.specs.Statements.{statement_text}
-use Rattle.book_reports.specs.StatementTables.{statement_table}
-use Rattle.book_reports.specs.AdjustmentLists.{adjustment_list_text}
-use Rattle.book_reports.specs.DisputeLists.{dispute_list_text}
-use Rattle.book_reports.specs.PeriodLists.{period_list_text}
+use Rattle.report_texts.specs.Statements.{statement_text}
+use Rattle.report_texts.specs.StatementTables.{statement_table}
+use Rattle.report_texts.specs.AdjustmentLists.{adjustment_list_text}
+use Rattle.report_texts.specs.DisputeLists.{dispute_list_text}
+use Rattle.report_texts.specs.PeriodLists.{period_list_text}
 
 -- the answer with its value shown; a refusal stays one
 abbrev pub shown_by : {V A : Type 0} → (V → A) → Result V LedgerFault → Result A LedgerFault

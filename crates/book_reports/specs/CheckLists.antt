@@ -6,7 +6,7 @@ use Rattle.smf_type30.specs.declared.classes.Class.TheVariants.{DumpHeader, Dump
 use Rattle.smf_type30.specs.declared.classes.Class.TheVariants.{Other, Continuation, Usage, Damaged}
 use Rattle.book_model.specs.Words.{type_of, class_of, damage_number}
 use Rattle.book_import.specs.declared.receipt.Stop.{Stop}
-use Rattle.book_reports.specs.Columns.{line_end}
+use Rattle.report_texts.specs.Columns.{line_end}
 use Rattle.book_reports.specs.ReceiptLines.{fault_text, stop_text}
 
 -- the type of a record, which one that is shorter than the 18 bytes of a header does not tell

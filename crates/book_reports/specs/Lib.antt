@@ -1,13 +1,5 @@
--- Read in this order: columns and numbers, how a period is named, then each text, what books answer
--- of them, the faults, and what a writer gains.
-pub mod Columns
-pub mod Periods
-pub mod Statements
-pub mod StatementTables
-pub mod Tables
-pub mod AdjustmentLists
-pub mod DisputeLists
-pub mod PeriodLists
+-- Read in this order: the lines of receipts and of check lists, the texts that books answer, the
+-- faults, what a writer gains, and a report as a whole.
 pub mod ReceiptLines
 pub mod CheckLists
 pub mod BookTexts

@@ -5,7 +5,7 @@ use Rattle.book_model.specs.Words.{frame_number, ledger_number}
 use Rattle.book_import.specs.declared.receipt.Receipt.{Receipt}
 use Rattle.book_import.specs.declared.receipt.Stop.{Stop}
 use Rattle.book_import.specs.declared.receipt.Stop.TheVariants.{End, Frame, Read, ReadLimit, Ledger}
-use Rattle.book_reports.specs.Columns.{line_end}
+use Rattle.report_texts.specs.Columns.{line_end}
 
 -- a word and a number, and a blank behind each
 abbrev pub count_text : List ℕ → ℕ → List ℕ

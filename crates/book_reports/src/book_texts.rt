@@ -7,13 +7,11 @@ ghost use Rattle.book_model.specs.Words.{IsDay};
 ghost use Rattle.book_core.specs.Calls.{IsCall};
 ghost use Rattle.book_reports.specs.BookTexts as spec;
 
-use crate::adjustment_lists::adjustment_list_text;
-use crate::dispute_lists::dispute_list_text;
-use crate::period_lists::period_list_text;
 use crate::report::Report;
-use crate::statement_tables::statement_table;
-use crate::statements::statement_text;
 use book_core::{Ledger, LedgerFault};
+use report_texts::{
+    adjustment_list_text, dispute_list_text, period_list_text, statement_table, statement_text,
+};
 use std::alloc::Global;
 
 /// The day that a period was closed through, `None` where no such period is closed.

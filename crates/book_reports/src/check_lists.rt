@@ -3,9 +3,9 @@
 ghost use Rattle.std.specs.Prelude.{◌≡◌, ◌++◌, OnOk, string_bytes};
 ghost use Rattle.book_reports.specs.CheckLists as spec;
 
-use crate::columns::push_number;
 use crate::receipt_lines::stop_text;
 use book_import::Stop;
+use report_texts::push_number;
 use smf_frames::Header;
 use smf_type30::{Class, class};
 use std::alloc::AllocError;

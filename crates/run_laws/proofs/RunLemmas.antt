@@ -17,7 +17,7 @@ use Rattle.history_laws.proofs.NetLemmas.{charged_once}
 use Rattle.history_laws.proofs.ReadLemmas.{conserved}
 use Rattle.book_core.proofs.WorkLemmas.{after_all-append}
 use Rattle.book_reports.specs.BookTexts.{open_statement, dispute_text}
-use Rattle.book_reports.specs.Statements.{statement_text}
+use Rattle.report_texts.specs.Statements.{statement_text}
 use Rattle.office.proofs.RunLemmas.{runs_answered}
 use Rattle.run_laws.specs.Laws.{RunsMakeHistory, RunsFollowHistory, ChargesOnce, RunsChargeOnce}
 use Rattle.run_laws.specs.Laws.{RunsConserve, RunOrderIsFree, ClosedStatementsStay}

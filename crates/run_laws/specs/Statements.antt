@@ -4,7 +4,7 @@ use Rattle.std.specs.Option.{option_map}
 use Rattle.std.specs.Result.{result_ok}
 use Rattle.book_model.specs.Words.{Naming, Book, charges_outcome}
 use Rattle.history_laws.specs.Closed.{IsReadAlike}
-use Rattle.book_reports.specs.Statements.{statement_text}
+use Rattle.report_texts.specs.Statements.{statement_text}
 use Rattle.book_reports.specs.BookTexts.{dispute_text}
 
 -- the statement that shows the day of a period's close, if it is closed, and the charge rows that

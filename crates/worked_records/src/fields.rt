@@ -28,28 +28,42 @@ fn push_bytes(alloc: Global, out: &mut String, bytes: Option<&[u8]>) -> Answered
     Ok(())
 }
 
-/// Adds a field of a usage record, by its name.
-fn push_named(alloc: Global, out: &mut String, name: &str, usage: &Type30<'_>) -> Answered {
+/// A field that is a number, by its name.
+fn number_named(name: &str, usage: &Type30<'_>) -> Option<i64> {
     match name {
-        "subtype" => writeln!(out, "{}", usage.subtype())?,
-        "day" => writeln!(out, "{}", usage.moment().day)?,
-        "time" => writeln!(out, "{}", usage.moment().time)?,
-        "cpu" => writeln!(out, "{}", usage.cpu())?,
-        "blocks" => writeln!(out, "{}", usage.excp())?,
-        "job" => push_bytes(alloc, out, Some(usage.job()))?,
-        "program" => push_bytes(alloc, out, Some(usage.program()))?,
-        "job_id" => push_bytes(alloc, out, Some(usage.job_id()))?,
-        "identity" => push_bytes(alloc, out, Some(&usage.identity()))?,
+        "subtype" => Some(i64::from(usage.subtype())),
+        "day" => Some(i64::from(usage.moment().day)),
+        "time" => Some(i64::from(usage.moment().time)),
+        "cpu" => Some(usage.cpu() as i64),
+        "blocks" => Some(usage.excp() as i64),
+        _ => None,
+    }
+}
+
+/// Adds a field that is bytes, by its name.
+fn push_bytes_named(alloc: Global, out: &mut String, name: &str, usage: &Type30<'_>) -> Answered {
+    match name {
+        "job" => push_bytes(alloc, out, Some(usage.job())),
+        "program" => push_bytes(alloc, out, Some(usage.program())),
+        "job_id" => push_bytes(alloc, out, Some(usage.job_id())),
+        "identity" => push_bytes(alloc, out, Some(&usage.identity())),
         "completion" => match usage.completion() {
-            Some(bytes) => push_bytes(alloc, out, Some(&bytes))?,
-            None => push_bytes(alloc, out, None)?,
+            Some(bytes) => push_bytes(alloc, out, Some(&bytes)),
+            None => push_bytes(alloc, out, None),
         },
         _ => {
             let number = name.strip_prefix("account:").ok_or(NoAnswer::Unread)?;
-            push_bytes(alloc, out, usage.account(number.parse::<u16>()?))?;
+            push_bytes(alloc, out, usage.account(number.parse::<u16>()?))
         }
     }
-    Ok(())
+}
+
+/// Adds a field of a usage record, by its name.
+fn push_named(alloc: Global, out: &mut String, name: &str, usage: &Type30<'_>) -> Answered {
+    match number_named(name, usage) {
+        Some(number) => Ok(writeln!(out, "{number}")?),
+        None => push_bytes_named(alloc, out, name, usage),
+    }
 }
 
 /// Adds a field of a record, by its name, or the record's damage.

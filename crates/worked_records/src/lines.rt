@@ -25,23 +25,55 @@ pub(crate) struct RecordLines {
     file: String,
 }
 
+/// Adds the answer to a line on bytes that no dump is made of.
+fn push_of_bytes(alloc: Global, out: &mut String, verb: &str, bytes: &[u8]) -> Answered {
+    match verb {
+        "packed" => push_packed(alloc, out, bytes),
+        _ => push_shown(alloc, out, bytes),
+    }
+}
+
+/// Adds the answer to a line on a text.
+fn push_of_text(alloc: Global, out: &mut String, verb: &str, text: &str) -> Answered {
+    match verb {
+        "day" => push_day(alloc, out, day_of_text(text)),
+        _ => push_name(out, text),
+    }
+}
+
+/// Adds the answer to a line on a dump or a record alone.
+fn push_of_dump(alloc: Global, out: &mut String, verb: &str, dump: &[u8]) -> Answered {
+    match verb {
+        "header" => push_header(alloc, out, dump),
+        "class" => push_class(out, dump),
+        _ => Ok(out.push_str(work_lines(alloc, dump)?.as_str())?),
+    }
+}
+
 /// Adds the answer to a line on texts, days or records.
 fn push_read(named: &Named, out: &mut String, ask: Ask<'_>) -> Answered {
     let alloc = named.alloc();
     match (ask.verb, ask.words) {
-        ("packed", [hex]) => push_packed(alloc, out, &hex_of(alloc, hex)?),
-        ("day", words) => push_day(alloc, out, day_of_text(text_of(alloc, words)?.as_str())),
-        ("date", [number]) => push_day(alloc, out, Some(number.parse::<i32>()?)),
-        ("show", [hex]) => push_shown(alloc, out, &hex_of(alloc, hex)?),
-        ("encode", [size, words @ ..]) => push_encoded(alloc, out, size, words),
-        ("name", words) => push_name(out, text_of(alloc, words)?.as_str()),
-        ("header", parts) => push_header(alloc, out, &dump_of(named, parts)?),
-        ("class", parts) => push_class(out, &dump_of(named, parts)?),
-        ("field", [name, parts @ ..]) => push_field(alloc, out, name, &dump_of(named, parts)?),
-        ("work", parts) => {
-            let lines = work_lines(alloc, &dump_of(named, parts)?)?;
-            Ok(out.push_str(lines.as_str())?)
+        ("packed" | "show", [hex]) => push_of_bytes(alloc, out, ask.verb, &hex_of(alloc, hex)?),
+        ("day" | "name", words) => {
+            push_of_text(alloc, out, ask.verb, text_of(alloc, words)?.as_str())
         }
+        ("date", [number]) => push_day(alloc, out, Some(number.parse::<i32>()?)),
+        ("encode", [size, words @ ..]) => push_encoded(alloc, out, size, words),
+        ("header" | "class" | "work", parts) => {
+            push_of_dump(alloc, out, ask.verb, &dump_of(named, parts)?)
+        }
+        ("field", [name, parts @ ..]) => push_field(alloc, out, name, &dump_of(named, parts)?),
+        _ => Err(NoAnswer::Unread),
+    }
+}
+
+/// The text of a tariff file that a line gives.
+fn file_of(named: &Named, ask: Ask<'_>) -> Result<String, NoAnswer> {
+    match (ask.verb, ask.words) {
+        ("file", names) => named.texts(names, ask.body)?.ok_or(NoAnswer::Unread),
+        ("changed", [name, words @ ..]) => changed(named, name, words),
+        ("repeated", [count, piece, names @ ..]) => repeated(named, count, piece, names),
         _ => Err(NoAnswer::Unread),
     }
 }
@@ -50,15 +82,8 @@ fn push_read(named: &Named, out: &mut String, ask: Ask<'_>) -> Answered {
 fn push_priced(named: &Named, out: &mut String, ask: Ask<'_>) -> Answered {
     let alloc = named.alloc();
     match (ask.verb, ask.words) {
-        ("file", names) => {
-            let text = named.texts(names, ask.body)?.ok_or(NoAnswer::Unread)?;
-            push_file(alloc, out, text.as_str())
-        }
-        ("changed", [name, words @ ..]) => {
-            push_file(alloc, out, changed(named, name, words)?.as_str())
-        }
-        ("repeated", [count, piece, names @ ..]) => {
-            push_file(alloc, out, repeated(named, count, piece, names)?.as_str())
+        ("file" | "changed" | "repeated", _) => {
+            push_file(alloc, out, file_of(named, ask)?.as_str())
         }
         ("say", ["memory"]) => push_fault(out, TariffFault::Memory),
         ("flat", [cpu, excp, record, parts @ ..]) => {

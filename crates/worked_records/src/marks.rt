@@ -10,24 +10,35 @@ use streams::{Sink, Source};
 /// The most reads of one line.
 const MOST_READS: u64 = 1_000;
 
+/// Adds the bytes of a read, if it did not fail.
+fn push_bytes(alloc: Global, out: &mut String, bytes: Option<&[u8]>) -> Answered {
+    match bytes {
+        None => out.push_str("READ NONE")?,
+        Some([]) => out.push_str("READ 0")?,
+        Some(bytes) => write!(out, "READ {} {}", bytes.len(), encode_upper(alloc, bytes)?)?,
+    }
+    Ok(())
+}
+
+/// Adds what a source marks.
+fn push_marks(out: &mut String, source: &Source<&[u8]>) -> Answered {
+    write!(out, " ASKED {}", source.asked())?;
+    out.push_str(if source.failed() { " FAILED" } else { "" })?;
+    Ok(out.push_str(if source.ended() { " ENDED\n" } else { "\n" })?)
+}
+
 /// Adds what one read gives, if there may be one.
 fn push_read(alloc: Global, out: &mut String, source: &mut Source<&[u8]>, size: &str) -> Answered {
     if source.asked() >= MOST_READS || source.failed() || source.ended() {
         return Err(NoAnswer::Unread);
     }
     let mut buffer = vec![in alloc; 0; usize::from(size.parse::<u16>()?)]?;
-    match source.read(&mut buffer) {
-        Ok(0) => write!(out, "READ 0")?,
-        Ok(count) => write!(
-            out,
-            "READ {count} {}",
-            encode_upper(alloc, &buffer[..count])?
-        )?,
-        Err(_) => write!(out, "READ NONE")?,
-    }
-    write!(out, " ASKED {}", source.asked())?;
-    out.push_str(if source.failed() { " FAILED" } else { "" })?;
-    Ok(out.push_str(if source.ended() { " ENDED\n" } else { "\n" })?)
+    let bytes = match source.read(&mut buffer) {
+        Ok(count) => Some(&buffer[..count]),
+        Err(_) => None,
+    };
+    push_bytes(alloc, out, bytes)?;
+    push_marks(out, source)
 }
 
 /// Adds what each read of a source gives, and what is left behind them.

@@ -46,6 +46,33 @@ fn is_same(parts: &Split, whole: &Split) -> bool {
         && parts.is_broken == whole.is_broken
 }
 
+/// Sizes of pieces, each with a blank before it.
+#[derive(Drop)]
+struct Found {
+    /// By which a joiner makes the same of a dump.
+    same: String,
+    other: String,
+}
+
+impl Found {
+    fn add(&mut self, size: usize, is_same: bool) -> Answered {
+        let sizes = if is_same {
+            &mut self.same
+        } else {
+            &mut self.other
+        };
+        Ok(write!(sizes, " {size}")?)
+    }
+}
+
+/// Adds a line of sizes, if there are any.
+fn push_sizes(out: &mut String, what: &str, sizes: &String) -> Answered {
+    if !sizes.is_empty() {
+        writeln!(out, "{what}{sizes}")?;
+    }
+    Ok(())
+}
+
 /// Adds the sizes of pieces by which a joiner makes of a dump what `split` makes of it, or of the
 /// dump behind a colon, and the others.
 pub(crate) fn push_pieces(
@@ -59,19 +86,15 @@ pub(crate) fn push_pieces(
     let (parts, other) = split_words(parts, ":").unwrap_or((parts, parts));
     let dump = dump_of(named, parts)?;
     let whole = split(alloc, layout, &dump_of(named, other)?)?;
-    let (mut same, mut other) = (String::new(alloc), String::new(alloc));
+    let mut found = Found {
+        same: String::new(alloc),
+        other: String::new(alloc),
+    };
     for size in sizes.split(',') {
         let size = size.parse::<usize>()?;
-        if is_same(&in_pieces(alloc, layout, &dump, size)?, &whole) {
-            write!(same, " {size}")?;
-        } else {
-            write!(other, " {size}")?;
-        }
+        let is_same = is_same(&in_pieces(alloc, layout, &dump, size)?, &whole);
+        found.add(size, is_same)?;
     }
-    for (what, sizes) in [("SAME IN", &same), ("OTHER IN", &other)] {
-        if !sizes.is_empty() {
-            writeln!(out, "{what}{sizes}")?;
-        }
-    }
-    Ok(())
+    push_sizes(out, "SAME IN", &found.same)?;
+    push_sizes(out, "OTHER IN", &found.other)
 }

@@ -1,18 +1,19 @@
-use Rattle.std.proofs.Common.{refl}
-use Rattle.matchit.proofs.OnLiterals.{matchit_on_literals}
-use Rattle.book_http.specs.Routes.{route_rows}
+use Rattle.std.proofs.Common.{◌≡◌, ◌∙◌, IfOk, ap, codes, subst}
+use Rattle.book_http.specs.declared.route.Page.TheVariants as page
+use Rattle.book_http.specs.Routes.{route_rows, with_route}
 use Rattle.book_http.proofs.route.pages.Goals as goal
 
 pub returns : goal.returns
-unfolding matchit_on_literals route_rows
+unfolding route_rows
 returns c =
-    rw (
-      c.in_ok-insert-7.ensures.1,
-      c.in_ok-insert-6.ensures.1,
-      c.in_ok-insert-5.ensures.1,
-      c.in_ok-insert-4.ensures.1,
-      c.in_ok-insert-3.ensures.1,
-      c.in_ok-insert-2.ensures.1,
-      c.in_ok-insert.ensures.1,
-      c.new-router.ensures,
-    ) refl
+    let six =
+    c.in_ok-router-6.ensures
+    ∙ ap (with_route (codes "/import") page.Import) (c.in_ok-router-5.ensures
+    ∙ ap (with_route (codes "/disputes") page.Disputes) (c.in_ok-router-4.ensures
+    ∙ ap (with_route (codes "/adjustments/{n}") page.Adjustments) (c.in_ok-router-3.ensures
+    ∙ ap (with_route (codes "/statement-csv/{n}") page.StatementCsv) (c.in_ok-router-2.ensures
+    ∙ ap (with_route (codes "/statement/{n}") page.Statement) (c.in_ok-router.ensures
+    ∙ ap (with_route (codes "/periods") page.Periods) c.new.ensures))))) in
+    subst (λ rows. IfOk c.with_page-7.result
+    (λ router. router ≡ with_route (codes "/import-bdw") page.ImportBdw rows)) six
+    c.with_page-7.ensures

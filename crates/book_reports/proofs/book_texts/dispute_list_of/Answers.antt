@@ -1,7 +1,7 @@
 use Rattle.std.proofs.Common.{◌∙◌, refl, sym, ap, Ok, ℕ, Vec, Global, map}
 use Rattle.std.proofs.lemmas.Result.{err_from_is_err_and}
 use Rattle.book_model.specs.Words.{dispute_shown}
-use Rattle.book_reports.specs.DisputeLists.{dispute_list_text}
+use Rattle.report_texts.specs.DisputeLists.{dispute_list_text}
 use Rattle.book_reports.specs.BookTexts.{shown_by}
 use Rattle.book_reports.proofs.ReadingLemmas.{call_failed, call_wanting, call_shown}
 use Rattle.book_reports.proofs.book_texts.dispute_list_of.Goals as goal

@@ -1,6 +1,6 @@
 use Rattle.std.proofs.Common.{◌∙◌, refl, sym, ap, Ok, ℕ, Vec, Global}
 use Rattle.std.proofs.lemmas.Result.{err_from_is_err_and}
-use Rattle.book_reports.specs.PeriodLists.{period_list_text}
+use Rattle.report_texts.specs.PeriodLists.{period_list_text}
 use Rattle.book_reports.specs.BookTexts.{shown_by}
 use Rattle.book_reports.proofs.ReadingLemmas.{call_failed, call_wanting, call_shown}
 use Rattle.book_reports.proofs.book_texts.period_list_of.Goals as goal

@@ -1,6 +1,6 @@
 use Rattle.std.proofs.Common.{◌∙◌, refl, sym, ap, Ok}
 use Rattle.std.proofs.lemmas.Result.{err_from_is_err_and}
-use Rattle.book_reports.specs.StatementTables.{statement_table}
+use Rattle.report_texts.specs.StatementTables.{statement_table}
 use Rattle.book_reports.specs.BookTexts.{shown_by}
 use Rattle.book_reports.proofs.ReadingLemmas.{call_failed, call_wanting, call_shown}
 use Rattle.book_reports.proofs.book_texts.statement_csv_of.Goals as goal

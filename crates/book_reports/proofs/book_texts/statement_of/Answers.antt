@@ -1,6 +1,6 @@
 use Rattle.std.proofs.Common.{◌∙◌, refl, sym, ap, Ok, ℕ, Vec, Global}
 use Rattle.std.proofs.lemmas.Result.{err_from_is_err_and}
-use Rattle.book_reports.specs.Statements.{statement_text}
+use Rattle.report_texts.specs.Statements.{statement_text}
 use Rattle.book_reports.specs.BookTexts.{shown_by, through_of}
 use Rattle.book_reports.proofs.ReadingLemmas.{call_failed, then_failed, then_wanting, then_shown}
 use Rattle.book_reports.proofs.WritingLemmas.{same_value}

@@ -5,7 +5,7 @@ use Rattle.std.proofs.lemmas.List.Elements.{All-push}
 use Rattle.std.proofs.lemmas.Int.{to_z-of_z}
 use Rattle.book_model.specs.Words.{IsDay, close_answer, close_outcome}
 use Rattle.book_model.specs.declared.fault.LedgerFault.{LedgerFault}
-use Rattle.book_core.proofs.DayLemmas.{day_fits}
+use Rattle.book_model.proofs.DayLemmas.{day_fits}
 use Rattle.book_tables.specs.Summaries.{book_ruled}
 use Rattle.book_tables.specs.declared.summary.Summary.{Summary}
 use Rattle.sqlite.specs.Held.{state}

@@ -1,6 +1,6 @@
 use Rattle.std.proofs.Common.{refl, subst, ℤ, w32}
 use Rattle.std.proofs.lemmas.Int.{to_z-of_z}
-use Rattle.book_core.proofs.DayLemmas.{day_fits}
+use Rattle.book_model.proofs.DayLemmas.{day_fits}
 use Rattle.std.specs.Prelude.{None, List, ℕ}
 use Rattle.book_core.specs.Calls.{Calls}
 use Rattle.book_core.specs.Work.{IsWork}

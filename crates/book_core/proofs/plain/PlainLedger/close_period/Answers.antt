@@ -9,7 +9,7 @@ use Rattle.book_model.proofs.CallLemmas.{close_by}
 use Rattle.book_core.specs.Plain.{ruled_by}
 use Rattle.book_core.specs.PlainBook.{book_in}
 use Rattle.book_core.proofs.BookLemmas.{close_calls-by}
-use Rattle.book_core.proofs.DayLemmas.{day_kept}
+use Rattle.book_model.proofs.DayLemmas.{day_kept}
 use Rattle.book_core.proofs.plain.PlainLedger.close_period.Given.{Over}
 use Rattle.book_core.proofs.plain.PlainLedger.close_period.Goals as goal
 use Rattle.book_core.proofs.plain.PlainLedger.close_period.Goals.{After-is_closed, After-len}

@@ -4,7 +4,7 @@ use Rattle.std.proofs.lemmas.List.{length-append}
 use Rattle.book_model.specs.Words.{IsDay, last_period}
 use Rattle.book_core.specs.Shares.{charges, is_named, share_at}
 use Rattle.book_core.proofs.BookLemmas.{book-closed, kept-closed}
-use Rattle.book_core.proofs.DayLemmas.{day_fits}
+use Rattle.book_model.proofs.DayLemmas.{day_fits}
 use Rattle.book_core.proofs.NameLemmas.{named-closed}
 use Rattle.book_core.proofs.plain.PlainLedger.end_period.Goals as goal
 

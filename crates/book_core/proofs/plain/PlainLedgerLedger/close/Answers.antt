@@ -4,7 +4,7 @@ use Rattle.book_model.specs.declared.answer.Ruled.{Ruled}
 use Rattle.book_model.specs.Words.{close_outcome}
 use Rattle.book_core.specs.Calls.{IsCall}
 use Rattle.book_core.specs.PlainBook.{book_in, seen_in}
-use Rattle.book_core.proofs.DayLemmas.{day_fits}
+use Rattle.book_model.proofs.DayLemmas.{day_fits}
 use Rattle.book_core.proofs.MemoryLemmas.{plain_call, close-of_books}
 use Rattle.book_core.proofs.plain.PlainLedgerLedger.close.Goals as goal
 

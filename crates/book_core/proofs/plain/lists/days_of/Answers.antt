@@ -1,7 +1,7 @@
 use Rattle.std.proofs.Common.{◌∙◌, ◌++◌, [], ◌∷◌, ap}
 use Rattle.book_core.specs.declared.closed.ClosedPeriod.{ClosedPeriod}
 use Rattle.book_core.proofs.BookLemmas.{map-take_more}
-use Rattle.book_core.proofs.DayLemmas.{day_kept}
+use Rattle.book_model.proofs.DayLemmas.{day_kept}
 use Rattle.book_core.proofs.plain.lists.days_of.Goals as goal
 
 pub loop-period-preserved : goal.loop-period-preserved

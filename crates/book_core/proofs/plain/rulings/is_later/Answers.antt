@@ -4,7 +4,7 @@ use Rattle.std.specs.Option.{option_map_or}
 use Rattle.std.specs.Prelude.{int_lt, ℤ}
 use Rattle.book_model.specs.Words.{last_close}
 use Rattle.book_core.specs.Plain.{ruled_by}
-use Rattle.book_core.proofs.DayLemmas.{day_fits}
+use Rattle.book_model.proofs.DayLemmas.{day_fits}
 use Rattle.book_core.proofs.TariffLemmas.{is_later-by}
 use Rattle.book_core.proofs.plain.rulings.is_later.Goals as goal
 

@@ -2,7 +2,7 @@ use Rattle.sqlite.specs.Tree.{Trees}
 use Rattle.sqlite.specs.Held.{state}
 use Rattle.std.proofs.Common.{subst, w32}
 use Rattle.std.proofs.lemmas.Int.{to_z-of_z}
-use Rattle.book_core.proofs.DayLemmas.{day_fits}
+use Rattle.book_model.proofs.DayLemmas.{day_fits}
 use Rattle.book_tables.specs.Tries.{Tries}
 use Rattle.book_model.specs.declared.answer.Ruled.{Ruled}
 use Rattle.book_model.specs.Words.{close_outcome}

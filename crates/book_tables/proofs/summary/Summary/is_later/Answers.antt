@@ -4,7 +4,7 @@ use Rattle.std.specs.List.{list_all}
 use Rattle.std.specs.Option.{option_map_or}
 use Rattle.std.specs.Prelude.{int_lt, ℤ}
 use Rattle.book_model.specs.Words.{Tariffed, last_close}
-use Rattle.book_core.proofs.DayLemmas.{day_fits}
+use Rattle.book_model.proofs.DayLemmas.{day_fits}
 use Rattle.book_core.proofs.TariffLemmas.{is_later-by}
 use Rattle.book_tables.specs.Summaries.{ruled_in}
 use Rattle.book_tables.proofs.summary.Summary.is_later.Goals as goal

@@ -1,9 +1,0 @@
-use Rattle.std.proofs.Common.{arith}
-use Rattle.book_reports.specs.Columns.{amount_text}
-use Rattle.book_reports.proofs.ColumnLemmas.{places_written}
-use Rattle.book_reports.proofs.columns.amount_text.Goals as goal
-
--- the format writes the digits in front of the point, and those behind it with zeros before them
-pub returns : goal.returns
-unfolding amount_text
-returns c = grind (arith, places_written)

@@ -1,8 +1,0 @@
-use Rattle.std.proofs.Common.{◌≡◌, ◌++◌}
-use Rattle.std.specs.String.{string_bytes}
-use Rattle.book_reports.specs.Columns.{blanks}
-use Rattle.book_reports.proofs.columns.push_blanks.Given as goal
-
--- so many blanks are appended so far
-abbrev pub invariant-loop : goal.invariant-loop
-invariant-loop l = string_bytes l.out ≡ string_bytes l.initial.out ++ blanks l.counter

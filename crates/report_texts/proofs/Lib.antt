@@ -1,0 +1,5 @@
+pub mod ListLemmas
+pub mod ColumnLemmas
+pub mod PeriodLemmas
+pub mod TableLemmas
+pub mod AmountLemmas

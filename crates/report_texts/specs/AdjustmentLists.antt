@@ -1,0 +1,64 @@
+-- Lists of adjustments: what a period adds to closed periods and takes back, a line for each record
+-- and one for their sum.
+use Rattle.std.specs.Prelude.{ℕ, ◌-◌, nat_lt, if◌then◌else◌, Bool, true, false, List, [], ◌++◌}
+use Rattle.std.specs.Prelude.{codes, flat_map, sum_by, Option, ℤ}
+use Rattle.hex.specs.Hex.{encode_lower}
+use Rattle.book_model.specs.Words.{show_text, day_text_of}
+use Rattle.book_model.specs.declared.line.Line.{Line}
+use Rattle.report_texts.specs.Columns.{line_end, left, right, amount_text}
+use Rattle.report_texts.specs.Periods.{title_line}
+use Rattle.report_texts.specs.Statements.{key_columns}
+
+-- what is charged less what is taken back, a minus sign before what is below zero
+unfoldable pub signed_text : ℕ → ℕ → List ℕ
+signed_text charged taken =
+    if nat_lt charged taken then codes "-" ++ amount_text (taken - charged)
+    else amount_text (charged - taken)
+
+-- what a line charges
+abbrev pub charged_by : Line → ℕ
+charged_by line = if line.plus then line.priced.amount else 0
+
+-- what it takes back
+abbrev pub taken_by : Line → ℕ
+taken_by line = if line.plus then 0 else line.priced.amount
+
+-- whether a line charges its record, or takes the charge back
+abbrev pub word_of : Bool → List ℕ
+word_of true = codes "PLUS"
+word_of false = codes "MINUS"
+
+-- the columns that say what a line does, and where its record is charged
+unfoldable pub place_columns : List ℕ → List ℕ → List ℕ → List ℕ → List ℕ
+place_columns word day centre shift = left 5 word ++ codes " " ++ key_columns day centre shift
+
+-- the column of a signed amount
+abbrev pub signed_column : ℕ → ℕ → List ℕ
+signed_column charged taken = right 21 (signed_text charged taken)
+
+-- the record's name and job, and the end of the line
+abbrev pub record_columns : Line → List ℕ
+record_columns line =
+    codes " " ++ encode_lower line.name ++ codes " " ++ show_text line.job ++ line_end
+
+-- the line of a record: what it does, and where; its amount; and which record it is
+abbrev pub adjustment_line : Line → List ℕ
+adjustment_line line =
+    place_columns (word_of line.plus)
+    (day_text_of line.priced.day) line.priced.centre line.priced.shift
+    ++ signed_column (charged_by line) (taken_by line)
+    ++ record_columns line
+
+-- the line below the others
+abbrev pub sum_line : List Line → List ℕ
+sum_line lines =
+    place_columns (codes "TOTAL") [] [] []
+    ++ signed_column (sum_by charged_by lines) (sum_by taken_by lines) ++ line_end
+
+-- the adjustments of a period, by its number, the day that it was closed through, if it was, and
+-- its lines
+abbrev pub adjustment_list_text : ℕ → Option ℤ → List Line → List ℕ
+adjustment_list_text period through lines =
+    title_line (codes "ADJUSTMENTS") period through
+    ++ flat_map adjustment_line lines
+    ++ sum_line lines

@@ -1,0 +1,61 @@
+-- Lists of disputes: the identities that two or more held records have, each with these records.
+use Rattle.std.specs.Prelude.{ℕ, List, ◌++◌, length, flat_map, codes, Option, Some, None}
+use Rattle.std.specs.Fmt.{decimal}
+use Rattle.hex.specs.Hex.{encode_lower, encode_upper}
+use Rattle.book_model.specs.Words.{show_text, day_text_of, number, part, Disputed}
+use Rattle.book_model.specs.declared.dispute.Variant.{Variant}
+use Rattle.report_texts.specs.Columns.{line_end, right, amount_text}
+
+-- of an identity the system, its first 4 bytes, and the job, the next 8
+unfoldable pub job_text : List ℕ → List ℕ
+job_text identity = show_text (part identity 0 4) ++ codes " " ++ show_text (part identity 4 8)
+
+-- the time and the date at which a reader took in the job, the next 4 bytes each
+unfoldable pub reader_text : List ℕ → List ℕ
+reader_text identity =
+    codes " READER " ++ encode_upper (part identity 12 4)
+    ++ codes " " ++ encode_upper (part identity 16 4)
+
+-- the subtype of the records and the number of the step, the last 2 bytes each
+unfoldable pub step_text : List ℕ → List ℕ
+step_text identity =
+    codes " SUBTYPE " ++ decimal (number identity 20 2)
+    ++ codes " STEP " ++ decimal (number identity 22 2)
+
+-- the line of an identity
+unfoldable pub identity_line : List ℕ → List ℕ
+identity_line identity = job_text identity ++ reader_text identity ++ step_text identity ++ line_end
+
+-- completion code and termination indicator, 2 bytes each, where the record has them
+abbrev pub completion_text : Option (List ℕ) → List ℕ
+completion_text None = codes "----"
+completion_text (Some bytes) =
+    encode_upper (part bytes 0 2) ++ codes "/" ++ encode_upper (part bytes 2 2)
+
+-- which record it is, its day and its price
+abbrev pub price_columns : Variant → List ℕ
+price_columns member =
+    encode_lower member.name
+    ++ codes " " ++ day_text_of member.priced.day
+    ++ codes " " ++ right 21 (amount_text member.priced.amount)
+
+-- how its work ended, under which job id, and in which program
+abbrev pub work_columns : Variant → List ℕ
+work_columns member =
+    completion_text member.completion
+    ++ codes " " ++ show_text member.job_id
+    ++ codes " " ++ show_text member.program
+
+-- the line of a record
+abbrev pub member_line : Variant → List ℕ
+member_line member =
+    codes "  " ++ price_columns member ++ codes " " ++ work_columns member ++ line_end
+
+-- the line of an identity, and below it those of its records
+unfoldable pub dispute_lines : Disputed → List ℕ
+dispute_lines dispute = identity_line dispute.identity ++ flat_map member_line dispute.members
+
+-- their number, and then the lines of each
+abbrev pub dispute_list_text : List Disputed → List ℕ
+dispute_list_text disputes =
+    codes "DISPUTES " ++ decimal (length disputes) ++ line_end ++ flat_map dispute_lines disputes

@@ -1,0 +1,25 @@
+-- Statements as tables of comma-separated values: a heading, and a line for each charge row.
+use Rattle.std.specs.Prelude.{ℕ, List, [], ◌∷◌, ◌++◌, codes, flat_map}
+use Rattle.std.specs.Fmt.{decimal}
+use Rattle.book_model.specs.Words.{day_text_of}
+use Rattle.book_model.specs.declared.row.ChargeRow.{ChargeRow}
+use Rattle.report_texts.specs.Columns.{line_end, seconds_text, amount_text}
+
+-- fields with a comma between each two, and the end of the line
+abbrev pub comma_line : List ℕ → List (List ℕ) → List ℕ
+comma_line first others = first ++ flat_map (λ field. codes "," ++ field) others ++ line_end
+
+-- the names of the columns
+unfoldable pub table_heading : List ℕ
+table_heading = codes "period,day,centre,shift,count,cpu,blocks,amount" ++ line_end
+
+-- the line of a row of a period
+unfoldable pub table_line : ℕ → ChargeRow → List ℕ
+table_line period row =
+    comma_line (decimal period)
+    (day_text_of row.day ∷ row.centre ∷ row.shift ∷ decimal row.count ∷ seconds_text row.cpu
+    ∷ decimal row.blocks ∷ amount_text row.amount ∷ [])
+
+-- the heading, and a line for each row; there is no total
+abbrev pub statement_table : ℕ → List ChargeRow → List ℕ
+statement_table period rows = table_heading ++ flat_map (table_line period) rows

@@ -1,0 +1,150 @@
+//! Lists of adjustments: what a period adds to closed periods and takes back.
+
+ghost use Rattle.std.specs.Prelude.{◌≡◌, ◌++◌, IfOk, OnOk, flat_map, string_bytes, sum_by};
+ghost use Rattle.std.specs.Option.{ForSome};
+ghost use Rattle.book_model.specs.Words.{IsDay, AreLines};
+ghost use Rattle.report_texts.specs.AdjustmentLists as spec;
+
+use crate::columns::{amount_text, push_left, push_right};
+use crate::periods::push_title;
+use crate::statements::push_key;
+use book_model::Line;
+use smf_text::{day_text, show};
+use std::alloc::{AllocError, Global};
+
+/// What is charged less what is taken back, in units: a minus sign stands before what is below
+/// zero.
+#[tactic(auto, unfolding(crate::specs::AdjustmentLists::signed_text))]
+fn signed_text(alloc: Global, charged: u64, taken: u64) -> Result<String, AllocError>
+    ensures { IfOk result (λ text. string_bytes text ≡ spec.signed_text charged taken) }
+{
+    if charged >= taken {
+        return amount_text(alloc, charged - taken);
+    }
+    let mut out = String::from_str(alloc, "-")?;
+    out.push_str(amount_text(alloc, taken - charged)?.as_str())?;
+    Ok(out)
+}
+
+/// Appends the column of a signed amount.
+fn push_signed(alloc: Global, out: &mut String, charged: u64, taken: u64) -> Result<(), AllocError>
+    ensures { OnOk result (string_bytes out.new
+        ≡ string_bytes out.old ++ spec.signed_column charged taken) }
+{
+    push_right(out, 21, signed_text(alloc, charged, taken)?.as_str())
+}
+
+/// Appends the columns that say what a line does, and where its record is charged.
+#[tactic(auto, unfolding(crate::specs::AdjustmentLists::place_columns))]
+fn push_place(
+    out: &mut String,
+    word: &str,
+    day: &str,
+    centre: &str,
+    shift: &str,
+) -> Result<(), AllocError>
+    ensures { OnOk result (string_bytes out.new
+        ≡ string_bytes out.old ++ spec.place_columns word.now day.now centre.now shift.now) }
+{
+    push_left(out, 5, word)?;
+    out.push(' ')?;
+    push_key(out, day, centre, shift)
+}
+
+/// What a line charges.
+fn charged_by(line: &Line) -> u64
+    ensures { result ≡ spec.charged_by line.now }
+{
+    if line.plus { line.priced.amount } else { 0 }
+}
+
+/// What a line takes back.
+fn taken_by(line: &Line) -> u64
+    ensures { result ≡ spec.taken_by line.now }
+{
+    if line.plus { 0 } else { line.priced.amount }
+}
+
+/// Appends which record a line is of, and ends the line.
+fn push_record(alloc: Global, out: &mut String, line: &Line) -> Result<(), AllocError>
+    ensures { OnOk result (string_bytes out.new
+        ≡ string_bytes out.old ++ spec.record_columns line.now) }
+{
+    out.push(' ')?;
+    out.push_str(hex::encode(alloc, line.name)?.as_str())?;
+    out.push(' ')?;
+    out.push_str(show(alloc, &line.job)?.as_str())?;
+    out.push('\n')
+}
+
+/// Appends the line of a record.
+fn push_line(alloc: Global, out: &mut String, line: &Line) -> Result<(), AllocError>
+    requires { IsDay line.now.priced.day }
+    ensures { OnOk result (string_bytes out.new
+        ≡ string_bytes out.old ++ spec.adjustment_line line.now) }
+{
+    let word = if line.plus { "PLUS" } else { "MINUS" };
+    let day = day_text(alloc, line.priced.day)?;
+    let centre = line.priced.centre.text();
+    let shift = line.priced.shift.text();
+    push_place(out, word, day.as_str(), centre, shift)?;
+    push_signed(alloc, out, charged_by(line), taken_by(line))?;
+    push_record(alloc, out, line)
+}
+
+/// Appends the lines of records.
+fn push_lines(alloc: Global, out: &mut String, lines: &[Line]) -> Result<(), AllocError>
+    requires { AreLines lines.now }
+    ensures { OnOk result (string_bytes out.new
+        ≡ string_bytes out.old ++ flat_map spec.adjustment_line lines.now) }
+{
+    for line in lines {
+        push_line(alloc, out, line)?;
+    }
+    Ok(())
+}
+
+/// What lines charge, and what they take back.
+fn sums(lines: &[Line]) -> (u64, u64)
+    requires { AreLines lines.now }
+    ensures { result ≡ (sum_by spec.charged_by lines.now, sum_by spec.taken_by lines.now) }
+{
+    let mut charged = 0;
+    let mut taken = 0;
+    for line in lines {
+        charged += charged_by(line);
+        taken += taken_by(line);
+    }
+    (charged, taken)
+}
+
+/// Appends the line below the others.
+fn push_sum(alloc: Global, out: &mut String, lines: &[Line]) -> Result<(), AllocError>
+    requires { AreLines lines.now }
+    ensures { OnOk result (string_bytes out.new ≡ string_bytes out.old ++ spec.sum_line lines.now) }
+{
+    let (charged, taken) = sums(lines);
+    push_place(out, "TOTAL", "", "", "")?;
+    push_signed(alloc, out, charged, taken)?;
+    out.push('\n')
+}
+
+/// The list of the adjustments of a period: by its number, the day that it was closed through, if
+/// it was, and its lines in the order in which the books give them.
+pub fn adjustment_list_text(
+    alloc: Global,
+    period: u16,
+    through: Option<i32>,
+    lines: &[Line],
+) -> Result<String, AllocError>
+    requires through { ForSome through IsDay }
+    requires lines { AreLines lines.now }
+    ensures { IfOk result (λ text.
+        string_bytes text ≡ spec.adjustment_list_text period through lines.now) }
+{
+    let mut out = String::new(alloc);
+    push_title(alloc, &mut out, "ADJUSTMENTS", period, through)?;
+    push_lines(alloc, &mut out, lines)?;
+    push_sum(alloc, &mut out, lines)?;
+    Ok(out)
+}

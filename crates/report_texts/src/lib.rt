@@ -1,0 +1,17 @@
+//! The texts of the office's reports, byte for byte, made of what books answer.
+#![tactic(auto)]
+
+mod adjustment_lists;
+mod columns;
+mod dispute_lists;
+mod period_lists;
+mod periods;
+mod statement_tables;
+mod statements;
+
+pub use adjustment_lists::adjustment_list_text;
+pub use columns::push_number;
+pub use dispute_lists::dispute_list_text;
+pub use period_lists::period_list_text;
+pub use statement_tables::statement_table;
+pub use statements::statement_text;

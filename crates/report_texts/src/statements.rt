@@ -1,0 +1,150 @@
+//! Statements: what a period is charged.
+
+ghost use Rattle.std.specs.Prelude.{◌≡◌, ◌++◌, IfOk, OnOk, flat_map, string_bytes};
+ghost use Rattle.std.specs.Option.{ForSome};
+ghost use Rattle.book_model.specs.Words.{IsDay, AreRows};
+ghost use Rattle.report_texts.specs.Statements as spec;
+
+use crate::columns::{amount_text, push_left, push_right, seconds_text};
+use crate::periods::push_title;
+use book_model::ChargeRow;
+use smf_text::day_text;
+use std::alloc::{AllocError, Global};
+
+/// Appends the columns that say where work is charged.
+#[tactic(auto, unfolding(crate::specs::Statements::key_columns))]
+pub(crate) fn push_key(
+    out: &mut String,
+    day: &str,
+    centre: &str,
+    shift: &str,
+) -> Result<(), AllocError>
+    ensures { OnOk result (string_bytes out.new
+        ≡ string_bytes out.old ++ spec.key_columns day.now centre.now shift.now) }
+{
+    push_left(out, 10, day)?;
+    out.push(' ')?;
+    push_left(out, 16, centre)?;
+    out.push(' ')?;
+    push_left(out, 16, shift)?;
+    out.push(' ')
+}
+
+/// Appends the columns that say how much work it is.
+fn push_work(out: &mut String, count: &str, cpu: &str, blocks: &str) -> Result<(), AllocError>
+    ensures { OnOk result (string_bytes out.new
+        ≡ string_bytes out.old ++ spec.work_columns count.now cpu.now blocks.now) }
+{
+    push_right(out, 8, count)?;
+    out.push(' ')?;
+    push_right(out, 19, cpu)?;
+    out.push(' ')?;
+    push_right(out, 18, blocks)?;
+    out.push(' ')
+}
+
+/// Appends the column that says what it costs, and ends the line.
+fn push_amount(out: &mut String, amount: &str) -> Result<(), AllocError>
+    ensures { OnOk result (string_bytes out.new
+        ≡ string_bytes out.old ++ spec.amount_column amount.now) }
+{
+    push_right(out, 21, amount)?;
+    out.push('\n')
+}
+
+/// Appends the columns of numbers: a count of records, their CPU time in hundredths of a second,
+/// their blocks, and what they cost in ten-thousandths of the money unit.
+#[tactic(auto, unfolding(crate::specs::Statements::number_columns))]
+fn push_numbers(
+    alloc: Global,
+    out: &mut String,
+    count: u64,
+    cpu: u64,
+    blocks: u64,
+    amount: u64,
+) -> Result<(), AllocError>
+    ensures { OnOk result (string_bytes out.new
+        ≡ string_bytes out.old ++ spec.number_columns count cpu blocks amount) }
+{
+    let count = count.to_string(alloc)?;
+    let cpu = seconds_text(alloc, cpu)?;
+    let blocks = blocks.to_string(alloc)?;
+    let amount = amount_text(alloc, amount)?;
+    push_work(out, count.as_str(), cpu.as_str(), blocks.as_str())?;
+    push_amount(out, amount.as_str())
+}
+
+/// Appends the line above the rows.
+fn push_heading(out: &mut String) -> Result<(), AllocError>
+    ensures { OnOk result (string_bytes out.new ≡ string_bytes out.old ++ spec.heading) }
+{
+    push_key(out, "DAY", "CENTRE", "SHIFT")?;
+    push_work(out, "COUNT", "CPU", "BLOCKS")?;
+    push_amount(out, "AMOUNT")
+}
+
+/// Appends the line of a row.
+fn push_row(alloc: Global, out: &mut String, row: &ChargeRow) -> Result<(), AllocError>
+    requires { IsDay row.now.day }
+    ensures { OnOk result (string_bytes out.new ≡ string_bytes out.old ++ spec.row_line row.now) }
+{
+    let day = day_text(alloc, row.day)?;
+    push_key(out, day.as_str(), row.centre.text(), row.shift.text())?;
+    push_numbers(alloc, out, row.count, row.cpu, row.blocks, row.amount)
+}
+
+/// Appends the lines of rows.
+fn push_rows(alloc: Global, out: &mut String, rows: &[ChargeRow]) -> Result<(), AllocError>
+    requires { AreRows rows.now }
+    ensures { OnOk result (string_bytes out.new
+        ≡ string_bytes out.old ++ flat_map spec.row_line rows.now) }
+{
+    for row in rows {
+        push_row(alloc, out, row)?;
+    }
+    Ok(())
+}
+
+/// Appends the columns of numbers, for the sums of rows.
+fn push_sums(alloc: Global, out: &mut String, rows: &[ChargeRow]) -> Result<(), AllocError>
+    requires { AreRows rows.now }
+    ensures { OnOk result (string_bytes out.new
+        ≡ string_bytes out.old ++ spec.sum_columns rows.now) }
+{
+    let count = rows.iter().map(|row| row.count).sum();
+    let cpu = rows.iter().map(|row| row.cpu).sum();
+    let blocks = rows.iter().map(|row| row.blocks).sum();
+    let amount = rows.iter().map(|row| row.amount).sum();
+    push_numbers(alloc, out, count, cpu, blocks, amount)
+}
+
+/// Appends the line below the rows.
+fn push_total(alloc: Global, out: &mut String, rows: &[ChargeRow]) -> Result<(), AllocError>
+    requires { AreRows rows.now }
+    ensures { OnOk result (string_bytes out.new
+        ≡ string_bytes out.old ++ spec.total_line rows.now) }
+{
+    push_key(out, "TOTAL", "", "")?;
+    push_sums(alloc, out, rows)
+}
+
+/// The statement of a period: by its number, the day that it was closed through, if it was, and its
+/// charge rows in the order in which the books give them.
+pub fn statement_text(
+    alloc: Global,
+    period: u16,
+    through: Option<i32>,
+    rows: &[ChargeRow],
+) -> Result<String, AllocError>
+    requires through { ForSome through IsDay }
+    requires rows { AreRows rows.now }
+    ensures { IfOk result (λ text.
+        string_bytes text ≡ spec.statement_text period through rows.now) }
+{
+    let mut out = String::new(alloc);
+    push_title(alloc, &mut out, "STATEMENT", period, through)?;
+    push_heading(&mut out)?;
+    push_rows(alloc, &mut out, rows)?;
+    push_total(alloc, &mut out, rows)?;
+    Ok(out)
+}
