@@ -13,6 +13,14 @@ pub record Seen : Type 1 where
   pub is_honest : Type 0
   pub is_books : Type 0
 
+-- a ledger before and after a call
+pub record Books : Type 1 where
+  pub old : Seen
+  pub new : Seen
+
+abbrev pub books : {L : Type 0} → (L → Seen) → L → L → Books
+books seen old new = record { old = seen old; new = seen new }
+
 abbrev pub stands_by : Bool → Seen → Book → Type 0
 stands_by true seen book = seen.left book
 stands_by false seen book = book ≡ seen.book

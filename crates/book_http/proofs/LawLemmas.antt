@@ -6,21 +6,19 @@ use Rattle.smf_frames.specs.declared.dump.Layout.{Layout}
 use Rattle.book_model.specs.Words.{front, Book, Event, after_all, book_after, Naming}
 use Rattle.book_model.specs.Answered as history
 use Rattle.book_model.proofs.StepLemmas.{books_follow_history}
-use Rattle.book_core.specs.Calls.{listed}
+use Rattle.book_model.specs.declared.fault.LedgerFault.{LedgerFault}
 use Rattle.book_core.specs.Ledgers.{Seen}
 use Rattle.book_core.specs.Work.{IsWork}
 use Rattle.book_core.proofs.FollowLemmas.{MakesAnswered, called_events, follows, after_all-book_of}
-use Rattle.book_model.specs.declared.fault.LedgerFault.{LedgerFault}
 use Rattle.book_import.specs.declared.receipt.Receipt.{Receipt}
 use Rattle.book_import.specs.Dumps.{stop_behind}
 use Rattle.book_import.specs.Imports.{Imports}
+use Rattle.book_import.proofs.RepeatLemmas.{twice_is_once}
 use Rattle.book_reports.specs.declared.report.Report.{Report}
 use Rattle.book_reports.specs.BookTexts.{report_outcome}
-use Rattle.book_reports.proofs.ReadingLemmas.{report_event}
 use Rattle.office.specs.Requests.{Dump, Told, Ruling, Count, Text, telling}
 use Rattle.office.specs.Requests.{Receives, whole_dump}
 use Rattle.office.proofs.LawLemmas.{receives_answered}
-use Rattle.book_import.proofs.RepeatLemmas.{twice_is_once}
 use Rattle.book_http.specs.declared.asked.Asked.{Asked}
 use Rattle.book_http.specs.declared.asked.Asked.TheVariants as asks
 use Rattle.book_http.specs.declared.answer_head.Kind.TheVariants as kinds
@@ -41,7 +39,7 @@ report_none naming asked reply was before events is answers =
     elim (called_events (λ (told : Told). told) (telling Text (report_outcome naming asked) before)
     answers.told events answers.made.makes) [
       | inl none ↦ none
-      | inr all ↦ all ∙ ap listed (report_event naming asked before)
+      | inr all ↦ all
     ]
 
 -- an import tells a receipt

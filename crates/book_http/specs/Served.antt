@@ -2,7 +2,8 @@
 use Rattle.std.specs.Prelude.{◌≡◌, ◌<◌, ℕ, Bool, true, false, List, [], ◌++◌, length, take, Option}
 use Rattle.std.specs.Prelude.{Result, Err}
 use Rattle.std.specs.Io.KnownBytes.{Appends, Consumes}
-use Rattle.book_core.specs.Ledgers.{Seen}
+use Rattle.streams.specs.Sides.{Input, Output}
+use Rattle.book_core.specs.Ledgers.{Seen, Books}
 use Rattle.book_core.specs.Work.{Work, IsWork}
 use Rattle.book_core.specs.Follow.{FollowsHistory}
 use Rattle.book_http.specs.declared.asked.Asked.{Asked}
@@ -45,23 +46,21 @@ IsSent reply held holds WriteFault =
 IsSent reply held holds served = ⊥
 
 -- a request was answered, by the bytes that were taken from the reader, and the answer was sent
-pub record IsReplied (old new : Seen) (ended : Bool) (left rest held holds : Option (List ℕ))
-    (served : Served) : Type 0 where
-  pub taken : List ℕ
-  pub consumed : Consumes left rest taken
-  pub reply : Reply
-  pub answer : IsAnswer old new ended taken reply
-  pub sent : IsSent reply held holds served
+pub record IsReplied (books : Books) (input : Input) (output : Output) (served : Served) : Type 0
+  where
+    pub taken : List ℕ
+    pub consumed : Consumes input.old.left input.new.left taken
+    pub reply : Reply
+    pub answer : IsAnswer books.old books.new input.new.has_ended taken reply
+    pub sent : IsSent reply output.old.holds output.new.holds served
 
--- What was served: of a reader that had these bytes left and has the rest now, and of a writer that
--- held some and holds others now. Where the input ended before its first byte, or a read failed,
--- nothing is answered.
-abbrev pub IsServed : Seen → Seen → Bool → Option (List ℕ) → Option (List ℕ) → Option (List ℕ)
-    → Option (List ℕ) → Served → Type 0
-IsServed old new ended left rest held holds Closed = Consumes left rest [] × (ended ≡ true)
-IsServed old new ended left rest held holds ReadFault = Unit {0}
-IsServed old new ended left rest held holds served =
-    IsReplied old new ended left rest held holds served
+-- What was served. Where the input ended before its first byte, or a read failed, nothing is
+-- answered.
+abbrev pub IsServed : Books → Input → Output → Served → Type 0
+IsServed books input output Closed =
+    Consumes input.old.left input.new.left [] × (input.new.has_ended ≡ true)
+IsServed books input output ReadFault = Unit {0}
+IsServed books input output served = IsReplied books input output served
 
 -- nothing was answered
 abbrev pub is_unanswered : Served → Bool

@@ -3,9 +3,10 @@
 ghost use Rattle.std.specs.Prelude.{◌≡◌, ◌+◌, ◌≤◌, ◌^◌, ℕ, List, [], false, true, IfOk, IsErrOf, OnErr};
 ghost use Rattle.std.specs.Io.KnownBytes.{Consumes};
 ghost use Rattle.streams.specs.Marks.{NothingIsLeft};
+ghost use Rattle.streams.specs.Sides.{input, output};
 ghost use Rattle.streams.specs.Sinks as sinks;
-ghost use Rattle.streams.specs.Sinks.{writer_of};
 ghost use Rattle.streams.specs.Sources.{reader_of, reads_of, has_failed, has_ended};
+ghost use Rattle.book_core.specs.Ledgers.{books};
 ghost use Rattle.book_http.specs.Bodies.{most_body_bytes};
 ghost use Rattle.book_http.specs.Head.{most_head_bytes};
 ghost use Rattle.book_http.specs.Replies.{reply_of};
@@ -80,9 +81,8 @@ pub fn serve_one<R: Read + Drop, W: Write + Drop, L: Ledger>(
     // The books did what the request asks, and the writer has the answer, or a front of it: by the
     // bytes that were taken from the reader, whatever may come behind them. Where the source has
     // ended, they are all that a reader had which tells its bytes.
-    ensures served { IsServed (L.seen ledger.old) (L.seen ledger.new) (has_ended source.new)
-        (R.remaining (reader_of source.old)) (R.remaining (reader_of source.new))
-        (W.contents (writer_of sink.old)) (W.contents (writer_of sink.new)) result }
+    ensures served { IsServed (books L.seen ledger.old ledger.new)
+        (input R.remaining source.old source.new) (output W.contents sink.old sink.new) result }
     ensures asked { reads_of source.new
         ≤ reads_of source.old + most_head_bytes + most_body_bytes }
     ensures left { NothingIsLeft

@@ -1,15 +1,19 @@
 -- The statement of books that were never closed.
 use Rattle.std.proofs.Common.{◌≡◌, List, [], refl, sym, subst, Ok}
 use Rattle.std.specs.Prelude.{ℤ}
-use Rattle.book_model.specs.Words.{Book}
-use Rattle.book_reports.specs.BookTexts.{open_statement, statement_outcome}
+use Rattle.book_model.specs.Words.{Book, charges_outcome}
+use Rattle.report_texts.specs.Statements.{statement_text}
+use Rattle.book_reports.specs.BookTexts.{open_statement, shown_by, through_of}
 
 -- the statement of their period 1 is the open one's
 pub first_statement : (book : Book) → book.rulings.closes ≡ []
-    → (statement_outcome 1 book).answer ≡ Ok (open_statement book)
+    → shown_by (statement_text 1 (through_of book 1)) (charges_outcome 1 book).answer
+    ≡ Ok (open_statement book)
 first_statement book never =
     let closed_by : List ℤ → Book = λ days.
     record book { rulings = record book.rulings { closes = days } } in
     subst (λ days.
-    (statement_outcome 1 (closed_by days)).answer ≡ Ok (open_statement (closed_by days)))
+    let book = closed_by days in
+    shown_by (statement_text 1 (through_of book 1)) (charges_outcome 1 book).answer
+    ≡ Ok (open_statement book))
     (sym never) refl

@@ -3,16 +3,11 @@ use Rattle.std.proofs.Common.{◌≡◌, ◌∙◌, Bool, false, List, [], ◌++
 use Rattle.std.proofs.Common.{◌||◌, inl, inr, None, Result, Ok, Err}
 use Rattle.book_model.specs.declared.fault.LedgerFault.{LedgerFault}
 use Rattle.book_model.specs.declared.fault.LedgerFault.TheVariants.{Memory, Store, Reopen}
-use Rattle.book_model.specs.Words.{Book, Event, after_all, Outcome, Naming}
+use Rattle.book_model.specs.Words.{Book, Event, after_all, Outcome}
 use Rattle.book_core.specs.Ledgers.{Seen}
 use Rattle.book_core.specs.Work.{Then}
 use Rattle.book_core.specs.Calls.{Calls, IsCall, Makes, Reopens, listed, is_store, is_reopen}
 use Rattle.book_core.proofs.WorkLemmas.{work_then, work_as}
-use Rattle.book_reports.specs.declared.report.Report.{Report}
-use Rattle.book_reports.specs.declared.report.Report.TheVariants.{Statement, StatementTable}
-use Rattle.book_reports.specs.declared.report.Report.TheVariants.{AdjustmentList, DisputeList}
-use Rattle.book_reports.specs.declared.report.Report.TheVariants.{PeriodList}
-use Rattle.book_reports.specs.BookTexts.{report_outcome}
 
 -- what a call answers of an outcome; want of memory, a fault of the store and Reopen tell nothing
 abbrev pub Tells : {V A : Type 0} → (V → A) → Result V LedgerFault → Result A LedgerFault → Type 0
@@ -61,14 +56,6 @@ reopens_alike one other was is alike reopens = record {
 -- the outcome makes no event, whatever the book
 abbrev pub IsReading : {A : Type 0} → (Book → Outcome A) → Type 0
 IsReading outcome = (book : Book) → (outcome book).event ≡ None
-
--- a report is no event
-pub report_event : (naming : Naming) (report : Report) → IsReading (report_outcome naming report)
-report_event naming (Statement period) book = refl
-report_event naming (StatementTable period) book = refl
-report_event naming (AdjustmentList period) book = refl
-report_event naming DisputeList book = refl
-report_event naming PeriodList book = refl
 
 module _ {V A U B : Type 0} {view : V → A} {show : U → B} {result : Result V LedgerFault}
     {answer : Result U LedgerFault} {outcome : Book → Outcome A} {other : Book → Outcome B} where

@@ -1,17 +1,19 @@
 -- Answers that are passed on to a writer; and reports of ledgers in memory.
-use Rattle.std.proofs.Common.{◌≡◌, ◌∙◌, ℕ, ◌<◌, true, List, [], ◌∷◌, length, take, Option, None}
-use Rattle.std.proofs.Common.{Result, Ok, Err, Vec, Global, refl, sym, subst, append-nil}
+use Rattle.std.proofs.Common.{◌≡◌, ◌∙◌, ℕ, ◌<◌, true, List, [], ◌∷◌, length, take, None}
+use Rattle.std.proofs.Common.{Result, Ok, Err, Vec, Global, refl, sym, ap, subst, append-nil}
 use Rattle.std.specs.Prelude.{IfErr}
 use Rattle.std.specs.Io.KnownBytes.{Appends}
+use Rattle.streams.specs.Sides.{Output}
 use Rattle.book_model.specs.declared.fault.LedgerFault.{LedgerFault}
 use Rattle.book_model.specs.declared.fault.LedgerFault.TheVariants.{Memory}
-use Rattle.book_model.specs.Words.{Answers, Book, Outcome, Naming}
+use Rattle.book_model.specs.Words.{Answers, Book, Naming}
 use Rattle.book_core.specs.Calls.{IsCall}
-use Rattle.book_core.specs.Ledgers.{Seen, in_memory}
+use Rattle.book_core.specs.Ledgers.{Books, in_memory}
 use Rattle.book_core.proofs.MemoryLemmas.{answers_in_memory, stays_in_memory}
 use Rattle.book_reports.specs.declared.fault.ReportFault.{ReportFault}
 use Rattle.book_reports.specs.declared.fault.ReportFault.TheVariants as report
-use Rattle.book_reports.specs.BookTexts.{shown_by}
+use Rattle.book_reports.specs.declared.report.Report.{Report}
+use Rattle.book_reports.specs.BookTexts.{report_outcome, shown_by}
 use Rattle.book_reports.specs.Reports.{IsPassedOn, IsReport}
 use Rattle.book_reports.specs.Writing.{Writes, is_write_or_memory}
 use Rattle.book_reports.proofs.ReadingLemmas.{IsAlike, IsReading, Tells, fault_alike, fault_tells}
@@ -33,12 +35,13 @@ shown_tells (Err fault) said tells =
     (λ refused. refused) tells
 
 -- a call that answered a text, which was passed on, is a report
-pub report_made : {old new : Seen} {outcome : Book → Outcome (List ℕ)}
-    {held holds : Option (List ℕ)} {result : Result (Unit {0}) ReportFault} → IsReading outcome
+pub report_made : {asked : Report} {books : Books} {output : Output}
+    {result : Result (Unit {0}) ReportFault} → IsReading (report_outcome books.old.naming asked)
     → (answer : Result (Vec ℕ Global) LedgerFault)
-    → IsCall (λ (text : Vec ℕ Global). text.items) old new answer outcome
-    → IsPassedOn (shown_by (λ (text : Vec ℕ Global). text.items) answer) held holds result
-    → IsReport old new outcome held holds result
+    → IsCall (λ (text : Vec ℕ Global). text.items) books.old books.new answer
+    (report_outcome books.old.naming asked)
+    → IsPassedOn (shown_by (λ (text : Vec ℕ Global). text.items) answer) output result
+    → IsReport asked books output result
 report_made none answer call passed = record {
   answer = shown_by (λ (text : Vec ℕ Global). text.items) answer;
   call = read_as none none (shown_alike answer) (λ book tells. shown_tells answer _ tells) call;
@@ -47,16 +50,16 @@ report_made none answer call passed = record {
 
 -- a text that was passed on is written
 passed_written : (answer : Result (List ℕ) LedgerFault) (result : Result (Unit {0}) ReportFault)
-    (held holds : Option (List ℕ)) (text : List ℕ)
-    → Answers (λ text. text) answer (Ok text) → IsPassedOn answer held holds result
-    → Writes (text ∷ []) held holds result
-passed_written (Ok found) (Ok done) held holds text answers passed =
-    subst (Appends held holds) (sym (same_value answers) ∙ sym (append-nil text)) passed
-passed_written (Ok found) (Err report.Write) held holds text answers passed =
+    (output : Output) (text : List ℕ)
+    → Answers (λ text. text) answer (Ok text) → IsPassedOn answer output result
+    → Writes (text ∷ []) output.old.holds output.new.holds result
+passed_written (Ok found) (Ok done) output text answers passed =
+    subst (Appends output.old.holds output.new.holds) (sym (same_value answers) ∙ sym (append-nil text)) passed
+passed_written (Ok found) (Err report.Write) output text answers passed =
     let same : found ≡ text = sym (same_value answers) in
     let front = subst
-    (λ text. (count : ℕ) × (count < length text) × Appends held holds (take count text))
-    same passed in
+    (λ text. (count : ℕ) × (count < length text)
+    × Appends output.old.holds output.new.holds (take count text)) same passed in
     record {
       whole = [];
       next = text;
@@ -67,41 +70,43 @@ passed_written (Ok found) (Err report.Write) held holds text answers passed =
       unless_write = λ other. absurd (other refl);
       after_write = λ write. front.1;
     }
-passed_written (Ok found) (Err fault) held holds text answers passed = absurd passed
-passed_written (Err Memory) result held holds text answers passed =
-    rw (passed.0, passed.1) (nothing_written report.Memory held text [] (memory_not_write refl))
-passed_written (Err fault) result held holds text answers passed = cc answers
+passed_written (Ok found) (Err fault) output text answers passed = absurd passed
+passed_written (Err Memory) result output text answers passed =
+    rw (passed.refusal, ap (λ seen. seen.holds) passed.none)
+    (nothing_written report.Memory output.old.holds text [] (memory_not_write refl))
+passed_written (Err fault) result output text answers passed = cc answers
 
 -- and a fault on the way is one of the writer, or want of memory
 passed_fault : (answer : Result (List ℕ) LedgerFault) (result : Result (Unit {0}) ReportFault)
-    (held holds : Option (List ℕ)) (text : List ℕ)
-    → Answers (λ text. text) answer (Ok text) → IsPassedOn answer held holds result
+    (output : Output) (text : List ℕ)
+    → Answers (λ text. text) answer (Ok text) → IsPassedOn answer output result
     → IfErr result (λ fault. is_write_or_memory fault ≡ true)
-passed_fault (Ok found) (Ok done) held holds text answers passed = tt
-passed_fault (Ok found) (Err report.Write) held holds text answers passed = refl
-passed_fault (Ok found) (Err fault) held holds text answers passed = absurd passed
-passed_fault (Err Memory) result held holds text answers passed = rw passed.0 refl
-passed_fault (Err fault) result held holds text answers passed = cc answers
+passed_fault (Ok found) (Ok done) output text answers passed = tt
+passed_fault (Ok found) (Err report.Write) output text answers passed = refl
+passed_fault (Ok found) (Err fault) output text answers passed = absurd passed
+passed_fault (Err Memory) result output text answers passed = rw passed.refusal refl
+passed_fault (Err fault) result output text answers passed = cc answers
 
 -- A report of a ledger in memory, whose book answers a text.
-module _ {naming names : Naming} {book after : Book} {outcome : Book → Outcome (List ℕ)}
-    {held holds : Option (List ℕ)} {result : Result (Unit {0}) ReportFault}
-    (made : IsReport (in_memory naming book) (in_memory names after) outcome held holds result)
+module _ {naming names : Naming} {book after : Book} {asked : Report} {output : Output}
+    {result : Result (Unit {0}) ReportFault}
+    (made : IsReport asked
+    (record { old = in_memory naming book; new = in_memory names after }) output result)
   where
     -- the book stays
-    pub report_stays : (outcome book).event ≡ None → after ≡ book
+    pub report_stays : (report_outcome naming asked book).event ≡ None → after ≡ book
     report_stays none = stays_in_memory made.call none
 
     -- the text is written, up to a fault
-    pub report_writes : (text : List ℕ) → (outcome book).answer ≡ Ok text
-        → Writes (text ∷ []) held holds result
+    pub report_writes : (text : List ℕ) → (report_outcome naming asked book).answer ≡ Ok text
+        → Writes (text ∷ []) output.old.holds output.new.holds result
     report_writes text is =
-        passed_written made.answer result held holds text
+        passed_written made.answer result output text
         (subst (Answers (λ text. text) made.answer) is (answers_in_memory made.call)) made.passed_on
 
     -- which is one of the writer, or want of memory
-    pub report_fault : (text : List ℕ) → (outcome book).answer ≡ Ok text
+    pub report_fault : (text : List ℕ) → (report_outcome naming asked book).answer ≡ Ok text
         → IfErr result (λ fault. is_write_or_memory fault ≡ true)
     report_fault text is =
-        passed_fault made.answer result held holds text
+        passed_fault made.answer result output text
         (subst (Answers (λ text. text) made.answer) is (answers_in_memory made.call)) made.passed_on

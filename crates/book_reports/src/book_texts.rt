@@ -31,7 +31,7 @@ fn statement_of<L: Ledger>(
     period: u16,
 ) -> Result<Vec<u8>, LedgerFault>
     ensures { IsCall (λ text. text.items) (L.seen ledger.old) (L.seen ledger.new) result
-        (spec.statement_outcome period) }
+        (spec.report_outcome (L.seen ledger.old).naming (Report.Statement period)) }
 {
     let through = through_of(ledger, period)?;
     let rows = ledger.charges(period)?;
@@ -45,7 +45,7 @@ fn statement_csv_of<L: Ledger>(
     period: u16,
 ) -> Result<Vec<u8>, LedgerFault>
     ensures { IsCall (λ text. text.items) (L.seen ledger.old) (L.seen ledger.new) result
-        (spec.statement_csv_outcome period) }
+        (spec.report_outcome (L.seen ledger.old).naming (Report.StatementTable period)) }
 {
     let rows = ledger.charges(period)?;
     Ok(statement_table(alloc, period, &rows)?)
@@ -58,7 +58,7 @@ fn adjustment_list_of<L: Ledger>(
     period: u16,
 ) -> Result<Vec<u8>, LedgerFault>
     ensures { IsCall (λ text. text.items) (L.seen ledger.old) (L.seen ledger.new) result
-        (spec.adjustment_list_outcome (L.seen ledger.old).naming period) }
+        (spec.report_outcome (L.seen ledger.old).naming (Report.AdjustmentList period)) }
 {
     let through = through_of(ledger, period)?;
     let lines = ledger.adjustments(period)?;
@@ -68,7 +68,7 @@ fn adjustment_list_of<L: Ledger>(
 /// The disputes.
 fn dispute_list_of<L: Ledger>(alloc: Global, ledger: &mut L) -> Result<Vec<u8>, LedgerFault>
     ensures { IsCall (λ text. text.items) (L.seen ledger.old) (L.seen ledger.new) result
-        (spec.dispute_list_outcome (L.seen ledger.old).naming) }
+        (spec.report_outcome (L.seen ledger.old).naming Report.DisputeList) }
 {
     let disputes = ledger.disputes()?;
     Ok(dispute_list_text(alloc, &disputes)?.into_bytes())
@@ -77,7 +77,7 @@ fn dispute_list_of<L: Ledger>(alloc: Global, ledger: &mut L) -> Result<Vec<u8>, 
 /// The periods, the open one last.
 fn period_list_of<L: Ledger>(alloc: Global, ledger: &mut L) -> Result<Vec<u8>, LedgerFault>
     ensures { IsCall (λ text. text.items) (L.seen ledger.old) (L.seen ledger.new) result
-        spec.period_list_outcome }
+        (spec.report_outcome (L.seen ledger.old).naming Report.PeriodList) }
 {
     let closes = ledger.periods()?;
     Ok(period_list_text(alloc, &closes)?.into_bytes())

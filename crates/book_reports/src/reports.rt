@@ -2,8 +2,10 @@
 //! books refuse, or memory runs out, nothing is.
 
 ghost use Rattle.std.specs.Prelude.{◌≡◌, ◌∷◌, [], false, IfErr};
+ghost use Rattle.streams.specs.Sides.{output};
 ghost use Rattle.streams.specs.Sinks.{writer_of, has_failed};
-ghost use Rattle.book_reports.specs.BookTexts as spec;
+ghost use Rattle.book_core.specs.Ledgers.{books};
+ghost use Rattle.book_reports.specs.BookTexts.{shown_by};
 ghost use Rattle.book_reports.specs.ReceiptLines as lines;
 ghost use Rattle.book_reports.specs.Reports.{IsPassedOn, IsReport};
 ghost use Rattle.book_reports.specs.Writing.{Writes, is_write_fault};
@@ -38,8 +40,8 @@ fn pass_on<W: Write + Drop>(
     sink: &mut Sink<W>,
 ) -> Result<(), ReportFault>
     requires { has_failed sink.old ≡ false }
-    ensures passed_on { IsPassedOn (spec.shown_by (λ text. text.items) answer)
-        (W.contents (writer_of sink.old)) (W.contents (writer_of sink.new)) result }
+    ensures passed_on { IsPassedOn (shown_by (λ text. text.items) answer)
+        (output W.contents sink.old sink.new) result }
     ensures failed { has_failed sink.new ≡ is_write_fault result }
 {
     match answer {
@@ -56,9 +58,8 @@ pub fn write_report<L: Ledger, W: Write + Drop>(
     sink: &mut Sink<W>,
 ) -> Result<(), ReportFault>
     requires { has_failed sink.old ≡ false }
-    ensures report { IsReport (L.seen ledger.old) (L.seen ledger.new)
-        (spec.report_outcome (L.seen ledger.old).naming report)
-        (W.contents (writer_of sink.old)) (W.contents (writer_of sink.new)) result }
+    ensures report { IsReport report (books L.seen ledger.old ledger.new)
+        (output W.contents sink.old sink.new) result }
     ensures failed { has_failed sink.new ≡ is_write_fault result }
 {
     pass_on(report_text(alloc, ledger, report), sink)
@@ -72,9 +73,8 @@ pub fn statement<L: Ledger, W: Write + Drop>(
     sink: &mut Sink<W>,
 ) -> Result<(), ReportFault>
     requires { has_failed sink.old ≡ false }
-    ensures report { IsReport (L.seen ledger.old) (L.seen ledger.new)
-        (spec.statement_outcome period)
-        (W.contents (writer_of sink.old)) (W.contents (writer_of sink.new)) result }
+    ensures report { IsReport (Report.Statement period) (books L.seen ledger.old ledger.new)
+        (output W.contents sink.old sink.new) result }
     ensures failed { has_failed sink.new ≡ is_write_fault result }
 {
     write_report(alloc, ledger, Report::Statement(period), sink)
@@ -88,9 +88,8 @@ pub fn statement_csv<L: Ledger, W: Write + Drop>(
     sink: &mut Sink<W>,
 ) -> Result<(), ReportFault>
     requires { has_failed sink.old ≡ false }
-    ensures report { IsReport (L.seen ledger.old) (L.seen ledger.new)
-        (spec.statement_csv_outcome period)
-        (W.contents (writer_of sink.old)) (W.contents (writer_of sink.new)) result }
+    ensures report { IsReport (Report.StatementTable period) (books L.seen ledger.old ledger.new)
+        (output W.contents sink.old sink.new) result }
     ensures failed { has_failed sink.new ≡ is_write_fault result }
 {
     write_report(alloc, ledger, Report::StatementTable(period), sink)
@@ -104,9 +103,8 @@ pub fn adjustment_list<L: Ledger, W: Write + Drop>(
     sink: &mut Sink<W>,
 ) -> Result<(), ReportFault>
     requires { has_failed sink.old ≡ false }
-    ensures report { IsReport (L.seen ledger.old) (L.seen ledger.new)
-        (spec.adjustment_list_outcome (L.seen ledger.old).naming period)
-        (W.contents (writer_of sink.old)) (W.contents (writer_of sink.new)) result }
+    ensures report { IsReport (Report.AdjustmentList period) (books L.seen ledger.old ledger.new)
+        (output W.contents sink.old sink.new) result }
     ensures failed { has_failed sink.new ≡ is_write_fault result }
 {
     write_report(alloc, ledger, Report::AdjustmentList(period), sink)
@@ -119,9 +117,8 @@ pub fn dispute_list<L: Ledger, W: Write + Drop>(
     sink: &mut Sink<W>,
 ) -> Result<(), ReportFault>
     requires { has_failed sink.old ≡ false }
-    ensures report { IsReport (L.seen ledger.old) (L.seen ledger.new)
-        (spec.dispute_list_outcome (L.seen ledger.old).naming)
-        (W.contents (writer_of sink.old)) (W.contents (writer_of sink.new)) result }
+    ensures report { IsReport Report.DisputeList (books L.seen ledger.old ledger.new)
+        (output W.contents sink.old sink.new) result }
     ensures failed { has_failed sink.new ≡ is_write_fault result }
 {
     write_report(alloc, ledger, Report::DisputeList, sink)
@@ -134,8 +131,8 @@ pub fn period_list<L: Ledger, W: Write + Drop>(
     sink: &mut Sink<W>,
 ) -> Result<(), ReportFault>
     requires { has_failed sink.old ≡ false }
-    ensures report { IsReport (L.seen ledger.old) (L.seen ledger.new) spec.period_list_outcome
-        (W.contents (writer_of sink.old)) (W.contents (writer_of sink.new)) result }
+    ensures report { IsReport Report.PeriodList (books L.seen ledger.old ledger.new)
+        (output W.contents sink.old sink.new) result }
     ensures failed { has_failed sink.new ≡ is_write_fault result }
 {
     write_report(alloc, ledger, Report::PeriodList, sink)

@@ -1,8 +1,8 @@
 //! The command that `clap` found in the words.
 
 use crate::request::{BookRequest, DumpFile, NumberKind, Request};
+use book_reports::Report;
 use clap::ArgMatches;
-use office::Report;
 use smf_frames::Layout;
 
 /// The command with its words. None stands for a subcommand or a missing word that the command line

@@ -1,4 +1,4 @@
-use office::Report;
+use book_reports::Report;
 use smf_frames::Layout;
 
 /// What a number is the number of.

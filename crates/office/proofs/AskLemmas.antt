@@ -2,11 +2,12 @@
 use Rattle.std.proofs.Common.{◌≡◌, Bool, false, List, Result, Ok, Err, sym, ap, subst}
 use Rattle.std.proofs.Common.{arith}
 use Rattle.std.proofs.Props.{props}
+use Rattle.streams.specs.Sides.{ReaderSeen, Input}
 use Rattle.book_model.specs.declared.fault.LedgerFault.{LedgerFault}
 use Rattle.book_model.specs.declared.fault.LedgerFault.TheVariants.{Memory, Store, Reopen}
 use Rattle.book_model.specs.Words.{Book, Event, Outcome}
 use Rattle.book_core.specs.Calls.{Calls}
-use Rattle.book_core.specs.Ledgers.{Seen}
+use Rattle.book_core.specs.Ledgers.{Seen, Books}
 use Rattle.book_core.specs.Work.{IsWork}
 use Rattle.book_core.proofs.WorkLemmas.{work_as}
 use Rattle.book_reports.specs.BookTexts.{shown_by}
@@ -17,7 +18,6 @@ use Rattle.office.specs.declared.request.Answer.{Answer}
 use Rattle.office.specs.Requests.{Dump, Told, telling, told_by, IsAskable, IsAskableAnew, Gives, Asks}
 use Rattle.office.specs.Requests.{IsAsked}
 use Rattle.office.specs.Runs.{AsksAlone, IsAskableAlone}
-use Rattle.office.specs.Sides.{ReaderSeen, Books, Input}
 
 -- a call of the ledger, told
 pub calls_told : {V A : Type 0} (view : V → A) (say : A → Told) (outcome : Book → Outcome A)

@@ -1,6 +1,6 @@
 -- Requests, one after the other, and the history that they make.
 use Rattle.std.proofs.Common.{◌≡◌, ◌∙◌, Bool, true, false, List, [], ◌∷◌, ◌++◌, Result, Ok, Err}
-use Rattle.std.proofs.Common.{None, inr, refl, sym, ap, subst}
+use Rattle.std.proofs.Common.{inr, refl, sym, ap, subst}
 use Rattle.std.specs.Prelude.{string_bytes}
 use Rattle.book_model.specs.declared.fault.LedgerFault.{LedgerFault}
 use Rattle.book_model.specs.declared.fault.LedgerFault.TheVariants.{Memory, Store, Reopen}
@@ -18,7 +18,6 @@ use Rattle.book_import.proofs.RepeatLemmas.{is_whole}
 use Rattle.book_import.proofs.EventLemmas.{import_answered}
 use Rattle.book_reports.specs.declared.report.Report as report
 use Rattle.book_reports.specs.BookTexts.{report_outcome}
-use Rattle.book_reports.proofs.ReadingLemmas.{report_event}
 use Rattle.office.specs.declared.request.Asked.{Asked}
 use Rattle.office.specs.declared.request.Asked.TheVariants.{Tariff, Close, Import, ImportBytes}
 use Rattle.office.specs.declared.request.Asked.TheVariants.{Report}
@@ -51,8 +50,7 @@ report_answered : (naming : Naming) (report : report.Report) (told : Result Told
     → MakesAnswered naming (Calls (λ told. told) (telling Text (report_outcome naming report)) told)
 report_answered naming report told =
     calls_answered naming (λ told. told) (telling Text (report_outcome naming report)) told
-    (λ history answered. subst (λ event. IsAnswered naming (listed event ++ history))
-    (sym (report_event naming report (book_after history))) answered)
+    (λ history answered. answered)
 
 pub receives_answered : (naming : Naming) (dump : Dump) (told : Result Told LedgerFault)
     → MakesAnswered naming (Receives naming dump told)

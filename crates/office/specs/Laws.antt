@@ -1,17 +1,17 @@
 -- Requests, one after the other, on one ledger: what each is told is what the whole history before
 -- it defines.
 use Rattle.std.specs.Prelude.{◌≡◌, false, List, [], ◌∷◌, ◌++◌, Result}
+use Rattle.streams.specs.Sides.{Input, Output}
 use Rattle.book_model.specs.declared.fault.LedgerFault.{LedgerFault}
 use Rattle.book_model.specs.Words.{IsAnswered, Event, book_after, book_of, Naming, rulings_in}
 use Rattle.book_model.specs.Words.{stretches}
-use Rattle.book_core.specs.Ledgers.{Seen, IsOpenAt}
+use Rattle.book_core.specs.Ledgers.{Seen, IsOpenAt, books}
 use Rattle.book_reports.specs.declared.fault.ReportFault.{ReportFault}
 use Rattle.office.specs.declared.request.Asked.{Asked}
 use Rattle.office.specs.declared.request.Answer.{Answer}
 use Rattle.office.specs.Requests.{Dump, Gives, Asks, told_by}
 use Rattle.office.specs.Answers.{Answers, PassesOn}
 use Rattle.office.specs.Does.{does, is_hindered}
-use Rattle.office.specs.Sides.{Input, Output, books}
 
 -- no store has failed, and what the ledger is kept on returned what was written
 pub record IsStillOpen (seen : Seen) : Type 0 where

@@ -5,12 +5,14 @@ use Rattle.std.specs.Io.KnownBytes.{Consumes}
 use Rattle.smf_frames.specs.declared.dump.Layout.{Layout}
 use Rattle.smf_frames.specs.declared.dump.Layout.TheVariants.{Rdw}
 use Rattle.streams.specs.Marks.{NothingIsLeft}
+use Rattle.streams.specs.Sides.{ReaderSeen, Input}
 use Rattle.book_model.specs.declared.answer.Ruled as ruled
 use Rattle.book_model.specs.declared.fault.LedgerFault.{LedgerFault}
 use Rattle.book_model.specs.declared.fault.LedgerFault.TheVariants.{Memory}
 use Rattle.book_model.specs.Words.{IsDay, Book, Outcome, tariff_outcome, close_outcome, Naming}
 use Rattle.book_core.specs.Calls.{Calls}
 use Rattle.book_core.specs.Work.{Work, IsWork}
+use Rattle.book_core.specs.Ledgers.{Books}
 use Rattle.book_import.specs.declared.receipt.Receipt as receipt
 use Rattle.book_import.specs.declared.receipt.Stop.{Stop}
 use Rattle.book_import.specs.declared.receipt.Stop.TheVariants.{Read, ReadLimit, Ledger}
@@ -22,7 +24,6 @@ use Rattle.office.specs.declared.request.Asked.TheVariants.{Tariff, Close, Impor
 use Rattle.office.specs.declared.request.Asked.TheVariants.{Report}
 use Rattle.office.specs.declared.request.Answer.{Answer}
 use Rattle.office.specs.declared.request.Answer.TheVariants as answer
-use Rattle.office.specs.Sides.{ReaderSeen, Books, Input}
 
 -- the bytes of a dump, and what cut their reading short, if anything did
 pub record Dump : Type 0 where

@@ -4,7 +4,8 @@ ghost use Rattle.std.specs.Prelude.{◌≡◌, false};
 ghost use Rattle.streams.specs.Sinks.{has_failed};
 ghost use Rattle.office.specs.Answers.{Answers, Tells, text_of};
 ghost use Rattle.office.specs.Requests.{IsAskable, told_of};
-ghost use Rattle.office.specs.Sides.{books, input, output, reader_seen};
+ghost use Rattle.book_core.specs.Ledgers.{books};
+ghost use Rattle.streams.specs.Sides.{input, output, reader_seen};
 
 use crate::asking::ask;
 use crate::request::{Answer, Asked};

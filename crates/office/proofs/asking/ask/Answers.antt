@@ -1,17 +1,17 @@
 use Rattle.std.proofs.Common.{refl, subst, ℤ, w32}
 use Rattle.std.proofs.lemmas.Int.{to_z-of_z}
-use Rattle.book_model.proofs.DayLemmas.{day_fits}
 use Rattle.std.specs.Prelude.{None, List, ℕ}
+use Rattle.streams.specs.Sides.{reader_seen}
+use Rattle.book_model.proofs.DayLemmas.{day_fits}
+use Rattle.book_model.specs.Outcomes.{tariff_outcome, close_outcome}
 use Rattle.book_core.specs.Calls.{Calls}
 use Rattle.book_core.specs.Work.{IsWork}
 use Rattle.book_import.specs.Imports.{Imports}
 use Rattle.book_import.specs.Reading.{cut_of}
-use Rattle.book_model.specs.Outcomes.{tariff_outcome, close_outcome}
 use Rattle.office.specs.declared.request.Asked.{Asked}
 use Rattle.office.specs.declared.request.Asked.TheVariants.{Tariff, Close, Import, ImportBytes}
 use Rattle.office.specs.declared.request.Asked.TheVariants.{Report}
 use Rattle.office.specs.Requests.{Ruling, Text, IsAskable, no_dump, whole_dump}
-use Rattle.office.specs.Sides.{reader_seen}
 use Rattle.office.proofs.AskLemmas.{work_told, unread, as_asked}
 use Rattle.office.proofs.asking.ask.Goals as goal
 

@@ -1,12 +1,14 @@
 use Rattle.std.proofs.Common.{◌≡◌, [], ◌∷◌, ◌∙◌, ap, refl, inr, Result, Ok, Err}
 use Rattle.std.proofs.lemmas.Result.{err_from_is_err_and}
 use Rattle.streams.specs.Sinks.{writer_of}
+use Rattle.book_model.specs.Words.{charges_outcome}
+use Rattle.report_texts.specs.Statements.{statement_text}
 use Rattle.book_core.specs.PlainBook.{book_in}
 use Rattle.book_import.specs.declared.receipt.Receipt.{Receipt}
 use Rattle.book_import.specs.Reading.{cut_of}
 use Rattle.book_reports.specs.declared.fault.ReportFault.{ReportFault}
 use Rattle.book_reports.specs.ReceiptLines.{receipt_line_text}
-use Rattle.book_reports.specs.BookTexts.{dispute_text, open_statement, statement_outcome}
+use Rattle.book_reports.specs.BookTexts.{dispute_text, open_statement, shown_by, through_of}
 use Rattle.book_reports.specs.Writing.{is_write_or_memory}
 use Rattle.book_reports.proofs.BookLemmas.{first_statement}
 use Rattle.book_reports.proofs.ReportLemmas.{report_fault, report_stays, report_writes}
@@ -34,7 +36,8 @@ returns-in_err-ledger-clause-trial g c =
 
 -- no period of these books was closed: their statement is that of the open one
 first : (g : Over) (c : After-import-receipt g)
-    → (statement_outcome 1 (book_in c.import-receipt.new.ledger)).answer
+    → shown_by (statement_text 1 (through_of (book_in c.import-receipt.new.ledger) 1))
+    (charges_outcome 1 (book_in c.import-receipt.new.ledger)).answer
     ≡ Ok (open_statement (book_in c.import-receipt.new.ledger))
 first g c =
     let book = book_in c.import-receipt.new.ledger in
