@@ -1,0 +1,5 @@
+-- The lemmas: failures after cursors have moved; look-ups and new rows; rows that are taken or
+-- changed.
+pub mod Failing
+pub mod Maps
+pub mod Taking

@@ -1,0 +1,47 @@
+//! Rows are looked up by a key.
+
+ghost use Rattle.std.specs.Prelude.{◌≡◌, IfOk, IfErr, OnOk};
+ghost use Rattle.sqlite_trees.specs.Tree.{from_key};
+ghost use Rattle.sqlite_trees.specs.View.{IsClean, IsFailure, IsQuiet, KeepsSchema};
+ghost use Rattle.sqlite_value.specs.Keys.{plain, prefix_cmp};
+ghost use Rattle.std.specs.Ordering.{is_eq};
+ghost use Rattle.tree_rows.specs.Rows.{IsFirst, IsUnchanged};
+
+use sqlite_trees::error::StoreError;
+use sqlite_trees::store::{Direction, Shape, Store};
+use sqlite_value::keys::Order;
+use sqlite_value::row::Row;
+
+/// Writes the first row that is not below the key over `row`, or answers that there is none. The
+/// key is the first columns of a row. Nothing is written to the store; an error is the store's own.
+pub fn first_from<S: Store>(
+    store: &mut S,
+    tree: u32,
+    key: &Row,
+    row: &mut Row,
+) -> Result<bool, StoreError>
+    requires { IsClean (S.Store.view store.old)
+        → (S.Store.view store.old).shape tree ≡ Shape.Index plain }
+    ensures found { IfOk result (λ there. IsClean (S.Store.view store.new)
+        → IsFirst (from_key plain key.now ((S.Store.view store.old).trees tree)) row.new there) }
+    ensures same { OnOk result (IsClean (S.Store.view store.new)
+        → IsUnchanged (S.Store.view store.old) (S.Store.view store.new)) }
+    ensures schema { KeepsSchema (S.Store.view store.old) (S.Store.view store.new) }
+    ensures err { IfErr result (λ error. IsClean (S.Store.view store.new)
+        → IsFailure (S.Store.view store.old) (S.Store.view store.new) error) }
+    ensures quiet { IsQuiet S.Store.view S.Store.faults S.Store.recovers S.Store.is_shielded
+        store.old store.new }
+{
+    store.seek(0, tree, key, Direction::Forward)?;
+    match store.next(0, row) {
+        Ok(there) => Ok(there),
+        Err(error) => Err(error),
+    }
+}
+
+/// Whether a row has the key: whether its first columns are the key's.
+pub fn has_key(row: &Row, key: &Row) -> bool
+    ensures { result ≡ is_eq (prefix_cmp plain row.now key.now) }
+{
+    row.cmp_prefix(Order::PLAIN, key).is_eq()
+}
