@@ -83,7 +83,7 @@ begins_with x xs row false first = absurd (none_there x xs first)
 
 module _ {K V : Type 0} {R : K → K → Ordering} (layout : Layout K V R) where
   -- a row against a key
-  at_key : (e : K × V) (k : K) → prefix_cmp plain (row_of layout e) (layout.key k) ≡ R e.0 k
+  pub at_key : (e : K × V) (k : K) → prefix_cmp plain (row_of layout e) (layout.key k) ≡ R e.0 k
   at_key e k = prefix_of (layout.key e.0) (layout.rest e.1) (layout.key k) (layout.alike e.0 k)
       ∙ layout.ordered e.0 k
 

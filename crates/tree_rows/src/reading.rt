@@ -5,12 +5,18 @@ ghost use Rattle.sqlite_trees.specs.Tree.{from_key};
 ghost use Rattle.sqlite_trees.specs.View.{IsClean, IsFailure, IsQuiet, KeepsSchema};
 ghost use Rattle.sqlite_value.specs.Keys.{plain, prefix_cmp};
 ghost use Rattle.std.specs.Ordering.{is_eq};
-ghost use Rattle.tree_rows.specs.Rows.{IsFirst, IsUnchanged};
+ghost use Rattle.tree_rows.specs.Rows.{IsFirst, IsUnchanged, past_key};
 
 use sqlite_trees::error::StoreError;
 use sqlite_trees::store::{Direction, Shape, Store};
 use sqlite_value::keys::Order;
 use sqlite_value::row::Row;
+
+/// The cursor of a look-up.
+const LOOK: u16 = 0;
+
+/// The cursor of a walk.
+const WALK: u16 = 1;
 
 /// Writes the first row that is not below the key over `row`, or answers that there is none. The
 /// key is the first columns of a row. Nothing is written to the store; an error is the store's own.
@@ -32,8 +38,42 @@ pub fn first_from<S: Store>(
     ensures quiet { IsQuiet S.Store.view S.Store.faults S.Store.recovers S.Store.is_shielded
         store.old store.new }
 {
-    store.seek(0, tree, key, Direction::Forward)?;
-    match store.next(0, row) {
+    store.seek(LOOK, tree, key, Direction::Forward)?;
+    match store.next(LOOK, row) {
+        Ok(there) => Ok(there),
+        Err(error) => Err(error),
+    }
+}
+
+/// Writes the first row that is behind those of the key over `row`, or answers that there is none:
+/// a step of a walk by key, where no two rows have one key. Nothing is written to the store; an
+/// error is the store's own.
+pub fn first_after<S: Store>(
+    store: &mut S,
+    tree: u32,
+    key: &Row,
+    row: &mut Row,
+) -> Result<bool, StoreError>
+    requires { IsClean (S.Store.view store.old)
+        → (S.Store.view store.old).shape tree ≡ Shape.Index plain }
+    ensures found { IfOk result (λ there. IsClean (S.Store.view store.new)
+        → IsFirst (past_key key.now (from_key plain key.now
+        ((S.Store.view store.old).trees tree))) row.new there) }
+    ensures same { OnOk result (IsClean (S.Store.view store.new)
+        → IsUnchanged (S.Store.view store.old) (S.Store.view store.new)) }
+    ensures schema { KeepsSchema (S.Store.view store.old) (S.Store.view store.new) }
+    ensures quiet { IsQuiet S.Store.view S.Store.faults S.Store.recovers S.Store.is_shielded
+        store.old store.new }
+{
+    store.seek(WALK, tree, key, Direction::Forward)?;
+    let there = store.next(WALK, row)?;
+    if !there {
+        return Ok(false);
+    }
+    if !has_key(row, key) {
+        return Ok(true);
+    }
+    match store.next(WALK, row) {
         Ok(there) => Ok(there),
         Err(error) => Err(error),
     }
