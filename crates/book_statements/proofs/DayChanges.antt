@@ -22,7 +22,7 @@ use Rattle.book_statements.proofs.KeptParts.{days_kept, days_simple, ran_on}
 use Rattle.book_statements.proofs.Orders.{places_exact, places_total}
 use Rattle.book_statements.proofs.RowLayouts.{Day, Place, day_cast, day_index, day_key}
 use Rattle.book_statements.proofs.RowLayouts.{day_layout}
-use Rattle.book_statements.specs.Changes.{drop_day_row, put_day_row}
+use Rattle.kept_tables.specs.Steps.{drop_day_row, put_day_row}
 use Rattle.book_statements.specs.Columns.{day_columns, day_entry}
 use Rattle.book_statements.specs.Days.{HasDay, place_columns}
 use Rattle.book_statements.specs.Keeps.{Keeps}

@@ -9,7 +9,7 @@ use Rattle.kept_tables.specs.Tables.{Tables}
 use Rattle.book_statements.proofs.KeptParts.{lines_kept, lines_simple, ran_on}
 use Rattle.book_statements.proofs.LineMeaning.{delete_line_is, given_terms, insert_line_is}
 use Rattle.book_statements.proofs.RowLayouts.{line_index, line_key, line_layout}
-use Rattle.book_statements.specs.Changes.{drop_line_row, put_line_row}
+use Rattle.kept_tables.specs.Steps.{drop_line_row, put_line_row}
 use Rattle.book_statements.specs.Columns.{flag, line_columns}
 use Rattle.book_statements.specs.Keeps.{Keeps}
 use Rattle.book_statements.specs.Schema.{books_schema, line_here}

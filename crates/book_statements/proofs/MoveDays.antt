@@ -15,7 +15,7 @@ use Rattle.kept_tables.specs.Tables.{Tables}
 use Rattle.book_statements.proofs.DayMeaning.{later_terms, move_days_is, moved_terms}
 use Rattle.book_statements.proofs.KeptParts.{days_kept, days_simple, ran_on}
 use Rattle.book_statements.proofs.RowLayouts.{Day, Place, day_cast, day_layout}
-use Rattle.book_statements.specs.Changes.{move_day_rows}
+use Rattle.kept_tables.specs.Steps.{move_day_rows}
 use Rattle.book_statements.specs.Columns.{day_columns, day_entry}
 use Rattle.book_statements.specs.Days.{NoneNext, move_columns}
 use Rattle.book_statements.specs.Keeps.{Keeps}

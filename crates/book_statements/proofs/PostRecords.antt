@@ -17,7 +17,7 @@ use Rattle.kept_tables.specs.Tables.{RecordRow, Tables}
 use Rattle.book_statements.proofs.KeptParts.{ran_on, records_kept, records_simple}
 use Rattle.book_statements.proofs.RecordMeaning.{post_records_is, posted_terms, to_post_terms}
 use Rattle.book_statements.proofs.RowLayouts.{Entry, record_cast, record_layout}
-use Rattle.book_statements.specs.Changes.{post_by, post_rows}
+use Rattle.kept_tables.specs.Steps.{post_by, post_rows}
 use Rattle.book_statements.specs.Columns.{flag, itself, record_columns}
 use Rattle.book_statements.specs.Keeps.{Keeps}
 use Rattle.book_statements.specs.Schema.{books_schema, record_here}

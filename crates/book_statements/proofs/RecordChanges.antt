@@ -18,7 +18,7 @@ use Rattle.book_statements.proofs.RecordMeaning.{eleven, insert_record_is, unmar
 use Rattle.book_statements.proofs.RecordMeaning.{unmarked_terms}
 use Rattle.book_statements.proofs.RowLayouts.{Entry, record_cast, record_index, record_key}
 use Rattle.book_statements.proofs.RowLayouts.{record_layout}
-use Rattle.book_statements.specs.Changes.{put_record_row, unmark_row}
+use Rattle.kept_tables.specs.Steps.{put_record_row, unmark_row}
 use Rattle.book_statements.specs.Columns.{record_columns}
 use Rattle.book_statements.specs.Keeps.{Keeps}
 use Rattle.book_statements.specs.Schema.{books_schema, record_here}

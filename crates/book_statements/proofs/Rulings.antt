@@ -8,7 +8,7 @@ use Rattle.sql_rows.proofs.Reading.{listed_in}
 use Rattle.sql_rows.proofs.Values.{cast_int, cast_null}
 use Rattle.sql_rows.proofs.Writing.{put_in}
 use Rattle.kept_tables.specs.Tables.{Tables}
-use Rattle.book_statements.specs.Changes.{put_close_row, put_tariff_row}
+use Rattle.kept_tables.specs.Steps.{put_close_row, put_tariff_row}
 use Rattle.book_statements.specs.Columns.{closed_columns, tariff_columns}
 use Rattle.book_statements.specs.Keeps.{Keeps}
 use Rattle.book_statements.specs.Queries.{ShowsCloses, ShowsTariffs, tariff_shown}

@@ -29,7 +29,7 @@ use Rattle.sql_rows.proofs.Values.{cast_int, cast_null, ints_equal}
 use Rattle.kept_tables.specs.Keeping.{new_tables}
 use Rattle.kept_tables.specs.Tables.{BookRow, Tables}
 use Rattle.book_statements.specs.BookAnswers.{book_of}
-use Rattle.book_statements.specs.Changes.{set_sums}
+use Rattle.kept_tables.specs.Steps.{set_sums}
 use Rattle.book_statements.specs.Keeps.{Keeps}
 use Rattle.book_statements.specs.Queries.{ShowsBook, book_shown}
 use Rattle.book_statements.specs.declared.book_row.BookRow.{BookRow as Stored}

@@ -7,7 +7,7 @@ ghost use Rattle.sqlite.specs.Order.{column};
 ghost use Rattle.sqlite.specs.Values.{bound};
 ghost use Rattle.sqlite.specs.declared.types.Value.TheVariants.{Int};
 ghost use Rattle.book_statements.specs.BookAnswers.{book_of};
-ghost use Rattle.book_statements.specs.Changes.{set_sums as with_sums};
+ghost use Rattle.kept_tables.specs.Steps.{set_sums as with_sums};
 ghost use Rattle.book_statements.specs.Queries.{ShowsBook};
 ghost use Rattle.book_statements.specs.Steps.{DoesInside, LooksUp};
 

@@ -6,7 +6,7 @@ ghost use Rattle.sqlite.specs.Held.{state};
 ghost use Rattle.sqlite.specs.Order.{column};
 ghost use Rattle.sqlite.specs.Values.{bound};
 ghost use Rattle.sqlite.specs.declared.types.Value.TheVariants.{Int};
-ghost use Rattle.book_statements.specs.Changes.{put_close_row};
+ghost use Rattle.kept_tables.specs.Steps.{put_close_row};
 ghost use Rattle.book_statements.specs.Columns.{closed_columns};
 ghost use Rattle.book_statements.specs.Queries.{ShowsCloses};
 ghost use Rattle.book_statements.specs.RulingAnswers.{close_of};

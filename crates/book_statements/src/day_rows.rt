@@ -4,7 +4,7 @@ ghost use Rattle.std.specs.Prelude.{◌≡◌, ℕ, pos, [], ◌∷◌, false, I
 ghost use Rattle.sqlite.specs.declared.types.Value.TheVariants.{Int, Text};
 ghost use Rattle.sqlite.specs.Held.{state};
 ghost use Rattle.sqlite.specs.Values.{bound};
-ghost use Rattle.book_statements.specs.Changes.{drop_day_row, move_day_rows, put_day_row};
+ghost use Rattle.kept_tables.specs.Steps.{drop_day_row, move_day_rows, put_day_row};
 ghost use Rattle.book_statements.specs.Columns.{day_columns};
 ghost use Rattle.book_statements.specs.Days.{HasDay, NoneNext, RowFits};
 ghost use Rattle.book_statements.specs.Days.{move_columns, place_columns};

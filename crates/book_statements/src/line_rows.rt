@@ -4,7 +4,7 @@ ghost use Rattle.std.specs.Prelude.{◌≡◌, ℕ, pos, Bool, false, List, [], 
 ghost use Rattle.sqlite.specs.declared.types.Value.TheVariants.{Blob, Int};
 ghost use Rattle.sqlite.specs.Held.{state};
 ghost use Rattle.sqlite.specs.Values.{bound};
-ghost use Rattle.book_statements.specs.Changes.{drop_line_row, put_line_row};
+ghost use Rattle.kept_tables.specs.Steps.{drop_line_row, put_line_row};
 ghost use Rattle.book_statements.specs.Columns.{line_columns};
 ghost use Rattle.book_statements.specs.Queries.{ShowsLines};
 ghost use Rattle.book_statements.specs.LineAnswers.{ListsLines, signed_name};

@@ -4,7 +4,7 @@ ghost use Rattle.std.specs.Prelude.{◌≡◌, ℕ, [], ◌∷◌, false};
 ghost use Rattle.sqlite.specs.declared.types.Value.TheVariants.{Blob, Int};
 ghost use Rattle.sqlite.specs.Held.{state};
 ghost use Rattle.sqlite.specs.Values.{bound};
-ghost use Rattle.book_statements.specs.Changes.{post_rows, put_record_row, unmark_row};
+ghost use Rattle.kept_tables.specs.Steps.{post_rows, put_record_row, unmark_row};
 ghost use Rattle.book_statements.specs.Columns.{record_columns};
 ghost use Rattle.book_statements.specs.Queries.{ShowsDated, ShowsRecord, ShowsSharing};
 ghost use Rattle.book_statements.specs.Queries.{ShowsUncharged};

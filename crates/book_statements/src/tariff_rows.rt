@@ -6,7 +6,7 @@ ghost use Rattle.sqlite.specs.Held.{state};
 ghost use Rattle.sqlite.specs.Order.{column};
 ghost use Rattle.sqlite.specs.Values.{bound};
 ghost use Rattle.sqlite.specs.declared.types.Value.TheVariants.{Int, Text};
-ghost use Rattle.book_statements.specs.Changes.{put_tariff_row};
+ghost use Rattle.kept_tables.specs.Steps.{put_tariff_row};
 ghost use Rattle.book_statements.specs.Columns.{tariff_columns};
 ghost use Rattle.book_statements.specs.Queries.{ShowsTariffs};
 ghost use Rattle.book_statements.specs.RulingAnswers.{tariff_of};

@@ -30,7 +30,7 @@ use Rattle.table_readings.specs.RulingsRead.{post_changed}
 use Rattle.table_readings.proofs.CallsLemmas.{calls_stay}
 use Rattle.table_readings.proofs.ReadableLemmas.{calls_read}
 use Rattle.table_readings.proofs.RulingLemmas.{closing_follows}
-use Rattle.book_statements.specs.Changes.{post_by}
+use Rattle.kept_tables.specs.Steps.{post_by}
 use Rattle.book_statements.specs.Days.{NoneNext}
 use Rattle.sqlite.specs.State.{State}
 use Rattle.book_tables.specs.Closings.{close_written}

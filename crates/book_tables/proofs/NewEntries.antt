@@ -13,7 +13,7 @@ use Rattle.kept_tables.specs.RowChanges.{change_day, change_line, change_mark}
 use Rattle.kept_tables.specs.Tables.{RecordRow, Tables}
 use Rattle.kept_tables.specs.Views.{rows_with}
 use Rattle.table_readings.specs.AcceptRead.{view_with}
-use Rattle.book_statements.specs.Changes.{put_record_row, set_sums}
+use Rattle.kept_tables.specs.Steps.{put_record_row, set_sums}
 use Rattle.book_statements.specs.Keeps.{Holds}
 use Rattle.book_tables.specs.Commits.{CommitsOne, IsDone}
 use Rattle.book_tables.specs.DayWrites.{Writes}

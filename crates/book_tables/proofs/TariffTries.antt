@@ -21,7 +21,7 @@ use Rattle.table_readings.proofs.CallsLemmas.{calls_stay}
 use Rattle.table_readings.proofs.ReadableLemmas.{calls_read}
 use Rattle.table_readings.proofs.RulingLemmas.{terms_follow}
 use Rattle.table_readings.specs.RulingsRead.{has_row_from}
-use Rattle.book_statements.specs.Changes.{put_tariff_row}
+use Rattle.kept_tables.specs.Steps.{put_tariff_row}
 use Rattle.book_tables.specs.Ready.{IsReadyAt, Remembers}
 use Rattle.book_tables.specs.Summaries.{ruled_in, terms_ruled}
 use Rattle.book_tables.specs.Tries.{IsPlain}

@@ -5,7 +5,7 @@ use Rattle.sqlite.specs.declared.error.Error.{Error}
 use Rattle.kept_tables.specs.RowChanges.{change_mark, change_line}
 use Rattle.kept_tables.specs.Tables.{Tables}
 use Rattle.book_core.specs.declared.effect_table.LineChange.{LineChange}
-use Rattle.book_statements.specs.Changes.{put_record_row, set_sums}
+use Rattle.kept_tables.specs.Steps.{put_record_row, set_sums}
 use Rattle.book_statements.specs.Stored.{new_entry}
 use Rattle.book_tables.specs.DayWrites.{day_written}
 use Rattle.book_tables.specs.declared.commits.Entry.{Entry}

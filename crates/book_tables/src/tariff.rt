@@ -3,7 +3,7 @@
 ghost use Rattle.std.specs.Prelude.{◌≡◌, IfErr, IfOk, Ok, false};
 ghost use Rattle.sqlite.specs.Held.{state};
 ghost use Rattle.book_model.specs.Words.{terms_in, tariff_outcome, Naming};
-ghost use Rattle.book_statements.specs.Changes.{put_tariff_row};
+ghost use Rattle.kept_tables.specs.Steps.{put_tariff_row};
 ghost use Rattle.book_statements.specs.Steps.{DoesInside};
 ghost use Rattle.book_tables.specs.Commits.{CommitsOne};
 ghost use Rattle.book_tables.specs.Unread.{IsUnread};

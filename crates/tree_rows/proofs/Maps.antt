@@ -62,21 +62,23 @@ less Equal p = absurd p
 less Greater p = absurd p
 
 -- a key below each key of a list is not found in it
-find_below : {K V : Type 0} (R : K → K → Ordering) → IsTotalOrder R
+pub find_below : {K V : Type 0} (R : K → K → Ordering) → IsTotalOrder R
     → (k x : K) (es : List (K × V)) → R k x ≡ Less → T (below_all R x es) → find R k es ≡ None
 find_below R o k x [] is below = refl
 find_below R o k x (e ∷ es) is below =
     ap (λ r. cond (is_eq r) (Some e.1) (find R k es)) (o.trans k x e.0 is (less _
     (first _ _ below))) ∙ find_below R o k x es is (second _ _ below)
 
-none_there : {A : Type 0} (x : A) (xs : List A) → x ∷ xs ≡ [] → ⊥
+-- a list with a front is not empty
+pub none_there : {A : Type 0} (x : A) (xs : List A) → x ∷ xs ≡ [] → ⊥
 none_there x xs e = absurd (cc)
 
-head_is : (x y : Row) (xs ys : List Row) → x ∷ xs ≡ y ∷ ys → x ≡ y
+-- one list has one front
+pub head_is : (x y : Row) (xs ys : List Row) → x ∷ xs ≡ y ∷ ys → x ≡ y
 head_is x y xs ys e = cc
 
 -- what is read at the front of rows that are there
-begins_with : (x : Row) (xs : List Row) (row : Row) (there : Bool) → IsFirst (x ∷ xs) row there
+pub begins_with : (x : Row) (xs : List Row) (row : Row) (there : Bool) → IsFirst (x ∷ xs) row there
     → (there ≡ true) × (row ≡ x)
 begins_with x xs row true first = (refl, sym (head_is x row xs first.0 first.1))
 begins_with x xs row false first = absurd (none_there x xs first)

@@ -1,6 +1,6 @@
--- What becomes of the rows of a map where the row of a key is taken, or gets another value.
+-- What becomes of the rows of a map where the row of a key is taken, or gets another value or key.
 use Rattle.std.proofs.Common.{◌≡◌, List, [], ◌∷◌, map, Bool, true, false, not, cond}
-use Rattle.std.proofs.Common.{Some, None, refl, sym, ap, ap₂, subst, ◌∙◌, true≢false}
+use Rattle.std.proofs.Common.{Option, Some, None, refl, sym, ap, ap₂, subst, ◌∙◌, true≢false}
 use Rattle.std.specs.Prelude.{filter, T}
 use Rattle.std.specs.Cmp.{tied_itself}
 use Rattle.std.specs.FinMap.{FinMap, get, insert, remove, entries, entries_sorted}
@@ -17,7 +17,8 @@ use Rattle.sqlite_value.specs.Keys.{plain, entry_cmp}
 use Rattle.tree_rows.specs.Layouts.{Layout, row_of, rows_of}
 use Rattle.tree_rows.proofs.Maps.{at_row, turned, inserted, not_none, first, second, less}
 
-some_is : {A : Type 0} (x y : A) → Some x ≡ Some y → x ≡ y
+-- one answer has one value
+pub some_is : {A : Type 0} (x y : A) → Some x ≡ Some y → x ≡ y
 some_is x y e = cc
 
 flipped : {A : Type 0} (b : Bool) (x y : A) → cond (not b) x y ≡ cond b y x
@@ -27,6 +28,19 @@ flipped false x y = refl
 twice : {A : Type 0} (b : Bool) (x y z : A) → cond b x (cond b y z) ≡ cond b x z
 twice true x y z = refl
 twice false x y z = refl
+
+-- what stands under a free key and is not kept is nothing
+none_twice : {A : Type 0} (b : Bool) (found : Option A) → found ≡ None → cond b None found ≡ None
+none_twice true found is = refl
+none_twice false found is = is
+
+-- a key is not found behind itself
+pub find_above : {K V : Type 0} (R : K → K → Ordering) (k : K) (es : List (K × V))
+    → T (below_all R k es) → find R k es ≡ None
+find_above R k [] below = refl
+find_above R k (e ∷ es) below =
+    ap (λ o. cond (is_eq o) (Some e.1) (find R k es)) (less (R k e.0) (first _ _ below))
+    ∙ find_above R k es (second _ _ below)
 
 module _ {K V : Type 0} {R : K → K → Ordering} (layout : Layout K V R) where
   -- the test by which a tree takes a row, on the row of an entry
@@ -86,13 +100,6 @@ module _ {K V : Type 0} {R : K → K → Ordering} (layout : Layout K V R) where
       ∙ sym (ap (λ b. map (row_of layout) (cond b (e ∷ filter (other_key k) es)
       (filter (other_key k) es))) key)
 
-  -- a key is not found behind itself
-  find_above : (k : K) (es : List (K × V)) → T (below_all R k es) → find R k es ≡ None
-  find_above k [] below = refl
-  find_above k (e ∷ es) below =
-      ap (λ o. cond (is_eq o) (Some e.1) (find R k es)) (less (R k e.0) (first _ _ below))
-      ∙ find_above k es (second _ _ below)
-
   -- where no entry has the key, all stay
   takes_none : (k : K) (v : V) (es : List (K × V)) → find R k es ≡ None → Takes k v es
   takes_none k v [] none = refl
@@ -136,7 +143,7 @@ module _ {K V : Type 0} {R : K → K → Ordering} (layout : Layout K V R) where
           let row : stays k v e ≡ false =
           ap₂ (λ x u. stays x u e) (sym same) (sym value) ∙ goes e.0 e.1 in
           let none : find R k es ≡ None =
-          find_above k es (subst (λ x. T (below_all R x es)) same (first _ _ sorted)) in
+          find_above R k es (subst (λ x. T (below_all R x es)) same (first _ _ sorted)) in
           goes_first k v e es row (ap (λ o. not (is_eq o)) is) (takes_none k v es none)
 
   -- the entries of a map without a key
@@ -182,3 +189,16 @@ module _ {K V : Type 0} {R : K → K → Ordering} (layout : Layout K V R) where
           ∙ ap (cond (eq_by_cmp R q k) (Some w)) (get-remove layout.total m k q)
           ∙ twice (eq_by_cmp R q k) (Some w) None (get m q)
           ∙ sym (get-insert layout.total m k w q))
+
+  -- the row of a key is taken, and put under a new one
+  pub row_moved : (m : FinMap R V) (k l : K) (v : V) → get m k ≡ Some v → get m l ≡ None
+      → insert_entry plain (row_of layout (l, v))
+      (remove_entry plain (row_of layout (k, v)) (rows_of layout m))
+      ≡ rows_of layout (insert (remove m k) l v)
+  row_moved m k l v there free =
+      ap (insert_entry plain (row_of layout (l, v))) (removed m k v there)
+      ∙ inserted layout (remove m k) l v gone
+    where
+      gone : get (remove m k) l ≡ None
+      gone =
+          get-remove layout.total m k l ∙ none_twice (eq_by_cmp R l k) (get m l) free

@@ -1,11 +1,11 @@
-//! The rows of sorted trees, below SQL, as maps by their keys: how they are looked up, walked and
-//! changed in any store, and how what was written is committed or taken back.
+//! The rows of sorted trees, below SQL, as maps by their keys: how they are looked up, walked, listed
+//! and changed in any store.
 #![tactic(auto)]
 
+mod listing;
 mod reading;
-mod transaction;
 mod writing;
 
-pub use reading::{first_after, first_from, has_key};
-pub use transaction::end_writes;
-pub use writing::change_row;
+pub use listing::{MOST_ROWS, ReadRow, list_first, list_run};
+pub use reading::{find_row, first_after, first_from, has_key};
+pub use writing::{add_row, change_row, drop_row, put_row};

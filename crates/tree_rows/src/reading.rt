@@ -1,11 +1,11 @@
 //! Rows are looked up by a key.
 
-ghost use Rattle.std.specs.Prelude.{◌≡◌, IfOk, IfErr, OnOk};
+ghost use Rattle.std.specs.Prelude.{◌≡◌, IfOk, IfErr, OnErr, OnOk};
 ghost use Rattle.sqlite_trees.specs.Tree.{from_key};
-ghost use Rattle.sqlite_trees.specs.View.{IsClean, IsFailure, IsQuiet, KeepsSchema};
+ghost use Rattle.sqlite_trees.specs.View.{IsClean, IsFailure, IsQuiet, KeepsCommitted, KeepsSchema};
 ghost use Rattle.sqlite_value.specs.Keys.{plain, prefix_cmp};
 ghost use Rattle.std.specs.Ordering.{is_eq};
-ghost use Rattle.tree_rows.specs.Rows.{IsFirst, IsUnchanged, past_key};
+ghost use Rattle.tree_rows.specs.Rows.{Finds, IsFirst, IsUnchanged, past_key};
 
 use sqlite_trees::error::StoreError;
 use sqlite_trees::store::{Direction, Shape, Store};
@@ -45,6 +45,30 @@ pub fn first_from<S: Store>(
     }
 }
 
+/// Whether a row has the key, and writes that row over `row`, where no two rows have one key. Nothing
+/// is written to the store; an error is the store's own.
+pub fn find_row<S: Store>(
+    store: &mut S,
+    tree: u32,
+    key: &Row,
+    row: &mut Row,
+) -> Result<bool, StoreError>
+    requires { IsClean (S.Store.view store.old)
+        → (S.Store.view store.old).shape tree ≡ Shape.Index plain }
+    ensures found { IfOk result (λ hit. IsClean (S.Store.view store.new)
+        → Finds key.now ((S.Store.view store.old).trees tree) row.new hit) }
+    ensures same { OnOk result (IsClean (S.Store.view store.new)
+        → IsUnchanged (S.Store.view store.old) (S.Store.view store.new)) }
+    ensures schema { KeepsSchema (S.Store.view store.old) (S.Store.view store.new) }
+    ensures err { IfErr result (λ error. IsClean (S.Store.view store.new)
+        → IsFailure (S.Store.view store.old) (S.Store.view store.new) error) }
+    ensures quiet { IsQuiet S.Store.view S.Store.faults S.Store.recovers S.Store.is_shielded
+        store.old store.new }
+{
+    let there = first_from(store, tree, key, row)?;
+    Ok(there && has_key(row, key))
+}
+
 /// Writes the first row that is behind those of the key over `row`, or answers that there is none:
 /// a step of a walk by key, where no two rows have one key. Nothing is written to the store; an
 /// error is the store's own.
@@ -61,6 +85,8 @@ pub fn first_after<S: Store>(
         ((S.Store.view store.old).trees tree))) row.new there) }
     ensures same { OnOk result (IsClean (S.Store.view store.new)
         → IsUnchanged (S.Store.view store.old) (S.Store.view store.new)) }
+    ensures kept { OnErr result (IsClean (S.Store.view store.new)
+        → KeepsCommitted (S.Store.view store.old) (S.Store.view store.new)) }
     ensures schema { KeepsSchema (S.Store.view store.old) (S.Store.view store.new) }
     ensures quiet { IsQuiet S.Store.view S.Store.faults S.Store.recovers S.Store.is_shielded
         store.old store.new }

@@ -1,14 +1,33 @@
-//! A row gets other values under its key.
+//! Rows are written under their keys.
 
-ghost use Rattle.std.specs.Prelude.{◌≡◌, OnOk};
+ghost use Rattle.std.specs.Prelude.{◌≡◌, OnErr, OnOk};
 ghost use Rattle.sqlite_trees.specs.Tree.{insert_entry, remove_entry};
-ghost use Rattle.sqlite_trees.specs.View.{IsClean, IsQuiet, KeepsSchema};
+ghost use Rattle.sqlite_trees.specs.View.{IsClean, IsQuiet, KeepsCommitted, KeepsSchema};
 ghost use Rattle.sqlite_value.specs.Keys.{plain};
-ghost use Rattle.tree_rows.specs.Rows.{Rewrites};
+ghost use Rattle.tree_rows.specs.Rows.{Drops, Puts, Rewrites};
 
+use crate::reading::find_row;
 use sqlite_trees::error::StoreError;
 use sqlite_trees::store::{Shape, Store};
 use sqlite_value::row::Row;
+
+/// Puts a row beside the others; one that is there already is left as it is. Nothing is committed; an
+/// error is the store's own.
+pub fn add_row<S: Store>(store: &mut S, tree: u32, row: &Row) -> Result<(), StoreError>
+    requires { IsClean (S.Store.view store.old)
+        → (S.Store.view store.old).shape tree ≡ Shape.Index plain }
+    ensures done { OnOk result (IsClean (S.Store.view store.new)
+        → Rewrites (S.Store.view store.old) (S.Store.view store.new) tree
+        (insert_entry plain row.now ((S.Store.view store.old).trees tree))) }
+    ensures kept { OnErr result (IsClean (S.Store.view store.new)
+        → KeepsCommitted (S.Store.view store.old) (S.Store.view store.new)) }
+    ensures schema { KeepsSchema (S.Store.view store.old) (S.Store.view store.new) }
+    ensures quiet { IsQuiet S.Store.view S.Store.faults S.Store.recovers S.Store.is_shielded
+        store.old store.new }
+{
+    store.insert(tree, row)?;
+    Ok(())
+}
 
 /// Takes a row, and puts another in its place. A row is its own key in its tree, so one that gets
 /// other values is taken first. Nothing is committed; an error is the store's own, and the row may
@@ -19,16 +38,69 @@ pub fn change_row<S: Store>(
     old: &Row,
     new: &Row,
 ) -> Result<(), StoreError>
-    requires { (S.Store.view store.old).shape tree ≡ Shape.Index plain }
+    requires { IsClean (S.Store.view store.old)
+        → (S.Store.view store.old).shape tree ≡ Shape.Index plain }
     ensures done { OnOk result (IsClean (S.Store.view store.new)
         → Rewrites (S.Store.view store.old) (S.Store.view store.new) tree
         (insert_entry plain new.now (remove_entry plain old.now
         ((S.Store.view store.old).trees tree)))) }
+    ensures kept { OnErr result (IsClean (S.Store.view store.new)
+        → KeepsCommitted (S.Store.view store.old) (S.Store.view store.new)) }
     ensures schema { KeepsSchema (S.Store.view store.old) (S.Store.view store.new) }
     ensures quiet { IsQuiet S.Store.view S.Store.faults S.Store.recovers S.Store.is_shielded
         store.old store.new }
 {
     store.remove(tree, old)?;
     store.insert(tree, new)?;
+    Ok(())
+}
+
+/// Puts a row in the place of the one that has its key, or beside the others where none has; `found`
+/// is where the one of before is read to. Nothing is committed; an error is the store's own, and the
+/// row of before may be gone then until the transaction is taken back.
+pub fn put_row<S: Store>(
+    store: &mut S,
+    tree: u32,
+    key: &Row,
+    row: &Row,
+    found: &mut Row,
+) -> Result<(), StoreError>
+    requires { IsClean (S.Store.view store.old)
+        → (S.Store.view store.old).shape tree ≡ Shape.Index plain }
+    ensures puts { OnOk result (IsClean (S.Store.view store.new)
+        → Puts (S.Store.view store.old) (S.Store.view store.new) tree key.now row.now) }
+    ensures kept { OnErr result (IsClean (S.Store.view store.new)
+        → KeepsCommitted (S.Store.view store.old) (S.Store.view store.new)) }
+    ensures schema { KeepsSchema (S.Store.view store.old) (S.Store.view store.new) }
+    ensures quiet { IsQuiet S.Store.view S.Store.faults S.Store.recovers S.Store.is_shielded
+        store.old store.new }
+{
+    if find_row(store, tree, key, found)? {
+        return change_row(store, tree, found, row);
+    }
+    store.insert(tree, row)
+}
+
+/// Takes the row that has the key, if one has; `found` is where it is read to. Nothing is committed;
+/// an error is the store's own.
+pub fn drop_row<S: Store>(
+    store: &mut S,
+    tree: u32,
+    key: &Row,
+    found: &mut Row,
+) -> Result<(), StoreError>
+    requires { IsClean (S.Store.view store.old)
+        → (S.Store.view store.old).shape tree ≡ Shape.Index plain }
+    ensures drops { OnOk result (IsClean (S.Store.view store.new)
+        → Drops (S.Store.view store.old) (S.Store.view store.new) tree key.now) }
+    ensures kept { OnErr result (IsClean (S.Store.view store.new)
+        → KeepsCommitted (S.Store.view store.old) (S.Store.view store.new)) }
+    ensures schema { KeepsSchema (S.Store.view store.old) (S.Store.view store.new) }
+    ensures quiet { IsQuiet S.Store.view S.Store.faults S.Store.recovers S.Store.is_shielded
+        store.old store.new }
+{
+    if find_row(store, tree, key, found)? {
+        return store.remove(tree, found);
+    }
     Ok(())
 }

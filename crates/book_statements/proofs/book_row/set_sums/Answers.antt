@@ -1,7 +1,7 @@
 use Rattle.std.proofs.Common.{[], ◌∷◌, pos}
 use Rattle.sqlite.specs.Held.{state}
 use Rattle.sqlite.specs.declared.types.Value.TheVariants.{Int}
-use Rattle.book_statements.specs.Changes.{set_sums}
+use Rattle.kept_tables.specs.Steps.{set_sums}
 use Rattle.book_statements.specs.Texts.{set_book}
 use Rattle.book_statements.proofs.TheBook.{sums_set}
 use Rattle.book_statements.proofs.Doing.{changes_by}

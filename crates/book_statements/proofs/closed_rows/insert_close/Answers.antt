@@ -1,5 +1,5 @@
 use Rattle.sqlite.specs.Held.{state}
-use Rattle.book_statements.specs.Changes.{put_close_row}
+use Rattle.kept_tables.specs.Steps.{put_close_row}
 use Rattle.book_statements.specs.Columns.{closed_columns}
 use Rattle.book_statements.specs.Texts.{insert_close}
 use Rattle.book_statements.proofs.Doing.{changes_by}

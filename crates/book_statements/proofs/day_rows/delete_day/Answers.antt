@@ -2,7 +2,7 @@ use Rattle.sqlite.specs.Held.{state}
 use Rattle.book_statements.proofs.DayChanges.{day_deleted}
 use Rattle.book_statements.proofs.Doing.{changes_by}
 use Rattle.book_statements.proofs.day_rows.delete_day.Goals as goal
-use Rattle.book_statements.specs.Changes.{drop_day_row}
+use Rattle.kept_tables.specs.Steps.{drop_day_row}
 use Rattle.book_statements.specs.Days.{place_columns}
 use Rattle.book_statements.specs.Texts as text
 

@@ -2,7 +2,7 @@ use Rattle.sqlite.specs.Held.{state}
 use Rattle.book_statements.proofs.Doing.{changes_where}
 use Rattle.book_statements.proofs.MoveDays.{days_moved}
 use Rattle.book_statements.proofs.day_rows.move_days.Goals as goal
-use Rattle.book_statements.specs.Changes.{move_day_rows}
+use Rattle.kept_tables.specs.Steps.{move_day_rows}
 use Rattle.book_statements.specs.Days.{NoneNext, move_columns}
 use Rattle.book_statements.specs.Texts as text
 

@@ -2,7 +2,7 @@ use Rattle.sqlite.specs.Held.{state}
 use Rattle.book_statements.proofs.DayChanges.{day_set}
 use Rattle.book_statements.proofs.Doing.{changes_where}
 use Rattle.book_statements.proofs.day_rows.set_day.Goals as goal
-use Rattle.book_statements.specs.Changes.{put_day_row}
+use Rattle.kept_tables.specs.Steps.{put_day_row}
 use Rattle.book_statements.specs.Columns.{day_columns}
 use Rattle.book_statements.specs.Days.{HasDay}
 use Rattle.book_statements.specs.Texts as text

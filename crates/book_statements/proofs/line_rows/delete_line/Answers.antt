@@ -4,7 +4,7 @@ use Rattle.sqlite.specs.declared.types.Value.TheVariants.{Blob, Int}
 use Rattle.book_statements.proofs.Doing.{changes_by}
 use Rattle.book_statements.proofs.LineChanges.{line_deleted}
 use Rattle.book_statements.proofs.line_rows.delete_line.Goals as goal
-use Rattle.book_statements.specs.Changes.{drop_line_row}
+use Rattle.kept_tables.specs.Steps.{drop_line_row}
 use Rattle.book_statements.specs.Texts as text
 
 pub returns-clause-does : goal.returns-clause-does

@@ -2,7 +2,7 @@ use Rattle.sqlite.specs.Held.{state}
 use Rattle.book_statements.proofs.Doing.{changes_by}
 use Rattle.book_statements.proofs.LineChanges.{line_inserted}
 use Rattle.book_statements.proofs.line_rows.insert_line.Goals as goal
-use Rattle.book_statements.specs.Changes.{put_line_row}
+use Rattle.kept_tables.specs.Steps.{put_line_row}
 use Rattle.book_statements.specs.Columns.{line_columns}
 use Rattle.book_statements.specs.Texts as text
 

@@ -2,7 +2,7 @@ use Rattle.sqlite.specs.Held.{state}
 use Rattle.book_statements.proofs.Doing.{changes_by}
 use Rattle.book_statements.proofs.RecordChanges.{record_inserted}
 use Rattle.book_statements.proofs.record_rows.insert_record.Goals as goal
-use Rattle.book_statements.specs.Changes.{put_record_row}
+use Rattle.kept_tables.specs.Steps.{put_record_row}
 use Rattle.book_statements.specs.Columns.{record_columns}
 use Rattle.book_statements.specs.Stored.{new_entry}
 use Rattle.book_statements.specs.Texts as text

@@ -4,7 +4,7 @@ use Rattle.sqlite.specs.declared.types.Value.TheVariants.{Int}
 use Rattle.book_statements.proofs.Doing.{changes_by}
 use Rattle.book_statements.proofs.PostRecords.{records_posted}
 use Rattle.book_statements.proofs.record_rows.post_records.Goals as goal
-use Rattle.book_statements.specs.Changes.{post_rows}
+use Rattle.kept_tables.specs.Steps.{post_rows}
 use Rattle.book_statements.specs.Texts as text
 
 pub returns-clause-does : goal.returns-clause-does

@@ -4,7 +4,7 @@ use Rattle.sqlite.specs.declared.types.Value.TheVariants.{Blob}
 use Rattle.book_statements.proofs.Doing.{changes_by}
 use Rattle.book_statements.proofs.RecordChanges.{record_unmarked}
 use Rattle.book_statements.proofs.record_rows.unmark_record.Goals as goal
-use Rattle.book_statements.specs.Changes.{unmark_row}
+use Rattle.kept_tables.specs.Steps.{unmark_row}
 use Rattle.book_statements.specs.Texts as text
 
 pub returns-clause-does : goal.returns-clause-does

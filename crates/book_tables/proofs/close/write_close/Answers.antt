@@ -2,7 +2,7 @@ use Rattle.std.proofs.Common.{◌≡◌, ℤ, Result, subst}
 use Rattle.sqlite.specs.Held.{state}
 use Rattle.sqlite.specs.State.{State}
 use Rattle.sqlite.specs.declared.error.Error.{Error}
-use Rattle.book_statements.specs.Changes.{put_close_row, post_rows, move_day_rows}
+use Rattle.kept_tables.specs.Steps.{put_close_row, post_rows, move_day_rows}
 use Rattle.book_statements.specs.Days.{NoneNext}
 use Rattle.book_statements.specs.Steps.{DoesInside, DoesWhere}
 use Rattle.book_tables.proofs.Statements.{does_then, does_uncounted}

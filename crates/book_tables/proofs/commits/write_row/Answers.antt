@@ -1,4 +1,4 @@
-use Rattle.book_statements.specs.Changes.{put_record_row, set_sums}
+use Rattle.kept_tables.specs.Steps.{put_record_row, set_sums}
 use Rattle.book_statements.specs.Stored.{new_entry}
 use Rattle.book_statements.specs.Steps.{DoesInside}
 use Rattle.sqlite.specs.Held.{state}

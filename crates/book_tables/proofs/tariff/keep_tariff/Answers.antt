@@ -1,6 +1,6 @@
 use Rattle.std.proofs.Common.{rules}
 use Rattle.kept_tables.specs.Tables.{Tables}
-use Rattle.book_statements.specs.Changes.{put_tariff_row}
+use Rattle.kept_tables.specs.Steps.{put_tariff_row}
 use Rattle.book_tables.proofs.Transactions.{one_commit, where_inside}
 use Rattle.book_tables.proofs.tariff.keep_tariff.Goals as goal
 

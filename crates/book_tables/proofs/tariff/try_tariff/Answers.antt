@@ -13,7 +13,7 @@ use Rattle.book_model.specs.declared.answer.Ruled.TheVariants.{Done}
 use Rattle.book_model.specs.declared.fault.LedgerFault.TheVariants.{RecordsDated}
 use Rattle.kept_tables.specs.Tables.{Tables}
 use Rattle.kept_tables.specs.TablesOf.{tables_of}
-use Rattle.book_statements.specs.Changes.{put_tariff_row}
+use Rattle.kept_tables.specs.Steps.{put_tariff_row}
 use Rattle.book_statements.specs.Queries.{is_from}
 use Rattle.book_tables.specs.Commits.{CommitsOne}
 use Rattle.book_tables.specs.Tries.{IsPlain}

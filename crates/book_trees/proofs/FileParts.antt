@@ -1,0 +1,112 @@
+-- What the state of a store says of its two files.
+use Rattle.std.proofs.Common.{◌≡◌, ℕ, IsTrue, refl, sym, ap, subst, subst₂, ◌∙◌, inl, inr, arith}
+use Rattle.sqlite_disk.specs.declared.Disk.{Ghosts}
+use Rattle.sqlite_disk.specs.declared.files.Files.{Files}
+use Rattle.sqlite_pool.specs.Pool.{state, files}
+use Rattle.sqlite_pool.specs.Stored.{IsUnreadable, RecoversAs}
+use Rattle.sqlite_pool.specs.declared.pool.Pool.{Pool}
+use Rattle.sqlite_store.specs.Unopened.{files_of, state_of, image, Opens}
+use Rattle.sqlite_store.specs.declared.store.open.Unopened.{Unopened}
+use Rattle.sqlite_wal.specs.Files.{seen_image}
+use Rattle.sqlite_wal.specs.Reads.{are_clean, AreClean}
+use Rattle.sqlite_wal.specs.Recovery.{Image}
+use Rattle.book_trees.specs.Left.{image_of, page_size}
+use Rattle.book_trees.proofs.Refused.{cause_for}
+use Rattle.book_trees.specs.Refusals.{faults_in, AreKept, HasCause, MayLeave}
+use Rattle.book_trees.specs.declared.faults.OpenFault.{OpenFault}
+
+-- the two by their names
+abbrev pub named : {D : Type 0} → D × D → Files D
+named pair = record { log = pair.0; db = pair.1 }
+
+module _ {D : Type 0} {g : Ghosts D} where
+  -- where a stop may leave something, no lie was taken as true
+  pub clean_if_left : (pool : Pool D g) (left : Image) → (state pool).may_leave left
+      → IsTrue (state pool).is_clean
+  unfolding state
+  clean_if_left pool left may = may.0
+
+  -- the faults are those of the files
+  pub faults_are : (pool : Pool D g) → (state pool).faults ≡ faults_in g (named (files pool))
+  unfolding state files
+  faults_are pool = refl
+
+  -- the files are honest where the state is
+  pub clean_is : (pool : Pool D g)
+      → (state pool).is_clean ≡ are_clean g (files pool).0 (files pool).1
+  unfolding state files
+  clean_is pool = refl
+
+  -- what a stop may leave, by the files
+  pub left_by_files : (pool : Pool D g) (left : Image) → MayLeave g (named (files pool)) left
+      → (state pool).may_leave left
+  unfolding state files
+  left_by_files pool left may = may
+
+  -- and back
+  pub left_by_state : (pool : Pool D g) (left : Image) → (state pool).may_leave left
+      → MayLeave g (named (files pool)) left
+  unfolding state files
+  left_by_state pool left may = may
+
+  -- what an open keeps of a state it keeps of the files
+  pub opened_files : (old new : Unopened D g) → (state_of old).page_size ≡ page_size
+      → Opens old (state_of new) → AreKept g (named (files_of old)) (named (files_of new))
+  opened_files old new size opens = record {
+    counts = omega (arith, opens.counts, faults_are old.pool, faults_are new.pool);
+    crash = λ left may. elim ((opens.crash left (left_by_files new.pool left may)).same) [
+      | inl was ↦ inl (left_by_state old.pool left was)
+      | inr same ↦ inr (subst (λ s. RecoversAs s (image old) left) size same)
+    ];
+    unread = λ unreadable left may. left_by_state old.pool left
+        ((opens.crash left (left_by_files new.pool left may)).unread
+        (subst (λ s. IsUnreadable s (image old)) (sym size) unreadable));
+  }
+
+  -- files that were given back as they are were kept
+  pub same_files : (files : Files D) → AreKept g files files
+  same_files files = record {
+    counts = omega arith;
+    crash = λ left may. inl may;
+    unread = λ _ left may. may;
+  }
+
+-- An open that ends with these files in hand, of those that it was given.
+module _ {D : Type 0} {g : Ghosts D} (old end : Unopened D g) (first last : Files D)
+    (given : files_of old ≡ (first.log, first.db)) (back : (last.log, last.db) ≡ files_of end)
+  where
+    -- what was read of the first
+    pub first_image : image old ≡ image_of g first
+    first_image = ap (λ (p : D × D). seen_image g p.0 p.1) given
+
+    -- the first were honest where the state was
+    pub first_honest : IsTrue (state_of old).is_clean → AreClean g first.log first.db
+    first_honest clean =
+        sym (clean_is old.pool ∙ ap (λ (p : D × D). are_clean g p.0 p.1) given) ∙ clean
+
+    -- the state was, where the first were
+    pub old_honest : AreClean g first.log first.db → IsTrue (state_of old).is_clean
+    old_honest clean =
+        clean_is old.pool ∙ ap (λ (p : D × D). are_clean g p.0 p.1) given ∙ clean
+
+    -- the state is honest, where the last are
+    pub end_honest : AreClean g last.log last.db → IsTrue (state_of end).is_clean
+    end_honest clean =
+        clean_is end.pool ∙ ap (λ (p : D × D). are_clean g p.0 p.1) (sym back) ∙ clean
+
+    -- the files are kept
+    pub files_kept : (state_of old).page_size ≡ page_size → Opens old (state_of end)
+        → AreKept g first last
+    files_kept size opens =
+        subst₂ (AreKept g) (ap named given) (ap named (sym back)) (opened_files old end size opens)
+
+    -- a fault has its cause by the files
+    pub file_cause : (Limit Limit' Held Held' : Type 0) → (Limit → Limit') → (Held' → Held)
+        → (fault : OpenFault)
+        → HasCause (state_of old).faults (state_of end).faults Limit Held fault
+        → HasCause (faults_in g first) (faults_in g last) Limit' Held' fault
+    file_cause Limit Limit' Held Held' wider so fault cause =
+        subst₂ (λ (m n : ℕ). HasCause m n Limit' Held' fault)
+        (faults_are old.pool ∙ ap (λ (p : D × D). faults_in g (named p)) given)
+        (faults_are end.pool ∙ ap (λ (p : D × D). faults_in g (named p)) (sym back))
+        (cause_for _ _ Limit Limit' Held Held' wider so fault cause)

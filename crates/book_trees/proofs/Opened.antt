@@ -1,0 +1,147 @@
+-- From what the files held to what an opened store shows.
+use Rattle.std.proofs.Common.{◌≡◌, ◌≢◌, ◌<◌, ℕ, List, [], length, true, IsTrue}
+use Rattle.std.proofs.Common.{refl, sym, subst, ap, ◌∙◌, inl, inr, arith}
+use Rattle.sqlite_disk.specs.declared.Disk.{Ghosts}
+use Rattle.sqlite_pages.specs.PageMap.{PageMap}
+use Rattle.sqlite_pool.specs.File.{in_use}
+use Rattle.sqlite_pool.specs.Stored.{Recovers, RecoversAs}
+use Rattle.sqlite_pool.specs.StoredLaws.{recovers_once, readable, RecoversAs-from}
+use Rattle.sqlite_store.specs.Db.{IsFile, rows_at}
+use Rattle.sqlite_store.specs.FileStore.{state, view, schema_of, IsReady}
+use Rattle.sqlite_store.specs.Listing.{file_trees}
+use Rattle.sqlite_store.specs.Saved.{kept_schema}
+use Rattle.sqlite_store.specs.Unopened.{state_of, image, wanted_by, HasFile, HasSomeFile}
+use Rattle.sqlite_store.specs.Unopened.{IsCatalogOf, Opens}
+use Rattle.sqlite_store.specs.declared.catalog.Wanted.{Wanted}
+use Rattle.sqlite_store.specs.declared.store.FileStore.{FileStore}
+use Rattle.sqlite_store.specs.declared.store.open.Unopened.{Unopened}
+use Rattle.sqlite_trees.specs.declared.store.Shape.TheVariants.{Table}
+use Rattle.sqlite_value.specs.Order.{Row}
+use Rattle.sqlite_wal.specs.Recovery.{Image}
+use Rattle.sqlite_wal.specs.State.{State}
+use Rattle.book_trees.proofs.ListingLemmas.{books_listed}
+use Rattle.book_trees.specs.Left.{page_size, HoldsBooks, AreLeft}
+use Rattle.book_trees.specs.Listing.{lists_books}
+use Rattle.book_trees.specs.Schema.{books_schema}
+
+-- a file of no length recovers to nothing
+none_empty : (size : ℕ) (image : Image) (pages : PageMap) → Recovers size image pages
+    → image.db ≡ [] → ⊥
+none_empty size image pages found empty =
+    let there : 0 < length {A = ℕ} [] = subst (λ (db : List ℕ). 0 < length db) empty found.present
+    in absurd (omega (arith, there))
+
+-- no rows do not list books
+none_listed : lists_books [] ≡ true → ⊥
+unfolding books_schema
+none_listed listed = absurd (cc)
+
+-- rows that list books are not none
+some_listed : (rows : List Row) → lists_books rows ≡ true → rows ≢ []
+some_listed rows listed none =
+    none_listed (subst (λ (rows : List Row). lists_books rows ≡ true) none listed)
+
+-- files that hold books hold some database
+pub some_file : {D : Type 0} {g : Ghosts D} (it : Unopened D g)
+    → (state_of it).page_size ≡ page_size → HoldsBooks (image it) → HasSomeFile it
+some_file it size held = (
+  held.pages,
+  subst (λ s. Recovers s (image it) held.pages) (sym size) held.found,
+  (books_schema, subst (λ s. IsFile s books_schema held.pages) (sym size) held.file),
+)
+
+module _ {D : Type 0} {g : Ghosts D} (old mid : Unopened D g) (rows : List Row)
+    (listed : IsCatalogOf old mid rows) (sized : (state_of old).page_size ≡ page_size) where
+  -- the pages that the files recovered to at first
+  pub found_old : Recovers page_size (image old) listed.pages
+  found_old = subst (λ s. Recovers s (image old) listed.pages) sized listed.found
+
+  -- and do again
+  found_mid : Recovers page_size (image mid) listed.pages
+  found_mid = subst (λ s. Recovers s (image mid) listed.pages) sized listed.again
+
+  -- the rows are those of the pages
+  pub rows_are : rows ≡ rows_at page_size (in_use page_size listed.pages) Table 1
+  rows_are = subst (λ s. rows ≡ rows_at s (in_use s listed.pages) Table 1) sized listed.lists
+
+  -- the pages are those of files that are known
+  same_pages : (pages : PageMap) → Recovers page_size (image old) pages → listed.pages ≡ pages
+  same_pages pages found = recovers_once page_size (image old) _ _ found_old found
+
+  -- files that hold books list them
+  pub held_listed : HoldsBooks (image old) → lists_books rows ≡ true
+  held_listed held =
+      ap lists_books (rows_are
+      ∙ ap (λ (p : PageMap). rows_at page_size (in_use page_size p) Table 1)
+      (same_pages held.pages held.found)) ∙ books_listed held.pages held.file
+
+  -- files that a ledger left and that list something are those of books
+  holds_books : rows ≢ [] → AreLeft (image old) → HoldsBooks (image old)
+  holds_books some (inl empty) =
+      absurd (none_empty _ (image old) listed.pages found_old empty)
+  holds_books some (inr (inl none)) =
+      absurd (some (rows_are
+      ∙ ap (λ (p : PageMap). rows_at page_size (in_use page_size p) Table 1)
+      (same_pages none.pages none.found) ∙ none.empty.1))
+  holds_books some (inr (inr held)) = held
+
+  -- so an open that trusts them may be asked for
+  pub has_file : lists_books rows ≡ true → AreLeft (image old)
+      → (state_of mid).page_size ≡ page_size → wanted_by mid ≡ books_schema → HasFile mid
+  has_file books left size schema =
+      let held = holds_books (some_listed rows books) left in
+      let file : IsFile page_size books_schema listed.pages =
+      subst (IsFile page_size books_schema) (sym (same_pages held.pages held.found)) held.file in (
+        listed.pages,
+        subst (λ s. Recovers s (image mid) listed.pages) (sym size) found_mid,
+        subst (λ s. IsFile s (wanted_by mid) listed.pages) (sym size)
+            (subst (λ (w : List Wanted). IsFile page_size w listed.pages) (sym schema) file),
+      )
+
+  -- what is committed then are the pages that were listed
+  pub committed_listed : (pages : PageMap) → (state_of mid).page_size ≡ page_size
+      → Recovers (state_of mid).page_size (image mid) pages → pages ≡ listed.pages
+  committed_listed pages size found =
+      recovers_once page_size (image mid) _ _
+      (subst (λ s. Recovers s (image mid) pages) size found) found_mid
+
+  -- which are those of the books
+  pub committed_is : (held : HoldsBooks (image old)) (pages : PageMap)
+      → (state_of mid).page_size ≡ page_size
+      → Recovers (state_of mid).page_size (image mid) pages → pages ≡ held.pages
+  committed_is held pages size found =
+      committed_listed pages size found ∙ same_pages held.pages held.found
+
+  -- two openings, one after the other, leave what the first could leave
+  pub opens_twice : (end : State) → Opens old (state_of mid) → Opens mid end → Opens old end
+  opens_twice end first second = record {
+    size = second.size ∙ first.size;
+    counts = omega (arith, first.counts, second.counts);
+    crash = λ left may. elim ((second.crash left may).same) [
+      | inl was ↦ first.crash left was
+      | inr same ↦ record {
+        same = inr (λ stored was. subst (λ s. RecoversAs s (image mid) left) first.size same stored
+            (RecoversAs-from (state_of old).page_size (image old) (image mid) listed.pages
+            listed.found listed.again stored was));
+        unread = λ unreadable. absurd (readable (state_of old).page_size (image old) listed.pages
+            listed.found unreadable);
+      }
+    ];
+  }
+
+module _ {D : Type 0} {g : Ghosts D} (store : FileStore D g) where
+  -- a store that was just opened shows the tables of its pages
+  pub shows_tables : IsReady store → schema_of store ≡ books_schema
+      → (state store).page_size ≡ page_size → IsTrue (state store).is_clean
+      → (pages : PageMap) → (state store).committed ≡ pages
+      → (view store).trees ≡ file_trees page_size books_schema pages
+  shows_tables ready schema size clean pages same =
+      let kept = kept_schema store.saved (schema_of store) in
+      let whole : (view store).committed
+      ≡ file_trees (state store).page_size kept (state store).committed = rw clean refl in
+      let plain : kept ≡ books_schema =
+      ap (λ s. kept_schema s (schema_of store)) ready.unaltered ∙ schema in
+      ready.clean ∙ whole
+      ∙ ap (λ s. file_trees s kept (state store).committed) size
+      ∙ ap (λ (w : List Wanted). file_trees page_size w (state store).committed) plain
+      ∙ ap (file_trees page_size books_schema) same

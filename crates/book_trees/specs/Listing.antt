@@ -1,0 +1,35 @@
+-- The list of tables and indexes that a file has of itself. Each row is a rowid, a kind, a name, a
+-- table, a root page and a text.
+use Rattle.std.specs.Prelude.{List, Bool, pos, ◌&&◌, ◌||◌}
+use Rattle.std.specs.List.{list_all, list_any}
+use Rattle.sqlite_store.specs.Catalog.{same_value}
+use Rattle.sqlite_store.specs.declared.catalog.Wanted.{Wanted}
+use Rattle.sqlite_value.specs.Order.{Row, column}
+use Rattle.sqlite_value.specs.declared.value.Value.TheVariants.{Int}
+use Rattle.book_trees.specs.Schema.{books_schema}
+
+-- the row has the kind, the name, the table and the text that are wanted
+abbrev pub lists : Wanted → Row → Bool
+lists wanted row =
+    same_value (column row 1) (column wanted.row 0)
+    && same_value (column row 2) (column wanted.row 1)
+    && same_value (column row 3) (column wanted.row 2)
+    && same_value (column row 5) (column wanted.row 3)
+
+-- the row has no pages, as that of a view has none
+abbrev pub has_no_pages : Row → Bool
+has_no_pages row = same_value (column row 4) (Int (pos 0))
+
+-- the row is one of these, or has no pages
+abbrev pub may_be_listed : List Wanted → Row → Bool
+may_be_listed schema row = list_any (λ wanted. lists wanted row) schema || has_no_pages row
+
+-- each of these is listed, text by text, and nothing else that has pages
+abbrev pub lists_exactly : List Wanted → List Row → Bool
+lists_exactly schema rows =
+    list_all (λ wanted. list_any (lists wanted) rows) schema
+    && list_all (may_be_listed schema) rows
+
+-- the rows list the tables and indexes of books
+abbrev pub lists_books : List Row → Bool
+lists_books rows = lists_exactly books_schema rows

@@ -1,0 +1,64 @@
+-- Why books are not opened or made, and what is left of the files then.
+use Rattle.std.specs.Prelude.{◌≡◌, ◌⊎◌, ◌+◌, ◌≤◌, ℕ, ⊤}
+use Rattle.sqlite_disk.specs.Disk.{MoreFaults}
+use Rattle.sqlite_disk.specs.declared.Disk.{Ghosts}
+use Rattle.sqlite_disk.specs.declared.files.Files.{Files}
+use Rattle.sqlite_pool.specs.Opening.{IsBlankFile}
+use Rattle.sqlite_pool.specs.Stored.{IsUnreadable, RecoversAs}
+use Rattle.sqlite_store.specs.Unopened.{files_of, IsFullFile, StopsCreating}
+use Rattle.sqlite_store.specs.declared.error.OpenError.{OpenError}
+use Rattle.sqlite_store.specs.declared.error.OpenError.TheVariants as store
+use Rattle.sqlite_store.specs.declared.store.open.Unopened.{Unopened}
+use Rattle.sqlite_wal.specs.Files.{outcomes}
+use Rattle.sqlite_wal.specs.Reads.{AreClean}
+use Rattle.sqlite_wal.specs.Recovery.{Image}
+use Rattle.book_trees.specs.Left.{image_of, page_size, HoldsNone}
+use Rattle.book_trees.specs.declared.faults.OpenFault.{OpenFault}
+use Rattle.book_trees.specs.declared.faults.OpenFault.TheVariants.{NotBooks, Memory, Store}
+
+-- the fault that an error of the store stands for
+abbrev pub fault_for : OpenError → OpenFault
+fault_for store.Refused = NotBooks
+fault_for store.OutOfMemory = Memory
+fault_for store.Io = Store
+fault_for store.Full = Store
+
+-- A fault has its cause: the files do not hold what they have to; memory was wanting, of which a
+-- store tells no more; or a disk failed during the call, or a limit of the format was met.
+abbrev pub HasCause : ℕ → ℕ → Type 0 → Type 0 → OpenFault → Type 0
+HasCause old new AtLimit Held NotBooks = ¬ Held
+HasCause old new AtLimit Held Memory = ⊤
+HasCause old new AtLimit Held Store = MoreFaults old new ⊎ AtLimit
+
+-- the files hold no database, or one that was begun and has no table
+abbrev pub HoldsNothing : Image → Type 0
+HoldsNothing image = IsBlankFile page_size image ⊎ HoldsNone image
+
+module _ {D : Type 0} (g : Ghosts D) where
+  -- how often calls of the two files have failed
+  abbrev pub faults_in : Files D → ℕ
+  faults_in files = g.faults files.log + g.faults files.db
+
+  -- what a crash may leave of the two, where they are honest
+  abbrev pub MayLeave : Files D → Image → Type 0
+  MayLeave files image =
+      AreClean g files.log files.db × outcomes g files.log files.db image
+
+  -- 32 bits number no more pages or frames of the two
+  abbrev pub AreFull : Files D → Type 0
+  AreFull files =
+      ∥ ((it : Unopened D g) × ((files.log, files.db) ≡ files_of it) × IsFullFile it) ∥₁
+
+  -- the same, or the list of tables is as deep as a tree may be
+  abbrev pub StopCreating : Files D → Type 0
+  StopCreating files =
+      ∥ ((it : Unopened D g) × ((files.log, files.db) ≡ files_of it) × StopsCreating it) ∥₁
+
+  -- A crash leaves what it could leave before, or what stands for the same pages. Files that stood
+  -- for no database stay as they were.
+  pub record AreKept (old new : Files D) : Type 0 where
+    pub counts : faults_in old ≤ faults_in new
+    pub crash : (left : Image) → MayLeave new left
+        → MayLeave old left ⊎ RecoversAs page_size (image_of g old) left
+    pub unread : IsUnreadable page_size (image_of g old) → (left : Image) → MayLeave new left
+        → MayLeave old left

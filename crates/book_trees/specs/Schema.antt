@@ -1,0 +1,38 @@
+-- What a file of books lists: each table is a tree in the order of its key.
+use Rattle.std.specs.Prelude.{List, [], ◌∷◌, ℕ, codes}
+use Rattle.sqlite_store.specs.declared.catalog.Wanted.{Wanted}
+use Rattle.sqlite_trees.specs.declared.store.Shape.TheVariants.{Index}
+use Rattle.sqlite_value.specs.Keys.{plain}
+use Rattle.sqlite_value.specs.declared.value.Value.TheVariants.{Text}
+use Rattle.book_trees.specs.Texts.{book_text, tariff_text, closed_text, record_text}
+use Rattle.book_trees.specs.Texts.{day_sum_text, line_text, record_ident_text}
+use Rattle.book_trees.specs.Texts.{record_charged_text}
+
+-- a tree in the order of its entries, of this kind and name, over this table
+abbrev pub sorted : List ℕ → List ℕ → List ℕ → List ℕ → Wanted
+sorted kind name table sql = record {
+  shape = Index plain;
+  reals = 0;
+  row = Text kind ∷ Text name ∷ Text table ∷ Text sql ∷ [];
+}
+
+-- a table
+abbrev pub table_of : List ℕ → List ℕ → Wanted
+table_of name sql = sorted (codes "table") name name sql
+
+-- an index on records
+abbrev pub index_of : List ℕ → List ℕ → Wanted
+index_of name sql = sorted (codes "index") name (codes "record") sql
+
+-- The tables and indexes of books. The first is tree 0.
+unfoldable pub books_schema : List Wanted
+books_schema =
+    table_of (codes "book") book_text
+    ∷ table_of (codes "tariff") tariff_text
+    ∷ table_of (codes "closed") closed_text
+    ∷ table_of (codes "record") record_text
+    ∷ table_of (codes "day_sum") day_sum_text
+    ∷ table_of (codes "line") line_text
+    ∷ index_of (codes "record_ident") record_ident_text
+    ∷ index_of (codes "record_charged") record_charged_text
+    ∷ []

@@ -1,0 +1,51 @@
+-- The text that a file of books has for each table and index.
+use Rattle.std.specs.Prelude.{List, ◌++◌, ℕ, codes}
+
+-- the whole books in one row
+abbrev pub book_text : List ℕ
+book_text =
+    codes "CREATE TABLE book (id INT NOT NULL PRIMARY KEY, rule INT NOT NULL, "
+    ++ codes "adopted INT NOT NULL, held INT NOT NULL, amount INT NOT NULL) STRICT, "
+    ++ codes "WITHOUT ROWID"
+
+-- the tariffs, by their first days
+abbrev pub tariff_text : List ℕ
+tariff_text =
+    codes "CREATE TABLE tariff (day INT NOT NULL PRIMARY KEY, body TEXT NOT NULL) STRICT, "
+    ++ codes "WITHOUT ROWID"
+
+-- the last day of each period that is closed, by their numbers
+abbrev pub closed_text : List ℕ
+closed_text =
+    codes "CREATE TABLE closed (period INT NOT NULL PRIMARY KEY, through INT NOT NULL) STRICT, "
+    ++ codes "WITHOUT ROWID"
+
+-- the records, by their names
+abbrev pub record_text : List ℕ
+record_text =
+    codes "CREATE TABLE record (name BLOB NOT NULL PRIMARY KEY, ident BLOB NOT NULL, "
+    ++ codes "data BLOB NOT NULL, day INT NOT NULL, shift TEXT NOT NULL, centre TEXT NOT NULL, "
+    ++ codes "cpu INT NOT NULL, blocks INT NOT NULL, amount INT NOT NULL, charged INT NOT NULL, "
+    ++ codes "posted INT NOT NULL) STRICT, WITHOUT ROWID"
+
+-- the sums of a day for a cost centre and a shift, in each period
+abbrev pub day_sum_text : List ℕ
+day_sum_text =
+    codes "CREATE TABLE day_sum (period INT NOT NULL, day INT NOT NULL, "
+    ++ codes "centre TEXT NOT NULL, shift TEXT NOT NULL, count INT NOT NULL, cpu INT NOT NULL, "
+    ++ codes "blocks INT NOT NULL, amount INT NOT NULL, "
+    ++ codes "PRIMARY KEY (period, day, centre, shift)) STRICT, WITHOUT ROWID"
+
+-- the adjustments of each period, by the names of their records
+abbrev pub line_text : List ℕ
+line_text =
+    codes "CREATE TABLE line (period INT NOT NULL, name BLOB NOT NULL, plus INT NOT NULL, "
+    ++ codes "PRIMARY KEY (period, name)) STRICT, WITHOUT ROWID"
+
+-- the names of records, by their identities
+abbrev pub record_ident_text : List ℕ
+record_ident_text = codes "CREATE INDEX record_ident ON record (ident)"
+
+-- the names of records, by whether they are charged, and then by their identities
+abbrev pub record_charged_text : List ℕ
+record_charged_text = codes "CREATE INDEX record_charged ON record (charged, ident)"

@@ -1,0 +1,40 @@
+//! Why books are not opened or made.
+
+ghost use Rattle.std.specs.Prelude.{◌≡◌};
+ghost use Rattle.book_trees.specs.Refusals.{fault_for};
+
+use sqlite_std_file::OpenError as PathError;
+use sqlite_store::OpenError;
+
+/// Why a file of books was not opened or made.
+#[derive(Clone, Copy, Debug, PartialEq, Eq, Drop)]
+pub enum OpenFault {
+    /// The file holds no books; of new books, it holds something.
+    NotBooks,
+    /// Memory was wanting.
+    Memory,
+    /// The files failed, or are full.
+    Store,
+}
+
+/// What an error of the store stands for.
+pub(crate) fn fault_of(error: OpenError) -> OpenFault
+    ensures { result ≡ fault_for error }
+{
+    match error {
+        OpenError::Refused => OpenFault::NotBooks,
+        OpenError::OutOfMemory => OpenFault::Memory,
+        OpenError::Io | OpenError::Full => OpenFault::Store,
+    }
+}
+
+/// What an error at a path stands for, where the files could not be had.
+pub(crate) fn fault_at(error: PathError) -> OpenFault
+    ensures memory { error ≡ PathError.OutOfMemory → result ≡ OpenFault.Memory }
+    ensures busy { error ≡ PathError.Busy → result ≡ OpenFault.Store }
+{
+    match error {
+        PathError::OutOfMemory => OpenFault::Memory,
+        PathError::Io(_) | PathError::Busy | PathError::HotJournal => OpenFault::Store,
+    }
+}

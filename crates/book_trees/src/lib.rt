@@ -1,0 +1,21 @@
+//! The tables of books in a file and its log, as sorted trees below SQL. A file that a ledger left
+//! is opened at the same cost whatever it holds: it is not read through again.
+#![tactic(auto)]
+
+mod catalog;
+mod faults;
+mod left;
+mod new_books;
+mod opening;
+mod outcomes;
+mod reopening;
+mod schema;
+mod unopened;
+
+pub use faults::OpenFault;
+pub use left::LeftByLedger;
+pub use new_books::{create_files, open_new_books};
+pub use opening::{open_at, open_files, open_left};
+pub use outcomes::{finds_each, leaves_books};
+pub use reopening::{close_and_open, crash_and_open};
+pub use schema::books_objects;

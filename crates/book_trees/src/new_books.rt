@@ -1,0 +1,88 @@
+//! New books are made.
+
+ghost use Rattle.std.specs.Prelude.{◌≡◌, None, IsTrue, IfOk, IfErr};
+ghost use Rattle.sqlite_store.specs.FileStore.{state, view, schema_of, IsReady};
+ghost use Rattle.sqlite_wal.specs.Files.{image_at};
+ghost use Rattle.sqlite_wal.specs.Reads.{AreClean};
+ghost use Rattle.sqlite_wal.specs.Recovery.{Image};
+ghost use Rattle.book_trees.specs.Left.{image_of, page_size, HoldsBooks, tables_at};
+ghost use Rattle.book_trees.specs.Left.{AreEmptyTables};
+ghost use Rattle.book_trees.specs.Refusals.{faults_in, AreKept, HasCause, HoldsNothing};
+ghost use Rattle.book_trees.specs.Refusals.{StopCreating};
+ghost use Rattle.book_trees.specs.Schema.{books_schema};
+ghost use Rattle.book_trees.specs.Shapes.{HasBookTrees};
+
+use crate::faults::{OpenFault, fault_of};
+use crate::left::LeftByLedger;
+use crate::reopening::close_and_open;
+use crate::unopened::unopened;
+use sqlite_disk::{Disk, Files};
+use sqlite_std_file::FileFrom;
+use sqlite_store::FileStore;
+use std::alloc::Global;
+
+/// Makes new books in two files that hold nothing, or gives them back. There are then contents
+/// that a stop may leave, which hold books, and whose tables are empty.
+pub fn create_files<D: Disk>(
+    alloc: Global,
+    files: Files<D>,
+    seed: u64,
+) -> Result<FileStore<D>, (OpenFault, Files<D>)>
+    requires log { IsTrue (D.Disk.is_usable files.log) }
+    requires db { IsTrue (D.Disk.is_usable files.db) }
+    ensures ready { IfOk result IsReady }
+    ensures schema { IfOk result (λ store. schema_of store ≡ books_schema) }
+    ensures trees { IfOk result (λ store. HasBookTrees (view store)) }
+    ensures size { IfOk result (λ store. IsTrue (state store).is_clean
+        → (state store).page_size ≡ page_size) }
+    ensures honest { IfOk result (λ store. IsTrue (state store).is_clean
+        → AreClean D.Disk files.log files.db) }
+    ensures started { IfOk result (λ store. IsTrue (state store).is_clean
+        → ∥ HoldsNothing (image_of D.Disk files) ∥₁) }
+    ensures empty { IfOk result (λ store. IsTrue (state store).is_clean
+        → AreEmptyTables (view store).committed) }
+    ensures left { IfOk result (λ store. IsTrue (state store).is_clean
+        → ∥ ((image : Image) × (held : HoldsBooks image) × (state store).may_leave image
+        × AreEmptyTables (tables_at held)) ∥₁) }
+
+    // Files that hold nothing are refused for no other cause than memory and the disk.
+    ensures cause { IfErr result (λ refusal. AreClean D.Disk refusal.1.log refusal.1.db
+        → HasCause (faults_in D.Disk files) (faults_in D.Disk refusal.1)
+        (StopCreating D.Disk refusal.1) (HoldsNothing (image_of D.Disk files)) refusal.0) }
+    ensures unharmed { IfErr result (λ refusal. AreClean D.Disk refusal.1.log refusal.1.db
+        → (¬ HoldsNothing (image_of D.Disk files)) → AreKept D.Disk files refusal.1) }
+{
+    let files = match unopened(alloc, files, seed) {
+        Ok(files) => files,
+        Err(files) => return Err((OpenFault::Memory, files)),
+    };
+    match files.create() {
+        Ok(store) => Ok(store),
+        Err((error, files)) => Err((fault_of(error), files.close())),
+    }
+}
+
+/// Closes new books, and opens the files at the path, which hold what these may have left: no
+/// table has a row.
+pub fn open_new_books<D: Disk + Drop, S: LeftByLedger>(
+    rt: &HostRuntime,
+    path: &str,
+    seed: u64,
+    made: FileStore<D>,
+    start: S,
+) -> Result<FileStore<FileFrom<S>>, OpenFault>
+    requires schema { schema_of made ≡ books_schema }
+    requires size { IsTrue (state made).is_clean → (state made).page_size ≡ page_size }
+    requires unaltered { made.saved ≡ None }
+    requires open { IsTrue (view made).is_open }
+    requires empty { AreEmptyTables (view made).committed }
+    requires left { (state made).may_leave (image_at S.Start) }
+    ensures trees { IfOk result (λ store. HasBookTrees (view store)) }
+    ensures empty { IfOk result (λ store. IsTrue (state store).is_clean
+        → AreEmptyTables (view store).trees) }
+{
+    match close_and_open(rt, path, seed, made, start) {
+        Ok(store) => Ok(store),
+        Err(fault) => Err(fault),
+    }
+}

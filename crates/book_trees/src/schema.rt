@@ -1,0 +1,88 @@
+//! The tables of books, each a tree in the order of its key, and the indexes on records.
+
+ghost use Rattle.std.specs.Prelude.{◌≡◌, map};
+ghost use Rattle.sqlite_store.specs.Catalog.{wanted_of};
+ghost use Rattle.book_trees.specs.Schema.{books_schema, index_of, table_of};
+
+use sqlite_trees::schema::Object;
+use sqlite_trees::store::Shape;
+use sqlite_value::keys::Order;
+
+/// A table whose rows are sorted by its key.
+fn table(name: &'static str, sql: &'static str) -> Object<'static>
+    ensures { wanted_of result ≡ table_of name.now sql.now }
+{
+    Object {
+        shape: Shape::Index(Order::PLAIN),
+        kind: "table",
+        name,
+        table: name,
+        reals: 0,
+        sql: Some(sql),
+    }
+}
+
+/// An index on records.
+fn index(name: &'static str, sql: &'static str) -> Object<'static>
+    ensures { wanted_of result ≡ index_of name.now sql.now }
+{
+    Object {
+        shape: Shape::Index(Order::PLAIN),
+        kind: "index",
+        name,
+        table: "record",
+        reals: 0,
+        sql: Some(sql),
+    }
+}
+
+/// What a file of books lists. The tables are numbered in this order, from 0.
+pub fn books_objects() -> [Object<'static>; 8]
+    ensures { map wanted_of result ≡ books_schema }
+{
+    [
+        table(
+            "book",
+            "CREATE TABLE book (id INT NOT NULL PRIMARY KEY, rule INT NOT NULL, \
+             adopted INT NOT NULL, held INT NOT NULL, amount INT NOT NULL) STRICT, \
+             WITHOUT ROWID",
+        ),
+        table(
+            "tariff",
+            "CREATE TABLE tariff (day INT NOT NULL PRIMARY KEY, body TEXT NOT NULL) STRICT, \
+             WITHOUT ROWID",
+        ),
+        table(
+            "closed",
+            "CREATE TABLE closed (period INT NOT NULL PRIMARY KEY, through INT NOT NULL) STRICT, \
+             WITHOUT ROWID",
+        ),
+        table(
+            "record",
+            "CREATE TABLE record (name BLOB NOT NULL PRIMARY KEY, ident BLOB NOT NULL, \
+             data BLOB NOT NULL, day INT NOT NULL, shift TEXT NOT NULL, centre TEXT NOT NULL, \
+             cpu INT NOT NULL, blocks INT NOT NULL, amount INT NOT NULL, charged INT NOT NULL, \
+             posted INT NOT NULL) STRICT, WITHOUT ROWID",
+        ),
+        table(
+            "day_sum",
+            "CREATE TABLE day_sum (period INT NOT NULL, day INT NOT NULL, \
+             centre TEXT NOT NULL, shift TEXT NOT NULL, count INT NOT NULL, cpu INT NOT NULL, \
+             blocks INT NOT NULL, amount INT NOT NULL, \
+             PRIMARY KEY (period, day, centre, shift)) STRICT, WITHOUT ROWID",
+        ),
+        table(
+            "line",
+            "CREATE TABLE line (period INT NOT NULL, name BLOB NOT NULL, plus INT NOT NULL, \
+             PRIMARY KEY (period, name)) STRICT, WITHOUT ROWID",
+        ),
+        index(
+            "record_ident",
+            "CREATE INDEX record_ident ON record (ident)",
+        ),
+        index(
+            "record_charged",
+            "CREATE INDEX record_charged ON record (charged, ident)",
+        ),
+    ]
+}

@@ -1,0 +1,46 @@
+//! Two files that are to hold books, before anything is known of them.
+
+ghost use Rattle.std.specs.Prelude.{◌≡◌, IfOk, IfErr};
+ghost use Rattle.sqlite_store.specs.Unopened.{files_of, state_of, wanted_by};
+ghost use Rattle.sqlite_wal.specs.PageSize.{bytes_of};
+ghost use Rattle.book_trees.specs.Left.{page_size};
+ghost use Rattle.book_trees.specs.Schema.{books_schema};
+
+use crate::schema::books_objects;
+use sqlite_disk::{Disk, Files};
+use sqlite_pager::{Options, Pager};
+use sqlite_store::Unopened;
+use sqlite_wal::PageSize;
+use std::alloc::Global;
+
+/// The size of a page.
+fn page_size() -> PageSize
+    ensures { bytes_of result ≡ page_size }
+{
+    match PageSize::new(4096) {
+        Some(size) => size,
+        None => unreachable!(),
+    }
+}
+
+/// The two with the schema of books. Want of memory gives them back.
+pub(crate) fn unopened<D: Disk>(
+    alloc: Global,
+    files: Files<D>,
+    seed: u64,
+) -> Result<Unopened<D>, Files<D>>
+    ensures files { IfOk result (λ it. files_of it ≡ (files.log, files.db)) }
+    ensures size { IfOk result (λ it. (state_of it).page_size ≡ page_size) }
+    ensures schema { IfOk result (λ it. wanted_by it ≡ books_schema) }
+    ensures back { IfErr result (λ back. back ≡ files) }
+{
+    let pager = match Pager::new(alloc, files, page_size(), Options::new(seed)) {
+        Ok(pager) => pager,
+        Err(failed) => return Err(failed.value),
+    };
+    let objects = books_objects();
+    match Unopened::new(alloc, pager, &objects) {
+        Ok(files) => Ok(files),
+        Err(failed) => Err(failed.value.close()),
+    }
+}

@@ -1,0 +1,195 @@
+-- A close that is tried: what it answers, and what it writes.
+use Rattle.std.proofs.Common.{◌≡◌, ◌≢◌, ◌∙◌, ℕ, suc, ◌+◌, ◌≤◌, List, [], ◌∷◌, length, refl, sym, ap}
+use Rattle.std.proofs.Common.{Bool, true, false, not, ◌&&◌, ◌||◌, Result, Ok, Err, None, arith}
+use Rattle.std.proofs.Common.{cond, is_some, map, ◌++◌, ◌<◌, true≢false}
+use Rattle.std.proofs.lemmas.Bool.{ltb-true, ltb-false}
+use Rattle.std.specs.Prelude.{nat_lt, ℤ, int_lt, if◌then◌else◌, ◌==◌}
+use Rattle.std.specs.FinMap.{find, get-from_entries}
+use Rattle.std.specs.declared.cmp.Ordering.{Ordering}
+use Rattle.std.proofs.lemmas.List.{length-append, length-map}
+use Rattle.book_model.specs.Words.{IsDay, Book, all_periods, open_number, open_period, PeriodClosed}
+use Rattle.book_model.specs.Words.{close, last_period, close_outcome, close_event, Naming, by_key}
+use Rattle.book_model.specs.Words.{close_answer, is_closed, is_early, IsSound}
+use Rattle.book_model.specs.declared.answer.Ruled.{Ruled}
+use Rattle.book_model.specs.declared.answer.Ruled.TheVariants.{Done, Already}
+use Rattle.book_model.specs.declared.fault.LedgerFault.{LedgerFault}
+use Rattle.book_model.specs.declared.fault.LedgerFault.TheVariants.{Full, NotLater, WrongPeriod}
+use Rattle.book_model.proofs.MapLemmas.{else_find, find-both}
+use Rattle.book_model.proofs.RowLemmas.{by_key_total}
+use Rattle.book_core.specs.Calls.{Makes}
+use Rattle.kept_tables.specs.MapChanges.{updated}
+use Rattle.kept_tables.specs.Numbered.{by_period, under, numbered}
+use Rattle.kept_tables.specs.TableChanges.{close_tables}
+use Rattle.kept_tables.specs.Tables.{RecordRow}
+use Rattle.kept_tables.specs.TablesOf.{tables_of, day_entries}
+use Rattle.kept_tables.proofs.CloseDays.{closed_open}
+use Rattle.kept_tables.proofs.MoveLemmas.{not_number}
+use Rattle.kept_tables.proofs.NumberedLemmas.{by_period_total, find-under, is_number}
+use Rattle.table_readings.specs.FromCalls.{IsFromCalls}
+use Rattle.table_readings.specs.RulingsRead.{post_changed}
+use Rattle.table_readings.proofs.CallsLemmas.{calls_stay}
+use Rattle.table_readings.proofs.ReadableLemmas.{calls_read}
+use Rattle.table_readings.proofs.RulingLemmas.{closing_follows}
+use Rattle.kept_tables.specs.Steps.{post_by}
+use Rattle.tree_tables.specs.Days.{NoneNext}
+use Rattle.sqlite_trees.specs.View.{View}
+use Rattle.table_ledger.specs.Closings.{close_written}
+use Rattle.table_ledger.specs.Ready.{IsReadyAt, Remembers}
+use Rattle.table_ledger.specs.Summaries.{book_ruled}
+use Rattle.table_ledger.specs.Tries.{IsPlain}
+use Rattle.table_ledger.specs.declared.summary.Summary.{Summary}
+use Rattle.table_ledger.proofs.Answering.{ruled_makes}
+use Rattle.table_ledger.proofs.TryLemmas.{IsEvent}
+
+-- ---- the answer
+
+-- the answer by what the tests give
+abbrev by_tests : ℕ → Bool → Bool → Bool → Bool → Result Ruled LedgerFault
+by_tests open_one closed is_open early full =
+    if closed then Ok Already
+    else if not is_open then Err (WrongPeriod open_one)
+    else if early then Err NotLater
+    else if full then Err Full
+    else Ok Done
+
+-- it leaves the books open
+plain_by : (open_one : ℕ) (closed is_open early full : Bool)
+    → IsPlain (by_tests open_one closed is_open early full)
+plain_by open_one true is_open early full = record { stored = refl; served = refl }
+plain_by open_one false false early full = record { stored = refl; served = refl }
+plain_by open_one false true true full = record { stored = refl; served = refl }
+plain_by open_one false true false true = record { stored = refl; served = refl }
+plain_by open_one false true false false = record { stored = refl; served = refl }
+
+pub close_plain : (book : Book) (number : ℕ) (day : ℤ) → IsPlain (close_answer book number day)
+close_plain book number day =
+    plain_by (open_number book) (is_closed number day book.rulings) (number == open_number book)
+    (is_early day book.rulings) (number == last_period)
+
+-- the answer hangs on the rulings alone, which are remembered
+pub close_remembered : (summary : Summary) (book : Book) (number : ℕ) (day : ℤ)
+    → Remembers summary book
+    → close_answer (book_ruled summary) number day ≡ close_answer book number day
+close_remembered summary book number day remembers =
+    ap (λ closes. by_tests (length closes + 1)
+    (is_closed number day (record book.rulings { closes = closes }))
+    (number == length closes + 1) (is_early day (record book.rulings { closes = closes }))
+    (number == last_period)) remembers.closes
+
+-- an answer that is not Done makes no event
+pub close_makes : (answer : Result Ruled LedgerFault) (number : ℕ) (day : ℤ)
+    (book : Book) → close_answer book number day ≡ answer → answer ≢ Ok Done
+    → Makes (λ (ruled : Ruled). ruled) (close_outcome number day book) answer []
+close_makes answer number day book is other =
+    ruled_makes (close_outcome number day book) answer is other
+    (λ already. ap (close_event day) (is ∙ already))
+
+-- an answer that is Done is not that of the last period
+not_full : (open_one : ℕ) (closed is_open early full : Bool)
+    → by_tests open_one closed is_open early full ≡ Ok Done → full ≡ false
+not_full open_one true is_open early full done = cc
+not_full open_one false false early full done = cc
+not_full open_one false true true full done = cc
+not_full open_one false true false true done = cc
+not_full open_one false true false false done = refl
+
+-- so there is room for one close more
+pub close_room : (summary : Summary) (number : ℕ) (day : ℤ) (items : List ℤ)
+    → close_answer (book_ruled summary) number day ≡ Ok Done
+    → items ≡ summary.closes.items ++ day ∷ [] → length items < last_period
+close_room summary number day items done is =
+    let book = book_ruled summary in
+    let open_one = closed_open book number day done in
+    let other = not_full (open_number book) (is_closed number day book.rulings)
+    (number == open_number book) (is_early day book.rulings) (number == last_period) done in
+    let few = summary.few in
+    let more : length items ≡ length summary.closes.items + 1 =
+    ap length is ∙ length-append summary.closes.items (day ∷ []) in
+    let differs : number ≡ last_period → ⊥ =
+    λ same. absurd (true≢false (sym (ap (λ n. n == last_period) same) ∙ other)) in
+    room (number) (length items) open_one more few differs
+  where
+    room : (n m : ℕ) → n ≡ length summary.closes.items + 1 → m ≡ length summary.closes.items + 1
+        → length summary.closes.items < last_period → (n ≡ last_period → ⊥) → m < last_period
+    room n m is more few differs =
+        elim (nat_lt m last_period) as (λ b. nat_lt m last_period ≡ b → m < last_period) [
+          | true ↦ λ e. ltb-true m last_period e
+          | false ↦ λ e.
+              let least = ltb-false m last_period e in
+              absurd (differs (omega (arith, is, more, few, least)))
+        ] refl
+
+-- ---- what is written
+
+-- no row stands beyond the last period
+find_beyond : {K V : Type 0} (R : K → K → Ordering) (q : ℕ × K) (n : ℕ)
+    (periods : List (List (K × V))) → n + length periods ≤ q.0
+    → find (by_period R) q (numbered n periods) ≡ None
+find_beyond R q n [] beyond = refl
+find_beyond {K} {V} R q n (rows ∷ periods) beyond =
+    let other : is_number q.0 n ≡ false =
+    not_number q.0 n (λ same. absurd (omega (arith, same, beyond))) in
+    let later : suc n + length periods ≤ q.0 = omega (arith, beyond) in
+    find-both (by_period R) q (under n rows) (numbered (suc n) periods)
+    ∙ (λ i. else_find (find-under R q n rows i) (find_beyond R q (suc n) periods later i))
+    ∙ ap (λ b. else_find (cond b (find R q.1 rows) None) None) other
+
+-- so the next period has none
+pub none_next : (naming : Naming) (book : Book) (number : ℕ) → IsSound naming book
+    → number ≡ open_number book → NoneNext number (tables_of naming book)
+none_next naming book number sound is place =
+    let lists = map (day_entries book.rulings) (all_periods book) in
+    let counted : length lists ≡ length book.past + 1 =
+    length-map (all_periods book) (day_entries book.rulings)
+    ∙ length-append book.past (open_period book ∷ []) in
+    let closed = sound.closed in
+    ap (λ found. is_some found)
+    (get-from_entries (by_period_total by_key by_key_total) (numbered 1 lists) (suc number, place)
+    ∙ find_beyond by_key (suc number, place) 1 lists (omega (arith, counted, closed, is)))
+
+-- a row that is dated by the day is posted as it is charged: where the marks are the same already,
+-- it stays
+post_cases : (row : RecordRow) (late charged posted : Bool)
+    → (if late then record row { charged = charged; posted = posted }
+    else record row { charged = charged; posted = charged })
+    ≡ (if not late && ((charged && not posted) || (posted && not charged))
+    then record row { charged = charged; posted = charged }
+    else record row { charged = charged; posted = posted })
+post_cases row true charged posted = refl
+post_cases row false true true = refl
+post_cases row false true false = refl
+post_cases row false false true = refl
+post_cases row false false false = refl
+
+same_posted : (day : ℤ) (row : RecordRow) → post_by day row ≡ post_changed day row
+same_posted day row = post_cases row (int_lt day row.priced.day) row.charged row.posted
+
+-- what a close writes are the tables after it
+pub written_after : (naming : Naming) (book : Book) (number : ℕ) (day : ℤ)
+    → IsFromCalls naming book
+    → close_answer book number day ≡ Ok Done
+    → close_written number day (tables_of naming book) ≡ tables_of naming (close day book)
+written_after naming book number day calls done =
+    let whole = calls_read naming book calls in
+    let tables = tables_of naming book in
+    ap (λ records. record (close_tables number day tables) { records = records })
+    ((λ i. updated (λ row. same_posted day row i) tables.records)
+    ∙ closing_follows.posted naming book number day whole done)
+    ∙ sym (closing_follows.done naming book number day whole done)
+
+-- A close that is answered Done is an event.
+abbrev pub close_is_event : (naming : Naming) (was : Summary) (view : View) (number : ℕ) (day : ℤ)
+    → IsDay day → close_answer (book_ruled was) number day ≡ Ok Done → (book : Book)
+    → IsReadyAt naming was view book
+    → IsEvent (λ (ruled : Ruled). ruled) naming was (close_outcome number day) (NoneNext number)
+    (close_written number day) book
+close_is_event naming was view number day is_day answer book ready =
+    let done = sym (close_remembered was book number day ready.remembers) ∙ answer in
+    let whole = calls_read naming book ready.kept.calls in
+    record {
+      event = PeriodClosed day;
+      is = ap (close_event day) done;
+      when = none_next naming book number whole.sound (closed_open book number day done);
+      calls = calls_stay.close naming book number day ready.kept.calls is_day done;
+      tables = written_after naming book number day ready.kept.calls done;
+    }

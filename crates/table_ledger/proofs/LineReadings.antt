@@ -1,0 +1,102 @@
+-- Adjustment lines, as they are found in the tables.
+use Rattle.std.proofs.Common.{◌≡◌, ◌∙◌, ℕ, Bool, List, [], ◌∷◌, ◌++◌, ◌+◌, ◌<◌, length, take}
+use Rattle.std.proofs.Common.{slice_index_or, Option, Some, None, Err, option_map, refl, sym, ap}
+use Rattle.std.proofs.Common.{map}
+use Rattle.std.specs.FinMap.{get}
+use Rattle.std.specs.List.{cons_option, filter_map}
+use Rattle.std.proofs.lemmas.List.{take_more}
+use Rattle.std.proofs.lemmas.List.Elements.{filter_map-append}
+use Rattle.tree_tables.specs.States.{State}
+use Rattle.sqlite_trees.specs.declared.error.StoreError.{StoreError}
+use Rattle.book_model.specs.Words.{record_with, job_of, by_line, members, set_of}
+use Rattle.book_model.specs.declared.line.Line.{Line}
+use Rattle.kept_tables.specs.Numbered.{rows_under}
+use Rattle.kept_tables.specs.Reading.{line_read, lines_read}
+use Rattle.kept_tables.specs.Tables.{RecordRow, RecordTable, Tables}
+use Rattle.tree_tables.specs.Answers.{ListsLines}
+use Rattle.tree_tables.specs.Answers.{FindsRecord}
+use Rattle.tree_tables.specs.Stored.{signed_name, stored_entry}
+use Rattle.tree_tables.specs.Steps.{Looks}
+use Rattle.tree_tables.specs.declared.line_rows.StoredLine.{StoredLine}
+use Rattle.tree_tables.specs.declared.stored_record.StoredRecord.{StoredRecord}
+use Rattle.table_readings.specs.DisputesRead.{NamedRow}
+use Rattle.table_ledger.specs.Commits.{Saw}
+use Rattle.table_ledger.specs.LineReads.{line_stored, lines_stored}
+use Rattle.table_ledger.proofs.ListReadings.{looks_err}
+use Rattle.table_ledger.proofs.TryLemmas.{looks_refused}
+
+-- the line of a stored line, with a row of a record
+abbrev pub line_with : StoredLine → NamedRow → Line
+line_with stored row = record {
+  plus = stored.plus;
+  name = stored.name;
+  job = job_of (record_with row.1.data_bytes);
+  priced = row.1.priced;
+}
+
+-- what is said of a row may be said of it with its name
+named_first : {A : Type 0} (make : NamedRow → A) (name : List ℕ) (found : Option RecordRow)
+    → option_map (λ row. make (name, row)) found
+    ≡ option_map make (option_map (λ row. (name, row)) found)
+named_first make name None = refl
+named_first make name (Some row) = refl
+
+-- The line that is stored, by the record that was found.
+pub line_found : (period : ℕ) (stored : StoredLine) (tables : Tables)
+    (found is : Option StoredRecord) → found ≡ is → FindsRecord stored.name tables found
+    → option_map (line_with stored) (option_map stored_entry is)
+    ≡ line_stored period tables.records stored
+line_found period stored tables found is same finds =
+    ap (λ (one : Option StoredRecord). option_map (line_with stored) (option_map stored_entry one))
+    (sym same)
+    ∙ ap (option_map (line_with stored)) finds
+    ∙ sym (named_first (line_with stored) stored.name (get tables.records stored.name))
+
+-- The last look is refused, with any error.
+pub look_refused : {A B : Type 0} {old middle new : State} {Known : Tables → Type 0}
+    {Answers : Tables → A → Type 0} {Others : Tables → B → Type 0} {error other : StoreError}
+    → Saw old middle Known → Looks {A = B} (Err error) middle new Others
+    → Looks {A = A} (Err other) old new Answers
+look_refused {B = B} {Others = Others} saw looks =
+    looks_refused saw (looks_err {A = B} {B = B} {Answers = Others} {Others = Others} looks)
+
+-- The lines that are read behind a stored line more.
+pub line_more : (period : ℕ) (records : RecordTable) (stored : List StoredLine) (at : ℕ)
+    (any one : StoredLine) (olds news : List Line) (line : Option Line) → at < length stored
+    → one ≡ slice_index_or stored at any → news ≡ olds ++ cons_option line []
+    → olds ≡ lines_stored period records (take at stored) → line ≡ line_stored period records one
+    → news ≡ lines_stored period records (take (at + 1) stored)
+line_more period records stored at any one olds news line within is more before said =
+    let reads = filter_map (line_stored period records) in
+    more
+    ∙ (λ i. before i ++ cons_option (said i) [])
+    ∙ sym (filter_map-append (line_stored period records) (take at stored) (one ∷ []))
+    ∙ ap (λ (last : StoredLine). reads (take at stored ++ last ∷ [])) is
+    ∙ ap reads (sym (take_more stored at any within))
+
+-- what a list of names gives, it gives behind what they name
+listed_through : {X Y Z : Type 0} (make : Y → Option Z) (name : X → Y) (all : List X)
+    → filter_map (λ one. make (name one)) all ≡ filter_map make (map name all)
+listed_through make name [] = refl
+listed_through make name (one ∷ others) =
+    ap (cons_option (make (name one))) (listed_through make name others)
+
+-- a line is read by its name and its sign
+abbrev line_named : RecordTable → List ℕ × Bool → Option Line
+line_named records named = line_read records ((0, named.0), named.1)
+
+-- The lines are read where the stored lines are those of the period.
+pub lines_listed : (period : ℕ) (tables : Tables) (stored : List StoredLine)
+    (lines sorted : List Line) → ListsLines period tables stored
+    → lines ≡ lines_stored period tables.records stored
+    → sorted ≡ members (set_of by_line lines) → lines_read period tables ≡ sorted
+lines_listed period tables stored lines sorted lists read made =
+    let named = line_named tables.records in
+    let told : (ℕ × List ℕ) × Bool → List ℕ × Bool = λ row. (row.0.1, row.1) in
+    let rows = rows_under period tables.lines in
+    let same : lines ≡ filter_map (line_read tables.records) rows =
+    read
+    ∙ listed_through named signed_name stored
+    ∙ ap (filter_map named) lists
+    ∙ sym (listed_through named told rows) in
+    ap (λ (some : List Line). members (set_of by_line some)) (sym same) ∙ sym made

@@ -1,0 +1,114 @@
+-- A list that is read is answered with no event, and the ledger stays ready.
+use Rattle.std.proofs.Common.{◌≡◌, ◌∙◌, Bool, true, false, ℕ, [], Result, Ok, Err, refl, sym, ap}
+use Rattle.std.specs.Prelude.{if◌then◌else◌}
+use Rattle.tree_tables.specs.States.{State}
+use Rattle.sqlite_trees.specs.declared.error.StoreError.{StoreError}
+use Rattle.book_model.specs.declared.fault.LedgerFault.{LedgerFault}
+use Rattle.book_model.specs.declared.fault.LedgerFault.TheVariants.{NoSuchPeriod}
+use Rattle.book_model.specs.Words.{Book, Outcome, reading, Naming, Rulings}
+use Rattle.book_core.specs.Calls.{Makes, listed}
+use Rattle.kept_tables.specs.Tables.{Tables}
+use Rattle.kept_tables.specs.TablesOf.{tables_of}
+use Rattle.table_readings.specs.ListsRead.{is_period, of_period}
+use Rattle.table_readings.specs.Readable.{IsReadable}
+use Rattle.table_readings.proofs.ReadableLemmas.{calls_read}
+use Rattle.tree_tables.specs.Steps.{Looks}
+use Rattle.table_ledger.specs.Commits.{Saw}
+use Rattle.table_ledger.specs.Ready.{Remembers}
+use Rattle.table_ledger.specs.Summaries.{ruled_in}
+use Rattle.table_ledger.specs.Tries.{Tries}
+use Rattle.table_ledger.specs.declared.summary.Summary.{Summary}
+use Rattle.table_ledger.proofs.TryLemmas.{saw_none, try_answered, try_refused}
+
+-- a look that is refused is so with any error
+pub looks_err : {A B : Type 0} {old new : State} {Answers : Tables → A → Type 0}
+    {Others : Tables → B → Type 0} {error other : StoreError} → Looks {A = A} (Err error) old new Answers
+    → Looks {A = B} (Err other) old new Others
+looks_err looks = record {
+  survives = looks.survives;
+  found = λ clean. tt;
+  refused = looks.refused;
+}
+
+-- The first look is refused, with any error.
+pub first_refused : {V A B : Type 0} (view : V → A) (naming : Naming) (summary : Summary)
+    (outcome : Book → Outcome A) {old new : State} {Answers : Tables → B → Type 0}
+    {error other : StoreError} → Looks {A = B} (Err error) old new Answers
+    → Tries view naming summary summary old new outcome (Err other)
+first_refused {B = B} view naming summary outcome {Answers = Answers} looks =
+    try_refused view naming summary outcome {B = B} {Answers = Answers} saw_none
+    (looks_err {A = B} {B = B} {Answers = Answers} {Others = Answers} looks)
+
+-- A look behind others is refused, with any error.
+pub later_refused : {V A B : Type 0} (view : V → A) (naming : Naming) (summary : Summary)
+    (outcome : Book → Outcome A) {old middle new : State} {Known : Tables → Type 0}
+    {Answers : Tables → B → Type 0} {error other : StoreError} → Saw old middle Known
+    → Looks {A = B} (Err error) middle new Answers
+    → Tries view naming summary summary old new outcome (Err other)
+later_refused {B = B} view naming summary outcome {Answers = Answers} saw looks =
+    try_refused view naming summary outcome {B = B} {Answers = Answers} saw
+    (looks_err {A = B} {B = B} {Answers = Answers} {Others = Answers} looks)
+
+-- what is remembered are the book's rulings
+rulings_are : {summary : Summary} {book : Book} → Remembers summary book
+    → book.rulings ≡ ruled_in summary
+rulings_are remembers = λ i. record {
+  tariffs = sym remembers.tariffs i;
+  closes = sym remembers.closes i;
+}
+
+-- a list that was read makes no event
+read_makes : {V A : Type 0} (view : V → A) (outcome : Outcome A) (said : Result A LedgerFault)
+    (value : V) → outcome ≡ reading said → said ≡ Ok (view value) → Makes view outcome (Ok value) []
+read_makes view outcome said value is says = (
+  ap (λ (of : Outcome _). of.answer) is ∙ says,
+  sym (ap (λ (of : Outcome _). listed of.event) is),
+)
+
+-- A list that is read is answered.
+pub list_read : {V A : Type 0} {view : V → A} {naming : Naming} {summary : Summary}
+    {outcome : Book → Outcome A} {old new : State} {Known : Tables → Type 0} (read : Tables → A)
+    → ((book : Book) → IsReadable naming book
+    → outcome book ≡ reading (Ok (read (tables_of naming book))))
+    → (value : V) → Saw old new Known
+    → ((book : Book) → IsReadable naming book → Known (tables_of naming book)
+    → read (tables_of naming book) ≡ view value)
+    → Tries view naming summary summary old new outcome (Ok (Ok value))
+list_read {view = view} {naming = naming} {summary = summary} {outcome = outcome} read law value saw says =
+    try_answered view naming summary outcome saw (record { stored = refl; served = refl }) (λ book ready known.
+    let whole = calls_read naming book ready.kept.calls in
+    read_makes view (outcome book) _ value (law book whole) (ap Ok (says book whole known)))
+
+-- whether there is a period, by what is remembered
+answer_is : {A : Type 0} {summary : Summary} (number : ℕ) (list : A) (found : Bool) (book : Book)
+    → is_period number (ruled_in summary) ≡ found → Remembers summary book
+    → of_period number book.rulings list ≡ (if found then Ok list else Err NoSuchPeriod)
+answer_is number list found book is remembers =
+    ap (λ (rulings : Rulings). of_period number rulings list) (rulings_are remembers)
+    ∙ ap (λ (there : Bool). if there then Ok list else Err NoSuchPeriod) is
+
+module _ {V A : Type 0} {view : V → A} {naming : Naming} {summary : Summary}
+    {outcome : Book → Outcome A} (number : ℕ) (read : Tables → A)
+    (law : (book : Book) → IsReadable naming book
+    → outcome book ≡ reading (of_period number book.rulings (read (tables_of naming book)))) where
+  -- A period that there is not is answered so.
+  pub no_period : {state : State} → is_period number (ruled_in summary) ≡ false
+      → Tries view naming summary summary state state outcome (Ok (Err NoSuchPeriod))
+  no_period absent = try_answered view naming summary outcome saw_none (record { stored = refl; served = refl })
+      (λ book ready known. (
+        ap (λ (of : Outcome A). of.answer) (law book (calls_read naming book ready.kept.calls))
+            ∙ answer_is number (read (tables_of naming book)) false book absent
+            ready.remembers,
+        refl,
+      ))
+
+  -- A list of a period that there is.
+  pub period_read : {old new : State} {Known : Tables → Type 0} (value : V)
+      → is_period number (ruled_in summary) ≡ true → Saw old new Known
+      → ((tables : Tables) → Known tables → read tables ≡ view value)
+      → Tries view naming summary summary old new outcome (Ok (Ok value))
+  period_read value there saw says =
+      try_answered view naming summary outcome saw (record { stored = refl; served = refl }) (λ book ready known.
+      read_makes view (outcome book) _ value (law book (calls_read naming book ready.kept.calls))
+      (answer_is number (read (tables_of naming book)) true book there ready.remembers
+      ∙ ap Ok (says (tables_of naming book) known)))

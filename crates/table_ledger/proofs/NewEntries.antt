@@ -1,0 +1,145 @@
+-- A new record that is written makes the tables that it is to make.
+use Rattle.std.proofs.Common.{◌≡◌, ◌∙◌, ℕ, ◌+◌, List, Bool, true, false, length, refl, sym, ap}
+use Rattle.std.proofs.Common.{subst, Result, Option, Some, None, cond, true≢false}
+use Rattle.std.specs.List.{last_or}
+use Rattle.std.specs.FinMap.{get, get-insert, insert}
+use Rattle.std.specs.Ordering.{eq_by_cmp, is_eq}
+use Rattle.std.specs.declared.cmp.Ordering.{Ordering}
+use Rattle.std.specs.declared.cmp.Ordering.TheVariants.{Less, Equal, Greater}
+use Rattle.std.proofs.lemmas.Cmp.{nat_list_cmp_total}
+use Rattle.std.proofs.lemmas.Map.Lookups.{exact_bytes}
+use Rattle.book_model.specs.Words.{by_bytes}
+use Rattle.tree_tables.specs.States.{State}
+use Rattle.sqlite_trees.specs.declared.error.StoreError.{StoreError}
+use Rattle.book_model.specs.Words.{data_of, identity_of, last_close}
+use Rattle.tariff_rules.specs.declared.priced.Priced.{Priced}
+use Rattle.book_core.specs.Effects.{effects_of}
+use Rattle.book_core.specs.declared.effect_table.Effects.{Effects}
+use Rattle.kept_tables.specs.RowChanges.{change_day, change_line, change_mark, unmark_at}
+use Rattle.kept_tables.specs.Tables.{RecordRow, RecordTable, Tables}
+use Rattle.kept_tables.specs.Views.{rows_with}
+use Rattle.table_readings.specs.AcceptRead.{view_with}
+use Rattle.kept_tables.specs.Steps.{put_record_row, set_sums}
+use Rattle.tree_tables.specs.Holds.{Holds}
+use Rattle.table_ledger.specs.Commits.{CommitsOne, IsDone}
+use Rattle.table_ledger.specs.DayWrites.{Writes}
+use Rattle.table_ledger.specs.Entries.{AreRemembered, write_days, write_line, write_mark}
+use Rattle.table_ledger.specs.Keepings.{keep_as, keep_with}
+use Rattle.table_ledger.specs.Summaries.{ruled_in}
+use Rattle.table_ledger.specs.declared.day_write.DayWrite.{DayWrite}
+use Rattle.table_ledger.specs.declared.summary.Summary.{Summary}
+use Rattle.table_ledger.proofs.SurvivalLemmas.{survives_so}
+
+-- a row is not none
+some_none : (row : RecordRow) → Some row ≡ None → ⊥
+some_none row e = absurd (cc)
+
+-- a comparison that ties
+tied : (o : Ordering) → is_eq o ≡ true → o ≡ Equal
+tied Less is = absurd (true≢false (sym is))
+tied Equal is = refl
+tied Greater is = absurd (true≢false (sym is))
+
+-- the tables with a row, these sums and these effects
+abbrev kept_by : List ℕ × RecordRow → ℕ → ℕ → ℕ → Effects → DayWrite → Tables → Tables
+kept_by row held amount period effects day tables =
+    set_sums held amount (put_record_row row.0 row.1
+    (write_mark effects.unmark (write_line period effects.line (write_days period day tables))))
+
+-- what is written are the tables with the record and its effects
+pub entry_kept : (summary : Summary) (name bytes identity behind : List ℕ) (priced : Priced)
+    (period : ℕ) (effects : Effects) (day : DayWrite) (tables : Tables)
+    → identity ≡ identity_of bytes → behind ≡ data_of bytes
+    → period ≡ length summary.closes.items + 1 → AreRemembered summary tables
+    → effects ≡ effects_of (view_with (last_close (ruled_in summary))
+    (rows_with (identity_of bytes) tables.records)) name priced
+    → Writes period effects.day tables day
+    → kept_by (
+      name,
+      record {
+        identity = identity;
+        data_bytes = behind;
+        priced = priced;
+        charged = effects.charged;
+        posted = false;
+      },
+    ) (summary.held + 1) (summary.total + priced.amount) period effects day tables
+    ≡ keep_as summary name bytes priced tables
+entry_kept summary name bytes identity behind priced period effects day tables owner rest number
+    remembered planned writes =
+    let marked = change_mark effects.unmark tables.records in
+    (λ i. record tables {
+      book = record tables.book {
+        held = sym remembered.held i + 1;
+        amount = sym remembered.amount i + priced.amount;
+      };
+      records = insert marked name (record {
+        identity = owner i;
+        data_bytes = rest i;
+        priced = priced;
+        charged = effects.charged;
+        posted = false;
+      });
+      days = writes i;
+      lines = change_line period effects.line tables.lines;
+    })
+    ∙ (λ i. record tables {
+      book = record tables.book {
+        held = tables.book.held + 1;
+        amount = tables.book.amount + priced.amount;
+      };
+      records = insert marked name (record {
+        identity = identity_of bytes;
+        data_bytes = data_of bytes;
+        priced = priced;
+        charged = effects.charged;
+        posted = false;
+      });
+      days = change_day (number i) effects.day tables.days;
+      lines = change_line (number i) effects.line tables.lines;
+    })
+    ∙ ap (λ effects. keep_with summary name bytes priced effects tables)
+    (planned
+    ∙ ap (λ closes. effects_of (view_with (last_or None closes)
+    (rows_with (identity_of bytes) tables.records)) name priced) (sym remembered.closes))
+
+-- a commit may be told in other words
+pub commit_so : {T : Type 0} {old new : State} {When Other : Tables → Type 0}
+    {change told : Tables → Tables} {result : Result T StoreError}
+    → CommitsOne result old new When change
+    → ((tables : Tables) → Other tables → When tables × (change tables ≡ told tables))
+    → CommitsOne result old new Other told
+commit_so {old = old} {new = new} {result = result} commit so = record {
+  survives = survives_so commit.survives
+      (λ clean trees made tables holds other.
+      let same = so tables other in
+      subst (λ after. Holds trees after) same.1 (made tables holds same.0));
+  done = λ clean rest tables holds other.
+      let same = so tables other in
+      subst (λ after. IsDone old.view new.view after result) same.1
+      (commit.done clean rest tables holds same.0);
+}
+
+-- a name that no record has is that of none still where a mark was taken
+pub new_still : (unmark : Option (List ℕ)) (records : RecordTable) (name : List ℕ)
+    → get records name ≡ None → get (change_mark unmark records) name ≡ None
+new_still None records name new = new
+new_still (Some other) records name new = by_row (get records other) refl
+  where
+    by_row : (found : Option RecordRow) → get records other ≡ found
+        → get (unmark_at other (get records other) records) name ≡ None
+    by_row None is = ap (λ found. get (unmark_at other found records) name) is ∙ new
+    by_row (Some row) is =
+        ap (λ found. get (unmark_at other found records) name) is
+        ∙ get-insert nat_list_cmp_total records other (record row { charged = false }) name
+        ∙ by_name (eq_by_cmp by_bytes name other) refl
+      where
+        by_name : (same : Bool) → eq_by_cmp by_bytes name other ≡ same
+            → cond (eq_by_cmp by_bytes name other) (Some (record row { charged = false }))
+            (get records name) ≡ None
+        by_name true same =
+            absurd (some_none row (sym is
+            ∙ ap (get records) (sym (exact_bytes name other (tied (by_bytes name other) same)))
+            ∙ new))
+        by_name false same =
+            ap (λ b. cond b (Some (record row { charged = false })) (get records name)) same ∙ new

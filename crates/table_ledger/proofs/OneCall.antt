@@ -1,0 +1,171 @@
+-- A call that is served is a call of a ledger.
+use Rattle.std.proofs.Common.{◌≡◌, ◌∙◌, ◌⊎◌, inl, inr, Bool, true, false, true≢false, [], Option}
+use Rattle.std.proofs.Common.{None, Some, Result, Ok, Err, refl, sym, ap, subst, ◌||◌}
+use Rattle.tree_tables.specs.States.{State, HasCleanDisk, Survives}
+use Rattle.book_model.specs.declared.fault.LedgerFault.{LedgerFault}
+use Rattle.book_model.specs.declared.fault.LedgerFault.TheVariants.{Store, Reopen}
+use Rattle.book_model.specs.Words.{Book, Event, after_any, after_all, Outcome, Naming}
+use Rattle.book_core.specs.Ledgers.{StandsAt, stands_by}
+use Rattle.book_core.specs.Work.{ComesFrom}
+use Rattle.book_core.specs.Calls.{Makes, Calls, IsCall, Reopens, is_store, listed}
+use Rattle.table_ledger.specs.Ready.{IsReadyAt, IsReady}
+use Rattle.table_ledger.specs.Shelf.{Shelf, told_by, LeftIn, AreBooks, seen_on}
+use Rattle.table_ledger.specs.Tries.{MayKeep, Serves}
+use Rattle.table_ledger.specs.declared.summary.Summary.{Summary}
+use Rattle.table_ledger.proofs.SurvivalLemmas.{clean_before}
+use Rattle.table_ledger.specs.Told.{told_kept, told_ready, told_left, LeavesTheLast}
+
+-- a crash in a call leaves the book as it was, or the one with the outcome's event
+left_by : {A : Type 0} {naming : Naming} {summary : Summary} (old new : State)
+    (outcome : Book → Outcome A) (book : Book) → LeavesTheLast old.view old.may_leave → HasCleanDisk new
+    → IsReadyAt naming summary old.view book
+    → Survives old new (MayKeep naming summary old.view outcome) → (found : Book) → LeftIn new.may_leave found
+    → (found ≡ book) ⊎ (found ≡ after_any (outcome book).event book)
+left_by old new outcome book last clean ready survives found left =
+    elim (survives.crash clean left.0 left.1) [
+      | inl earlier ↦ inl (left.2 ∙ told_left old.view old.may_leave last ready left.0 earlier)
+      | inr later ↦ inr (left.2 ∙ told_kept (later book ready))
+    ]
+
+-- the event of an outcome as a list
+after_listed : (event : Option Event) (book : Book) → after_any event book ≡ after_all (listed event) book
+after_listed None book = refl
+after_listed (Some event) book = refl
+
+-- a result that is a fault of the store
+is_the_store : {V : Type 0} (result : Result V LedgerFault) → is_store result ≡ true → result ≡ Err Store
+is_the_store (Ok value) is = absurd (true≢false (sym is))
+is_the_store (Err Store) is = refl
+is_the_store (Err fault) is = absurd (true≢false (sym is))
+
+module _ {V A : Type 0} (view : V → A) (old new : Shelf) (outcome : Book → Outcome A)
+    (result : Result V LedgerFault) (is_open : old.must_reopen ≡ false)
+    (last : LeavesTheLast old.state.view old.state.may_leave) (serves : Serves view old new outcome result) where
+  -- the books of a shelf
+  abbrev AreBooksOn : Shelf → Type 0
+  AreBooksOn shelf = AreBooks shelf.naming shelf.state.view shelf.must_reopen shelf.summary
+
+  -- the flags of the call
+  reopens : Reopens result old.must_reopen new.must_reopen
+  reopens = record {
+    reopen = serves.served ∙ sym is_open;
+    store = serves.reopen ∙ ap (λ was. was || is_store result) (sym is_open);
+  }
+
+  -- the disk was clean before
+  was_clean : HasCleanDisk new.state → HasCleanDisk old.state
+  was_clean clean = clean_before serves.survives clean
+
+  -- the ledger is ready again, where no store failed
+  books_again : HasCleanDisk new.state → AreBooksOn old → AreBooksOn new
+  books_again clean books open_now clean_now =
+      let ready = books is_open (was_clean clean) in
+      let answered = serves.answered (sym serves.reopen ∙ open_now) clean ready.book ready.ready in
+      record {
+        book = after_all answered.events ready.book;
+        ready = subst (λ naming. IsReadyAt naming new.summary new.state.view
+            (after_all answered.events ready.book)) (sym serves.naming) answered.ready;
+      }
+
+  -- it stood at the book with which it was ready
+  stood : (ready : IsReady old.naming old.summary old.state.view) → StandsAt (seen_on old) ready.book
+  stood ready = subst (λ flag. stands_by flag (seen_on old) ready.book) (sym is_open)
+      (sym (told_ready ready.ready))
+
+  -- where the store failed, the next open finds the book before the call or the one behind it
+  moves_failed : (ready : IsReady old.naming old.summary old.state.view) → is_store result ≡ true
+      → (book : Book)
+      → (book ≡ ready.book) ⊎ (book ≡ after_any (outcome ready.book).event ready.book)
+      → ComesFrom (seen_on old) (seen_on new) (Calls view outcome result) book
+  moves_failed ready failed book (inl same) = record {
+    before = ready.book;
+    events = [];
+    stood = stood ready;
+    made = record {
+      makes = subst (λ answer. Makes view (outcome ready.book) answer [])
+          (sym (is_the_store result failed)) (inl refl);
+      reopens = reopens;
+    };
+    leads = same;
+  }
+  moves_failed ready failed book (inr made) = record {
+    before = ready.book;
+    events = listed (outcome ready.book).event;
+    stood = stood ready;
+    made = record {
+      makes = subst (λ answer. Makes view (outcome ready.book) answer
+          (listed (outcome ready.book).event))
+          (sym (is_the_store result failed)) (inr refl);
+      reopens = reopens;
+    };
+    leads = made ∙ after_listed (outcome ready.book).event ready.book;
+  }
+
+  -- where it did not, the book is the one that the call made
+  moves_served : (ready : IsReady old.naming old.summary old.state.view) → is_store result ≡ false
+      → HasCleanDisk new.state → (book : Book) → book ≡ told_by new.state.view.trees
+      → ComesFrom (seen_on old) (seen_on new) (Calls view outcome result) book
+  moves_served ready open_now clean book is =
+      let answered = serves.answered open_now clean ready.book ready.ready in
+      record {
+        before = ready.book;
+        events = answered.events;
+        stood = stood ready;
+        made = record { makes = answered.makes; reopens = reopens };
+        leads = is ∙ told_ready answered.ready;
+      }
+
+  -- both
+  moves_by : (failed : Bool) → is_store result ≡ failed → HasCleanDisk new.state
+      → (ready : IsReady old.naming old.summary old.state.view) → (book : Book)
+      → stands_by failed (seen_on new) book
+      → ComesFrom (seen_on old) (seen_on new) (Calls view outcome result) book
+  moves_by true failed clean ready book left =
+      moves_failed ready failed book
+      (left_by old.state new.state outcome ready.book last clean ready.ready serves.survives
+      book left)
+  moves_by false served clean ready book stands = moves_served ready served clean book stands
+
+  -- A call that is served is a call of the ledger.
+  pub call_served : IsCall view (seen_on old) (seen_on new) result outcome
+  call_served = record {
+    work = record {
+      naming = serves.naming;
+      honest = was_clean;
+      books = books_again;
+      moves = λ clean books book stands. moves_by (is_store result) refl clean
+          (books is_open (was_clean clean)) book
+          (subst (λ flag. stands_by flag (seen_on new) book) serves.reopen stands);
+      alone = λ closed. absurd (true≢false (sym closed ∙ is_open));
+    };
+    reopens = reopens;
+  }
+
+-- A call of a ledger that is to be reopened leaves it alone.
+pub call_reopen : {V A : Type 0} (view : V → A) (shelf : Shelf) (outcome : Book → Outcome A)
+    → shelf.must_reopen ≡ true → IsCall view (seen_on shelf) (seen_on shelf) (Err Reopen) outcome
+call_reopen view shelf outcome closed = record {
+  work = record {
+    naming = refl;
+    honest = λ clean. clean;
+    books = λ clean books. books;
+    moves = λ clean books book stands. record {
+      before = book;
+      events = [];
+      stood = stands;
+      made = record {
+        makes = refl;
+        reopens = record {
+          reopen = sym closed;
+          store = closed ∙ ap (λ was. was || false) (sym closed);
+        };
+      };
+      leads = refl;
+    };
+    alone = λ closed. record { reopen = closed; left = λ book left. left };
+  };
+  reopens = record {
+    reopen = sym closed;
+    store = closed ∙ ap (λ was. was || false) (sym closed);
+  };
+}

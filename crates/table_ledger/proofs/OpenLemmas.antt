@@ -1,0 +1,65 @@
+-- A store that keeps the tables of a book, with its summary, is an open ledger.
+use Rattle.std.proofs.Common.{◌≡◌, ◌∙◌, [], ap, false, refl, subst}
+use Rattle.tree_tables.specs.States.{State, HasCleanDisk}
+use Rattle.book_model.specs.Words.{Book, new_book, Naming, no_rulings}
+use Rattle.book_core.specs.Ledgers.{IsOpenAt}
+use Rattle.kept_tables.specs.Keeping.{new_tables}
+use Rattle.kept_tables.specs.Tables.{Tables}
+use Rattle.kept_tables.specs.TablesOf.{tables_of}
+use Rattle.kept_tables.proofs.KeepingLemmas.{tables_follow}
+use Rattle.table_readings.specs.FromCalls.{IsFromCalls}
+use Rattle.table_readings.proofs.CallsLemmas.{calls_stay}
+use Rattle.table_ledger.specs.Commits.{Keeping}
+use Rattle.table_ledger.specs.Ready.{IsReadyAt, Remembers}
+use Rattle.table_ledger.specs.Shelf.{seen_on}
+use Rattle.table_ledger.specs.Summaries.{ruled_in}
+use Rattle.table_ledger.specs.Told.{told_ready}
+use Rattle.table_ledger.specs.declared.summary.Summary.{Summary}
+
+-- the ledger is open at the book
+pub opened : (naming : Naming) (state : State) (summary : Summary) (book : Book)
+    → HasCleanDisk state → IsFromCalls naming book → Keeping state.view (tables_of naming book)
+    → Remembers summary book
+    → IsOpenAt naming book (seen_on (record {
+      naming = naming;
+      state = state;
+      must_reopen = false;
+      summary = summary;
+    }))
+opened naming state summary book clean calls keeping remembers =
+    let ready : IsReadyAt naming summary state.view book = record {
+      rest = keeping.rest;
+      kept = record { calls = calls; holds = keeping.holds };
+      remembers = remembers;
+    } in
+    record {
+      book = told_ready ready;
+      naming = refl;
+      is_open = refl;
+      honest = clean;
+      books = λ open_now clean_now. record { book = book; ready = ready };
+    }
+
+-- the tables of new books are those of the new book
+pub new_follow : (naming : Naming) → new_tables ≡ tables_of naming new_book
+new_follow naming = tables_follow naming [] tt
+
+-- new books are open, where nothing is remembered
+pub created : (naming : Naming) (state : State) (summary : Summary)
+    → HasCleanDisk state → Keeping state.view new_tables
+    → ruled_in summary ≡ no_rulings → summary.held ≡ 0 → summary.total ≡ 0
+    → IsOpenAt naming new_book (seen_on (record {
+      naming = naming;
+      state = state;
+      must_reopen = false;
+      summary = summary;
+    }))
+created naming state summary clean keeping none held total =
+    opened naming state summary new_book clean (calls_stay.start naming)
+    (subst (Keeping state.view) (new_follow naming) keeping)
+    (record {
+      tariffs = ap (λ ruled. ruled.tariffs) none;
+      closes = ap (λ ruled. ruled.closes) none;
+      held = held ∙ ap (λ (tables : Tables). tables.book.held) (new_follow naming);
+      total = total ∙ ap (λ (tables : Tables). tables.book.amount) (new_follow naming);
+    })

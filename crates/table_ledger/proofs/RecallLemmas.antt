@@ -1,0 +1,202 @@
+-- The summary that is read is that of the tables, and so of their book.
+use Rattle.std.proofs.Common.{◌≡◌, ◌∙◌, ℕ, ℤ, zero, suc, List, [], ◌∷◌, ◌++◌, ap, arith, map, refl}
+use Rattle.std.proofs.Common.{subst, sym, None, Option, Some, slice_index_or, take, ◌<◌, inl, inr}
+use Rattle.std.proofs.Common.{Err, Ok, Result, false, length}
+use Rattle.std.specs.Prelude.{All, IfErr, IfOk, IsErrAnd}
+use Rattle.std.specs.FinMap.{entries}
+use Rattle.std.specs.List.{AllZip, cons_option, filter_map}
+use Rattle.std.specs.Option.{option_map}
+use Rattle.std.proofs.lemmas.List.Elements.{All-cons}
+use Rattle.std.proofs.lemmas.Result.{err_from_is_err_and}
+use Rattle.tree_tables.specs.States.{State, HasCleanDisk, Survives}
+use Rattle.sqlite_trees.specs.declared.error.StoreError.{StoreError}
+use Rattle.book_model.specs.Words.{IsDay, Book, Naming, Rulings, Tariffed}
+use Rattle.book_model.specs.declared.fault.LedgerFault.{LedgerFault}
+use Rattle.book_model.specs.declared.fault.LedgerFault.TheVariants.{NotBooks}
+use Rattle.book_core.specs.Ledgers.{IsOpenAt}
+use Rattle.kept_tables.specs.Tables.{BookRow, Tables}
+use Rattle.kept_tables.specs.TablesOf.{tables_of}
+use Rattle.table_readings.specs.BookIn.{tariff_read}
+use Rattle.table_readings.specs.FromCalls.{IsFromCalls}
+use Rattle.table_readings.proofs.BookLemmas.{book_follows}
+use Rattle.table_readings.proofs.ReadableLemmas.{calls_read}
+use Rattle.tree_tables.specs.Steps.{Looks}
+use Rattle.tree_tables.specs.Stored.{book_of, close_of, tariff_of}
+use Rattle.tree_tables.specs.declared.book_row.StoredBook.{StoredBook as Stored}
+use Rattle.tree_tables.specs.declared.closed_rows.Close.{Close}
+use Rattle.tree_tables.specs.declared.tariff_rows.StoredTariff.{StoredTariff}
+use Rattle.table_ledger.specs.Commits.{Keeping, Saw}
+use Rattle.table_ledger.specs.Ready.{Remembers}
+use Rattle.table_ledger.specs.Recalled.{HasDay, IsRecalled, IsStoreFault, Reads, Recalls}
+use Rattle.table_ledger.specs.Recalled.{SaysTariff, Shows}
+use Rattle.table_ledger.specs.Shelf.{seen_on}
+use Rattle.table_ledger.specs.declared.summary.Summary.{Summary}
+use Rattle.table_ledger.proofs.OpenLemmas.{opened}
+use Rattle.table_ledger.proofs.SurvivalLemmas.{survives_then}
+use Rattle.table_ledger.proofs.Standing.{holds_on, rest_on}
+use Rattle.table_ledger.proofs.TryLemmas.{looks_refused}
+
+-- one row more is read
+pub zip_next : {A B : Type 0} (Says : A → B → Type 0) (rows : List A) (at : ℕ) (values : List B)
+    (row : A) (value : B) → AllZip Says (take at rows) values → at < length rows
+    → row ≡ slice_index_or rows at row → Says row value
+    → AllZip Says (take (suc at) rows) (values ++ value ∷ [])
+zip_next Says [] at values row value so_far below is said = absurd (omega (arith, below))
+zip_next Says (first ∷ rows) zero [] row value so_far below is said =
+    (subst (λ it. Says it value) is said, tt)
+zip_next Says (first ∷ rows) zero (other ∷ values) row value so_far below is said = absurd so_far
+zip_next Says (first ∷ rows) (suc at) [] row value so_far below is said = absurd so_far
+zip_next Says (first ∷ rows) (suc at) (other ∷ values) row value so_far below is said =
+    let rest : at < length rows = omega (arith, below) in
+    (so_far.0, zip_next Says rows at values row value so_far.1 rest is said)
+
+-- a place within a list has its element, whatever stands for none
+index_again : {A : Type 0} (rows : List A) (at : ℕ) (row other : A) → at < length rows
+    → slice_index_or rows at row ≡ slice_index_or rows at other
+index_again [] at row other below = absurd (omega (arith, below))
+index_again (first ∷ rows) zero row other below = refl
+index_again (first ∷ rows) (suc at) row other below =
+    let rest : at < length rows = omega (arith, below) in
+    index_again rows at row other rest
+
+-- one row more says a value
+pub zip_at : {A B : Type 0} (Says : A → B → Type 0) (rows : List A) (at : ℕ) (values : List B)
+    (row : A) (value : B) → AllZip Says (take at rows) values → at < length rows
+    → Says (slice_index_or rows at row) value
+    → AllZip Says (take (suc at) rows) (values ++ value ∷ [])
+zip_at Says rows at values row value so_far below says =
+    zip_next Says rows at values (slice_index_or rows at row) value so_far below
+    (index_again rows at row (slice_index_or rows at row) below) says
+
+-- tariffs that rows say are those that are read of them
+pub tariffs_said : (rows : List StoredTariff) (tariffs : List Tariffed)
+    → AllZip SaysTariff rows tariffs → filter_map tariff_read (map tariff_of rows) ≡ tariffs
+tariffs_said [] [] said = refl
+tariffs_said [] (tariff ∷ tariffs) said = absurd said
+tariffs_said (row ∷ rows) [] said = absurd said
+tariffs_said (row ∷ rows) (tariff ∷ tariffs) said =
+    let rest = tariffs_said rows tariffs said.1 in
+    λ i. cons_option (said.0 i) (rest i)
+
+-- the days that rows have are those of their closes
+pub days_had : (rows : List Close) (days : List ℤ) → AllZip HasDay rows days
+    → map (λ (close : ℕ × ℤ). close.1) (map close_of rows) ≡ days
+days_had [] [] had = refl
+days_had [] (day ∷ days) had = absurd had
+days_had (row ∷ rows) [] had = absurd had
+days_had (row ∷ rows) (day ∷ days) had =
+    let rest = days_had rows days had.1 in
+    λ i. sym had.0.0 i ∷ rest i
+
+-- each is a day
+pub all_days : (rows : List Close) (days : List ℤ) → AllZip HasDay rows days → All IsDay days
+all_days [] [] had = λ k d within. absurd (omega (arith, within))
+all_days [] (day ∷ days) had = absurd had
+all_days (row ∷ rows) [] had = absurd had
+all_days (row ∷ rows) (day ∷ days) had =
+    All-cons IsDay day days had.0.1 (all_days rows days had.1)
+
+-- a summary that rows show is that of the tables that they are the rows of
+pub recalled : (summary : Summary) (tables : Tables) (row : Stored) (tariffs : List StoredTariff)
+    (closes : List Close) → Shows row tariffs closes summary → book_of row ≡ tables.book
+    → map tariff_of tariffs ≡ entries tables.tariffs → map close_of closes ≡ entries tables.closes
+    → Recalls summary tables
+recalled summary tables row tariffs closes shows book texts days =
+    let ruled = sym (tariffs_said tariffs summary.tariffs.items shows.tariffs)
+    ∙ ap (filter_map tariff_read) texts in
+    let closed = sym (days_had closes summary.closes.items shows.closes)
+    ∙ ap (map (λ (close : ℕ × ℤ). close.1)) days in
+    record {
+      rulings = λ i. record { tariffs = ruled i; closes = closed i };
+      held = shows.held ∙ ap (λ (kept : BookRow). kept.held) book;
+      total = shows.total ∙ ap (λ (kept : BookRow). kept.amount) book;
+    }
+
+-- so is what is answered of the rows
+pub recalled_by : (answer : Result Summary LedgerFault) (tables : Tables) (row : Stored)
+    (texts : List StoredTariff) (days : List Close) → IfOk answer (Shows row texts days)
+    → IfErr answer IsStoreFault → book_of row ≡ tables.book
+    → map tariff_of texts ≡ entries tables.tariffs → map close_of days ≡ entries tables.closes
+    → IsRecalled tables answer
+recalled_by (Ok summary) tables row texts days shows kinds book said had =
+    recalled summary tables row texts days shows book said had
+recalled_by (Err fault) tables row texts days shows kinds book said had = kinds
+
+-- a summary of the tables of a book is one of the book
+pub remembered : (naming : Naming) (book : Book) (summary : Summary) → IsFromCalls naming book
+    → Recalls summary (tables_of naming book) → Remembers summary book
+remembered naming book summary calls recalls =
+    let back = recalls.rulings
+    ∙ ap (λ (book : Book). book.rulings) (book_follows naming book (calls_read naming book calls)) in
+    record {
+      tariffs = ap (λ (rulings : Rulings). rulings.tariffs) back;
+      closes = ap (λ (rulings : Rulings). rulings.closes) back;
+      held = recalls.held;
+      total = recalls.total;
+    }
+
+-- an answer of looks
+pub reads_answer : (old new : State) (answer : Result Summary LedgerFault)
+    → Looks (Ok answer) old new IsRecalled → Reads answer old new
+reads_answer old new (Ok summary) looks = record {
+  survives = looks.survives;
+  read = looks.found;
+  refused = λ clean. tt;
+}
+reads_answer old new (Err fault) looks = record {
+  survives = looks.survives;
+  read = λ clean. tt;
+  refused = λ clean. (looks.found clean).known;
+}
+
+-- looks that were refused
+pub reads_refused : (old middle new : State) (error : StoreError) (fault : LedgerFault)
+    → Looks (Err error) old middle IsRecalled → Survives middle new (λ trees. ⊥)
+    → IsStoreFault fault → Reads (Err fault) old new
+reads_refused old middle new error fault looks survives is = record {
+  survives = survives_then looks.survives survives;
+  read = λ clean. tt;
+  refused = λ clean tables holds. is;
+}
+
+-- a query behind looks is refused, and its error handed on
+pub refused_at : {A B : Type 0} {old middle new : State} {Known : Tables → Type 0}
+    {Answers : Tables → A → Type 0} {Others : Tables → B → Type 0} {error : StoreError}
+    (Q : StoreError → Type 0) (result : Result A StoreError) → IsErrAnd result Q → Saw old middle Known
+    → Looks {A = B} (Err error) middle new Others → Looks result old new Answers
+refused_at {A} {B} {old} {middle} {new} {Known} {Answers} {Others} {error} Q result is saw looks =
+    let refused = err_from_is_err_and result is in
+    let looked : Looks {A = A} (Err error) old new Answers = looks_refused saw looks in
+    subst (λ (said : Result A StoreError). Looks said old new Answers) (sym refused.1)
+    (record { survives = looked.survives; found = λ clean. tt; refused = looked.refused })
+
+-- the row of the book is never missed
+pub never_missed : (found : Option Stored) (book : BookRow) → option_map book_of found ≡ Some book
+    → found ≡ None → ⊥
+never_missed None book same none = absurd (let e = same in cc)
+never_missed (Some row) book same none = absurd (let e = none in cc)
+
+-- a fault of the store is not that there are no books
+pub never_both : (fault : LedgerFault) → fault ≡ NotBooks → IsStoreFault fault → ⊥
+never_both fault none (inl memory) = absurd (let e = sym none ∙ memory in cc)
+never_both fault none (inr store) = absurd (let e = sym none ∙ store in cc)
+
+-- books that were read are open
+pub read_open : (naming : Naming) (old new : State) (summary : Summary) (book : Book)
+    → Reads (Ok summary) old new → HasCleanDisk new → IsFromCalls naming book
+    → Keeping old.view (tables_of naming book)
+    → IsOpenAt naming book (seen_on (record {
+      naming = naming;
+      state = new;
+      must_reopen = false;
+      summary = summary;
+    }))
+read_open naming old new summary book reads clean calls keeping =
+    let read = reads.read clean in
+    let tables = tables_of naming book in
+    opened naming new summary book clean calls
+    (record {
+      holds = holds_on old.view new.view tables read.same keeping.holds;
+      rest = rest_on old.view new.view read.same keeping.rest;
+    })
+    (remembered naming book summary calls (read.known tables keeping.holds))

@@ -1,0 +1,52 @@
+-- Lines whose names rise are of different records.
+use Rattle.std.proofs.Common.{◌≡◌, ◌∙◌, ℕ, List, [], ◌∷◌, ◌+◌, ◌<◌, true, true≢false, length}
+use Rattle.std.proofs.Common.{slice_index_or, refl, sym, subst, arith, map}
+use Rattle.std.specs.declared.cmp.Ordering.{Ordering}
+use Rattle.std.specs.declared.cmp.Ordering.TheVariants.{Less, Equal, Greater}
+use Rattle.std.specs.List.{IsDistinct}
+use Rattle.std.specs.List.Sorted.{IsStrictlySortedBy}
+use Rattle.std.specs.Ordering.{is_lt}
+use Rattle.std.proofs.lemmas.Cmp.{nat_list_cmp_total}
+use Rattle.std.proofs.lemmas.List.{get_or-map, length-map}
+use Rattle.std.proofs.lemmas.Map.Keys.{IsDistinct-from_sorted, sorted_from_all_adjacent}
+use Rattle.book_model.specs.declared.line.Line.{Line}
+use Rattle.book_model.specs.Words.{by_bytes, same_bytes}
+use Rattle.book_model.proofs.SetLemmas.{same_bytes-by_cmp}
+
+-- each name below a place stands before the next one
+abbrev pub RiseBelow : List Line → ℕ → Type 0
+RiseBelow lines at = (k : ℕ) (any : Line) → k + 1 < at
+    → true ≡ is_lt (by_bytes (slice_index_or lines k any).name
+    (slice_index_or lines (k + 1) any).name)
+
+-- what is less is said to be so
+is_less : (order : Ordering) → true ≡ is_lt order → order ≡ Less
+is_less Less is = refl
+is_less Equal is = absurd (true≢false is)
+is_less Greater is = absurd (true≢false is)
+
+-- the names of lines
+abbrev names : List Line → List (List ℕ)
+names = map (λ (line : Line). line.name)
+
+-- such names rise, all of them
+names_rise : (lines : List Line) → RiseBelow lines (length lines)
+    → IsStrictlySortedBy by_bytes (names lines)
+names_rise [] rise =
+    sorted_from_all_adjacent nat_list_cmp_total [] [] (λ k within. absurd (omega arith))
+names_rise (line ∷ lines) rise =
+    let all = line ∷ lines in
+    let name = λ (one : Line). one.name in
+    let long : length (names all) ≡ length all = length-map all name in
+    sorted_from_all_adjacent nat_list_cmp_total (names all) [] (λ k within.
+    let near : k + 1 < length all = subst (λ (n : ℕ). k + 1 < n) long within in
+    (λ i. by_bytes (get_or-map name all k line [] (omega (arith, near)) i)
+    (get_or-map name all (k + 1) line [] near i))
+    ∙ is_less _ (rise k line near))
+
+-- Lines whose names rise are of different records.
+pub rising_apart : (lines : List Line) → RiseBelow lines (length lines)
+    → IsDistinct same_bytes (map (λ (line : Line). line.name) lines)
+rising_apart lines rise =
+    subst (λ same. IsDistinct same (names lines)) (sym same_bytes-by_cmp)
+    (IsDistinct-from_sorted by_bytes (names lines) (names_rise lines rise))

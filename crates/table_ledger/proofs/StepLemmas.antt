@@ -1,0 +1,206 @@
+-- Steps inside one transaction, one after the other, and their commit.
+use Rattle.std.proofs.Common.{◌≡◌, ◌∙◌, Result, Ok, Err, refl, sym, ap, subst}
+use Rattle.std.specs.Prelude.{OnErr, OnOk}
+use Rattle.sqlite_trees.specs.Tree.{Trees}
+use Rattle.sqlite_trees.specs.View.{View, Commits, OnlyWrites}
+use Rattle.sqlite_trees.specs.declared.error.StoreError.{StoreError}
+use Rattle.kept_tables.specs.Keeping.{new_tables}
+use Rattle.kept_tables.specs.Tables.{Tables}
+use Rattle.tree_rows.specs.Rows.{IsUnchanged}
+use Rattle.tree_tables.specs.Holds.{Holds}
+use Rattle.tree_tables.specs.States.{State, HasCleanDisk, Survives}
+use Rattle.tree_tables.specs.Steps.{Always, Changes, Does, HasNoRows, IsUndone, Makes, MayCommit}
+use Rattle.tree_tables.specs.Steps.{Stands}
+use Rattle.tree_tables.proofs.Looking.{kept_after}
+use Rattle.table_ledger.specs.Commits.{IsAtRest, CommitsOne, IsDone, Keeping, Saw}
+use Rattle.table_ledger.specs.Making.{MakesNew}
+use Rattle.table_ledger.proofs.Standing.{rest_on, stands_kept, stands_then, trees_same}
+use Rattle.table_ledger.proofs.SurvivalLemmas.{clean_before, survives_both, survives_none}
+use Rattle.table_ledger.proofs.SurvivalLemmas.{survives_so, survives_then}
+
+-- two changes, one after the other
+changes_then : {When First After : Tables → Type 0} {one other : Tables → Tables}
+    (first middle last : View) → Changes first middle First one → Changes middle last After other
+    → ((tables : Tables) → When tables → First tables × After (one tables))
+    → Changes first last When (λ tables. other (one tables))
+changes_then {one = one} first middle last early late so = record {
+  only = late.only
+      ∙ ap (λ (v : View). record v { trees = last.trees; cursors = last.cursors }) early.only;
+  made = λ tables holds when.
+      let both = so tables when in
+      late.made (one tables) (early.made tables holds both.0) both.1;
+}
+
+-- a step, and then others
+pub does_then : {T U : Type 0} {first middle last : State} {When First After : Tables → Type 0}
+    {one other : Tables → Tables} {done : T} (result : Result U StoreError)
+    → Does (Ok done) first middle First one → Does result middle last After other
+    → ((tables : Tables) → When tables → First tables × After (one tables))
+    → Does result first last When (λ tables. other (one tables))
+does_then {first = first} {middle = middle} {last = last} (Ok value) early late so = record {
+  survives = survives_then early.survives late.survives;
+  done = λ clean. changes_then first.view middle.view last.view
+      (early.done (clean_before late.survives clean)) (late.done clean) so;
+  refused = λ clean. tt;
+}
+does_then {first = first} {middle = middle} {last = last} (Err error) early late so = record {
+  survives = survives_then early.survives late.survives;
+  done = λ clean. tt;
+  refused = λ clean.
+      kept_after (early.done (clean_before late.survives clean)).only (late.refused clean);
+}
+
+-- no step
+pub does_nothing : {T : Type 0} {state : State} {change : Tables → Tables} {done : T}
+    → ((tables : Tables) → change tables ≡ tables) → Does (Ok done) state state Always change
+does_nothing {state = state} same = record {
+  survives = survives_none;
+  done = λ clean. record {
+    only = refl;
+    made = λ tables holds when. subst (Holds state.view.trees) (sym (same tables)) holds;
+  };
+  refused = λ clean. tt;
+}
+
+-- a step may be told in other words
+pub does_so : {T : Type 0} {first last : State} {When Other : Tables → Type 0}
+    {change told : Tables → Tables} (result : Result T StoreError)
+    → Does result first last When change
+    → ((tables : Tables) → Other tables → When tables × (change tables ≡ told tables))
+    → Does result first last Other told
+does_so {last = last} (Ok value) does so = record {
+  survives = does.survives;
+  done = λ clean. record {
+    only = (does.done clean).only;
+    made = λ tables holds other.
+        let same = so tables other in
+        subst (Holds last.view.trees) same.1 ((does.done clean).made tables holds same.0);
+  };
+  refused = λ clean. tt;
+}
+does_so (Err error) does so = record {
+  survives = does.survives;
+  done = λ clean. tt;
+  refused = does.refused;
+}
+
+-- ---- the commit
+
+-- steps that were refused are no commit
+pub commit_unwritten : {T : Type 0} {first last : State} {When : Tables → Type 0}
+    {change : Tables → Tables} {error : StoreError}
+    → Does {T = T} (Err error) first last When change
+    → CommitsOne {T = T} (Err error) first last When change
+commit_unwritten does = record {
+  survives = survives_so does.survives (λ clean trees none. absurd none);
+  done = λ clean rest tables holds when. stands_kept (does.refused clean);
+}
+
+-- the last commit stands behind steps
+stands_only : (old new : View) → OnlyWrites old new → Stands old new
+stands_only old new only = record {
+  was_open = λ is_open. sym (ap (λ (v : View). v.is_open) only) ∙ is_open;
+  committed = λ is_open. ap (λ (v : View). v.committed) only;
+}
+
+-- a store whose steps were committed is at rest
+rests : (first middle last : View) → IsAtRest first → OnlyWrites first middle → Commits middle last
+    → IsAtRest last
+rests first middle last rest only commits = record {
+  is_open = ap (λ (v : View). v.is_open) commits.is ∙ ap (λ (v : View). v.is_open) only
+      ∙ rest.is_open;
+  sound = ap (λ (v : View). v.is_broken) commits.is ∙ commits.sound;
+  settled = ap (λ (v : View). v.trees) commits.is
+      ∙ sym (ap (λ (v : View). v.committed) commits.is);
+}
+
+module _ {T : Type 0} (first middle last : State) (When : Tables → Type 0)
+    (change : Tables → Tables) {written : T} (does : Does (Ok written) first middle When change)
+    (survives : Survives middle last (MayCommit middle.view)) where
+  -- what was written
+  steps : HasCleanDisk last → Changes first.view middle.view When change
+  steps clean = does.done (clean_before survives clean)
+
+  ended : {U : Type 0} (result : Result U StoreError)
+      → OnOk result (HasCleanDisk last → Commits middle.view last.view)
+      → OnErr result (HasCleanDisk last → IsUndone middle.view last.view)
+      → HasCleanDisk last → IsAtRest first.view → (tables : Tables)
+      → Holds first.view.trees tables → When tables
+      → IsDone first.view last.view (change tables) result
+  ended (Ok value) committed undone clean rest tables holds when = record {
+    holds = subst (λ trees. Holds trees (change tables))
+        (sym (ap (λ (v : View). v.trees) (committed clean).is))
+        ((steps clean).made tables holds when);
+    rest = rests first.view middle.view last.view rest (steps clean).only (committed clean);
+  }
+  ended (Err error) committed undone clean rest tables holds when =
+      stands_then (stands_only first.view middle.view (steps clean).only) (undone clean).stands
+
+  -- Steps and their commit are one commit.
+  pub one_commit : {U : Type 0} (result : Result U StoreError)
+      → OnOk result (HasCleanDisk last → Commits middle.view last.view)
+      → OnErr result (HasCleanDisk last → IsUndone middle.view last.view)
+      → CommitsOne result first last When change
+  one_commit result committed undone = record {
+    survives = survives_both does.survives survives (λ clean trees none. absurd none)
+        (λ clean trees made tables holds when.
+        subst (λ (found : _). Holds found (change tables)) (sym made.whole)
+        ((steps clean).made tables holds when));
+    done = ended result committed undone;
+  }
+
+-- ---- new books
+
+-- a store in which there is a book, or which was not read, gets none
+pub makes_none : {T : Type 0} {old new : State} {error : StoreError}
+    → Survives old new (λ trees. ⊥) → MakesNew {T = T} (Err error) old new
+makes_none survives = record {
+  survives = survives_so survives (λ clean trees none. absurd none);
+  made = λ clean rest none. tt;
+}
+
+-- the row of new books was not written behind a look
+pub makes_refused : {T U : Type 0} {first old new : State} {Known : Tables → Type 0}
+    {error : StoreError} → Saw first old Known → Makes {T = U} (Err error) old new
+    → MakesNew {T = T} (Err error) first new
+makes_refused saw makes = makes_none (survives_then saw.survives makes.survives)
+
+-- it was written behind a look, and committed
+pub makes_all : {T U : Type 0} {first old middle last : State} {Known : Tables → Type 0} {made : U}
+    (result : Result T StoreError) → Saw first old Known → Makes (Ok made) old middle
+    → OnOk result (HasCleanDisk last → Commits middle.view last.view)
+    → Survives middle last (MayCommit middle.view) → MakesNew result first last
+makes_all {T} {first = first} {old = old} {middle = middle} {last = last} result saw makes commits survives = record {
+  survives = survives_both (survives_then saw.survives makes.survives) survives
+      (λ clean trees none. absurd none)
+      (λ clean trees whole none.
+      subst (λ (found : Trees). Holds found new_tables) (sym whole.whole) (holds clean none));
+  made = λ clean rest none. ended result commits clean rest none;
+}
+  where
+    behind : HasCleanDisk last → HasCleanDisk middle
+    behind clean = clean_before survives clean
+
+    before : HasCleanDisk last → HasCleanDisk old
+    before clean = clean_before makes.survives (behind clean)
+
+    same : (clean : HasCleanDisk last) → IsUnchanged first.view old.view
+    same clean = (saw.seen (before clean)).same
+
+    holds : HasCleanDisk last → HasNoRows first.view.trees → Holds middle.view.trees new_tables
+    holds clean none =
+        (makes.done (behind clean)).1
+        (subst HasNoRows (sym (trees_same first.view old.view (same clean))) none)
+
+    ended : (result : Result T StoreError)
+        → OnOk result (HasCleanDisk last → Commits middle.view last.view)
+        → HasCleanDisk last → IsAtRest first.view → HasNoRows first.view.trees
+        → OnOk result (Keeping last.view new_tables)
+    ended (Ok value) commits clean rest none = record {
+      holds = subst (λ (found : Trees). Holds found new_tables)
+          (sym (ap (λ (v : View). v.trees) (commits clean).is)) (holds clean none);
+      rest = rests old.view middle.view last.view
+          (rest_on first.view old.view (same clean) rest)
+          (makes.done (behind clean)).0 (commits clean);
+    }
+    ended (Err error) commits clean rest none = tt

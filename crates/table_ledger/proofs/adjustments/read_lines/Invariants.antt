@@ -1,0 +1,12 @@
+use Rattle.std.proofs.Common.{◌≡◌, take}
+use Rattle.tree_tables.specs.States.{state}
+use Rattle.table_ledger.specs.Commits.{Saw}
+use Rattle.table_ledger.specs.LineReads.{lines_stored}
+use Rattle.table_ledger.proofs.adjustments.read_lines.Given as goal
+
+-- the lines so far are read
+abbrev pub invariant-loop-stored : goal.invariant-loop-stored
+invariant-loop-stored g l = record {
+  saw : Saw (state g.S.Store l.initial.tables.store) (state g.S.Store l.tables.store) (λ tables.
+      l.lines.items ≡ lines_stored l.period tables.records (take l.stored-index l.found));
+}

@@ -1,0 +1,52 @@
+use Rattle.std.proofs.Common.{◌≡◌, ◌∙◌, ap, rules, true, false}
+use Rattle.std.specs.Prelude.{List}
+use Rattle.std.proofs.lemmas.Result.{err_from_is_err_and}
+use Rattle.kept_tables.specs.Reading.{lines_read}
+use Rattle.table_readings.specs.ListsRead.{is_period}
+use Rattle.table_readings.proofs.ListLemmas.{lists_follow}
+use Rattle.tree_tables.specs.declared.line_rows.StoredLine.{StoredLine}
+use Rattle.table_ledger.specs.LineReads.{lines_stored}
+use Rattle.table_ledger.specs.Summaries.{ruled_in}
+use Rattle.table_ledger.proofs.LineReadings.{lines_listed}
+use Rattle.table_ledger.proofs.ListReadings.{first_refused, later_refused, no_period, period_read}
+use Rattle.table_ledger.proofs.TryLemmas.{saw_found, saw_then, try_stopped}
+use Rattle.table_ledger.proofs.adjustments.try_adjustments.Goals as goal
+
+pub returns-then-not-has_period-clause-tries : goal.returns-then-not-has_period-clause-tries
+returns-then-not-has_period-clause-tries g c = λ naming.
+    let number = c.args.period in
+    let absent : is_period number (ruled_in c.args.summary.now) ≡ false = search rules in
+    no_period number (lines_read number)
+    (λ book whole. lists_follow.adjustments naming book number whole) absent
+
+pub returns-in_err-found-clause-tries : goal.returns-in_err-found-clause-tries
+returns-in_err-found-clause-tries g c = λ naming.
+    let refused = err_from_is_err_and c.from_residual.result c.from_residual.ensures.1 in
+    rw refused.1 (first_refused _ _ _ _ c.in_err-found.ensures.looks)
+
+pub returns-in_err-lines-clause-tries : goal.returns-in_err-lines-clause-tries
+returns-in_err-lines-clause-tries g c = λ naming.
+    let refused = err_from_is_err_and c.from_residual-in_err-lines.result
+    c.from_residual-in_err-lines.ensures.1 in
+    rw refused.1 (later_refused _ _ _ _ (saw_found c.in_ok-found.ensures.looks)
+    c.in_err-lines.ensures.looks)
+
+pub returns-in_default-clause-tries : goal.returns-in_default-clause-tries
+returns-in_default-clause-tries g c = λ naming.
+    try_stopped _ _ _ _ (saw_then (saw_found c.in_ok-found.ensures.looks)
+    (saw_found c.in_ok-lines.ensures.looks))
+
+pub returns-clause-tries : goal.returns-clause-tries
+returns-clause-tries g c = λ naming.
+    let number = c.args.period in
+    let there : is_period number (ruled_in c.args.summary.now) ≡ true = search rules in
+    period_read number (lines_read number)
+    (λ book whole. lists_follow.adjustments naming book number whole) c.in-Some.sorted there
+    (saw_then (saw_found c.in_ok-found.ensures.looks)
+    (saw_found c.in_ok-lines.ensures.looks))
+    (λ tables known.
+    lines_listed number tables c.in_ok-found.found.items c.in_ok-lines.lines.items
+    c.in-Some.sorted.items known.0
+    (known.1 ∙ ap (λ (some : List StoredLine). lines_stored number tables.records some)
+    c.deref.ensures.value)
+    c.in-Some.ensures.sorted)

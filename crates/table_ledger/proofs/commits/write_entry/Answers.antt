@@ -1,0 +1,13 @@
+use Rattle.table_ledger.proofs.NewEntries.{new_still}
+use Rattle.table_ledger.proofs.StepLemmas.{does_then}
+use Rattle.table_ledger.proofs.commits.write_entry.Goals as goal
+
+pub returns : goal.returns
+returns g c = record {
+  does = does_then c.write_row.result c.in_ok-write_effects.ensures.does c.write_row.ensures.does
+      (λ tables new. (
+        tt,
+        new_still c.args.entry.now.effects.unmark tables.records
+            c.args.entry.now.record.name.now new,
+      ));
+}

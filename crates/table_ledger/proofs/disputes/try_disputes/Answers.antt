@@ -1,0 +1,49 @@
+use Rattle.std.proofs.Common.{◌∙◌, sym, ap, subst, rules, List, map}
+use Rattle.std.specs.Prelude.{All}
+use Rattle.std.proofs.lemmas.List.Elements.{All-map}
+use Rattle.std.proofs.lemmas.Result.{err_from_is_err_and}
+use Rattle.book_model.specs.Words.{AreDisputes}
+use Rattle.tree_tables.specs.Stored.{stored_entry}
+use Rattle.tree_tables.specs.declared.stored_record.StoredRecord.{StoredRecord}
+use Rattle.table_readings.specs.DisputesRead.{disputes_read, grouped}
+use Rattle.table_readings.proofs.DisputeLemmas.{disputes_follow}
+use Rattle.table_ledger.specs.DisputeReads.{IsShownRow}
+use Rattle.table_ledger.proofs.JoinLemmas.{disputes_show}
+use Rattle.table_ledger.proofs.ListReadings.{first_refused, list_read}
+use Rattle.table_ledger.proofs.TryLemmas.{saw_found, try_stopped}
+use Rattle.table_ledger.proofs.disputes.try_disputes.Goals as goal
+
+pub returns-in_err-rows-clause-tries : goal.returns-in_err-rows-clause-tries
+returns-in_err-rows-clause-tries g c = λ naming.
+    let refused = err_from_is_err_and c.from_residual.result c.from_residual.ensures.1 in
+    rw refused.1 (first_refused _ _ _ _ c.in_err-rows.ensures.looks)
+
+pub returns-then-not-can_show-clause-tries : goal.returns-then-not-can_show-clause-tries
+returns-then-not-can_show-clause-tries g c = λ naming.
+    try_stopped _ _ _ _ (saw_found c.in_ok-rows.ensures.looks)
+
+pub returns-clause-tries : goal.returns-clause-tries
+returns-clause-tries g c = λ naming.
+    list_read disputes_read (λ book whole. disputes_follow.disputes naming book whole) _
+    (saw_found c.in_ok-rows.ensures.looks)
+    (λ book whole listed.
+    ap grouped (sym (disputes_follow.in_order naming book _ whole listed.same listed.sorted))
+    ∙ sym (c.in_ok-grouped.ensures
+    ∙ ap (λ (rows : List StoredRecord). grouped (map stored_entry rows)) c.deref-2.ensures.value))
+
+pub returns-in_err-grouped-clause-tries : goal.returns-in_err-grouped-clause-tries
+returns-in_err-grouped-clause-tries g c = λ naming.
+    let refused = err_from_is_err_and c.from_residual-in_err-grouped.result
+    c.from_residual-in_err-grouped.ensures.1 in
+    rw refused.1 (try_stopped _ _ _ _ (saw_found c.in_ok-rows.ensures.looks))
+
+pub returns-clause-shown : goal.returns-clause-shown
+returns-clause-shown g c =
+    let rows = c.deref.result.now in
+    let shown : All IsShownRow (map stored_entry rows) =
+    All-map IsShownRow stored_entry rows (c.can_show.ensures (search rules)) in
+    subst AreDisputes
+    (ap (λ (some : List StoredRecord). grouped (map stored_entry some))
+    (c.deref.ensures.value ∙ sym c.deref-2.ensures.value)
+    ∙ sym c.in_ok-grouped.ensures)
+    (disputes_show (map stored_entry rows) shown)

@@ -1,0 +1,17 @@
+use Rattle.std.proofs.Common.{refl, subst, sym}
+use Rattle.tree_tables.specs.States.{state}
+use Rattle.tree_tables.specs.Steps.{HasNoRows}
+use Rattle.table_ledger.specs.Commits.{IsAtRest}
+use Rattle.table_ledger.proofs.OpenLemmas.{created}
+use Rattle.table_ledger.proofs.ledger.TableLedger.create.Goals as goal
+
+pub returns-in-Ok-clause-books : goal.returns-in-Ok-clause-books
+returns-in-Ok-clause-books g c = λ clean rest none.
+    let tariffs = c.new.ensures.items in
+    let closes = c.new-in-Ok.ensures.items in
+    let given = sym c.over-tables.ensures in
+    created (g.N.Naming.name_of c.args.naming) (state g.S.Store c.make_books.new.tables.store) _
+    clean
+    (c.in-Ok.ensures.made clean (subst (λ store. IsAtRest (g.S.Store.view store)) given rest)
+    (subst (λ store. HasNoRows (g.S.Store.view store).trees) given none))
+    (λ i. record { tariffs = tariffs i; closes = closes i }) refl refl

@@ -1,0 +1,23 @@
+use Rattle.std.proofs.Common.{subst, sym}
+use Rattle.kept_tables.specs.TablesOf.{tables_of}
+use Rattle.tree_tables.specs.Holds.{Holds}
+use Rattle.tree_tables.specs.States.{HasCleanDisk, state}
+use Rattle.table_ledger.specs.Commits.{Keeping}
+use Rattle.table_ledger.proofs.RecallLemmas.{never_both, read_open}
+use Rattle.table_ledger.proofs.ledger.TableLedger.open.Goals as goal
+
+pub returns-in-Ok-clause-books : goal.returns-in-Ok-clause-books
+returns-in-Ok-clause-books g c = λ clean book calls keeping.
+    let names = g.N.Naming.name_of c.args.naming in
+    read_open names (state g.S.Store c.over-tables.result.store)
+    (state g.S.Store c.read_summary.new.tables.store) c.in-Ok.summary book c.in-Ok.ensures.reads clean
+    calls
+    (subst (λ store. Keeping (g.S.Store.view store) (tables_of names book))
+    (sym c.over-tables.ensures) keeping)
+
+pub returns-in-Err-clause-found : goal.returns-in-Err-clause-found
+returns-in-Err-clause-found g c = λ none clean tables holds.
+    never_both c.in-Err.fault none
+    (c.in-Err.ensures.reads.refused
+    (subst (λ store. HasCleanDisk (state g.S.Store store)) c.into_store.ensures clean) tables
+    (subst (λ store. Holds (g.S.Store.view store).trees tables) (sym c.over-tables.ensures) holds))

@@ -1,0 +1,30 @@
+use Rattle.sqlite_trees.specs.Tree.{Trees}
+use Rattle.std.proofs.Common.{Vec}
+use Rattle.std.specs.Global.{Global}
+use Rattle.book_model.specs.declared.line.Line.{Line}
+use Rattle.book_model.specs.Words.{adjustments_outcome}
+use Rattle.tree_tables.specs.States.{state}
+use Rattle.table_ledger.proofs.OneCall.{call_reopen}
+use Rattle.table_ledger.proofs.SettleLemmas.{call_settled}
+use Rattle.table_ledger.proofs.ledger.TableLedgerLedger.adjustments.Goals as goal
+
+pub returns-then-self-clause-lines : goal.returns-then-self-clause-lines
+returns-then-self-clause-lines g c =
+    let names = g.N.Naming.name_of c.args.self.now.naming in
+    call_reopen (λ (lines : Vec Line Global). lines.items)
+    (record {
+      naming = g.N.Naming.name_of c.args.self.now.naming;
+      state = state g.S.Store c.args.self.now.tables.store;
+      must_reopen = c.args.self.now.must_reopen;
+      summary = c.args.self.now.summary;
+    }) (adjustments_outcome names c.args.period) c.if-self.true
+
+pub returns-clause-lines : goal.returns-clause-lines
+returns-clause-lines g c =
+    let old = c.args.self.now in
+    let names = g.N.Naming.name_of old.naming in
+    call_settled g.S.Store (λ (lines : Vec Line Global). lines.items) names old.summary old.summary
+    old.tables.store c.try_adjustments-tried.new.tables.store c.settle.new.tables.store (adjustments_outcome names c.args.period)
+    old.must_reopen c.settle.new.must_reopen c.try_adjustments-tried.result c.settle.result c.if-self.false
+    (λ (trees : Trees). g.met.S.Store.settled old.tables.store trees)
+    (c.try_adjustments-tried.ensures.tries names) c.settle.ensures.settles

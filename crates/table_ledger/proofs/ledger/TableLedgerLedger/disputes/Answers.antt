@@ -1,0 +1,30 @@
+use Rattle.sqlite_trees.specs.Tree.{Trees}
+use Rattle.std.proofs.Common.{Vec, map}
+use Rattle.std.specs.Global.{Global}
+use Rattle.book_model.specs.declared.dispute.Dispute.{Dispute}
+use Rattle.book_model.specs.Words.{dispute_shown, disputes_outcome}
+use Rattle.tree_tables.specs.States.{state}
+use Rattle.table_ledger.proofs.OneCall.{call_reopen}
+use Rattle.table_ledger.proofs.SettleLemmas.{call_settled}
+use Rattle.table_ledger.proofs.ledger.TableLedgerLedger.disputes.Goals as goal
+
+pub returns-then-self-clause-disputes : goal.returns-then-self-clause-disputes
+returns-then-self-clause-disputes g c =
+    let names = g.N.Naming.name_of c.args.self.now.naming in
+    call_reopen (λ (found : Vec Dispute Global). map dispute_shown found.items)
+    (record {
+      naming = g.N.Naming.name_of c.args.self.now.naming;
+      state = state g.S.Store c.args.self.now.tables.store;
+      must_reopen = c.args.self.now.must_reopen;
+      summary = c.args.self.now.summary;
+    }) (disputes_outcome names) c.if-self.true
+
+pub returns-clause-disputes : goal.returns-clause-disputes
+returns-clause-disputes g c =
+    let old = c.args.self.now in
+    let names = g.N.Naming.name_of old.naming in
+    call_settled g.S.Store (λ (found : Vec Dispute Global). map dispute_shown found.items) names old.summary old.summary
+    old.tables.store c.try_disputes-tried.new.tables.store c.settle.new.tables.store (disputes_outcome names)
+    old.must_reopen c.settle.new.must_reopen c.try_disputes-tried.result c.settle.result c.if-self.false
+    (λ (trees : Trees). g.met.S.Store.settled old.tables.store trees)
+    (c.try_disputes-tried.ensures.tries names) c.settle.ensures.settles

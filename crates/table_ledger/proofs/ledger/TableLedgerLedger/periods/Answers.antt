@@ -1,0 +1,28 @@
+use Rattle.sqlite_trees.specs.Tree.{Trees}
+use Rattle.std.proofs.Common.{Vec, ℤ}
+use Rattle.std.specs.Global.{Global}
+use Rattle.book_model.specs.Words.{periods_outcome}
+use Rattle.tree_tables.specs.States.{state}
+use Rattle.table_ledger.proofs.OneCall.{call_reopen}
+use Rattle.table_ledger.proofs.SettleLemmas.{call_settled}
+use Rattle.table_ledger.proofs.ledger.TableLedgerLedger.periods.Goals as goal
+
+pub returns-then-self-clause-days : goal.returns-then-self-clause-days
+returns-then-self-clause-days g c =
+    call_reopen (λ (days : Vec ℤ Global). days.items)
+    (record {
+      naming = g.N.Naming.name_of c.args.self.now.naming;
+      state = state g.S.Store c.args.self.now.tables.store;
+      must_reopen = c.args.self.now.must_reopen;
+      summary = c.args.self.now.summary;
+    }) periods_outcome c.if-self.true
+
+pub returns-clause-days : goal.returns-clause-days
+returns-clause-days g c =
+    let old = c.args.self.now in
+    let names = g.N.Naming.name_of old.naming in
+    call_settled g.S.Store (λ (days : Vec ℤ Global). days.items) names old.summary old.summary
+    old.tables.store old.tables.store c.settle.new.tables.store periods_outcome
+    old.must_reopen c.settle.new.must_reopen c.try_periods-tried.result c.settle.result c.if-self.false
+    (λ (trees : Trees). g.met.S.Store.settled old.tables.store trees)
+    (c.try_periods-tried.ensures.tries names) c.settle.ensures.settles

@@ -1,0 +1,22 @@
+use Rattle.std.proofs.Common.{◌≡◌, ◌∙◌, ◌+◌, ◌++◌, ◌∷◌, [], ap, arith, subst, suc, sym, take, w32}
+use Rattle.std.proofs.Common.{ℤ}
+use Rattle.std.specs.List.{AllZip}
+use Rattle.std.proofs.lemmas.Int.{to_z-of_z}
+use Rattle.book_model.proofs.DayLemmas.{day_fits}
+use Rattle.table_ledger.specs.Recalled.{HasDay}
+use Rattle.table_ledger.proofs.RecallLemmas.{zip_at}
+use Rattle.table_ledger.proofs.recall.days_of.Goals as goal
+
+pub loop-row-preserved : goal.loop-row-preserved
+loop-row-preserved c =
+    let rows = c.args.rows.now in
+    let at = c.loop-row.row-index in
+    let day = c.in_ok-day.day in
+    let had = c.in_ok-day.ensures.has in
+    let so_far = c.loop-row.days.items in
+    let next : suc at ≡ at + 1 = omega arith in
+    let itself = to_z-of_z w32 day (day_fits day had.1) in
+    let pushed = c.in_ok-push.ensures.items ∙ ap (λ (one : ℤ). so_far ++ one ∷ []) itself in
+    subst (λ n. AllZip HasDay (take n rows) c.push.new.self.items) next
+    (subst (AllZip HasDay (take (suc at) rows)) (sym pushed)
+    (zip_at HasDay rows at so_far _ day c.loop-row.invariant c.loop-row-test.true had))

@@ -1,0 +1,44 @@
+use Rattle.std.proofs.Common.{◌≡◌, ◌∙◌, None, ap, map, rules, sym}
+use Rattle.kept_tables.specs.Tables.{Tables}
+use Rattle.std.specs.Option.{option_map}
+use Rattle.tree_tables.specs.Stored.{book_of, close_of, tariff_of}
+use Rattle.table_ledger.proofs.RecallLemmas.{never_missed, recalled_by, refused_at}
+use Rattle.table_ledger.proofs.TryLemmas.{looks_known, saw_found, saw_none, saw_then}
+use Rattle.table_ledger.proofs.recall.look_for_summary.Goals as goal
+
+pub returns-in_err-row-clause-looks : goal.returns-in_err-row-clause-looks
+returns-in_err-row-clause-looks g c =
+    refused_at _ c.from_residual.result c.from_residual.ensures.1 saw_none c.in_err-row.ensures.looks
+
+pub returns-in_default-clause-looks : goal.returns-in_default-clause-looks
+returns-in_default-clause-looks g c =
+    let none : c.in_ok-row.field-0 ≡ None = search rules in
+    looks_known (saw_found c.in_ok-row.ensures.looks)
+    (λ (tables : Tables) known. absurd (never_missed c.in_ok-row.field-0 tables.book known none))
+
+pub returns-in_err-tariffs-clause-looks : goal.returns-in_err-tariffs-clause-looks
+returns-in_err-tariffs-clause-looks g c =
+    refused_at _ c.from_residual-in_err-tariffs.result c.from_residual-in_err-tariffs.ensures.1
+    (saw_found c.in_ok-row.ensures.looks) c.in_err-tariffs.ensures.looks
+
+pub returns-in_err-closes-clause-looks : goal.returns-in_err-closes-clause-looks
+returns-in_err-closes-clause-looks g c =
+    refused_at _ c.from_residual-in_err-closes.result c.from_residual-in_err-closes.ensures.1
+    (saw_then (saw_found c.in_ok-row.ensures.looks)
+    (saw_found c.in_ok-tariffs.ensures.looks))
+    c.in_err-closes.ensures.looks
+
+pub returns-clause-looks : goal.returns-clause-looks
+returns-clause-looks g c =
+    let texts = c.deref.result.now in
+    let days = c.deref-2.result.now in
+    let all_texts : texts ≡ c.in_ok-tariffs.tariffs.items = let e = c.deref.ensures.value in cc in
+    let all_days : days ≡ c.in_ok-closes.closes.items = let e = c.deref-2.ensures.value in cc in
+    looks_known (saw_then (saw_then (saw_found c.in_ok-row.ensures.looks)
+    (saw_found c.in_ok-tariffs.ensures.looks))
+    (saw_found c.in_ok-closes.ensures.looks))
+    (λ (tables : Tables) known.
+    let found = ap (option_map book_of) (sym c.in-Some.is) ∙ known.0.0 in
+    recalled_by c.summary_of.result tables c.in-Some.row texts days
+    c.summary_of.ensures.shows c.summary_of.ensures.kinds (let e = found in cc)
+    (ap (map tariff_of) all_texts ∙ known.0.1) (ap (map close_of) all_days ∙ known.1))

@@ -1,0 +1,14 @@
+use Rattle.tree_tables.specs.States.{state}
+use Rattle.table_ledger.proofs.RecallLemmas.{reads_answer, reads_refused}
+use Rattle.table_ledger.proofs.recall.read_summary.Goals as goal
+
+pub returns-in-Err-clause-reads : goal.returns-in-Err-clause-reads
+returns-in-Err-clause-reads g c =
+    reads_refused (state g.S.Store c.args.tables.now.store) (state g.S.Store c.look_for_summary.new.tables.store)
+    (state g.S.Store c.fault_of.new.tables.store) c.in-Err.error c.fault_of.result
+    c.in-Err.ensures.looks c.fault_of.ensures.survives c.fault_of.ensures.kind
+
+pub returns-in-Ok-clause-reads : goal.returns-in-Ok-clause-reads
+returns-in-Ok-clause-reads g c =
+    reads_answer (state g.S.Store c.args.tables.now.store) (state g.S.Store c.look_for_summary.new.tables.store)
+    c.in-Ok.answer c.in-Ok.ensures.looks

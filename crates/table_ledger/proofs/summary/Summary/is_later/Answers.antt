@@ -1,0 +1,34 @@
+use Rattle.std.proofs.Common.{◌∙◌, ◌&&◌, sym, ap, true, Bool, Option, w32}
+use Rattle.std.proofs.lemmas.Int.{to_z-of_z}
+use Rattle.std.specs.List.{list_all}
+use Rattle.std.specs.Option.{option_map_or}
+use Rattle.std.specs.Prelude.{int_lt, ℤ}
+use Rattle.book_model.specs.Words.{Tariffed, last_close}
+use Rattle.book_model.proofs.DayLemmas.{day_fits}
+use Rattle.book_core.proofs.TariffLemmas.{is_later-by}
+use Rattle.table_ledger.specs.Summaries.{ruled_in}
+use Rattle.table_ledger.proofs.summary.Summary.is_later.Goals as goal
+
+-- a day is later than a close, if there was one
+abbrev late : ℤ → Option ℤ → Bool
+late day close = option_map_or (λ close. int_lt close day) close true
+
+pub returns-then-are_before : goal.returns-then-are_before
+returns-then-are_before c =
+    let day = c.args.tariff.now.effective in
+    let before = ap (list_all (λ (tariff : Tariffed). int_lt tariff.terms.effective day))
+    (sym c.deref.ensures.value) ∙ sym c.are_before.ensures ∙ c.if-are_before.true in
+    sym (is_later-by day (ruled_in c.args.self.now)
+    ∙ (λ i. before i && late (sym c.effective.ensures.value i) (sym c.last_close.ensures i))
+    ∙ ap (λ day. late day c.last_close.result) (sym (to_z-of_z w32 c.effective.result
+    (day_fits c.effective.result c.effective.ensures.day)))
+    ∙ sym c.is_after.ensures)
+
+pub returns-else-are_before : goal.returns-else-are_before
+returns-else-are_before c =
+    let day = c.args.tariff.now.effective in
+    let rulings = ruled_in c.args.self.now in
+    let before = ap (list_all (λ (tariff : Tariffed). int_lt tariff.terms.effective day))
+    (sym c.deref.ensures.value) ∙ sym c.are_before.ensures ∙ c.if-are_before.false in
+    c.if-are_before.false
+    ∙ sym (is_later-by day rulings ∙ (λ i. before i && late day (last_close rulings)))

@@ -1,0 +1,21 @@
+-- What is written for a price that joins or leaves the row of its place.
+use Rattle.std.specs.Prelude.{◌≡◌, ◌==◌, if◌then◌else◌, Option, Some, None, []}
+use Rattle.tariff_rules.specs.declared.priced.Priced.{Priced}
+use Rattle.book_model.specs.declared.row.ChargeRow.{ChargeRow}
+use Rattle.book_model.specs.Words.{key_of, row_at}
+use Rattle.kept_tables.specs.RowChanges.{with_price, less_price}
+use Rattle.table_ledger.specs.declared.day_write.DayWrite.{DayWrite}
+use Rattle.table_ledger.specs.declared.day_write.DayWrite.TheVariants.{Leave, Put, Drop}
+
+-- a price joins the row that was found, or is alone at its place
+abbrev pub IsAdded : Option ChargeRow → Priced → DayWrite → Type 0
+IsAdded None priced write = write ≡ Put (with_price (row_at [] (key_of priced)) priced)
+IsAdded (Some row) priced write = write ≡ Put (with_price row priced)
+
+-- a price leaves the row that was found, which goes with the last one
+abbrev pub taken_from : ChargeRow → Priced → DayWrite
+taken_from row priced = if row.count == 1 then Drop (key_of priced) else Put (less_price row priced)
+
+abbrev pub IsTaken : Option ChargeRow → Priced → DayWrite → Type 0
+IsTaken None priced write = write ≡ Leave
+IsTaken (Some row) priced write = write ≡ taken_from row priced

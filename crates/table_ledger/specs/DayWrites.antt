@@ -1,0 +1,27 @@
+-- What is written to the charge rows of the open period.
+use Rattle.std.specs.Prelude.{◌≡◌, ℕ, Option}
+use Rattle.std.specs.FinMap.{insert, remove}
+use Rattle.book_core.specs.declared.effect_table.DayChange.{DayChange}
+use Rattle.kept_tables.specs.RowChanges.{change_day}
+use Rattle.kept_tables.specs.Tables.{DayTable, Tables}
+use Rattle.kept_tables.specs.TablesOf.{place_of}
+use Rattle.tree_tables.specs.Days.{RowFits}
+use Rattle.table_ledger.specs.declared.day_write.DayWrite.{DayWrite}
+use Rattle.table_ledger.specs.declared.day_write.DayWrite.TheVariants.{Leave, Put, Drop}
+
+-- the charge rows with what is written
+abbrev pub day_written : ℕ → DayWrite → DayTable → DayTable
+day_written period Leave days = days
+day_written period (Put row) days = insert days (period, place_of row) row
+day_written period (Drop place) days = remove days (period, place)
+
+-- the row that is written fits
+abbrev pub WriteFits : DayWrite → Type 0
+WriteFits Leave = Unit {0}
+WriteFits (Put row) = RowFits row
+WriteFits (Drop place) = Unit {0}
+
+-- what is written changes the rows of the tables as the effect says
+abbrev pub Writes : ℕ → Option DayChange → Tables → DayWrite → Type 0
+Writes period change tables write =
+    day_written period write tables.days ≡ change_day period change tables.days

@@ -1,0 +1,21 @@
+-- Read in this order: what a ledger remembers of its book, and when it is ready; what is seen of
+-- it; how a call is tried on the store, and how it is answered.
+pub mod Commits
+pub mod Ready
+pub mod Summaries
+pub mod TablesIn
+pub mod TablesRead
+pub mod Shelf
+pub mod Told
+pub mod DayRows
+pub mod DayWrites
+pub mod Entries
+pub mod Keepings
+pub mod Closings
+pub mod Unread
+pub mod TotalsFit
+pub mod LineReads
+pub mod DisputeReads
+pub mod Tries
+pub mod Recalled
+pub mod Making

@@ -1,0 +1,15 @@
+-- Adjustment lines that are read of the tables.
+use Rattle.std.specs.Prelude.{ℕ, List, Option}
+use Rattle.std.specs.List.{filter_map}
+use Rattle.book_model.specs.declared.line.Line.{Line}
+use Rattle.kept_tables.specs.Reading.{line_read}
+use Rattle.kept_tables.specs.Tables.{RecordTable}
+use Rattle.tree_tables.specs.declared.line_rows.StoredLine.{StoredLine}
+
+-- a stored line of a period, with what the row of its record says
+abbrev pub line_stored : ℕ → RecordTable → StoredLine → Option Line
+line_stored period records stored = line_read records ((period, stored.name), stored.plus)
+
+-- those whose records are there
+abbrev pub lines_stored : ℕ → RecordTable → List StoredLine → List Line
+lines_stored period records = filter_map (line_stored period records)

@@ -1,0 +1,36 @@
+-- A ledger in trees that is ready: its store keeps a book that calls made, and it remembers that
+-- book.
+use Rattle.std.specs.Prelude.{◌≡◌, length}
+use Rattle.sqlite_trees.specs.Tree.{Trees}
+use Rattle.sqlite_trees.specs.View.{View}
+use Rattle.book_model.specs.Words.{total_of, Book, Naming, members}
+use Rattle.kept_tables.specs.TablesOf.{tables_of}
+use Rattle.table_readings.specs.FromCalls.{IsFromCalls}
+use Rattle.tree_tables.specs.Holds.{Holds}
+use Rattle.table_ledger.specs.Commits.{IsAtRest}
+use Rattle.table_ledger.specs.declared.summary.Summary.{Summary}
+
+-- it is a summary of the book
+pub record Remembers (summary : Summary) (book : Book) : Type 0 where
+  pub tariffs : summary.tariffs.items ≡ book.rulings.tariffs
+  pub closes : summary.closes.items ≡ book.rulings.closes
+  pub held : summary.held ≡ length (members book.held)
+  pub total : summary.total ≡ total_of book.rulings book.held
+
+-- the trees hold the book, which calls made
+pub record IsKeptIn (naming : Naming) (book : Book) (trees : Trees) : Type 0 where
+  pub calls : IsFromCalls naming book
+  pub holds : Holds trees (tables_of naming book)
+
+-- The store is open between two transactions, and keeps the book, which calls made; and the summary
+-- is that of the book.
+pub record IsReadyAt (naming : Naming) (summary : Summary) (view : View) (book : Book) : Type 0
+  where
+    pub rest : IsAtRest view
+    pub kept : IsKeptIn naming book view.trees
+    pub remembers : Remembers summary book
+
+-- so it is with some book
+pub record IsReady (naming : Naming) (summary : Summary) (view : View) : Type 0 where
+  pub book : Book
+  pub ready : IsReadyAt naming summary view book

@@ -1,0 +1,47 @@
+-- What is seen of a ledger in trees.
+use Rattle.std.specs.Prelude.{◌≡◌, Bool, false}
+use Rattle.sqlite_trees.specs.Tree.{Trees}
+use Rattle.sqlite_trees.specs.View.{View, IsClean}
+use Rattle.book_model.specs.Words.{Book, Naming}
+use Rattle.book_core.specs.Ledgers.{Seen}
+use Rattle.table_readings.specs.BookIn.{book_in}
+use Rattle.tree_tables.specs.States.{State}
+use Rattle.table_ledger.specs.TablesIn.{tables_in}
+use Rattle.table_ledger.specs.Ready.{IsReady}
+use Rattle.table_ledger.specs.declared.summary.Summary.{Summary}
+
+-- what a ledger in trees has on its shelf: how it names records, what its store shows, that it is to
+-- be reopened, and what it remembers of its book
+pub record Shelf : Type 1 where
+  pub naming : Naming
+  pub state : State
+  pub must_reopen : Bool
+  pub summary : Summary
+
+-- the book that trees tell
+abbrev pub told_by : Trees → Book
+told_by trees = book_in (tables_in trees)
+
+-- a book that the next open may find, of the trees that a stop may leave
+abbrev pub LeftIn : (Trees → Type 0) → Book → Type 0
+LeftIn may_leave book = (trees : Trees) × may_leave trees × (book ≡ told_by trees)
+
+-- the ledger is ready, unless it is to be reopened
+abbrev pub AreBooks : Naming → View → Bool → Summary → Type 0
+AreBooks naming view must_reopen summary =
+    must_reopen ≡ false → IsClean view → IsReady naming summary view
+
+-- what is seen of such a ledger
+abbrev pub seen_of : Naming → View → (Trees → Type 0) → Bool → Summary → Seen
+seen_of naming view may_leave must_reopen summary = record {
+  book = told_by view.trees;
+  naming = naming;
+  left = LeftIn may_leave;
+  must_reopen = must_reopen;
+  is_honest = IsClean view;
+  is_books = AreBooks naming view must_reopen summary;
+}
+
+abbrev pub seen_on : Shelf → Seen
+seen_on shelf =
+    seen_of shelf.naming shelf.state.view shelf.state.may_leave shelf.must_reopen shelf.summary

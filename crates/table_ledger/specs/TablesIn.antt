@@ -1,0 +1,99 @@
+-- The tables that trees tell, whatever they hold.
+use Rattle.std.specs.Prelude.{ℕ, ℤ, pos, negsuc, Bool, List, [], ◌∷◌, map, ◌==◌, not, Option, Some}
+use Rattle.std.specs.Prelude.{None}
+use Rattle.std.specs.FinMap.{from_entries}
+use Rattle.sqlite_trees.specs.Tree.{Trees}
+use Rattle.sqlite_value.specs.Order.{Row, column, bytes}
+use Rattle.sqlite_value.specs.declared.value.Value.{Value}
+use Rattle.sqlite_value.specs.declared.value.Value.TheVariants.{Int, Text}
+use Rattle.book_model.specs.declared.row.ChargeRow.{ChargeRow}
+use Rattle.book_model.specs.declared.row.RowKey.{RowKey}
+use Rattle.kept_tables.specs.Tables.{BookRow, RecordRow, Tables}
+
+-- the number that a value is
+abbrev pub number_of : Value → ℤ
+number_of (Int n) = n
+number_of value = pos 0
+
+-- the number in a column, where it is none below 0
+abbrev pub count_of : ℤ → ℕ
+count_of (pos n) = n
+count_of (negsuc n) = 0
+
+abbrev pub count_in : Row → ℕ → ℕ
+count_in row at = count_of (number_of (column row at))
+
+-- a mark is any number but 0
+abbrev pub mark_in : Row → ℕ → Bool
+mark_in row at = not (count_in row at == 0)
+
+-- the text that a value is
+abbrev pub text_in : Value → Option (List ℕ)
+text_in (Text text) = Some text
+text_in value = None
+
+abbrev pub tariff_in : Row → ℤ × Option (List ℕ)
+tariff_in row = (number_of (column row 0), text_in (column row 1))
+
+abbrev pub closed_in : Row → ℕ × ℤ
+closed_in row = (count_in row 0, number_of (column row 1))
+
+abbrev pub record_in : Row → List ℕ × RecordRow
+record_in row = (
+  bytes (column row 0),
+  record {
+    identity = bytes (column row 1);
+    data_bytes = bytes (column row 2);
+    priced = record {
+      day = number_of (column row 3);
+      shift = bytes (column row 4);
+      centre = bytes (column row 5);
+      cpu = count_in row 6;
+      excp = count_in row 7;
+      amount = count_in row 8;
+    };
+    charged = mark_in row 9;
+    posted = mark_in row 10;
+  },
+)
+
+abbrev pub day_in : Row → (ℕ × RowKey) × ChargeRow
+day_in row =
+    let day = number_of (column row 1) in
+    let centre = bytes (column row 2) in
+    let shift = bytes (column row 3) in (
+      (count_in row 0, record { day = day; centre = centre; shift = shift }),
+      record {
+        day = day;
+        centre = centre;
+        shift = shift;
+        count = count_in row 4;
+        cpu = count_in row 5;
+        blocks = count_in row 6;
+        amount = count_in row 7;
+      },
+    )
+
+abbrev pub line_in : Row → (ℕ × List ℕ) × Bool
+line_in row = ((count_in row 0, bytes (column row 1)), mark_in row 2)
+
+-- the row of the book, by the first of its tree
+abbrev pub book_row_in : List Row → BookRow
+book_row_in [] = record { rule = 0; adopted = 0; held = 0; amount = 0 }
+book_row_in (row ∷ rows) = record {
+  rule = count_in row 1;
+  adopted = count_in row 2;
+  held = count_in row 3;
+  amount = count_in row 4;
+}
+
+-- the tables
+abbrev pub tables_in : Trees → Tables
+tables_in trees = record {
+  book = book_row_in (trees 0);
+  tariffs = from_entries (map tariff_in (trees 1));
+  closes = from_entries (map closed_in (trees 2));
+  records = from_entries (map record_in (trees 3));
+  days = from_entries (map day_in (trees 4));
+  lines = from_entries (map line_in (trees 5));
+}

@@ -1,0 +1,10 @@
+-- Sums of charge rows that 64 bits hold.
+use Rattle.std.specs.Prelude.{◌<◌, ◌^◌}
+use Rattle.table_ledger.specs.declared.charges.Totals.{Totals}
+
+-- each of the sums
+pub record TotalsFit (totals : Totals) : Type 0 where
+  pub count : totals.count < 2 ^ 64
+  pub cpu : totals.cpu < 2 ^ 64
+  pub blocks : totals.blocks < 2 ^ 64
+  pub amount : totals.amount < 2 ^ 64

@@ -1,0 +1,151 @@
+//! The adjustment lines of a period.
+
+ghost use Rattle.std.specs.Prelude.{◌≡◌, IfOk, IfSome, IsTrue, false, map, sum_by};
+ghost use Rattle.std.specs.List.{IsDistinct};
+ghost use Rattle.std.specs.Ordering.{is_lt};
+ghost use Rattle.tree_tables.specs.States.{state};
+ghost use Rattle.book_model.specs.Words.{IsDay, AreLines, by_line, adjustments_outcome, Naming};
+ghost use Rattle.book_model.specs.Words.{by_bytes, same_bytes, members, set_of};
+ghost use Rattle.tree_tables.specs.Steps.{Looks};
+ghost use Rattle.table_ledger.specs.LineReads.{line_stored, lines_stored};
+ghost use Rattle.table_ledger.specs.Tries.{Tries};
+
+use crate::days::is_day;
+use crate::stored_usage::usage_bytes;
+use crate::summary::Summary;
+use book_core::{LedgerFault, Line, copied, sort_lines};
+use smf_type30::Type30;
+use sqlite_trees::error::StoreError;
+use sqlite_trees::store::Store;
+use std::alloc::Global;
+use tree_tables::{StoredLine, TreeTables};
+
+/// The first number that 64 bits with a sign do not hold.
+const SIGNED_END: u64 = 1 << 63;
+
+/// A line that is stored, where a record has its name.
+fn read_line<S: Store>(
+    tables: &mut TreeTables<S>,
+    alloc: Global,
+    period: u16,
+    stored: &StoredLine,
+) -> Result<Option<Line>, StoreError>
+    ensures looks { Looks result (state S.Store tables.old.store) (state S.Store tables.new.store)
+        (λ tables line. line ≡ line_stored period tables.records stored.now) }
+{
+    let Some(held) = tables.find_record(alloc, &stored.name)? else {
+        return Ok(None);
+    };
+    let bytes = usage_bytes(alloc, &held.data_bytes)?;
+    let usage = Type30::of_usage(&bytes);
+    Ok(Some(Line {
+        plus: stored.plus,
+        name: stored.name,
+        job: copied(usage.job()),
+        priced: held.priced,
+    }))
+}
+
+/// Lines that are stored, each where a record has its name.
+fn read_lines<S: Store>(
+    tables: &mut TreeTables<S>,
+    alloc: Global,
+    period: u16,
+    found: &[StoredLine],
+) -> Result<Vec<Line>, StoreError>
+    ensures looks { Looks result (state S.Store tables.old.store) (state S.Store tables.new.store)
+        (λ tables lines. lines.items ≡ lines_stored period tables.records found.now) }
+{
+    let mut lines = Vec::new(alloc);
+    for stored in found {
+        if let Some(line) = read_line(tables, alloc, period, stored)? {
+            lines.push(line)?;
+        }
+    }
+    Ok(lines)
+}
+
+/// The name of the line stands before the next one's.
+fn is_before(line: &Line, next: &Line) -> bool
+    ensures { result ≡ is_lt (by_bytes line.now.name next.now.name) }
+{
+    line.name.cmp(&next.name).is_lt()
+}
+
+/// No two of the lines are of one record: their names rise.
+fn are_apart(lines: &[Line]) -> bool
+    ensures { IsTrue result → IsDistinct same_bytes (map (λ line. line.name) lines.now) }
+{
+    let mut at: usize = 1;
+    while at < lines.len() {
+        if !is_before(&lines[at - 1], &lines[at]) {
+            return false;
+        }
+        at += 1;
+    }
+    true
+}
+
+/// What the lines amount to, where 64 bits hold it.
+fn total(lines: &[Line]) -> Option<u64>
+    ensures { IfSome result (λ total. total ≡ sum_by (λ line. line.priced.amount) lines.now) }
+{
+    let mut total: u64 = 0;
+    for line in lines {
+        total = total.checked_add(line.priced.amount)?;
+    }
+    Some(total)
+}
+
+/// The line is dated on a day.
+fn is_dated(line: &Line) -> bool
+    ensures { IsTrue result → IsDay line.now.priced.day }
+{
+    is_day(line.priced.day)
+}
+
+/// The lines are dated on days, and a signed number of 64 bits holds their total.
+fn can_show(lines: &[Line]) -> bool
+    ensures { IsTrue result → AreLines lines.now }
+{
+    let Some(total) = total(lines) else {
+        return false;
+    };
+    total < SIGNED_END && lines.iter().all(|line| is_dated(line))
+}
+
+/// The lines in order, where they can be shown.
+fn sorted(lines: Vec<Line>) -> Option<Vec<Line>>
+    ensures sorted { IfSome result (λ sorted. sorted.items ≡ members (set_of by_line lines.items)) }
+    ensures shown { IfSome result (λ sorted. AreLines sorted.items) }
+{
+    let mut lines = lines;
+    if !are_apart(&lines) {
+        return None;
+    }
+    sort_lines(&mut lines);
+    if can_show(&lines) { Some(lines) } else { None }
+}
+
+/// The adjustment lines of a period.
+pub(crate) fn try_adjustments<S: Store>(
+    tables: &mut TreeTables<S>,
+    summary: &Summary,
+    alloc: Global,
+    period: u16,
+) -> Result<Result<Vec<Line>, LedgerFault>, StoreError>
+    ensures tries { (naming : Naming) → Tries (λ lines. lines.items) naming summary.now summary.now
+        (state S.Store tables.old.store) (state S.Store tables.new.store) (adjustments_outcome naming period)
+        result }
+    ensures shown { IfOk result (λ answer. IfOk answer (λ lines. AreLines lines.items)) }
+{
+    if !summary.has_period(period) {
+        return Ok(Err(LedgerFault::NoSuchPeriod));
+    }
+    let found = tables.list_lines(alloc, period)?;
+    let lines = read_lines(tables, alloc, period, &found)?;
+    let Some(sorted) = sorted(lines) else {
+        return Err(StoreError::Corrupt);
+    };
+    Ok(Ok(sorted))
+}

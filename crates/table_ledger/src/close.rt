@@ -1,0 +1,64 @@
+//! Closes of the open period.
+
+ghost use Rattle.std.specs.Prelude.{◌≡◌};
+ghost use Rattle.book_model.specs.Words.{IsDay, close_outcome, Naming};
+ghost use Rattle.tree_tables.specs.Days.{NoneNext};
+ghost use Rattle.tree_tables.specs.States.{state};
+ghost use Rattle.tree_tables.specs.Steps.{Does};
+ghost use Rattle.table_ledger.specs.Closings.{close_written};
+ghost use Rattle.table_ledger.specs.Commits.{CommitsOne};
+ghost use Rattle.table_ledger.specs.Tries.{Tries};
+
+use crate::summary::{Summary, is_done};
+use book_core::{LedgerFault, Ruled};
+use sqlite_trees::error::StoreError;
+use sqlite_trees::store::Store;
+use tree_tables::{Close, TreeTables};
+
+/// Writes a close: its day, the marks of what it charged, and the rows that it leaves to the next
+/// period.
+fn write_close<S: Store>(tables: &mut TreeTables<S>, close: &Close) -> Result<(), StoreError>
+    requires { IsDay close.now.through }
+    ensures does { Does result (state S.Store tables.old.store) (state S.Store tables.new.store)
+        (NoneNext close.now.period) (close_written close.now.period close.now.through) }
+{
+    tables.put_close(close)?;
+    tables.post_records(close.through)?;
+    tables.move_days(close)
+}
+
+/// Keeps a close, in one commit.
+fn keep_close<S: Store>(tables: &mut TreeTables<S>, close: &Close) -> Result<(), StoreError>
+    requires { IsDay close.now.through }
+    ensures commits { CommitsOne result (state S.Store tables.old.store)
+        (state S.Store tables.new.store) (NoneNext close.now.period)
+        (close_written close.now.period close.now.through) }
+{
+    write_close(tables, close)?;
+    tables.commit()
+}
+
+/// Answers a close, and closes the open period where it is this one and the day is later than the
+/// last close.
+pub(crate) fn try_close<S: Store>(
+    tables: &mut TreeTables<S>,
+    summary: &mut Summary,
+    close: &Close,
+) -> Result<Result<Ruled, LedgerFault>, StoreError>
+    requires day { IsDay close.now.through }
+    ensures tries { (naming : Naming) → Tries (λ ruled. ruled) naming summary.old summary.new
+        (state S.Store tables.old.store) (state S.Store tables.new.store)
+        (close_outcome close.now.period close.now.through) result }
+{
+    let answer = summary.close_answer(close.period, close.through);
+    if !is_done(&answer) {
+        return Ok(answer);
+    }
+    // The memory is taken first: want of it then leaves the books as they were.
+    summary.closes.push(close.through)?;
+    if let Err(error) = keep_close(tables, close) {
+        summary.closes.pop();
+        return Err(error);
+    }
+    Ok(Ok(Ruled::Done))
+}

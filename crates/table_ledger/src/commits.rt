@@ -1,0 +1,128 @@
+//! What a new record writes, in one commit.
+
+ghost use Rattle.std.specs.Prelude.{◌≡◌, ◌<◌, ◌^◌, None};
+ghost use Rattle.std.specs.FinMap.{get};
+ghost use Rattle.book_model.specs.Words.{IsPriced};
+ghost use Rattle.tree_tables.specs.States.{state};
+ghost use Rattle.tree_tables.specs.Steps.{Always, Does};
+ghost use Rattle.table_ledger.specs.Commits.{CommitsOne};
+ghost use Rattle.table_ledger.specs.DayWrites.{WriteFits};
+ghost use Rattle.table_ledger.specs.Entries as entry_spec;
+ghost use Rattle.table_ledger.specs.Entries.{IsNew};
+
+use crate::day_write::DayWrite;
+use book_core::{Effects, LineChange};
+use sqlite_trees::error::StoreError;
+use sqlite_trees::store::Store;
+use tree_tables::{DayPlace, DayRow, LinePlace, NewRecord, Sums, TreeTables};
+
+/// A new record, what the book counts with it, and what it changes in the open period.
+#[derive(Clone, Copy)]
+pub(crate) struct Entry<'a> {
+    pub(crate) record: NewRecord<'a>,
+    pub(crate) sums: Sums,
+    pub(crate) period: u16,
+    pub(crate) effects: Effects,
+    pub(crate) day: DayWrite,
+}
+
+/// Writes a charge row, or deletes it.
+fn write_day<S: Store>(
+    tables: &mut TreeTables<S>,
+    period: u16,
+    write: &DayWrite,
+) -> Result<(), StoreError>
+    requires { WriteFits write.now }
+    ensures does { Does result (state S.Store tables.old.store) (state S.Store tables.new.store)
+        Always (entry_spec.write_days period write.now) }
+{
+    match *write {
+        DayWrite::Leave => Ok(()),
+        DayWrite::Put(row) => tables.put_day(&DayRow { period, row }),
+        DayWrite::Drop(place) => tables.drop_day(&DayPlace { period, place }),
+    }
+}
+
+/// Writes a line, or deletes it.
+fn write_line<S: Store>(
+    tables: &mut TreeTables<S>,
+    period: u16,
+    change: &Option<LineChange>,
+) -> Result<(), StoreError>
+    ensures does { Does result (state S.Store tables.old.store) (state S.Store tables.new.store)
+        Always (entry_spec.write_line period change.now) }
+{
+    match change {
+        None => Ok(()),
+        Some(LineChange::AddPlus(name)) => tables.put_line(&LinePlace { period, name }, true),
+        Some(LineChange::DropPlus(name)) => tables.drop_line(&LinePlace { period, name }),
+        Some(LineChange::AddMinus(name)) => tables.put_line(&LinePlace { period, name }, false),
+    }
+}
+
+/// Takes the mark from a record that is charged no more.
+fn write_mark<S: Store>(
+    tables: &mut TreeTables<S>,
+    unmark: &Option<[u8; 32]>,
+) -> Result<(), StoreError>
+    ensures does { Does result (state S.Store tables.old.store) (state S.Store tables.new.store)
+        Always (entry_spec.write_mark unmark.now) }
+{
+    match unmark {
+        None => Ok(()),
+        Some(name) => tables.unmark_record(name),
+    }
+}
+
+/// Writes the record's row and the sums.
+fn write_row<S: Store>(tables: &mut TreeTables<S>, entry: &Entry<'_>) -> Result<(), StoreError>
+    requires priced { IsPriced entry.now.record.priced }
+    requires held { entry.now.sums.held < 2 ^ 63 }
+    requires amount { entry.now.sums.amount < 2 ^ 63 }
+    ensures does { Does result (state S.Store tables.old.store) (state S.Store tables.new.store)
+        (IsNew entry.now.record.name.now) (entry_spec.write_row entry.now) }
+{
+    tables.insert_record(&entry.record)?;
+    tables.set_sums(&entry.sums)
+}
+
+/// Writes what the record changes.
+fn write_effects<S: Store>(tables: &mut TreeTables<S>, entry: &Entry<'_>) -> Result<(), StoreError>
+    requires { WriteFits entry.now.day }
+    ensures does { Does result (state S.Store tables.old.store) (state S.Store tables.new.store)
+        Always (entry_spec.write_effects entry.now) }
+{
+    write_day(tables, entry.period, &entry.day)?;
+    write_line(tables, entry.period, &entry.effects.line)?;
+    write_mark(tables, &entry.effects.unmark)
+}
+
+/// Writes all of it.
+fn write_entry<S: Store>(tables: &mut TreeTables<S>, entry: &Entry<'_>) -> Result<(), StoreError>
+    requires priced { IsPriced entry.now.record.priced }
+    requires held { entry.now.sums.held < 2 ^ 63 }
+    requires amount { entry.now.sums.amount < 2 ^ 63 }
+    requires day { WriteFits entry.now.day }
+    ensures does { Does result (state S.Store tables.old.store) (state S.Store tables.new.store)
+        (IsNew entry.now.record.name.now) (entry_spec.write_entry entry.now) }
+{
+    write_effects(tables, entry)?;
+    write_row(tables, entry)
+}
+
+/// Keeps a record whose name is new, in one commit.
+pub(crate) fn keep_entry<S: Store>(
+    tables: &mut TreeTables<S>,
+    entry: &Entry<'_>,
+) -> Result<(), StoreError>
+    requires priced { IsPriced entry.now.record.priced }
+    requires held { entry.now.sums.held < 2 ^ 63 }
+    requires amount { entry.now.sums.amount < 2 ^ 63 }
+    requires day { WriteFits entry.now.day }
+    ensures commits { CommitsOne result (state S.Store tables.old.store)
+        (state S.Store tables.new.store) (IsNew entry.now.record.name.now)
+        (entry_spec.write_entry entry.now) }
+{
+    write_entry(tables, entry)?;
+    tables.commit()
+}

@@ -1,0 +1,114 @@
+//! Identities that two or more records have.
+
+ghost use Rattle.std.specs.Prelude.{◌≡◌, All, IfOk, IsTrue, false, map};
+ghost use Rattle.tree_tables.specs.States.{state};
+ghost use Rattle.book_model.specs.Words.{AreDisputes, dispute_shown, disputes_outcome, Naming};
+ghost use Rattle.tree_tables.specs.Stored.{stored_entry};
+ghost use Rattle.table_readings.specs.DisputesRead as reading;
+ghost use Rattle.table_readings.specs.DisputesRead.{join_last, of_one, variant_read};
+ghost use Rattle.table_ledger.specs.DisputeReads.{IsShownRow};
+ghost use Rattle.table_ledger.specs.Tries.{Tries};
+
+use crate::days::is_day;
+use crate::stored_usage::usage_bytes;
+use crate::summary::Summary;
+use book_core::{Dispute, LedgerFault, Variant, copied};
+use smf_type30::Type30;
+use sqlite_trees::error::StoreError;
+use sqlite_trees::store::Store;
+use std::alloc::Global;
+use tree_tables::{StoredRecord, TreeTables};
+
+/// The bytes of an identity.
+const IDENTITY_LENGTH: usize = 24;
+
+/// The record can be shown: its identity has the length that its parts need, and it is dated on a
+/// day.
+fn is_shown(row: &StoredRecord) -> bool
+    ensures { IsTrue result → IsShownRow (stored_entry row.now) }
+{
+    row.identity.len() == IDENTITY_LENGTH && is_day(row.priced.day)
+}
+
+/// All of the records can be shown.
+fn can_show(rows: &[StoredRecord]) -> bool
+    ensures { IsTrue result → All (λ row. IsShownRow (stored_entry row)) rows.now }
+{
+    rows.iter().all(|row| is_shown(row))
+}
+
+/// A record as the list of disputes shows it.
+fn variant(alloc: Global, stored: &StoredRecord) -> Result<Variant, StoreError>
+    ensures { IfOk result (λ variant. variant ≡ variant_read (stored_entry stored.now)) }
+{
+    let bytes = usage_bytes(alloc, &stored.data_bytes)?;
+    let usage = Type30::of_usage(&bytes);
+    Ok(Variant {
+        name: stored.name,
+        priced: stored.priced,
+        job_id: copied(usage.job_id()),
+        program: copied(usage.program()),
+        completion: usage.completion(),
+    })
+}
+
+/// A dispute of one record.
+fn alone(alloc: Global, stored: &StoredRecord) -> Result<Dispute, StoreError>
+    ensures { IfOk result (λ made. dispute_shown made ≡ of_one (stored_entry stored.now)) }
+{
+    let member = variant(alloc, stored)?;
+    let identity = Vec::from_slice(alloc, &stored.identity)?;
+    let mut members = Vec::new(alloc);
+    members.push(member)?;
+    Ok(Dispute { identity, members })
+}
+
+/// A record joins the last dispute where that has its identity; else it begins one.
+fn join(alloc: Global, found: &mut Vec<Dispute>, stored: &StoredRecord) -> Result<(), StoreError>
+    ensures { IfOk result (λ joined. map dispute_shown found.new.items
+        ≡ join_last (map dispute_shown found.old.items) (stored_entry stored.now)) }
+{
+    let Some(mut last) = found.pop() else {
+        found.push(alone(alloc, stored)?)?;
+        return Ok(());
+    };
+    if last.identity.as_slice() == stored.identity.as_slice() {
+        last.members.push(variant(alloc, stored)?)?;
+        found.push(last)?;
+    } else {
+        found.push(last)?;
+        found.push(alone(alloc, stored)?)?;
+    }
+    Ok(())
+}
+
+/// Records that are in order, in groups: neighbours of one identity are one dispute.
+fn grouped(alloc: Global, rows: &[StoredRecord]) -> Result<Vec<Dispute>, StoreError>
+    ensures { IfOk result (λ found. map dispute_shown found.items
+        ≡ reading.grouped (map stored_entry rows.now)) }
+{
+    let mut found = Vec::new(alloc);
+    for stored in rows {
+        join(alloc, &mut found, stored)?;
+    }
+    Ok(found)
+}
+
+/// The identities of two or more records, by their bytes, each with its records by name.
+pub(crate) fn try_disputes<S: Store>(
+    tables: &mut TreeTables<S>,
+    summary: &Summary,
+    alloc: Global,
+) -> Result<Result<Vec<Dispute>, LedgerFault>, StoreError>
+    ensures tries { (naming : Naming) → Tries (λ found. map dispute_shown found.items) naming
+        summary.now summary.now (state S.Store tables.old.store) (state S.Store tables.new.store)
+        (disputes_outcome naming) result }
+    ensures shown { IfOk result (λ answer.
+        IfOk answer (λ found. AreDisputes (map dispute_shown found.items))) }
+{
+    let rows = tables.list_uncharged(alloc)?;
+    if !can_show(&rows) {
+        return Err(StoreError::Corrupt);
+    }
+    Ok(Ok(grouped(alloc, &rows)?))
+}

@@ -1,0 +1,54 @@
+//! What a new record changes beside its own row, by the records that share its identity.
+
+ghost use Rattle.std.specs.Prelude.{◌≡◌, false, map};
+ghost use Rattle.tree_tables.specs.States.{state};
+ghost use Rattle.book_core.specs.Effects.{HasOnly, effects_of};
+ghost use Rattle.tree_tables.specs.Stored.{stored_entry};
+ghost use Rattle.kept_tables.specs.Views.{rows_with};
+ghost use Rattle.table_readings.specs.AcceptRead.{view_with};
+ghost use Rattle.tree_tables.specs.Steps.{Looks};
+
+use book_core::{Effects, Member, View, plan};
+use sqlite_trees::error::StoreError;
+use sqlite_trees::store::Store;
+use std::alloc::Global;
+use tariff_rules::Priced;
+use tree_tables::{StoredRecord, TreeTables};
+
+/// The view of records that share an identity, two at most.
+fn view(through: Option<i32>, sharing: &[StoredRecord]) -> View
+    ensures view { result ≡ view_with through (map stored_entry sharing.now) }
+    ensures only { HasOnly result }
+{
+    let only = match sharing {
+        [member] => Some(Member {
+            name: member.name,
+            priced: member.priced,
+            charged: member.charged,
+            posted: member.posted,
+        }),
+        _ => None,
+    };
+    View {
+        through,
+        members: sharing.len() as u64,
+        only,
+    }
+}
+
+/// What a record of this identity changes, by its name and its price.
+pub(crate) fn look_for_effects<S: Store>(
+    tables: &mut TreeTables<S>,
+    alloc: Global,
+    through: Option<i32>,
+    identity: &[u8; 24],
+    name: [u8; 32],
+    priced: &Priced,
+) -> Result<Effects, StoreError>
+    ensures looks { Looks result (state S.Store tables.old.store) (state S.Store tables.new.store)
+        (λ tables effects. effects ≡ effects_of (view_with through
+        (rows_with identity.now tables.records)) name priced.now) }
+{
+    let sharing = tables.find_sharing(alloc, identity)?;
+    Ok(plan(&view(through, &sharing), name, priced))
+}

@@ -1,0 +1,65 @@
+//! Books that a store keeps are opened, and let go again.
+
+use super::TableLedger;
+use crate::recall::read_summary;
+use book_core::{Ledger, LedgerFault, Naming};
+use sqlite_trees::store::Store;
+use std::alloc::Global;
+use tree_tables::TreeTables;
+
+impl<S: Store, N: Naming + Drop> TableLedger<S, N> {
+    ghost use Rattle.std.specs.Prelude.{◌≡◌, IfErr, IfOk};
+    ghost use Rattle.sqlite_trees.specs.View.{IsClean};
+    ghost use Rattle.book_model.specs.Words.{Book};
+    ghost use Rattle.book_core.specs.Ledgers.{IsOpenAt};
+    ghost use Rattle.kept_tables.specs.Tables.{Tables};
+    ghost use Rattle.kept_tables.specs.TablesOf.{tables_of};
+    ghost use Rattle.table_readings.specs.FromCalls.{IsFromCalls};
+    ghost use Rattle.tree_rows.specs.Rows.{IsUnchanged};
+    ghost use Rattle.tree_tables.specs.Holds.{HasShapes, Holds};
+    ghost use Rattle.tree_tables.specs.States.{HasCleanDisk, Survives, state};
+    ghost use Rattle.table_ledger.specs.Commits.{Keeping};
+    ghost use Rattle.table_ledger.specs.Recalled.{IsOpenFault};
+
+    /// The books that a store keeps.
+    pub fn open(alloc: Global, store: S, naming: N) -> Result<TableLedger<S, N>, (LedgerFault, S)>
+        requires { IsClean (S.Store.view store) → HasShapes (S.Store.view store) }
+        ensures books { IfOk result (λ ledger. HasCleanDisk (state S.Store ledger.tables.store)
+            → (book : Book) → IsFromCalls (N.name_of naming) book
+            → Keeping (S.Store.view store) (tables_of (N.name_of naming) book)
+            → IsOpenAt (N.name_of naming) book (⟦<TableLedger<S, N> as Ledger>⟧.seen ledger)) }
+
+        // Nothing is written.
+        ensures same { IfOk result (λ ledger. HasCleanDisk (state S.Store ledger.tables.store)
+            → IsUnchanged (S.Store.view store) (S.Store.view ledger.tables.store)) }
+        ensures crash { IfOk result (λ ledger. Survives (state S.Store store)
+            (state S.Store ledger.tables.store) (λ trees. ⊥)) }
+        ensures crash_refused { IfErr result (λ refused. Survives (state S.Store store)
+            (state S.Store refused.1) (λ trees. ⊥)) }
+
+        // Where books are kept, it is not answered that there are none.
+        ensures found { IfErr result (λ refused. refused.0 ≡ LedgerFault.NotBooks
+            → HasCleanDisk (state S.Store refused.1) → (tables : Tables)
+            → ¬ Holds (S.Store.view store).trees tables) }
+        ensures refused { IfErr result (λ refused. IsOpenFault refused.0) }
+    {
+        let mut tables = TreeTables::over(alloc, store);
+        match read_summary(alloc, &mut tables) {
+            Ok(summary) => Ok(TableLedger {
+                tables,
+                must_reopen: false,
+                naming,
+                summary,
+                alloc,
+            }),
+            Err(fault) => Err((fault, tables.into_store())),
+        }
+    }
+
+    /// Lets the store go.
+    pub fn close_store(self) -> S
+        ensures { result ≡ self.tables.store }
+    {
+        self.tables.into_store()
+    }
+}

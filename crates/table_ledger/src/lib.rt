@@ -1,0 +1,22 @@
+//! A ledger that keeps its books in the sorted trees of a store: each call is at most one commit, and
+//! what a stop leaves is the book before the call or the one behind it.
+#![tactic(auto)]
+
+mod accept;
+mod adjustments;
+mod charges;
+mod close;
+mod commits;
+mod day_write;
+mod days;
+mod disputes;
+mod effects;
+mod ledger;
+mod periods;
+mod recall;
+mod settle;
+mod stored_usage;
+mod summary;
+mod tariff;
+
+pub use ledger::TableLedger;

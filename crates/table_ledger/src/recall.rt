@@ -1,0 +1,150 @@
+//! The summary of a book, read from its tables.
+
+ghost use Rattle.std.specs.Prelude.{◌≡◌, ◌≤◌, IfErr, IfOk, IsTrue, true};
+ghost use Rattle.std.specs.List.{AllZip};
+ghost use Rattle.tree_tables.specs.States.{state};
+ghost use Rattle.book_model.specs.Words.{most_cost, most_held, are_rising};
+ghost use Rattle.tree_tables.specs.Steps.{Looks};
+ghost use Rattle.table_ledger.specs.Recalled.{HasDay, IsOpenFault, IsRecalled, IsStoreFault};
+ghost use Rattle.table_ledger.specs.Recalled.{Reads, SaysTariff, Shows};
+
+use crate::settle::fault_of;
+use crate::summary::Summary;
+use book_core::{
+    AcceptedTariff, LAST_PERIOD, LedgerFault, MAX_COST, MAX_HELD, are_before, is_after,
+};
+use smf_text::{FIRST_DAY, LAST_DAY};
+use sqlite_trees::error::StoreError;
+use sqlite_trees::store::Store;
+use std::alloc::Global;
+use tariff_rules::{Tariff, TariffFault};
+use tree_tables::{Close, StoredBook, StoredTariff, TreeTables};
+
+/// The rule of identity that this product knows.
+const FIRST_RULE: u64 = 1;
+
+/// The tariff of a row, where its text is one and says the row's day.
+fn tariff_at(alloc: Global, row: &StoredTariff) -> Result<AcceptedTariff, LedgerFault>
+    ensures says { IfOk result (λ tariff. SaysTariff row.now tariff) }
+    ensures kinds { IfErr result IsStoreFault }
+{
+    let tariff = match Tariff::parse(alloc, &row.body) {
+        Ok(tariff) => tariff,
+        Err(TariffFault::Memory) => return Err(LedgerFault::Memory),
+        Err(_) => return Err(LedgerFault::Store),
+    };
+    if tariff.effective() != row.day {
+        return Err(LedgerFault::Store);
+    }
+    let text = Some(String::from_str(alloc, &row.body)?);
+    Ok(AcceptedTariff { text, tariff })
+}
+
+/// The tariffs of rows, where each begins later than those before it.
+fn tariffs_of(alloc: Global, rows: &[StoredTariff]) -> Result<Vec<AcceptedTariff>, LedgerFault>
+    ensures say { IfOk result (λ tariffs. AllZip SaysTariff rows.now tariffs.items) }
+    ensures rising { IfOk result (λ tariffs. are_rising tariffs.items ≡ true) }
+    ensures kinds { IfErr result IsStoreFault }
+{
+    let mut tariffs = Vec::with_capacity(alloc, rows.len())?;
+    for row in rows {
+        let tariff = tariff_at(alloc, row)?;
+        if !are_before(&tariffs, &tariff.tariff) {
+            return Err(LedgerFault::Store);
+        }
+        tariffs.push(tariff)?;
+    }
+    Ok(tariffs)
+}
+
+/// The day of the next close: of the period behind the last, through a later day.
+fn next_day(days: &[i32], row: &Close) -> Result<i32, LedgerFault>
+    ensures has { IfOk result (λ day. HasDay row.now day) }
+    ensures kinds { IfErr result IsStoreFault }
+{
+    let day = row.through;
+    let is_next = row.period as usize == days.len() + 1 && is_after(days.last().copied(), day);
+    if is_next && FIRST_DAY <= day && day <= LAST_DAY {
+        Ok(day)
+    } else {
+        Err(LedgerFault::Store)
+    }
+}
+
+/// The days of closes, where their periods follow one another, and so do they.
+fn days_of(alloc: Global, rows: &[Close]) -> Result<Vec<i32>, LedgerFault>
+    ensures have { IfOk result (λ days. AllZip HasDay rows.now days.items) }
+    ensures kinds { IfErr result IsStoreFault }
+{
+    let mut days = Vec::with_capacity(alloc, rows.len())?;
+    for row in rows {
+        let day = next_day(&days, row)?;
+        days.push(day)?;
+    }
+    Ok(days)
+}
+
+/// The row is one of the rule that this product knows, and within the office's limits.
+fn is_kept(row: &StoredBook) -> bool
+    ensures held { IsTrue result → row.now.held ≤ most_held }
+    ensures amount { IsTrue result → row.now.amount ≤ most_cost }
+{
+    row.rule == FIRST_RULE
+        && row.adopted == 0
+        && row.held <= MAX_HELD as u64
+        && row.amount <= MAX_COST
+}
+
+/// The summary of the rows, where they are those of a book.
+fn summary_of(
+    alloc: Global,
+    row: &StoredBook,
+    tariffs: &[StoredTariff],
+    closes: &[Close],
+) -> Result<Summary, LedgerFault>
+    ensures shows { IfOk result (Shows row.now tariffs.now closes.now) }
+    ensures kinds { IfErr result IsStoreFault }
+{
+    let tariffs = tariffs_of(alloc, tariffs)?;
+    let closes = days_of(alloc, closes)?;
+    if !is_kept(row) || closes.len() >= LAST_PERIOD as usize {
+        return Err(LedgerFault::Store);
+    }
+    Ok(Summary {
+        tariffs,
+        closes,
+        held: row.held as usize,
+        total: row.amount,
+    })
+}
+
+/// Reads the summary of the book.
+fn look_for_summary<S: Store>(
+    alloc: Global,
+    tables: &mut TreeTables<S>,
+) -> Result<Result<Summary, LedgerFault>, StoreError>
+    ensures looks { Looks result (state S.Store tables.old.store) (state S.Store tables.new.store)
+        IsRecalled }
+    ensures kinds { IfOk result (λ answer. IfErr answer IsOpenFault) }
+{
+    let Some(row) = tables.find_book()? else {
+        return Ok(Err(LedgerFault::NotBooks));
+    };
+    let tariffs = tables.list_tariffs(alloc)?;
+    let closes = tables.list_closes(alloc)?;
+    Ok(summary_of(alloc, &row, &tariffs, &closes))
+}
+
+/// Reads the summary of the book that a store keeps, if it keeps one.
+pub(crate) fn read_summary<S: Store>(
+    alloc: Global,
+    tables: &mut TreeTables<S>,
+) -> Result<Summary, LedgerFault>
+    ensures reads { Reads result (state S.Store tables.old.store) (state S.Store tables.new.store) }
+    ensures kinds { IfErr result IsOpenFault }
+{
+    match look_for_summary(alloc, tables) {
+        Ok(answer) => answer,
+        Err(error) => Err(fault_of(tables, error)),
+    }
+}

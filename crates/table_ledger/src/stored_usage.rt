@@ -1,0 +1,40 @@
+//! The bytes of records that are stored.
+
+ghost use Rattle.std.specs.Prelude.{◌≡◌, ◌≤◌, IfOk, length};
+ghost use Rattle.smf_frames.specs.Framed as framed;
+ghost use Rattle.book_model.specs.Words.{IsUsage};
+
+use smf_frames::MAX_DATA;
+use smf_type30::{Class, class};
+use sqlite_trees::error::StoreError;
+use std::alloc::{AllocError, Global};
+
+/// The record with that data.
+fn record_with(alloc: Global, data_bytes: &[u8]) -> Result<Vec<u8>, AllocError>
+    requires { length data_bytes.now ≤ framed.most_data }
+    ensures { IfOk result (λ made. made.items ≡ framed.record_with data_bytes.now) }
+{
+    let len = 4 + data_bytes.len();
+    let mut bytes = Vec::with_capacity(alloc, len)?;
+    bytes.push((len / 256) as u8)?;
+    bytes.push((len % 256) as u8)?;
+    bytes.push(0)?;
+    bytes.push(0)?;
+    bytes.extend_from_slice(data_bytes)?;
+    Ok(bytes)
+}
+
+/// The usage record with that data. Data that are those of no usage record are an ill-formed row.
+pub(crate) fn usage_bytes(alloc: Global, data_bytes: &[u8]) -> Result<Vec<u8>, StoreError>
+    ensures bytes { IfOk result (λ made. made.items ≡ framed.record_with data_bytes.now) }
+    ensures usage { IfOk result (λ made. IsUsage made.items) }
+{
+    if data_bytes.len() > MAX_DATA {
+        return Err(StoreError::Corrupt);
+    }
+    let bytes = record_with(alloc, data_bytes)?;
+    if class(&bytes) != Class::Usage {
+        return Err(StoreError::Corrupt);
+    }
+    Ok(bytes)
+}

@@ -1,0 +1,25 @@
+use Rattle.std.proofs.Common.{◌-◌, ◌≤◌, IsSome, length}
+use Rattle.sqlite_trees.specs.View.{IsClean, IsQuiet, KeepsSchema}
+use Rattle.tree_rows.specs.Rows.{IsUnchanged}
+use Rattle.tree_rows.specs.declared.listing.TheConstants.{LIST}
+use Rattle.tree_rows.proofs.RunsRead.{HasRead}
+use Rattle.tree_rows.proofs.listing.list_first.Given as goal
+
+-- the front of the run is read, and the cursor has the rest of it
+abbrev pub invariant-rows : goal.invariant-rows
+invariant-rows g l =
+    let old = g.S.Store.view l.fn.store in
+    let now = g.S.Store.view l.store in
+    record {
+      live : IsSome (now.cursors LIST);
+      few : length l.all.items ≤ l.most;
+      read : IsClean now → HasRead g.T.ReadRow.says l.part (old.trees l.tree) now l.all.items;
+      same : IsClean now → IsUnchanged old now;
+      schema : KeepsSchema old now;
+      quiet : IsQuiet g.S.Store.view g.S.Store.faults g.S.Store.recovers g.S.Store.is_shielded
+          l.fn.store l.store;
+    }
+
+-- the rows that are still wanted
+abbrev pub decreases-rows : goal.decreases-rows
+decreases-rows g l = l.most - length l.all.items

@@ -1,0 +1,180 @@
+-- Charge rows: how they are written, and what is read of them.
+use Rattle.std.proofs.Common.{◌≡◌, ◌∷◌, [], ℕ, ℤ, pos, true, false, cond, List, Bool, map}
+use Rattle.std.proofs.Common.{Some, None, refl, sym, ap, ◌∙◌, true≢false}
+use Rattle.std.specs.FinMap.{entries, get, get-insert, get-remove, insert, remove}
+use Rattle.std.specs.List.{AllZip}
+use Rattle.std.specs.Ordering.{eq_by_cmp}
+use Rattle.std.specs.declared.cmp.Ordering.{Ordering}
+use Rattle.std.proofs.lemmas.Map.Views.{tells_apart}
+use Rattle.sqlite_trees.proofs.ListLemmas.{all-filter}
+use Rattle.sqlite_trees.specs.View.{View}
+use Rattle.sqlite_value.specs.Order.{Row, column}
+use Rattle.sqlite_value.specs.declared.value.Value.TheVariants.{Int, Text}
+use Rattle.std.specs.Prelude.{◌==◌}
+use Rattle.book_model.specs.Words.{by_key}
+use Rattle.book_model.specs.declared.row.ChargeRow.{ChargeRow}
+use Rattle.book_model.specs.declared.row.RowKey.{RowKey}
+use Rattle.kept_tables.specs.Numbered.{by_period, rows_under}
+use Rattle.kept_tables.specs.Steps.{drop_day_row, put_day_row}
+use Rattle.kept_tables.specs.Tables.{DayTable, Tables}
+use Rattle.kept_tables.specs.TablesOf.{place_of}
+use Rattle.tree_rows.specs.Layouts.{Answers}
+use Rattle.tree_rows.specs.Rows.{Drops, Finds, Puts}
+use Rattle.tree_rows.specs.Runs.{run_of}
+use Rattle.tree_rows.proofs.Keyed.{row_found, rows_dropped, rows_put}
+use Rattle.tree_rows.proofs.Maps.{not_none}
+use Rattle.tree_rows.proofs.Runs.{run_numbered}
+use Rattle.tree_rows.proofs.Taking.{some_is}
+use Rattle.tree_tables.specs.Answers.{FindsDay, ListsDays}
+use Rattle.tree_tables.specs.Columns.{day_columns, place_columns}
+use Rattle.tree_tables.specs.Days.{SaysDay}
+use Rattle.tree_tables.specs.Holds.{ArePlaced}
+use Rattle.tree_tables.specs.Steps.{Always, Changes}
+use Rattle.tree_tables.specs.declared.day_rows.StoredDay.{StoredDay}
+use Rattle.tree_tables.proofs.Holding.{with_days}
+use Rattle.tree_tables.proofs.Layouts.{day_layout}
+use Rattle.tree_tables.proofs.RowsRead.{all_entries, told_of_all}
+
+-- the order of charge rows
+abbrev by_spot : ℕ × RowKey → ℕ × RowKey → Ordering
+by_spot = by_period by_key
+
+-- a row that stands at its own place leaves the others at theirs
+pub placed_put : (days : DayTable) (key : ℕ × RowKey) (row : ChargeRow) → place_of row ≡ key.1
+    → ArePlaced days → ArePlaced (insert days key row)
+placed_put days key row own placed other found there =
+    elim (eq_by_cmp by_spot other key) as (λ b. eq_by_cmp by_spot other key ≡ b
+    → cond b (Some row) (get days other) ≡ Some found → place_of found ≡ other.1) [
+      | true ↦ λ tie is.
+          ap place_of (sym (some_is row found is)) ∙ own
+          ∙ ap (λ spot. spot.1) (sym (tells_apart day_layout.exact other key tie))
+      | false ↦ λ tie is. placed other found is
+    ] refl (sym (get-insert day_layout.total days key row other) ∙ there)
+
+-- and so does one that goes
+pub placed_drop : (days : DayTable) (key : ℕ × RowKey) → ArePlaced days
+    → ArePlaced (remove days key)
+placed_drop days key placed other found there =
+    elim (eq_by_cmp by_spot other key) as (λ b. cond b None (get days other) ≡ Some found
+    → place_of found ≡ other.1) [
+      | true ↦ λ is. absurd (not_none found (sym is))
+      | false ↦ λ is. placed other found is
+    ] (sym (get-remove day_layout.total days key other) ∙ there)
+
+-- a row that is put at its place is put into the table
+pub day_put : {old new : View} {key columns : Row} (period : ℕ) (row : ChargeRow)
+    → Puts old new 4 key columns → key ≡ place_columns (period, place_of row)
+    → columns ≡ day_columns ((period, place_of row), row)
+    → Changes old new Always (put_day_row period row)
+day_put period row puts key_is row_is = record {
+  only = puts.rewrites.only;
+  made = λ tables holds when.
+      with_days holds (insert tables.days (period, place_of row) row)
+      (placed_put tables.days (period, place_of row) row refl holds.placed)
+      puts.rewrites.others
+      (rows_put day_layout tables.days (period, place_of row) row puts holds.days key_is row_is);
+}
+
+-- a row that is dropped by its place is gone from the table
+pub day_dropped : {old new : View} {key : Row} (period : ℕ) (place : RowKey)
+    → Drops old new 4 key → key ≡ place_columns (period, place)
+    → Changes old new Always (drop_day_row period place)
+day_dropped period place drops key_is = record {
+  only = drops.rewrites.only;
+  made = λ tables holds when.
+      with_days holds (remove tables.days (period, place))
+      (placed_drop tables.days (period, place) holds.placed) drops.rewrites.others
+      (rows_dropped day_layout tables.days (period, place) drops holds.days key_is);
+}
+
+-- numbers and texts are told apart by their columns
+same_int : (one other : ℤ) → Int one ≡ Int other → one ≡ other
+same_int one other same = cc
+
+same_count : (one other : ℕ) → Int (pos one) ≡ Int (pos other) → one ≡ other
+same_count one other same = cc
+
+same_text : (one other : List ℕ) → Text one ≡ Text other → one ≡ other
+same_text one other same = cc
+
+-- what is read of the row of a charge row that stands at its place is the charge row
+pub day_said : (charge : ChargeRow) (entry : (ℕ × RowKey) × ChargeRow) (columns : Row)
+    → place_of entry.1 ≡ entry.0.1 → columns ≡ day_columns entry → SaysDay columns charge
+    → charge ≡ entry.1
+day_said charge entry columns own is says =
+    let day : charge.day ≡ entry.1.day =
+    same_int charge.day entry.0.1.day (sym says.day ∙ ap (λ r. column r 1) is)
+    ∙ ap (λ (k : RowKey). k.day) (sym own) in
+    let centre : charge.centre ≡ entry.1.centre =
+    same_text charge.centre entry.0.1.centre (sym says.centre ∙ ap (λ r. column r 2) is)
+    ∙ ap (λ (k : RowKey). k.centre) (sym own) in
+    let shift : charge.shift ≡ entry.1.shift =
+    same_text charge.shift entry.0.1.shift (sym says.shift ∙ ap (λ r. column r 3) is)
+    ∙ ap (λ (k : RowKey). k.shift) (sym own) in
+    let count : charge.count ≡ entry.1.count =
+    same_count charge.count entry.1.count (sym says.count ∙ ap (λ r. column r 4) is) in
+    let cpu : charge.cpu ≡ entry.1.cpu =
+    same_count charge.cpu entry.1.cpu (sym says.cpu ∙ ap (λ r. column r 5) is) in
+    let blocks : charge.blocks ≡ entry.1.blocks =
+    same_count charge.blocks entry.1.blocks (sym says.blocks ∙ ap (λ r. column r 6) is) in
+    let amount : charge.amount ≡ entry.1.amount =
+    same_count charge.amount entry.1.amount (sym says.amount ∙ ap (λ r. column r 7) is) in
+    λ i. record {
+      day = day i;
+      centre = centre i;
+      shift = shift i;
+      count = count i;
+      cpu = cpu i;
+      blocks = blocks i;
+      amount = amount i;
+    }
+
+module _ (period : ℕ) (place : RowKey) (tables : Tables) {rows : List Row} {key columns : Row}
+    {hit : Bool} (finds : Finds key rows columns hit)
+    (held : rows ≡ map day_columns (entries tables.days))
+    (key_is : key ≡ place_columns (period, place)) where
+  -- where no row has the place, the table has none
+  pub day_missing : hit ≡ false → FindsDay period place tables None
+  day_missing missed =
+      by_answer hit missed (row_found day_layout tables.days (period, place) finds held key_is)
+    where
+      by_answer : (hit : Bool) → hit ≡ false
+          → Answers day_layout tables.days (period, place) columns hit
+          → FindsDay period place tables None
+      by_answer true missed answer = absurd (true≢false missed)
+      by_answer false missed answer = sym answer
+
+  -- and where one has, what is read of it is the table's
+  pub day_found : (charge : ChargeRow) → ArePlaced tables.days → hit ≡ true
+      → SaysDay columns charge → FindsDay period place tables (Some charge)
+  day_found charge placed found says =
+      by_answer hit found (row_found day_layout tables.days (period, place) finds held key_is)
+    where
+      by_answer : (hit : Bool) → hit ≡ true
+          → Answers day_layout tables.days (period, place) columns hit
+          → FindsDay period place tables (Some charge)
+      by_answer true found answer =
+          ap (λ row. Some row) (day_said charge ((period, place), answer.0) columns
+          (placed (period, place) answer.0 answer.1) answer.2 says) ∙ sym answer.1
+      by_answer false found answer = absurd (true≢false (sym found))
+
+-- the charge rows of a period are those that are read of the rows of its number
+pub days_read : (period : ℕ) (tables : Tables) (rows : List Row) (key : Row)
+    (days : List StoredDay) → rows ≡ map day_columns (entries tables.days)
+    → ArePlaced tables.days → key ≡ Int (pos period) ∷ []
+    → AllZip (λ columns day. SaysDay columns day.charge) (run_of key rows) days
+    → ListsDays period tables (map (λ day. day.charge) days)
+days_read period tables rows key days held placed key_is says =
+    told_of_all day_columns (λ columns (day : StoredDay). SaysDay columns day.charge)
+    (λ (day : StoredDay). day.charge) (λ (row : (ℕ × RowKey) × ChargeRow). row.1)
+    (λ (row : (ℕ × RowKey) × ChargeRow). place_of row.1 ≡ row.0.1)
+    (λ day entry columns own is said. day_said day.charge entry columns own is said)
+    (run_of key rows) days (rows_under period tables.days)
+    (all-filter (λ (row : (ℕ × RowKey) × ChargeRow). place_of row.1 ≡ row.0.1)
+    (λ row. row.0.0 == period) (entries tables.days)
+    (all_entries day_layout.total day_layout.exact
+    (λ (row : (ℕ × RowKey) × ChargeRow). place_of row.1 ≡ row.0.1) tables.days placed)) says
+    (ap (λ k. run_of k rows) key_is ∙ ap (run_of (Int (pos period) ∷ [])) held
+    ∙ run_numbered by_key day_layout
+    (λ (place : RowKey). Int place.day ∷ Text place.centre ∷ Text place.shift ∷ [])
+    (λ n place. refl) period tables.days)

@@ -1,0 +1,122 @@
+-- Each table as a map whose entries stand in the rows of its tree.
+use Rattle.std.proofs.Common.{◌≡◌, ℕ, ℤ, pos, List, [], ◌∷◌, Bool, Option, refl, ap₂, ◌∙◌}
+use Rattle.std.proofs.Common.{arith}
+use Rattle.std.proofs.lemmas.Bool.Decides.{nat_tests}
+use Rattle.std.proofs.lemmas.Int.{ints}
+use Rattle.std.specs.Cmp.{nat_cmp_total}
+use Rattle.std.specs.FinMap.{int_cmp-IsAntisymmetric, nat_cmp-IsAntisymmetric}
+use Rattle.std.specs.Ordering.{int_cmp, nat_cmp, ordering_then}
+use Rattle.std.proofs.lemmas.Cmp.{nat_list_cmp_total, int_cmp_total}
+use Rattle.std.proofs.lemmas.Map.Lookups.{exact_bytes}
+use Rattle.sqlite_value.proofs.OrderLemmas.{value_cmp-Blob, value_cmp-Int, value_cmp-Text}
+use Rattle.sqlite_value.proofs.OrderLemmas.{then-Equal}
+use Rattle.sqlite_value.specs.declared.value.Value.TheVariants.{Blob, Int, Text}
+use Rattle.book_model.specs.Words.{by_bytes, by_key}
+use Rattle.book_model.specs.declared.row.ChargeRow.{ChargeRow}
+use Rattle.book_model.specs.declared.row.RowKey.{RowKey}
+use Rattle.book_model.proofs.RowLemmas.{by_key_total, by_key_exact}
+use Rattle.kept_tables.specs.Numbered.{by_period}
+use Rattle.kept_tables.specs.Tables.{RecordRow}
+use Rattle.kept_tables.proofs.NumberedLemmas.{by_period_total, by_period_exact}
+use Rattle.tree_rows.specs.Indexes.{by_both, by_mark}
+use Rattle.tree_rows.specs.Layouts.{Layout}
+use Rattle.tree_rows.proofs.IndexOrders.{by_both_total, by_both_exact, by_mark_total, by_mark_exact}
+use Rattle.tree_tables.specs.Columns.{flag, text_of, place_columns}
+
+-- tariffs by their first days
+abbrev pub tariff_layout : Layout ℤ (Option (List ℕ)) int_cmp
+tariff_layout = record {
+  key = λ day. Int day ∷ [];
+  rest = λ text. text_of text ∷ [];
+  total = int_cmp_total;
+  exact = int_cmp-IsAntisymmetric;
+  alike = λ k l. refl;
+  ordered = λ k l. then-Equal _ ∙ value_cmp-Int k l;
+}
+
+-- numbers that are not below 0 compare as such
+pub numbers : (m n : ℕ) → int_cmp (pos m) (pos n) ≡ nat_cmp m n
+numbers m n = grind (arith, ints, nat_tests)
+
+-- closes by their periods
+abbrev pub closed_layout : Layout ℕ ℤ nat_cmp
+closed_layout = record {
+  key = λ period. Int (pos period) ∷ [];
+  rest = λ day. Int day ∷ [];
+  total = nat_cmp_total;
+  exact = nat_cmp-IsAntisymmetric;
+  alike = λ k l. refl;
+  ordered = λ k l. then-Equal _ ∙ value_cmp-Int (pos k) (pos l) ∙ numbers k l;
+}
+
+-- records by their names
+abbrev pub record_layout : Layout (List ℕ) RecordRow by_bytes
+record_layout = record {
+  key = λ name. Blob name ∷ [];
+  rest = λ row. Blob row.identity ∷ Blob row.data_bytes ∷ Int row.priced.day
+      ∷ Text row.priced.shift ∷ Text row.priced.centre ∷ Int (pos row.priced.cpu)
+      ∷ Int (pos row.priced.excp) ∷ Int (pos row.priced.amount) ∷ Int (pos (flag row.charged))
+      ∷ Int (pos (flag row.posted)) ∷ [];
+  total = nat_list_cmp_total;
+  exact = exact_bytes;
+  alike = λ k l. refl;
+  ordered = λ k l. then-Equal _ ∙ value_cmp-Blob k l;
+}
+
+-- places within a period compare as their columns do
+pub by_place : (k l : RowKey)
+    → ordering_then (int_cmp k.day l.day) (ordering_then (by_bytes k.centre l.centre)
+    (by_bytes k.shift l.shift)) ≡ by_key k l
+by_place k l = refl
+
+-- charge rows by their periods and places
+abbrev pub day_layout : Layout (ℕ × RowKey) ChargeRow (by_period by_key)
+day_layout = record {
+  key = place_columns;
+  rest = λ row. Int (pos row.count) ∷ Int (pos row.cpu) ∷ Int (pos row.blocks)
+      ∷ Int (pos row.amount) ∷ [];
+  total = by_period_total by_key by_key_total;
+  exact = by_period_exact by_key by_key_exact;
+  alike = λ k l. refl;
+  ordered = λ k l. ap₂ ordering_then (value_cmp-Int (pos k.0) (pos l.0) ∙ numbers k.0 l.0)
+      (ap₂ ordering_then (value_cmp-Int k.1.day l.1.day)
+      (ap₂ ordering_then (value_cmp-Text k.1.centre l.1.centre)
+      (then-Equal _ ∙ value_cmp-Text k.1.shift l.1.shift)) ∙ by_place k.1 l.1);
+}
+
+-- lines by their periods and the names of their records
+abbrev pub line_layout : Layout (ℕ × List ℕ) Bool (by_period by_bytes)
+line_layout = record {
+  key = λ place. Int (pos place.0) ∷ Blob place.1 ∷ [];
+  rest = λ plus. Int (pos (flag plus)) ∷ [];
+  total = by_period_total by_bytes nat_list_cmp_total;
+  exact = by_period_exact by_bytes exact_bytes;
+  alike = λ k l. refl;
+  ordered = λ k l. ap₂ ordering_then (value_cmp-Int (pos k.0) (pos l.0) ∙ numbers k.0 l.0)
+      (then-Equal _ ∙ value_cmp-Blob k.1 l.1);
+}
+
+-- identities with the names that have them, which stand in keys alone
+abbrev pub identity_layout : Layout (List ℕ × List ℕ) (Unit {0}) by_both
+identity_layout = record {
+  key = λ pair. Blob pair.0 ∷ Blob pair.1 ∷ [];
+  rest = λ nothing. [];
+  total = by_both_total;
+  exact = by_both_exact;
+  alike = λ k l. refl;
+  ordered = λ k l. ap₂ ordering_then (value_cmp-Blob k.0 l.0)
+      (then-Equal _ ∙ value_cmp-Blob k.1 l.1);
+}
+
+-- marks with the identities and names of the records that have them, likewise
+abbrev pub mark_layout : Layout (ℕ × (List ℕ × List ℕ)) (Unit {0}) by_mark
+mark_layout = record {
+  key = λ place. Int (pos place.0) ∷ Blob place.1.0 ∷ Blob place.1.1 ∷ [];
+  rest = λ nothing. [];
+  total = by_mark_total;
+  exact = by_mark_exact;
+  alike = λ k l. refl;
+  ordered = λ k l. ap₂ ordering_then (value_cmp-Int (pos k.0) (pos l.0) ∙ numbers k.0 l.0)
+      (ap₂ ordering_then (value_cmp-Blob k.1.0 l.1.0)
+      (then-Equal _ ∙ value_cmp-Blob k.1.1 l.1.1));
+}

@@ -1,0 +1,19 @@
+-- The lemmas: the tables as sorted maps; what holds the tables still where one tree is rewritten;
+-- looks at them, and steps of them, by what becomes of rows; what is read of rows; and then a file
+-- a table.
+pub mod Layouts
+pub mod Holding
+pub mod Looking
+pub mod RowsRead
+pub mod TheBook
+pub mod NewTables
+pub mod Rulings
+pub mod RecordIndexes
+pub mod Records
+pub mod FoundNames
+pub mod RecordLists
+pub mod Posting
+pub mod Dated
+pub mod DayRows
+pub mod LineRows
+pub mod MoveDays

@@ -1,0 +1,81 @@
+-- Adjustment lines: how they are written, and what is read of them.
+use Rattle.std.proofs.Common.{◌≡◌, ◌∷◌, [], ℕ, pos, true, false, List, Bool, map}
+use Rattle.std.proofs.Common.{refl, sym, ap, ◌∙◌}
+use Rattle.std.specs.FinMap.{entries, insert, remove}
+use Rattle.std.specs.List.{AllZip}
+use Rattle.sqlite_trees.specs.View.{View}
+use Rattle.sqlite_value.specs.Order.{Row, column}
+use Rattle.sqlite_value.specs.declared.value.Value.TheVariants.{Blob, Int}
+use Rattle.book_model.specs.Words.{by_bytes}
+use Rattle.kept_tables.specs.Numbered.{rows_under}
+use Rattle.kept_tables.specs.Steps.{drop_line_row, put_line_row}
+use Rattle.kept_tables.specs.Tables.{Tables}
+use Rattle.tree_rows.specs.Rows.{Drops, Puts}
+use Rattle.tree_rows.specs.Runs.{run_of}
+use Rattle.tree_rows.proofs.Keyed.{rows_dropped, rows_put}
+use Rattle.tree_rows.proofs.Runs.{run_numbered}
+use Rattle.tree_tables.specs.Answers.{ListsLines}
+use Rattle.tree_tables.specs.Columns.{flag, line_columns}
+use Rattle.tree_tables.specs.Steps.{Always, Changes}
+use Rattle.tree_tables.specs.Stored.{SaysLine, signed_name}
+use Rattle.tree_tables.specs.declared.line_rows.StoredLine.{StoredLine}
+use Rattle.tree_tables.proofs.Holding.{with_lines}
+use Rattle.tree_tables.proofs.Layouts.{line_layout}
+use Rattle.tree_tables.proofs.RowsRead.{nothing_asked, told_of_all}
+
+-- a line that is put under its key is put into the table
+pub line_put : {old new : View} {key row : Row} (period : ℕ) (name : List ℕ) (plus : Bool)
+    → Puts old new 5 key row → key ≡ Int (pos period) ∷ Blob name ∷ []
+    → row ≡ line_columns ((period, name), plus)
+    → Changes old new Always (put_line_row period name plus)
+line_put period name plus puts key_is row_is = record {
+  only = puts.rewrites.only;
+  made = λ tables holds when.
+      with_lines holds (insert tables.lines (period, name) plus) puts.rewrites.others
+      (rows_put line_layout tables.lines (period, name) plus puts holds.lines key_is row_is);
+}
+
+-- a line that is dropped by its key is gone from the table
+pub line_dropped : {old new : View} {key : Row} (period : ℕ) (name : List ℕ)
+    → Drops old new 5 key → key ≡ Int (pos period) ∷ Blob name ∷ []
+    → Changes old new Always (drop_line_row period name)
+line_dropped period name drops key_is = record {
+  only = drops.rewrites.only;
+  made = λ tables holds when.
+      with_lines holds (remove tables.lines (period, name)) drops.rewrites.others
+      (rows_dropped line_layout tables.lines (period, name) drops holds.lines key_is);
+}
+
+-- marks are told apart by their numbers
+same_flag : (one other : Bool) → Int (pos (flag one)) ≡ Int (pos (flag other)) → one ≡ other
+same_flag true true same = refl
+same_flag true false same = absurd (let e = same in cc)
+same_flag false true same = absurd (let e = same in cc)
+same_flag false false same = refl
+
+-- what is read of a line's row is the line
+line_said : (line : StoredLine) (entry : (ℕ × List ℕ) × Bool) (row : Row) → Unit {0}
+    → row ≡ line_columns entry → SaysLine row line → signed_name line ≡ (entry.0.1, entry.1)
+line_said line entry row good is says =
+    let name : line.name ≡ entry.0.1 =
+    same_blob line.name entry.0.1 (sym says.name ∙ ap (λ r. column r 1) is) in
+    let plus : line.plus ≡ entry.1 =
+    same_flag line.plus entry.1 (sym says.plus ∙ ap (λ r. column r 2) is) in
+    λ i. (name i, plus i)
+  where
+    same_blob : (one other : List ℕ) → Blob one ≡ Blob other → one ≡ other
+    same_blob one other same = cc
+
+-- the lines of a period are those that are read of the rows of its number
+pub lines_read : (period : ℕ) (tables : Tables) (rows : List Row) (key : Row)
+    (all : List StoredLine) → rows ≡ map line_columns (entries tables.lines)
+    → key ≡ Int (pos period) ∷ [] → AllZip SaysLine (run_of key rows) all
+    → ListsLines period tables all
+lines_read period tables rows key all held key_is says =
+    told_of_all line_columns SaysLine signed_name
+    (λ (row : (ℕ × List ℕ) × Bool). (row.0.1, row.1)) (λ entry. Unit {0}) line_said
+    (run_of key rows) all (rows_under period tables.lines)
+    (nothing_asked (rows_under period tables.lines)) says
+    (ap (λ k. run_of k rows) key_is ∙ ap (run_of (Int (pos period) ∷ [])) held
+    ∙ run_numbered by_bytes line_layout (λ name. Blob name ∷ []) (λ n name. refl) period
+    tables.lines)

@@ -1,0 +1,427 @@
+-- Looks at the tables, and steps of them, by what calls on rows say.
+use Rattle.std.proofs.Common.{◌≡◌, ◌∙◌, ℕ, List, Option, inl, inr, Result, Ok, Err, refl, sym}
+use Rattle.std.proofs.Common.{ap, subst, true≢false, arith, rules}
+use Rattle.std.specs.Prelude.{IsErr, IfOk, OnErr, OnOk}
+use Rattle.sqlite_trees.specs.Tree.{Trees}
+use Rattle.sqlite_trees.specs.View.{View, IsClean, IsQuiet, KeepsCommitted}
+use Rattle.sqlite_trees.specs.View.{OnlyWrites}
+use Rattle.sqlite_value.specs.Order.{Row}
+use Rattle.sqlite_trees.specs.declared.error.StoreError.{StoreError}
+use Rattle.sqlite_trees.specs.declared.store.Store.{Ghosts}
+use Rattle.kept_tables.specs.Tables.{Tables}
+use Rattle.tree_rows.specs.Rows.{IsUnchanged, Rewrites}
+use Rattle.tree_tables.specs.Holds.{Holds}
+use Rattle.tree_tables.specs.States.{HasCleanDisk, State, Survives, state}
+use Rattle.tree_tables.specs.Steps.{Changes, Does, Looks}
+
+-- a tree that is rewritten behind a look is rewritten
+pub rewrites_behind : {old mid new : View} {tree : ℕ} {rows : List Row} → IsUnchanged old mid
+    → Rewrites mid new tree rows → Rewrites old new tree rows
+rewrites_behind {old} {mid} {new} {tree} {rows} same rewrites =
+    by_same mid.cursors (subst (λ v. Rewrites v new tree rows) same rewrites)
+  where
+    by_same : (cursors : ℕ → Option (List Row))
+        → Rewrites (record old { cursors = cursors }) new tree rows → Rewrites old new tree rows
+    by_same cursors done = record {
+      rows_now = done.rows_now;
+      others = done.others;
+      only = done.only;
+    }
+
+-- what stands behind a look stood before it
+pub kept_behind : {old mid new : View} → IsUnchanged old mid → KeepsCommitted mid new
+    → KeepsCommitted old new
+kept_behind {old} {mid} {new} same kept =
+    by_same mid.cursors (subst (λ v. KeepsCommitted v new) same kept)
+  where
+    by_same : (cursors : ℕ → Option (List Row))
+        → KeepsCommitted (record old { cursors = cursors }) new → KeepsCommitted old new
+    by_same cursors kept = record {
+      shape = kept.shape;
+      reals = kept.reals;
+      committed_shape = kept.committed_shape;
+      committed_reals = kept.committed_reals;
+      numbered = kept.numbered;
+      was_open = kept.was_open;
+      committed = kept.committed;
+      marks = kept.marks;
+    }
+
+-- or behind a step
+pub kept_after : {old mid new : View} → OnlyWrites old mid → KeepsCommitted mid new
+    → KeepsCommitted old new
+kept_after {old} {mid} {new} only kept =
+    by_only mid.trees mid.cursors (subst (λ v. KeepsCommitted v new) only kept)
+  where
+    by_only : (trees : Trees) (cursors : ℕ → Option (List Row))
+        → KeepsCommitted (record old { trees = trees; cursors = cursors }) new
+        → KeepsCommitted old new
+    by_only trees cursors kept = record {
+      shape = kept.shape;
+      reals = kept.reals;
+      committed_shape = kept.committed_shape;
+      committed_reals = kept.committed_reals;
+      numbered = kept.numbered;
+      was_open = kept.was_open;
+      committed = kept.committed;
+      marks = kept.marks;
+    }
+
+-- a look alone leaves what was committed
+pub kept_same : {old new : View} → IsUnchanged old new → KeepsCommitted old new
+kept_same {old} {new} same =
+    subst (KeepsCommitted old) (sym same) (record {
+      shape = refl;
+      reals = refl;
+      committed_shape = refl;
+      committed_reals = refl;
+      numbered = refl;
+      was_open = λ is_open. is_open;
+      committed = λ is_open. refl;
+      marks = λ is_open. refl;
+    })
+
+-- two steps, one after the other, write only
+pub only_both : (old : View) {mid new : View} → OnlyWrites old mid → OnlyWrites mid new
+    → OnlyWrites old new
+only_both old {new = new} one two =
+    two ∙ ap (λ (v : View). record v { trees = new.trees; cursors = new.cursors }) one
+
+-- and so does a look
+pub only_looks : (old : View) {new : View} → IsUnchanged old new → OnlyWrites old new
+only_looks old {new} same =
+    same ∙ ap (λ (trees : Trees). record old { trees = trees; cursors = new.cursors })
+    (sym (ap (λ (v : View). v.trees) same))
+
+-- two looks, one after the other, only move cursors
+pub unchanged_both : (old mid new : View) → IsUnchanged old mid → IsUnchanged mid new
+    → IsUnchanged old new
+unchanged_both old mid new one two =
+    two ∙ ap (λ (v : View). record v { cursors = new.cursors }) one
+
+-- steps alone leave what was committed
+pub kept_by : {old new : View} → OnlyWrites old new → KeepsCommitted old new
+kept_by {new = new} only = kept_after only (kept_same {old = new} {new = new} refl)
+
+-- two looks, one after the other, are one
+pub same_both : (old : View) {mid new : View} → IsUnchanged old mid → IsUnchanged mid new
+    → IsUnchanged old new
+same_both old {new = new} one two =
+    two ∙ ap (λ (v : View). record v { cursors = new.cursors }) one
+
+-- the tables that a store holds are held behind a look
+pub held_behind : (old : View) {new : View} {tables : Tables} → IsUnchanged old new
+    → Holds old.trees tables → Holds new.trees tables
+held_behind old {tables = tables} same holds =
+    subst (λ (trees : Trees). Holds trees tables) (sym (ap (λ (v : View). v.trees) same)) holds
+
+-- the disk was clean before a call, if it is behind it
+pub was_clean : {old new : State} → Survives old new (λ trees. ⊥) → HasCleanDisk new
+    → HasCleanDisk old
+was_clean call clean =
+    let less = call.clean in
+    omega (arith, less, clean)
+
+-- two calls that commit nothing, one after the other, commit nothing
+pub survives_both : {old mid new : State} → Survives old mid (λ trees. ⊥)
+    → Survives mid new (λ trees. ⊥) → Survives old new (λ trees. ⊥)
+survives_both one two = record {
+  clean = (let a = one.clean in let b = two.clean in omega (arith, a, b));
+  shield = λ shielded. two.shield (one.shield shielded);
+  counts = (let a = one.counts in let b = two.counts in omega (arith, a, b));
+  closes = λ clean is_open.
+      let before = was_clean two clean in
+      let a = one.counts in
+      let b = two.counts in
+      elim (one.closes before is_open) [
+        | inl still ↦ elim (two.closes clean still) [
+          | inl stays ↦ inl stays
+          | inr more ↦ inr (search rules)
+        ]
+        | inr more ↦ inr (search rules)
+      ];
+  crash = λ clean trees left. elim (two.crash clean trees left) [
+    | inl mid_left ↦ one.crash (was_clean two clean) trees mid_left
+    | inr none ↦ absurd none
+  ];
+}
+
+-- a look behind another, which says more by what the other has answered
+pub looks_behind : {A B : Type 0} {First : Tables → A → Type 0} {Second Both : Tables → B → Type 0}
+    {first : A} {old mid new : State} (result : Result B StoreError)
+    → Looks (Ok first) old mid First → Looks result mid new Second
+    → ((tables : Tables) (second : B) → First tables first → Second tables second
+    → Both tables second)
+    → Looks result old new Both
+looks_behind {old = old} (Ok second) one two both = record {
+  survives = survives_both one.survives two.survives;
+  found = λ clean.
+      let before = one.found (was_clean two.survives clean) in
+      let after = two.found clean in
+      record {
+        same = same_both old.view before.same after.same;
+        known = λ tables holds. both tables second (before.known tables holds)
+            (after.known tables (held_behind old.view before.same holds));
+      };
+  refused = λ clean. tt;
+}
+looks_behind (Err error) one two both = record {
+  survives = survives_both one.survives two.survives;
+  found = λ clean. tt;
+  refused = λ clean. kept_behind (one.found (was_clean two.survives clean)).same
+      (two.refused clean);
+}
+
+-- what two looks have answered, put together
+pub looks_also : {A B C : Type 0} {First : Tables → A → Type 0} {Second : Tables → B → Type 0}
+    {Both : Tables → C → Type 0} {first : A} {second : B} {third : C} {old mid new : State}
+    → Looks (Ok first) old mid First → Looks (Ok second) mid new Second
+    → ((tables : Tables) → First tables first → Second tables second → Both tables third)
+    → Looks (Ok third) old new Both
+looks_also {old = old} one two both = record {
+  survives = survives_both one.survives two.survives;
+  found = λ clean.
+      let before = one.found (was_clean two.survives clean) in
+      let after = two.found clean in
+      record {
+        same = same_both old.view before.same after.same;
+        known = λ tables holds. both tables (before.known tables holds)
+            (after.known tables (held_behind old.view before.same holds));
+      };
+  refused = λ clean. tt;
+}
+
+module _ {S : Type 0} (ghosts : Ghosts S) where
+  -- a call that commits nothing
+  abbrev pub Quiet : S → S → Type 0
+  Quiet = IsQuiet ghosts.view ghosts.faults ghosts.recovers ghosts.is_shielded
+
+  -- the disk was clean before a call, if it is behind it
+  pub clean_before : {old new : S} → Quiet old new → IsClean (ghosts.view new)
+      → IsClean (ghosts.view old)
+  clean_before call clean =
+      let less = call.clean in
+      omega (arith, less, clean)
+
+  pub survives : {old new : S} → Quiet old new
+      → Survives (state ghosts old) (state ghosts new) (λ trees. ⊥)
+  survives call = record {
+    clean = call.clean;
+    shield = call.shield;
+    counts = call.counts;
+    closes = call.closes;
+    crash = λ clean trees left. inl (call.outcomes trees left);
+  }
+
+  -- two calls that commit nothing, one after the other
+  pub quiet_both : {old mid new : S} → Quiet old mid → Quiet mid new → Quiet old new
+  quiet_both one two = record {
+    shield = λ shielded. two.shield (one.shield shielded);
+    clean = (let a = one.clean in let b = two.clean in omega (arith, a, b));
+    counts = (let a = one.counts in let b = two.counts in omega (arith, a, b));
+    closes = λ clean is_open.
+        let before = clean_before two clean in
+        let a = one.counts in
+        let b = two.counts in
+        elim (one.closes before is_open) [
+          | inl still ↦ elim (two.closes clean still) [
+            | inl stays ↦ inl stays
+            | inr more ↦ inr (search rules)
+          ]
+          | inr more ↦ inr (search rules)
+        ];
+    outcomes = λ trees left. one.outcomes trees (two.outcomes trees left);
+  }
+
+  -- a call that only moves cursors, behind others
+  pub unchanged_on : (old : S) {mid new : S}
+      → (IsClean (ghosts.view mid) → IsUnchanged (ghosts.view old) (ghosts.view mid))
+      → Quiet mid new
+      → (IsClean (ghosts.view new) → IsUnchanged (ghosts.view mid) (ghosts.view new))
+      → IsClean (ghosts.view new) → IsUnchanged (ghosts.view old) (ghosts.view new)
+  unchanged_on old {mid} {new} before call same clean =
+      unchanged_both (ghosts.view old) (ghosts.view mid) (ghosts.view new)
+      (before (clean_before call clean)) (same clean)
+
+  -- a look that was answered
+  pub looks_found : {A : Type 0} {Answers : Tables → A → Type 0} {answer : A} {old new : S}
+      → Quiet old new
+      → (IsClean (ghosts.view new) → IsUnchanged (ghosts.view old) (ghosts.view new))
+      → (IsClean (ghosts.view new) → (tables : Tables) → Holds (ghosts.view old).trees tables
+      → Answers tables answer)
+      → Looks (Ok answer) (state ghosts old) (state ghosts new) Answers
+  looks_found call same known = record {
+    survives = survives call;
+    found = λ clean. record { same = same clean; known = known clean };
+    refused = λ clean. tt;
+  }
+
+  -- a look that failed
+  pub looks_refused : {A : Type 0} {Answers : Tables → A → Type 0} {old new : S}
+      (result : Result A StoreError) → IsErr result → Quiet old new
+      → (IsClean (ghosts.view new) → KeepsCommitted (ghosts.view old) (ghosts.view new))
+      → Looks result (state ghosts old) (state ghosts new) Answers
+  looks_refused (Ok answer) failed call kept = absurd (cc)
+  looks_refused (Err error) failed call kept = record {
+    survives = survives call;
+    found = λ clean. tt;
+    refused = kept;
+  }
+
+  -- a step that was tried
+  pub does_so : {T : Type 0} {When : Tables → Type 0} {change : Tables → Tables} {old new : S}
+      (result : Result T StoreError) → Quiet old new
+      → (IsClean (ghosts.view new) → OnErr result
+      (KeepsCommitted (ghosts.view old) (ghosts.view new)))
+      → (IsClean (ghosts.view new) → OnOk result
+      (Changes (ghosts.view old) (ghosts.view new) When change))
+      → Does result (state ghosts old) (state ghosts new) When change
+  does_so result call kept done = record { survives = survives call; done = done; refused = kept }
+
+  -- a step that rewrites one tree, behind a look
+  pub does_behind : {T : Type 0} {When : Tables → Type 0} {change : Tables → Tables}
+      {old mid new : S} {tree : ℕ} {rows : List Row} (result : Result T StoreError)
+      → Quiet old mid → (IsClean (ghosts.view mid) → IsUnchanged (ghosts.view old) (ghosts.view mid))
+      → Quiet mid new
+      → OnErr result (IsClean (ghosts.view new)
+      → KeepsCommitted (ghosts.view mid) (ghosts.view new))
+      → OnOk result (IsClean (ghosts.view new)
+      → Rewrites (ghosts.view mid) (ghosts.view new) tree rows)
+      → (IsClean (ghosts.view new) → Rewrites (ghosts.view old) (ghosts.view new) tree rows
+      → (tables : Tables) → Holds (ghosts.view old).trees tables → When tables
+      → Holds (ghosts.view new).trees (change tables))
+      → Does result (state ghosts old) (state ghosts new) When change
+  does_behind (Ok value) look same step kept done holds = record {
+    survives = survives (quiet_both look step);
+    done = λ clean.
+        let rewritten = rewrites_behind (same (clean_before step clean)) (done clean) in
+        record { only = rewritten.only; made = holds clean rewritten };
+    refused = λ clean. tt;
+  }
+  does_behind (Err error) look same step kept done holds = record {
+    survives = survives (quiet_both look step);
+    done = λ clean. tt;
+    refused = λ clean. kept_behind (same (clean_before step clean)) (kept clean);
+  }
+
+  -- a step that is one call
+  pub does_alone : {T Made : Type 0} {When : Tables → Type 0} {change : Tables → Tables}
+      {old new : S} (result : Result T StoreError) → Quiet old new
+      → OnErr result (IsClean (ghosts.view new)
+      → KeepsCommitted (ghosts.view old) (ghosts.view new))
+      → OnOk result (IsClean (ghosts.view new) → Made)
+      → (IsClean (ghosts.view new) → Made
+      → Changes (ghosts.view old) (ghosts.view new) When change)
+      → Does result (state ghosts old) (state ghosts new) When change
+  does_alone (Ok value) step kept done changes = record {
+    survives = survives step;
+    done = λ clean. changes clean (done clean);
+    refused = λ clean. tt;
+  }
+  does_alone (Err error) step kept done changes = record {
+    survives = survives step;
+    done = λ clean. tt;
+    refused = kept;
+  }
+
+  -- a look whose rows are read into an answer, or are refused
+  pub looks_read : {A : Type 0} {Made : A → Type 0} {Answers : Tables → A → Type 0} {old new : S}
+      (result : Result A StoreError) → Quiet old new
+      → (IsClean (ghosts.view new) → IsUnchanged (ghosts.view old) (ghosts.view new))
+      → IfOk result Made
+      → ((answer : A) → Made answer → IsClean (ghosts.view new) → (tables : Tables)
+      → Holds (ghosts.view old).trees tables → Answers tables answer)
+      → Looks result (state ghosts old) (state ghosts new) Answers
+  looks_read (Ok answer) call same made known = looks_found call same (known answer made)
+  looks_read (Err error) call same made known = record {
+    survives = survives call;
+    found = λ clean. tt;
+    refused = λ clean. kept_same (same clean);
+  }
+
+  -- a look that is one call
+  pub looks_alone : {A : Type 0} {Made : A → Type 0} {Answers : Tables → A → Type 0}
+      {old new : S} (result : Result A StoreError) → Quiet old new
+      → OnOk result (IsClean (ghosts.view new)
+      → IsUnchanged (ghosts.view old) (ghosts.view new))
+      → OnErr result (IsClean (ghosts.view new)
+      → KeepsCommitted (ghosts.view old) (ghosts.view new))
+      → IfOk result (λ answer. IsClean (ghosts.view new) → Made answer)
+      → ((answer : A) → Made answer → IsClean (ghosts.view new) → (tables : Tables)
+      → Holds (ghosts.view old).trees tables → Answers tables answer)
+      → Looks result (state ghosts old) (state ghosts new) Answers
+  looks_alone (Ok answer) call same kept made known =
+      looks_found call same (λ clean. known answer (made clean) clean)
+  looks_alone (Err error) call same kept made known = record {
+    survives = survives call;
+    found = λ clean. tt;
+    refused = kept;
+  }
+
+  -- a step that rewrites one tree, behind other steps
+  pub does_after : {T : Type 0} {When : Tables → Type 0} {change : Tables → Tables}
+      {old mid new : S} {tree : ℕ} {rows : List Row} (result : Result T StoreError)
+      → Quiet old mid → (IsClean (ghosts.view mid) → OnlyWrites (ghosts.view old) (ghosts.view mid))
+      → Quiet mid new
+      → OnErr result (IsClean (ghosts.view new)
+      → KeepsCommitted (ghosts.view mid) (ghosts.view new))
+      → OnOk result (IsClean (ghosts.view new)
+      → Rewrites (ghosts.view mid) (ghosts.view new) tree rows)
+      → (IsClean (ghosts.view new) → Rewrites (ghosts.view mid) (ghosts.view new) tree rows
+      → (tables : Tables) → Holds (ghosts.view old).trees tables → When tables
+      → Holds (ghosts.view new).trees (change tables))
+      → Does result (state ghosts old) (state ghosts new) When change
+  does_after {old = old} (Ok value) first only step kept done holds = record {
+    survives = survives (quiet_both first step);
+    done = λ clean.
+        let rewritten = done clean in
+        record {
+          only = only_both (ghosts.view old) (only (clean_before step clean)) rewritten.only;
+          made = holds clean rewritten;
+        };
+    refused = λ clean. tt;
+  }
+  does_after (Err error) first only step kept done holds = record {
+    survives = survives (quiet_both first step);
+    done = λ clean. tt;
+    refused = λ clean. kept_after (only (clean_before step clean)) (kept clean);
+  }
+
+  -- a step that has nothing to do, as a look has shown
+  pub does_nothing : {T : Type 0} {When : Tables → Type 0} {change : Tables → Tables} {value : T}
+      {old new : S} → Quiet old new
+      → (IsClean (ghosts.view new) → IsUnchanged (ghosts.view old) (ghosts.view new))
+      → (IsClean (ghosts.view new) → (tables : Tables) → Holds (ghosts.view old).trees tables
+      → change tables ≡ tables)
+      → Does (Ok value) (state ghosts old) (state ghosts new) When change
+  does_nothing {change = change} {old = old} {new = new} call same stays = record {
+    survives = survives call;
+    done = λ clean. record {
+      only = only_looks (ghosts.view old) (same clean);
+      made = λ tables holds when.
+          let there : Holds (ghosts.view new).trees tables =
+          subst (λ (trees : Trees). Holds trees tables)
+          (sym (ap (λ (v : View). v.trees) (same clean))) holds in
+          subst (Holds (ghosts.view new).trees) (sym (stays clean tables holds)) there;
+    };
+    refused = λ clean. tt;
+  }
+
+  -- a step that succeeded
+  pub does_well : {T : Type 0} {When : Tables → Type 0} {change : Tables → Tables} {value : T}
+      {old new : S} → Quiet old new
+      → (IsClean (ghosts.view new) → Changes (ghosts.view old) (ghosts.view new) When change)
+      → Does (Ok value) (state ghosts old) (state ghosts new) When change
+  does_well call done = record { survives = survives call; done = done; refused = λ clean. tt }
+
+  -- a step that failed
+  pub does_fail : {T : Type 0} {When : Tables → Type 0} {change : Tables → Tables} {old new : S}
+      (result : Result T StoreError) → IsErr result → Quiet old new
+      → (IsClean (ghosts.view new) → KeepsCommitted (ghosts.view old) (ghosts.view new))
+      → Does result (state ghosts old) (state ghosts new) When change
+  does_fail (Ok value) fails call kept = absurd (true≢false (sym fails))
+  does_fail (Err error) fails call kept = record {
+    survives = survives call;
+    done = λ clean. tt;
+    refused = kept;
+  }

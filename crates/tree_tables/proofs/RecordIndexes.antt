@@ -1,0 +1,74 @@
+-- The rows of the two trees that find records, where a record is new or changed.
+use Rattle.std.proofs.Common.{◌≡◌, ℕ, List, Bool, true, false, cond, None, Some, refl, sym, ap, ◌∙◌}
+use Rattle.std.specs.FinMap.{FinMap, get, insert, remove, get-remove}
+use Rattle.std.specs.Cmp.Lexicographic.{nat_list_cmp_total}
+use Rattle.std.specs.Ordering.{eq_by_cmp}
+use Rattle.std.specs.declared.cmp.Ordering.{Ordering}
+use Rattle.sqlite_trees.specs.Tree.{insert_entry, remove_entry}
+use Rattle.sqlite_value.specs.Keys.{plain}
+use Rattle.kept_tables.specs.Tables.{RecordRow}
+use Rattle.tree_rows.specs.Indexes.{IsIndexKey, index_of, index_answer, by_bytes, by_both, by_mark}
+use Rattle.tree_rows.specs.Layouts.{Layout, row_of, rows_of}
+use Rattle.tree_rows.proofs.IndexOrders.{by_bytes_exact, by_mark_total, by_mark_exact}
+use Rattle.tree_rows.proofs.Indexes.{indexed, index_new, index_has, index_changed}
+use Rattle.tree_rows.proofs.Maps.{inserted}
+use Rattle.tree_rows.proofs.PartIndexes.{part_named}
+use Rattle.tree_rows.proofs.Taking.{removed}
+use Rattle.tree_tables.specs.Holds.{identity_key, mark_key}
+
+-- the index key of a record by its identity
+pub identity_named :
+    IsIndexKey {V = RecordRow} by_bytes by_both identity_key (λ (q : List ℕ × List ℕ). q.1)
+identity_named = part_named (λ (row : RecordRow). row.identity)
+
+-- the index key of a record by its mark
+pub mark_named :
+    IsIndexKey {V = RecordRow} by_bytes by_mark mark_key (λ (q : ℕ × (List ℕ × List ℕ)). q.1.1)
+mark_named = record {
+  named = λ e. refl;
+  total = nat_list_cmp_total;
+  exact = by_bytes_exact;
+  index_total = by_mark_total;
+  index_exact = by_mark_exact;
+}
+
+-- what is there only where a test is passed is not there where that is taken
+none_left : {A : Type 0} (b : Bool) (x : A) → cond b None (cond b (Some x) None) ≡ None
+none_left true x = refl
+none_left false x = refl
+
+module _ {K V Q : Type 0} {R : K → K → Ordering} {P : Q → Q → Ordering} {key : K × V → Q}
+    {name : Q → K} (index : IsIndexKey R P key name) (layout : Layout Q (Unit {0}) P)
+  where
+    -- the row of a new entry joins those of the index
+    pub index_row_added : (m : FinMap R V) (k : K) (v : V) → get m k ≡ None
+        → insert_entry plain (row_of layout (key (k, v), tt)) (rows_of layout (index_of key m))
+        ≡ rows_of layout (index_of key (insert m k v))
+    index_row_added m k v none =
+        let new = index_new index m k v none in
+        inserted layout (index_of key m) (key (k, v)) tt new.0
+        ∙ ap (rows_of layout) (sym new.1)
+
+    -- without the key of the old entry, the index does not have that of the new one
+    gone : (m : FinMap R V) (k : K) (v w : V) → get m k ≡ Some v
+        → get (remove (index_of {P = P} key m) (key (k, v))) (key (k, w)) ≡ None
+    gone m k v w some =
+        let same = eq_by_cmp P (key (k, w)) (key (k, v)) in
+        let named : name (key (k, w)) ≡ k = index.named (k, w) in
+        get-remove index.index_total (index_of key m) (key (k, v)) (key (k, w))
+        ∙ ap (cond same None) (indexed index m (key (k, w))
+        ∙ ap (λ x. index_answer P key x (key (k, w)) (get m x)) named
+        ∙ ap (index_answer P key k (key (k, w))) some)
+        ∙ none_left same tt
+
+    -- where the value at a key is changed, the row of the old entry makes room for the new one's
+    pub index_row_changed : (m : FinMap R V) (k : K) (v w : V) → get m k ≡ Some v
+        → insert_entry plain (row_of layout (key (k, w), tt))
+        (remove_entry plain (row_of layout (key (k, v), tt)) (rows_of layout (index_of key m)))
+        ≡ rows_of layout (index_of key (insert m k w))
+    index_row_changed m k v w some =
+        ap (insert_entry plain (row_of layout (key (k, w), tt)))
+        (removed layout (index_of key m) (key (k, v)) tt (index_has index m k v some))
+        ∙ inserted layout (remove (index_of key m) (key (k, v))) (key (k, w)) tt
+        (gone m k v w some)
+        ∙ ap (rows_of layout) (sym (index_changed index m k v w some))

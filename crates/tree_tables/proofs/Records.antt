@@ -1,0 +1,136 @@
+-- Records by name: what is found of them, and the three trees that hold them after a step.
+use Rattle.std.proofs.Common.{◌≡◌, ◌∙◌, ℕ, List, [], ◌∷◌, Bool, true, false, None, Some, pos}
+use Rattle.std.proofs.Common.{map, refl, sym, ap, ap₂, subst, slice_set}
+use Rattle.std.specs.FinMap.{entries, get, insert}
+use Rattle.std.specs.Option.{option_map}
+use Rattle.sqlite_trees.specs.Tree.{insert_entry, remove_entry}
+use Rattle.sqlite_trees.specs.View.{View}
+use Rattle.sqlite_value.specs.Keys.{plain}
+use Rattle.sqlite_value.specs.Order.{Row, column}
+use Rattle.sqlite_value.specs.declared.value.Value.TheVariants.{Blob, Int}
+use Rattle.kept_tables.specs.RowChanges.{unmark_at}
+use Rattle.kept_tables.specs.Steps.{put_record_row, unmark_row}
+use Rattle.kept_tables.specs.Tables.{RecordRow, Tables}
+use Rattle.tree_rows.specs.Layouts.{Answers}
+use Rattle.tree_rows.specs.Rows.{Finds, IsUnchanged, Rewrites}
+use Rattle.tree_rows.proofs.Indexes.{index_same}
+use Rattle.tree_rows.proofs.Keyed.{row_found}
+use Rattle.tree_rows.proofs.Maps.{inserted}
+use Rattle.tree_rows.proofs.Taking.{changed}
+use Rattle.tree_tables.proofs.Holding.{apart, with_records}
+use Rattle.tree_tables.proofs.Layouts.{record_layout, identity_layout, mark_layout}
+use Rattle.tree_tables.proofs.Looking.{rewrites_behind}
+use Rattle.tree_tables.proofs.RecordIndexes.{identity_named, mark_named}
+use Rattle.tree_tables.proofs.RecordIndexes.{index_row_added, index_row_changed}
+use Rattle.tree_tables.specs.Answers.{FindsRecord}
+use Rattle.tree_tables.specs.Columns.{record_columns, identity_columns, mark_columns}
+use Rattle.tree_tables.specs.Holds.{Holds, identity_key, mark_key, marks}
+use Rattle.tree_tables.specs.Stored.{stored_entry}
+use Rattle.tree_tables.specs.declared.stored_record.StoredRecord.{StoredRecord}
+
+-- A record is looked up by name.
+module _ (tables : Tables) {name : List ℕ} {rows : List Row} {key row : Row} {hit : Bool}
+    (held : rows ≡ map record_columns (entries tables.records)) (key_is : key ≡ Blob name ∷ [])
+    (finds : Finds key rows row hit)
+  where
+    -- one that is not found is not there
+    pub record_missing : hit ≡ false → get tables.records name ≡ None
+    record_missing missing =
+        subst (Answers record_layout tables.records name row) missing
+        (row_found record_layout tables.records name finds held key_is)
+
+    -- one that is found is there, and the row is its own
+    pub record_there : hit ≡ true
+        → (found : RecordRow) × (get tables.records name ≡ Some found)
+        × (row ≡ record_columns (name, found))
+    record_there there =
+        subst (Answers record_layout tables.records name row) there
+        (row_found record_layout tables.records name finds held key_is)
+
+    -- so none is found
+    pub record_none : hit ≡ false → FindsRecord name tables None
+    record_none missing =
+        ap (option_map (λ (one : RecordRow). (name, one))) (sym (record_missing missing))
+
+    -- or what is read of the row is the record
+    pub record_some : (stored : StoredRecord) → hit ≡ true
+        → ((entry : List ℕ × RecordRow) → row ≡ record_columns entry
+        → stored_entry stored ≡ entry)
+        → FindsRecord name tables (Some stored)
+    record_some stored there says =
+        let found = record_there there in
+        ap Some (says (name, found.0) found.2)
+        ∙ ap (option_map (λ (one : RecordRow). (name, one))) (sym found.1)
+
+-- The row of a new record joins the records, and its keys the two trees that find them.
+pub record_added : {old one two new : View} {tables : Tables} (name : List ℕ) (row : RecordRow)
+    {made identity mark : Row}
+    → Rewrites old one 3 (insert_entry plain made (old.trees 3))
+    → Rewrites one two 6 (insert_entry plain identity (one.trees 6))
+    → Rewrites two new 7 (insert_entry plain mark (two.trees 7))
+    → made ≡ record_columns (name, row)
+    → identity ≡ identity_columns (identity_key (name, row), tt)
+    → mark ≡ mark_columns (mark_key (name, row), tt)
+    → Holds old.trees tables → get tables.records name ≡ None
+    → Holds new.trees (put_record_row name row tables)
+record_added {old} {one} {two} {new} {tables} name row first second third made_is identity_is
+    mark_is holds none =
+    with_records holds (insert tables.records name row)
+    (λ other records identities marks.
+    third.others other marks ∙ second.others other identities ∙ first.others other records)
+    (third.others 3 (apart 3 7 refl) ∙ second.others 3 (apart 3 6 refl) ∙ first.rows_now
+    ∙ ap₂ (insert_entry plain) made_is holds.records
+    ∙ inserted record_layout tables.records name row none)
+    (third.others 6 (apart 6 7 refl) ∙ second.rows_now
+    ∙ ap₂ (insert_entry plain) identity_is (first.others 6 (apart 6 3 refl) ∙ holds.identities)
+    ∙ index_row_added identity_named identity_layout tables.records name row none)
+    (third.rows_now
+    ∙ ap₂ (insert_entry plain) mark_is (second.others 7 (apart 7 6 refl)
+    ∙ first.others 7 (apart 7 3 refl) ∙ holds.marks)
+    ∙ index_row_added mark_named mark_layout tables.records name row none)
+
+-- the record without its mark
+abbrev unmarked : RecordRow → RecordRow
+unmarked row = record row { charged = false }
+
+-- Behind a look the row of a record makes room for the one without the mark, and its mark for the
+-- other; its identity stays.
+pub record_unmarked : (old : View) {look mid new : View} (tables : Tables) (name : List ℕ)
+    (row : RecordRow) {before made from to : Row} → IsUnchanged old look
+    → Rewrites look mid 3 (insert_entry plain made (remove_entry plain before (look.trees 3)))
+    → Rewrites mid new 7 (insert_entry plain to (remove_entry plain from (mid.trees 7)))
+    → before ≡ record_columns (name, row)
+    → made ≡ slice_set before 9 (Int (pos 0))
+    → from ≡ column before 9 ∷ column before 1 ∷ column before 0 ∷ []
+    → to ≡ Int (pos 0) ∷ column before 1 ∷ column before 0 ∷ []
+    → get tables.records name ≡ Some row → Holds old.trees tables
+    → Holds new.trees (unmark_row name tables)
+record_unmarked old {look} {mid} {new} tables name row {before} {made} {from} {to} same first
+    second before_is made_is from_is to_is some holds =
+    let records = tables.records in
+    let behind : Rewrites old mid 3 (insert_entry plain made (remove_entry plain before
+    (look.trees 3))) = rewrites_behind {old = old} same first in
+    let rows_are : look.trees 3 ≡ old.trees 3 = ap (λ (v : View). v.trees 3) same in
+    subst (λ found. Holds new.trees (record tables { records = unmark_at name found records }))
+    (sym some)
+    (with_records holds (insert records name (unmarked row))
+    (λ other apart_records apart_identities apart_marks.
+    second.others other apart_marks ∙ behind.others other apart_records)
+    (second.others 3 (apart 3 7 refl) ∙ behind.rows_now
+    ∙ ap₂ (λ one rows. insert_entry plain one (remove_entry plain before rows))
+    (made_is ∙ ap (λ one. slice_set one 9 (Int (pos 0))) before_is)
+    (rows_are ∙ holds.records)
+    ∙ ap (λ one. insert_entry plain (record_columns (name, unmarked row))
+    (remove_entry plain one (map record_columns (entries records)))) before_is
+    ∙ changed record_layout records name row (unmarked row) some)
+    (second.others 6 (apart 6 7 refl) ∙ behind.others 6 (apart 6 3 refl) ∙ holds.identities
+    ∙ ap (λ keys. map identity_columns (entries keys))
+    (sym (index_same identity_named records name row (unmarked row) some refl)))
+    (second.rows_now
+    ∙ ap₂ (λ one rows. insert_entry plain one (remove_entry plain from rows))
+    (to_is ∙ ap (λ one. Int (pos 0) ∷ column one 1 ∷ column one 0 ∷ []) before_is)
+    (behind.others 7 (apart 7 3 refl) ∙ holds.marks)
+    ∙ ap (λ one. insert_entry plain (mark_columns (mark_key (name, unmarked row), tt))
+    (remove_entry plain one (map mark_columns (entries (marks records)))))
+    (from_is ∙ ap (λ one. column one 9 ∷ column one 1 ∷ column one 0 ∷ []) before_is)
+    ∙ index_row_changed mark_named mark_layout records name row (unmarked row) some))

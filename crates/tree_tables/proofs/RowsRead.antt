@@ -1,0 +1,58 @@
+-- What is read of the rows of entries, by what each row says.
+use Rattle.std.proofs.Common.{◌≡◌, List, [], ◌∷◌, map, Some, refl}
+use Rattle.std.specs.Cmp.{IsTotalOrder}
+use Rattle.std.specs.FinMap.{FinMap, IsAntisymmetric, entries, entries_sorted, find, get}
+use Rattle.std.specs.FinMap.{get-entries, is_sorted}
+use Rattle.std.specs.List.{AllByRecursion, AllZip}
+use Rattle.std.specs.Prelude.{T}
+use Rattle.std.specs.declared.cmp.Ordering.{Ordering}
+use Rattle.std.proofs.Common.{◌∙◌}
+use Rattle.sqlite_value.specs.Order.{Row}
+use Rattle.tree_rows.proofs.Maps.{second}
+use Rattle.tree_rows.proofs.Moving.{find_later}
+use Rattle.tree_rows.proofs.Passing.{find_front}
+
+-- what asks nothing holds of all
+pub nothing_asked : {E : Type 0} (list : List E) → AllByRecursion (λ (entry : E). Unit {0}) list
+nothing_asked [] = tt
+nothing_asked (entry ∷ list) = (tt, nothing_asked list)
+
+module _ {T E Y : Type 0} (columns : E → Row) (Says : Row → T → Type 0) (told : T → Y)
+    (of : E → Y) (Good : E → Type 0)
+    (tells : (one : T) (entry : E) (row : Row) → Good entry → row ≡ columns entry → Says row one
+    → told one ≡ of entry)
+  where
+    -- Where what is read of the row of a good entry tells of it, what is read of all rows of good
+    -- entries tells of all of them.
+    pub told_of_all : (rows : List Row) (all : List T) (list : List E)
+        → AllByRecursion Good list → AllZip Says rows all → rows ≡ map columns list
+        → map told all ≡ map of list
+    told_of_all [] [] [] good says are = refl
+    told_of_all [] [] (entry ∷ list) good says are = absurd (let e = are in cc)
+    told_of_all [] (one ∷ all) list good says are = absurd says
+    told_of_all (row ∷ rows) [] list good says are = absurd says
+    told_of_all (row ∷ rows) (one ∷ all) [] good says are = absurd (let e = are in cc)
+    told_of_all (row ∷ rows) (one ∷ all) (entry ∷ list) good says are =
+        let first : row ≡ columns entry = (let e = are in cc) in
+        let rest : rows ≡ map columns list = (let e = are in cc) in
+        let one_is = tells one entry row good.0 first says.0 in
+        let rest_is = told_of_all rows all list good.1 says.1 rest in
+        λ i. one_is i ∷ rest_is i
+
+module _ {K V : Type 0} {R : K → K → Ordering} (total : IsTotalOrder R)
+    (exact : IsAntisymmetric R) (Good : K × V → Type 0) where
+  -- what holds of each entry that is found holds of all entries
+  found_all : (es : List (K × V)) → T (is_sorted R es)
+      → ((k : K) (v : V) → find R k es ≡ Some v → Good (k, v)) → AllByRecursion Good es
+  found_all [] up each = tt
+  found_all (e ∷ es) up each = (
+    each e.0 e.1 (find_front total exact e.0 e.1 es),
+    found_all es (second _ _ up)
+        (λ k v there. each k v (find_later total exact k v e es up there)),
+  )
+
+  -- what holds of each entry that a map has holds of its entries
+  pub all_entries : (m : FinMap R V) → ((k : K) (v : V) → get m k ≡ Some v → Good (k, v))
+      → AllByRecursion Good (entries m)
+  all_entries m each =
+      found_all (entries m) (entries_sorted m) (λ k v there. each k v (get-entries m k ∙ there))

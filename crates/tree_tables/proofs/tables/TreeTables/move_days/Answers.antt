@@ -1,0 +1,50 @@
+use Rattle.std.proofs.Common.{refl, rules}
+use Rattle.tree_tables.proofs.Looking.{clean_before, does_fail, does_well, kept_after, kept_by}
+use Rattle.tree_tables.proofs.Looking.{quiet_both}
+use Rattle.tree_tables.proofs.MoveDays.{all_moved, some_looked, some_more}
+use Rattle.tree_tables.proofs.tables.TreeTables.move_days.Goals as goal
+
+-- at first no row went
+pub rows-init : goal.rows-init
+rows-init g c = record {
+  quiet = search rules;
+  some = λ clean. some_looked c.args.close.now.period c.args.close.now.through refl;
+}
+
+-- one more went
+pub rows-preserved : goal.rows-preserved
+rows-preserved g c = record {
+  quiet = quiet_both g.S.Store c.rows.invariant.quiet c.move_day.ensures.quiet;
+  some = λ clean. some_more c.args.close.now.period c.args.close.now.through
+      (c.rows.invariant.some (clean_before g.S.Store c.move_day.ensures.quiet clean))
+      (c.in_ok-move_day.ensures.moved clean);
+}
+
+-- none is left
+pub returns-then-not-branch : goal.returns-then-not-branch
+returns-then-not-branch g c = record {
+  does = does_well g.S.Store
+      (quiet_both g.S.Store c.rows.invariant.quiet c.move_day.ensures.quiet)
+      (λ clean. all_moved c.args.close.now.period c.args.close.now.through
+      (some_more c.args.close.now.period c.args.close.now.through
+      (c.rows.invariant.some (clean_before g.S.Store c.move_day.ensures.quiet clean))
+      (c.in_ok-move_day.ensures.moved clean))
+      (c.in_ok-move_day.ensures.ended c.if-not-branch.true clean));
+}
+
+-- a step failed
+pub returns-in_err-move_day : goal.returns-in_err-move_day
+returns-in_err-move_day g c = record {
+  does = does_fail g.S.Store c.from_residual.result c.from_residual.ensures.0
+      (quiet_both g.S.Store c.rows.invariant.quiet c.move_day.ensures.quiet)
+      (λ clean. kept_after
+      (c.rows.invariant.some (clean_before g.S.Store c.move_day.ensures.quiet clean)).only
+      (c.in_err-move_day.ensures.kept clean));
+}
+
+-- too many went
+pub returns : goal.returns
+returns g c = record {
+  does = does_fail g.S.Store _ refl c.rows.invariant.quiet
+      (λ clean. kept_by (c.rows.invariant.some clean).only);
+}

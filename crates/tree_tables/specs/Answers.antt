@@ -1,0 +1,86 @@
+-- What each look answers of the tables.
+use Rattle.std.specs.Prelude.{◌≡◌, ℕ, ℤ, Bool, not, int_lt, List, map, filter, take, Option, Some}
+use Rattle.std.specs.FinMap.{entries, get, values}
+use Rattle.std.specs.List.{AllZip, list_any}
+use Rattle.std.specs.List.Sorted.{IsPermutation, IsStrictlySortedBy}
+use Rattle.std.specs.Option.{option_map}
+use Rattle.std.specs.Ordering.{ordering_then}
+use Rattle.std.specs.declared.cmp.Ordering.{Ordering}
+use Rattle.book_model.specs.Words.{by_bytes}
+use Rattle.book_model.specs.declared.row.ChargeRow.{ChargeRow}
+use Rattle.book_model.specs.declared.row.RowKey.{RowKey}
+use Rattle.kept_tables.specs.Numbered.{rows_under}
+use Rattle.kept_tables.specs.Reading.{rows_read}
+use Rattle.kept_tables.specs.Tables.{RecordRow, Tables}
+use Rattle.kept_tables.specs.Views.{rows_with}
+use Rattle.tree_tables.specs.Stored.{book_of, tariff_of, close_of, stored_entry, signed_name}
+use Rattle.tree_tables.specs.declared.book_row.StoredBook.{StoredBook}
+use Rattle.tree_tables.specs.declared.closed_rows.Close.{Close}
+use Rattle.tree_tables.specs.declared.found_names.FoundName.{FoundName}
+use Rattle.tree_tables.specs.declared.line_rows.StoredLine.{StoredLine}
+use Rattle.tree_tables.specs.declared.stored_record.StoredRecord.{StoredRecord}
+use Rattle.tree_tables.specs.declared.tariff_rows.StoredTariff.{StoredTariff}
+
+-- the row of the book
+abbrev pub FindsBook : Tables → Option StoredBook → Type 0
+FindsBook tables found = option_map book_of found ≡ Some tables.book
+
+-- all tariffs, by their first days
+abbrev pub ListsTariffs : Tables → List StoredTariff → Type 0
+ListsTariffs tables list = map tariff_of list ≡ entries tables.tariffs
+
+-- all closes, by their periods
+abbrev pub ListsCloses : Tables → List Close → Type 0
+ListsCloses tables list = map close_of list ≡ entries tables.closes
+
+-- the record of a name, if there is one
+abbrev pub FindsRecord : List ℕ → Tables → Option StoredRecord → Type 0
+FindsRecord name tables found =
+    option_map stored_entry found
+    ≡ option_map (λ (row : RecordRow). (name, row)) (get tables.records name)
+
+-- the records of names, each of which has one
+abbrev pub FindsNamed : List FoundName → Tables → List StoredRecord → Type 0
+FindsNamed names tables found =
+    AllZip (λ named stored. FindsRecord named.name tables (Some stored)) names found
+
+-- the first two of the records that have an identity, by name
+abbrev pub FindsSharing : List ℕ → Tables → List StoredRecord → Type 0
+FindsSharing identity tables found =
+    map stored_entry found ≡ take 2 (rows_with identity tables.records)
+
+-- a record is dated on the day or after it
+abbrev pub is_from : ℤ → RecordRow → Bool
+is_from day row = not (int_lt row.priced.day day)
+
+-- whether there is such a record
+abbrev pub FindsDated : ℤ → Tables → Bool → Type 0
+FindsDated day tables found = found ≡ list_any (is_from day) (values tables.records)
+
+-- by identity, then name
+abbrev pub by_identity : List ℕ × RecordRow → List ℕ × RecordRow → Ordering
+by_identity one other =
+    ordering_then (by_bytes one.1.identity other.1.identity) (by_bytes one.0 other.0)
+
+-- a record that is not charged
+abbrev pub is_uncharged : List ℕ × RecordRow → Bool
+is_uncharged entry = not entry.1.charged
+
+-- the records that are not charged, by identity, then name
+pub record ListsUncharged (tables : Tables) (list : List StoredRecord) : Type 0 where
+  pub same : IsPermutation (map stored_entry list) (filter is_uncharged (entries tables.records))
+  pub sorted : IsStrictlySortedBy by_identity (map stored_entry list)
+
+-- the charge row of a period at a place, if there is one
+abbrev pub FindsDay : ℕ → RowKey → Tables → Option ChargeRow → Type 0
+FindsDay period place tables found = found ≡ get tables.days (period, place)
+
+-- the charge rows of a period, by day, then centre, then shift
+abbrev pub ListsDays : ℕ → Tables → List ChargeRow → Type 0
+ListsDays period tables list = list ≡ rows_read period tables.days
+
+-- the lines of a period, by name
+abbrev pub ListsLines : ℕ → Tables → List StoredLine → Type 0
+ListsLines period tables list =
+    map signed_name list
+    ≡ map (λ (row : (ℕ × List ℕ) × Bool). (row.0.1, row.1)) (rows_under period tables.lines)

@@ -1,0 +1,64 @@
+-- The rows of the tables: the columns in which each kind of row is kept, those of its key first.
+use Rattle.std.specs.Prelude.{ℕ, ℤ, pos, Bool, List, [], ◌∷◌, Option, Some, None, if◌then◌else◌}
+use Rattle.sqlite_value.specs.Order.{Row}
+use Rattle.sqlite_value.specs.declared.value.Value.{Value}
+use Rattle.sqlite_value.specs.declared.value.Value.TheVariants.{Null, Int, Text, Blob}
+use Rattle.book_model.specs.declared.row.ChargeRow.{ChargeRow}
+use Rattle.book_model.specs.declared.row.RowKey.{RowKey}
+use Rattle.kept_tables.specs.Tables.{BookRow, RecordRow}
+
+-- a mark is 1 or 0
+abbrev pub flag : Bool → ℕ
+flag marked = if marked then 1 else 0
+
+-- the row of the book, with its number 1, which is its key
+abbrev pub book_columns : BookRow → Row
+book_columns row =
+    Int (pos 1) ∷ Int (pos row.rule) ∷ Int (pos row.adopted) ∷ Int (pos row.held)
+    ∷ Int (pos row.amount) ∷ []
+
+-- the text of a tariff, which came with one
+abbrev pub text_of : Option (List ℕ) → Value
+text_of None = Null
+text_of (Some text) = Text text
+
+-- a tariff: its first day, and its text
+abbrev pub tariff_columns : ℤ × Option (List ℕ) → Row
+tariff_columns tariff = Int tariff.0 ∷ text_of tariff.1 ∷ []
+
+-- a period, and the day through which it was closed
+abbrev pub closed_columns : ℕ × ℤ → Row
+closed_columns closed = Int (pos closed.0) ∷ Int closed.1 ∷ []
+
+-- a record under its name
+abbrev pub record_columns : List ℕ × RecordRow → Row
+record_columns entry =
+    let priced = entry.1.priced in
+    Blob entry.0 ∷ Blob entry.1.identity ∷ Blob entry.1.data_bytes ∷ Int priced.day
+    ∷ Text priced.shift ∷ Text priced.centre ∷ Int (pos priced.cpu) ∷ Int (pos priced.excp)
+    ∷ Int (pos priced.amount) ∷ Int (pos (flag entry.1.charged)) ∷ Int (pos (flag entry.1.posted))
+    ∷ []
+
+-- the columns of a charge row's key: its period, and its place there
+abbrev pub place_columns : ℕ × RowKey → Row
+place_columns place =
+    Int (pos place.0) ∷ Int place.1.day ∷ Text place.1.centre ∷ Text place.1.shift ∷ []
+
+-- a charge row under its period and place
+abbrev pub day_columns : (ℕ × RowKey) × ChargeRow → Row
+day_columns entry =
+    Int (pos entry.0.0) ∷ Int entry.0.1.day ∷ Text entry.0.1.centre ∷ Text entry.0.1.shift
+    ∷ Int (pos entry.1.count) ∷ Int (pos entry.1.cpu) ∷ Int (pos entry.1.blocks)
+    ∷ Int (pos entry.1.amount) ∷ []
+
+-- an adjustment line: its period and the record's name, and whether it adds the record
+abbrev pub line_columns : (ℕ × List ℕ) × Bool → Row
+line_columns line = Int (pos line.0.0) ∷ Blob line.0.1 ∷ Int (pos (flag line.1)) ∷ []
+
+-- an identity and the name of a record that has it
+abbrev pub identity_columns : (List ℕ × List ℕ) × Unit {0} → Row
+identity_columns entry = Blob entry.0.0 ∷ Blob entry.0.1 ∷ []
+
+-- a record's mark, its identity and its name
+abbrev pub mark_columns : (ℕ × (List ℕ × List ℕ)) × Unit {0} → Row
+mark_columns entry = Int (pos entry.0.0) ∷ Blob entry.0.1.0 ∷ Blob entry.0.1.1 ∷ []

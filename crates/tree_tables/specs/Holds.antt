@@ -1,0 +1,59 @@
+-- The trees that hold the tables: one a table, in the order of its key, and two more that find
+-- records, by their identities and by their marks.
+use Rattle.std.specs.Prelude.{◌≡◌, ℕ, List, [], ◌∷◌, map, Some}
+use Rattle.std.specs.FinMap.{FinMap, entries, get}
+use Rattle.sqlite_trees.specs.Tree.{Trees}
+use Rattle.sqlite_trees.specs.View.{View}
+use Rattle.sqlite_trees.specs.declared.store.Shape.TheVariants.{Index}
+use Rattle.sqlite_value.specs.Keys.{plain}
+use Rattle.book_model.specs.declared.row.ChargeRow.{ChargeRow}
+use Rattle.book_model.specs.declared.row.RowKey.{RowKey}
+use Rattle.kept_tables.specs.Tables.{DayTable, RecordRow, RecordTable, Tables}
+use Rattle.kept_tables.specs.TablesOf.{place_of}
+use Rattle.tree_rows.specs.Indexes.{index_of, by_both, by_mark}
+use Rattle.tree_tables.specs.Columns.{flag, book_columns, tariff_columns, closed_columns}
+use Rattle.tree_tables.specs.Columns.{record_columns, day_columns, line_columns}
+use Rattle.tree_tables.specs.Columns.{identity_columns, mark_columns}
+
+-- an identity with a name that has it
+abbrev pub identity_key : List ℕ × RecordRow → List ℕ × List ℕ
+identity_key entry = (entry.1.identity, entry.0)
+
+abbrev pub identities : RecordTable → FinMap by_both (Unit {0})
+identities records = index_of identity_key records
+
+-- a mark, with an identity and a name of a record that has the mark
+abbrev pub mark_key : List ℕ × RecordRow → ℕ × (List ℕ × List ℕ)
+mark_key entry = (flag entry.1.charged, (entry.1.identity, entry.0))
+
+abbrev pub marks : RecordTable → FinMap by_mark (Unit {0})
+marks records = index_of mark_key records
+
+-- each charge row stands under its own place
+abbrev pub ArePlaced : DayTable → Type 0
+ArePlaced days =
+    (key : ℕ × RowKey) (row : ChargeRow) → get days key ≡ Some row → place_of row ≡ key.1
+
+-- the rows of the trees are those of the tables
+pub record Holds (trees : Trees) (tables : Tables) : Type 0 where
+  pub book : trees 0 ≡ book_columns tables.book ∷ []
+  pub tariffs : trees 1 ≡ map tariff_columns (entries tables.tariffs)
+  pub closes : trees 2 ≡ map closed_columns (entries tables.closes)
+  pub records : trees 3 ≡ map record_columns (entries tables.records)
+  pub days : trees 4 ≡ map day_columns (entries tables.days)
+  pub placed : ArePlaced tables.days
+  pub lines : trees 5 ≡ map line_columns (entries tables.lines)
+  pub identities : trees 6 ≡ map identity_columns (entries (identities tables.records))
+  pub marks : trees 7 ≡ map mark_columns (entries (marks tables.records))
+
+-- each of the trees is sorted by its whole rows, in this transaction and in the last commit
+pub record HasShapes (view : View) : Type 0 where
+  pub book : view.shape 0 ≡ Index plain
+  pub tariffs : view.shape 1 ≡ Index plain
+  pub closes : view.shape 2 ≡ Index plain
+  pub records : view.shape 3 ≡ Index plain
+  pub days : view.shape 4 ≡ Index plain
+  pub lines : view.shape 5 ≡ Index plain
+  pub identities : view.shape 6 ≡ Index plain
+  pub marks : view.shape 7 ≡ Index plain
+  pub committed : view.committed_shape ≡ view.shape

@@ -1,0 +1,71 @@
+-- Rows that code hands over and gets back, as rows of the tables under their keys.
+use Rattle.std.specs.Prelude.{◌≡◌, ℕ, ℤ, pos, List, Bool, Option, Some, string_bytes}
+use Rattle.sqlite_value.specs.Order.{Row, column}
+use Rattle.sqlite_value.specs.declared.value.Value.TheVariants.{Blob, Int}
+use Rattle.book_model.specs.declared.row.ChargeRow.{ChargeRow}
+use Rattle.book_model.specs.declared.row.RowKey.{RowKey}
+use Rattle.kept_tables.specs.Tables.{BookRow, RecordRow}
+use Rattle.kept_tables.specs.TablesOf.{place_of}
+use Rattle.tree_tables.specs.Columns.{flag}
+use Rattle.tree_tables.specs.declared.book_row.StoredBook.{StoredBook}
+use Rattle.tree_tables.specs.declared.closed_rows.Close.{Close}
+use Rattle.tree_tables.specs.declared.line_rows.StoredLine.{StoredLine}
+use Rattle.tree_tables.specs.declared.record_rows.NewRecord.{NewRecord}
+use Rattle.tree_tables.specs.declared.stored_record.StoredRecord.{StoredRecord}
+use Rattle.tree_tables.specs.declared.tariff_rows.StoredTariff.{StoredTariff}
+
+-- the row of the book, as it was read
+abbrev pub book_of : StoredBook → BookRow
+book_of stored = record {
+  rule = stored.rule;
+  adopted = stored.adopted;
+  held = stored.held;
+  amount = stored.amount;
+}
+
+-- a tariff as an entry of its table
+abbrev pub tariff_of : StoredTariff → ℤ × Option (List ℕ)
+tariff_of tariff = (tariff.day, Some (string_bytes tariff.body))
+
+-- a close as an entry of its table
+abbrev pub close_of : Close → ℕ × ℤ
+close_of close = (close.period, close.through)
+
+-- a record that is to be written
+abbrev pub new_entry : NewRecord → List ℕ × RecordRow
+new_entry kept = (
+  kept.name.now,
+  record {
+    identity = kept.identity.now;
+    data_bytes = kept.data_bytes.now;
+    priced = kept.priced;
+    charged = kept.charged;
+    posted = kept.posted;
+  },
+)
+
+-- a record that was read
+abbrev pub stored_entry : StoredRecord → List ℕ × RecordRow
+stored_entry stored = (
+  stored.name,
+  record {
+    identity = stored.identity.items;
+    data_bytes = stored.data_bytes.items;
+    priced = stored.priced;
+    charged = stored.charged;
+    posted = stored.posted;
+  },
+)
+
+-- a charge row of a period as an entry of its table
+abbrev pub day_entry : ℕ → ChargeRow → (ℕ × RowKey) × ChargeRow
+day_entry period row = ((period, place_of row), row)
+
+-- the name of a line's record, and whether it adds the record
+abbrev pub signed_name : StoredLine → List ℕ × Bool
+signed_name line = (line.name, line.plus)
+
+-- the columns behind the period are those of the line
+pub record SaysLine (row : Row) (line : StoredLine) : Type 0 where
+  pub name : column row 1 ≡ Blob line.name
+  pub plus : column row 2 ≡ Int (pos (flag line.plus))

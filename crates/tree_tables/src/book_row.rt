@@ -1,0 +1,137 @@
+//! The one row of the book.
+
+ghost use Rattle.std.specs.Prelude.{◌≡◌, ◌<◌, ◌∷◌, ◌^◌, [], IfOk, OnOk, pos};
+ghost use Rattle.sqlite_value.specs.Order.{column};
+ghost use Rattle.sqlite_value.specs.declared.value.Value.TheVariants.{Int};
+ghost use Rattle.tree_tables.specs.Columns.{book_columns};
+ghost use Rattle.tree_tables.specs.Stored.{book_of};
+
+use crate::cells::count_at;
+use crate::keys::number_key;
+use crate::tables::TreeTables;
+use sqlite_trees::error::StoreError;
+use sqlite_trees::store::Store;
+use sqlite_value::row::Row;
+use sqlite_value::value::ValueRef;
+use tree_rows::{change_row, find_row};
+
+/// The tree of the book.
+const BOOK: u32 = 0;
+
+/// The number of the one row.
+const FIRST: i64 = 1;
+
+/// How many records the book has, and what they cost together.
+#[derive(Clone, Copy)]
+pub struct Sums {
+    pub held: u64,
+    pub amount: u64,
+}
+
+/// The row of the book, as it was kept: the rule of identity, the period of its adoption, and the
+/// sums.
+#[derive(Clone, Copy, Drop)]
+pub struct StoredBook {
+    pub rule: u64,
+    pub adopted: u64,
+    pub held: u64,
+    pub amount: u64,
+}
+
+/// Makes the row of the book.
+fn book_row(row: &mut Row, book: &StoredBook) -> Result<(), StoreError>
+    requires rule { book.now.rule < 2 ^ 63 }
+    requires adopted { book.now.adopted < 2 ^ 63 }
+    requires held { book.now.held < 2 ^ 63 }
+    requires amount { book.now.amount < 2 ^ 63 }
+    ensures { OnOk result (row.new ≡ book_columns (book_of book.now)) }
+{
+    row.clear();
+    row.push(ValueRef::Int(FIRST))?;
+    row.push(ValueRef::Int(book.rule as i64))?;
+    row.push(ValueRef::Int(book.adopted as i64))?;
+    row.push(ValueRef::Int(book.held as i64))?;
+    row.push(ValueRef::Int(book.amount as i64))?;
+    Ok(())
+}
+
+/// What the row of the book says.
+fn read_book(row: &Row) -> Result<StoredBook, StoreError>
+    ensures rule { IfOk result (λ book. column row.now 1 ≡ Int (pos book.rule)) }
+    ensures adopted { IfOk result (λ book. column row.now 2 ≡ Int (pos book.adopted)) }
+    ensures held { IfOk result (λ book. column row.now 3 ≡ Int (pos book.held)) }
+    ensures amount { IfOk result (λ book. column row.now 4 ≡ Int (pos book.amount)) }
+    ensures small { IfOk result (λ book. (book.rule < 2 ^ 63) × (book.adopted < 2 ^ 63)) }
+{
+    Ok(StoredBook {
+        rule: count_at(row, 1)?,
+        adopted: count_at(row, 2)?,
+        held: count_at(row, 3)?,
+        amount: count_at(row, 4)?,
+    })
+}
+
+/// The row with other sums.
+fn with_sums(book: &StoredBook, sums: &Sums) -> StoredBook
+    ensures rule { result.rule ≡ book.now.rule }
+    ensures adopted { result.adopted ≡ book.now.adopted }
+    ensures held { result.held ≡ sums.now.held }
+    ensures amount { result.amount ≡ sums.now.amount }
+{
+    StoredBook {
+        rule: book.rule,
+        adopted: book.adopted,
+        held: sums.held,
+        amount: sums.amount,
+    }
+}
+
+impl<S: Store> TreeTables<S> {
+    ghost use Rattle.std.specs.Prelude.{◌≡◌, ◌<◌, ◌^◌};
+    ghost use Rattle.kept_tables.specs.Steps as step;
+    ghost use Rattle.tree_tables.specs.Answers.{FindsBook};
+    ghost use Rattle.tree_tables.specs.States.{state};
+    ghost use Rattle.tree_tables.specs.Steps.{Always, Does, Looks, Makes};
+
+    /// The row of the book, if it is there.
+    pub fn find_book(&mut self) -> Result<Option<StoredBook>, StoreError>
+        ensures looks { Looks result (state S.Store self.old.store) (state S.Store self.new.store)
+            FindsBook }
+    {
+        number_key(&mut self.key, FIRST)?;
+        if !find_row(&mut self.store, BOOK, &self.key, &mut self.row)? {
+            return Ok(None);
+        }
+        Ok(Some(read_book(&self.row)?))
+    }
+
+    /// The row of new books joins trees that have no rows.
+    pub fn make_book(&mut self) -> Result<(), StoreError>
+        ensures makes { Makes result (state S.Store self.old.store) (state S.Store self.new.store) }
+    {
+        let book = StoredBook {
+            rule: 1,
+            adopted: 0,
+            held: 0,
+            amount: 0,
+        };
+        book_row(&mut self.row, &book)?;
+        self.store.insert(BOOK, &self.row)
+    }
+
+    /// The book has these sums.
+    pub fn set_sums(&mut self, sums: &Sums) -> Result<(), StoreError>
+        requires held { sums.now.held < 2 ^ 63 }
+        requires amount { sums.now.amount < 2 ^ 63 }
+        ensures does { Does result (state S.Store self.old.store) (state S.Store self.new.store)
+            Always (step.set_sums sums.now.held sums.now.amount) }
+    {
+        number_key(&mut self.key, FIRST)?;
+        if !find_row(&mut self.store, BOOK, &self.key, &mut self.before)? {
+            return Err(StoreError::Corrupt);
+        }
+        let book = with_sums(&read_book(&self.before)?, sums);
+        book_row(&mut self.row, &book)?;
+        change_row(&mut self.store, BOOK, &self.before, &self.row)
+    }
+}

@@ -1,0 +1,135 @@
+//! Columns that are read into types of the books. What does not fit is an ill-formed row.
+
+ghost use Rattle.std.specs.Prelude.{◌≡◌, ◌<◌, ◌^◌, IfOk, IfSome, OnOk, pos, slice_set, string_bytes};
+ghost use Rattle.sqlite_value.specs.Order.{column};
+ghost use Rattle.sqlite_value.specs.declared.value.Value.TheVariants.{Blob, Int, Text};
+ghost use Rattle.tree_tables.specs.Columns.{flag};
+
+use smf_text::Name;
+use sqlite_trees::error::StoreError;
+use sqlite_value::row::Row;
+use sqlite_value::value::ValueRef;
+use std::alloc::Global;
+
+/// The number in a column.
+fn int_at(row: &Row, at: usize) -> Result<i64, StoreError>
+    ensures read { IfOk result (λ n. column row.now at ≡ Int n) }
+{
+    match row.get(at) {
+        ValueRef::Int(n) => Ok(n),
+        _ => Err(StoreError::Corrupt),
+    }
+}
+
+/// The number in a column, where it is not below 0.
+pub(crate) fn count_at(row: &Row, at: usize) -> Result<u64, StoreError>
+    ensures read { IfOk result (λ n. column row.now at ≡ Int (pos n)) }
+    ensures small { IfOk result (λ n. n < 2 ^ 63) }
+{
+    let n = int_at(row, at)?;
+    u64::try_from(n).map_err(|_| StoreError::Corrupt)
+}
+
+/// The period in a column.
+pub(crate) fn period_at(row: &Row, at: usize) -> Result<u16, StoreError>
+    ensures read { IfOk result (λ n. column row.now at ≡ Int (pos n)) }
+{
+    let n = int_at(row, at)?;
+    u16::try_from(n).map_err(|_| StoreError::Corrupt)
+}
+
+/// The day in a column.
+pub(crate) fn day_at(row: &Row, at: usize) -> Result<i32, StoreError>
+    ensures read { IfOk result (λ day. column row.now at ≡ Int day) }
+{
+    let n = int_at(row, at)?;
+    i32::try_from(n).map_err(|_| StoreError::Corrupt)
+}
+
+/// The mark in a column, which is 1 or 0.
+pub(crate) fn mark_at(row: &Row, at: usize) -> Result<bool, StoreError>
+    ensures read { IfOk result (λ mark. column row.now at ≡ Int (pos (flag mark))) }
+{
+    match int_at(row, at)? {
+        0 => Ok(false),
+        1 => Ok(true),
+        _ => Err(StoreError::Corrupt),
+    }
+}
+
+/// The bytes in a column.
+pub(crate) fn bytes_at(row: &Row, at: usize, alloc: Global) -> Result<Vec<u8>, StoreError>
+    ensures read { IfOk result (λ bytes. column row.now at ≡ Blob bytes.items) }
+{
+    match row.get(at) {
+        ValueRef::Blob(bytes) => Ok(Vec::from_slice(alloc, bytes)?),
+        _ => Err(StoreError::Corrupt),
+    }
+}
+
+/// The 32 bytes in a column.
+pub(crate) fn hash_at(row: &Row, at: usize) -> Result<[u8; 32], StoreError>
+    ensures read { IfOk result (λ bytes. column row.now at ≡ Blob bytes) }
+{
+    match row.get(at) {
+        ValueRef::Blob(bytes) => hash_of(bytes).ok_or(StoreError::Corrupt),
+        _ => Err(StoreError::Corrupt),
+    }
+}
+
+/// The 32 bytes that stand for data.
+fn hash_of(bytes: &[u8]) -> Option<[u8; 32]>
+    ensures value { IfSome result (λ hash. hash ≡ bytes.now) }
+{
+    if bytes.len() != 32 {
+        return None;
+    }
+    bytes.first_chunk().copied()
+}
+
+/// The text in a column.
+fn str_at<'a>(row: &'a Row, at: usize) -> Result<&'a str, StoreError>
+    ensures read { IfOk result (λ text. column row.now at ≡ Text text.now) }
+{
+    match row.get(at) {
+        ValueRef::Text(bytes) => str::from_utf8(bytes).map_err(|_| StoreError::Corrupt),
+        _ => Err(StoreError::Corrupt),
+    }
+}
+
+/// The text in a column.
+pub(crate) fn text_at(row: &Row, at: usize, alloc: Global) -> Result<String, StoreError>
+    ensures read { IfOk result (λ text. column row.now at ≡ Text (string_bytes text)) }
+{
+    let text = str_at(row, at)?;
+    Ok(String::from_str(alloc, text)?)
+}
+
+/// The name in a column.
+pub(crate) fn name_at(row: &Row, at: usize) -> Result<Name, StoreError>
+    ensures read { IfOk result (λ name. column row.now at ≡ Text name) }
+{
+    let text = str_at(row, at)?;
+    Name::of(text).ok_or(StoreError::Corrupt)
+}
+
+/// Makes a row that is another one but for the number in one column.
+pub(crate) fn with_column(
+    row: &mut Row,
+    other: &Row,
+    at: usize,
+    number: i64,
+) -> Result<(), StoreError>
+    ensures { OnOk result (row.new ≡ slice_set other.now at (Int number)) }
+{
+    row.clear();
+    for place in 0..other.len() {
+        let value = if place == at {
+            ValueRef::Int(number)
+        } else {
+            other.get(place)
+        };
+        row.push(value)?;
+    }
+    Ok(())
+}

@@ -1,0 +1,83 @@
+//! Closes by their periods.
+
+ghost use Rattle.std.specs.Prelude.{◌≡◌, OnOk};
+ghost use Rattle.tree_tables.specs.Columns.{closed_columns};
+ghost use Rattle.tree_tables.specs.Stored.{close_of};
+
+use crate::cells::{day_at, period_at};
+use crate::keys::period_key;
+use crate::tables::TreeTables;
+use sqlite_trees::error::StoreError;
+use sqlite_trees::store::Store;
+use sqlite_value::row::Row;
+use sqlite_value::value::ValueRef;
+use std::alloc::Global;
+use tree_rows::{ReadRow, list_run, put_row};
+
+/// The tree of closes.
+const CLOSES: u32 = 2;
+
+/// A close: the period, and the day through which it was closed.
+#[derive(Clone, Copy, Drop)]
+pub struct Close {
+    pub period: u16,
+    pub through: i32,
+}
+
+/// Makes the row of a close.
+fn close_row(row: &mut Row, close: &Close) -> Result<(), StoreError>
+    ensures { OnOk result (row.new ≡ closed_columns (close_of close.now)) }
+{
+    row.clear();
+    row.push(ValueRef::Int(i64::from(close.period)))?;
+    row.push(ValueRef::Int(i64::from(close.through)))?;
+    Ok(())
+}
+
+impl ReadRow for Close {
+    ghost use Rattle.std.specs.Prelude.{◌≡◌, pos};
+    ghost use Rattle.sqlite_value.specs.Order.{column};
+    ghost use Rattle.sqlite_value.specs.declared.value.Value.TheVariants.{Int};
+
+    ghost says = { λ row close. (column row 0 ≡ Int (pos close.period))
+        × (column row 1 ≡ Int close.through) };
+
+    fn read(row: &Row, _alloc: Global) -> Result<Close, StoreError> {
+        Ok(Close {
+            period: period_at(row, 0)?,
+            through: day_at(row, 1)?,
+        })
+    }
+}
+
+impl<S: Store> TreeTables<S> {
+    ghost use Rattle.kept_tables.specs.Steps as step;
+    ghost use Rattle.tree_tables.specs.Answers.{ListsCloses};
+    ghost use Rattle.tree_tables.specs.States.{state};
+    ghost use Rattle.tree_tables.specs.Steps.{Always, Does, Looks};
+
+    /// The day of a close stands under its period.
+    pub fn put_close(&mut self, close: &Close) -> Result<(), StoreError>
+        ensures does { Does result (state S.Store self.old.store) (state S.Store self.new.store)
+            Always (step.put_close_row close.now.period close.now.through) }
+    {
+        period_key(&mut self.key, close.period)?;
+        close_row(&mut self.row, close)?;
+        put_row(
+            &mut self.store,
+            CLOSES,
+            &self.key,
+            &self.row,
+            &mut self.before,
+        )
+    }
+
+    /// All closes, by their periods.
+    pub fn list_closes(&mut self, alloc: Global) -> Result<Vec<Close>, StoreError>
+        ensures looks { Looks result (state S.Store self.old.store) (state S.Store self.new.store)
+            (λ tables list. ListsCloses tables list.items) }
+    {
+        self.key.clear();
+        list_run(&mut self.store, CLOSES, &self.key, &mut self.row, alloc)
+    }
+}

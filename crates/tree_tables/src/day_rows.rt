@@ -1,0 +1,237 @@
+//! Charge rows by period and place.
+
+ghost use Rattle.std.specs.Prelude.{◌≡◌, ◌==◌, ◌∷◌, ◌+ℤ◌, [], ℕ, IfOk, OnOk, map, pos};
+ghost use Rattle.sqlite_value.specs.Order.{column};
+ghost use Rattle.sqlite_value.specs.declared.value.Value.TheVariants.{Int};
+ghost use Rattle.kept_tables.specs.TablesOf.{place_of};
+ghost use Rattle.tree_tables.specs.Columns.{day_columns, place_columns};
+ghost use Rattle.tree_tables.specs.Days.{RowFits, SaysDay};
+
+use crate::cells::{count_at, day_at, name_at};
+use crate::closed_rows::Close;
+use crate::keys::period_key;
+use crate::tables::TreeTables;
+use book_model::{ChargeRow, RowKey};
+use sqlite_trees::error::StoreError;
+use sqlite_trees::store::Store;
+use sqlite_value::row::Row;
+use sqlite_value::value::ValueRef;
+use std::alloc::Global;
+use tree_rows::{ReadRow, change_row, drop_row, find_row, first_from, list_run, put_row};
+
+/// The tree of charge rows.
+const DAYS: u32 = 4;
+
+/// The most rows that go from one period to the next: more than any tree of a sound store has.
+const MOST_STEPS: u64 = 1 << 32;
+
+/// A charge row of a period.
+#[derive(Clone, Copy)]
+pub struct DayRow {
+    pub period: u16,
+    pub row: ChargeRow,
+}
+
+/// Where a charge row stands: its period, and its day, centre and shift.
+#[derive(Clone, Copy)]
+pub struct DayPlace {
+    pub period: u16,
+    pub place: RowKey,
+}
+
+/// The place of a charge row.
+fn place_in(charge: &ChargeRow) -> RowKey
+    ensures { result ≡ place_of charge.now }
+{
+    RowKey {
+        day: charge.day,
+        centre: charge.centre,
+        shift: charge.shift,
+    }
+}
+
+/// The key of a charge row.
+fn place_key(key: &mut Row, period: u32, place: &RowKey) -> Result<(), StoreError>
+    ensures { OnOk result (key.new ≡ place_columns (period, place.now)) }
+{
+    key.clear();
+    key.push(ValueRef::Int(i64::from(period)))?;
+    key.push(ValueRef::Int(i64::from(place.day)))?;
+    key.push(ValueRef::Text(place.centre.text().as_bytes()))?;
+    key.push(ValueRef::Text(place.shift.text().as_bytes()))?;
+    Ok(())
+}
+
+/// Makes the row of a charge row.
+fn day_row(row: &mut Row, period: u32, charge: &ChargeRow) -> Result<(), StoreError>
+    requires fits { RowFits charge.now }
+    ensures { OnOk result (row.new ≡ day_columns ((period, place_of charge.now), charge.now)) }
+{
+    place_key(row, period, &place_in(charge))?;
+    row.push(ValueRef::Int(charge.count as i64))?;
+    row.push(ValueRef::Int(charge.cpu as i64))?;
+    row.push(ValueRef::Int(charge.blocks as i64))?;
+    row.push(ValueRef::Int(charge.amount as i64))?;
+    Ok(())
+}
+
+/// The first columns of charge rows of the period that are dated after the day.
+fn later_key(key: &mut Row, close: &Close) -> Result<(), StoreError>
+    ensures { OnOk result (key.new
+        ≡ Int (pos close.now.period) ∷ Int (close.now.through +ℤ pos 1) ∷ []) }
+{
+    key.clear();
+    key.push(ValueRef::Int(i64::from(close.period)))?;
+    key.push(ValueRef::Int(i64::from(close.through) + 1))?;
+    Ok(())
+}
+
+/// Whether a charge row is one of the period.
+fn is_of(row: &Row, period: u16) -> bool
+    ensures { (n : ℕ) → column row.now 0 ≡ Int (pos n) → result ≡ (n == period) }
+{
+    match row.get(0) {
+        ValueRef::Int(n) => n == i64::from(period),
+        _ => false,
+    }
+}
+
+/// What a charge row says.
+fn read_day(row: &Row) -> Result<ChargeRow, StoreError>
+    ensures says { IfOk result (SaysDay row.now) }
+    ensures fits { IfOk result RowFits }
+{
+    Ok(ChargeRow {
+        day: day_at(row, 1)?,
+        centre: name_at(row, 2)?,
+        shift: name_at(row, 3)?,
+        count: count_at(row, 4)?,
+        cpu: count_at(row, 5)?,
+        blocks: count_at(row, 6)?,
+        amount: count_at(row, 7)?,
+    })
+}
+
+/// A charge row as its row says.
+#[derive(Clone, Copy, Drop)]
+struct StoredDay {
+    charge: ChargeRow,
+}
+
+impl ReadRow for StoredDay {
+    ghost says = { λ row day. SaysDay row day.charge };
+
+    fn read(row: &Row, alloc: Global) -> Result<StoredDay, StoreError> {
+        Ok(StoredDay {
+            charge: read_day(row)?,
+        })
+    }
+}
+
+/// The charge rows that were read.
+fn charges(days: Vec<StoredDay>, alloc: Global) -> Result<Vec<ChargeRow>, StoreError>
+    ensures { IfOk result (λ list. list.items ≡ map (λ day. day.charge) days.items) }
+{
+    Ok(days.into_iter().map(|day| day.charge).collect(alloc)?)
+}
+
+impl<S: Store> TreeTables<S> {
+    ghost use Rattle.std.specs.Prelude.{◌≡◌, IfOk, OnErr, false};
+    ghost use Rattle.sqlite_trees.specs.View.{IsClean, IsQuiet, KeepsCommitted};
+    ghost use Rattle.kept_tables.specs.Steps as step;
+    ghost use Rattle.tree_tables.specs.Answers.{FindsDay, ListsDays};
+    ghost use Rattle.tree_tables.specs.Days.{MovesSome, NoneLater, NoneNext};
+    ghost use Rattle.tree_tables.specs.States.{state};
+    ghost use Rattle.tree_tables.specs.Steps.{Always, Does, Looks};
+
+    /// A period's charge row at a place, if there is one.
+    pub fn find_day(&mut self, spot: &DayPlace) -> Result<Option<ChargeRow>, StoreError>
+        ensures looks { Looks result (state S.Store self.old.store) (state S.Store self.new.store)
+            (FindsDay spot.now.period spot.now.place) }
+    {
+        place_key(&mut self.key, u32::from(spot.period), &spot.place)?;
+        if !find_row(&mut self.store, DAYS, &self.key, &mut self.row)? {
+            return Ok(None);
+        }
+        Ok(Some(read_day(&self.row)?))
+    }
+
+    /// The charge rows of a period, by day, then centre, then shift.
+    pub fn list_days(&mut self, alloc: Global, period: u16) -> Result<Vec<ChargeRow>, StoreError>
+        ensures looks { Looks result (state S.Store self.old.store) (state S.Store self.new.store)
+            (λ tables list. ListsDays period tables list.items) }
+    {
+        period_key(&mut self.key, period)?;
+        let days = list_run(&mut self.store, DAYS, &self.key, &mut self.row, alloc)?;
+        charges(days, alloc)
+    }
+
+    /// A charge row stands at its place in the period, in the place of the one that stood there.
+    pub fn put_day(&mut self, day: &DayRow) -> Result<(), StoreError>
+        requires fits { RowFits day.now.row }
+        ensures does { Does result (state S.Store self.old.store) (state S.Store self.new.store)
+            Always (step.put_day_row day.now.period day.now.row) }
+    {
+        let period = u32::from(day.period);
+        place_key(&mut self.key, period, &place_in(&day.row))?;
+        day_row(&mut self.row, period, &day.row)?;
+        put_row(
+            &mut self.store,
+            DAYS,
+            &self.key,
+            &self.row,
+            &mut self.before,
+        )
+    }
+
+    /// A period's charge row at a place, if there is one, goes.
+    pub fn drop_day(&mut self, spot: &DayPlace) -> Result<(), StoreError>
+        ensures does { Does result (state S.Store self.old.store) (state S.Store self.new.store)
+            Always (step.drop_day_row spot.now.period spot.now.place) }
+    {
+        place_key(&mut self.key, u32::from(spot.period), &spot.place)?;
+        drop_row(&mut self.store, DAYS, &self.key, &mut self.before)
+    }
+
+    /// The first row of a period that is dated after a day, if there is one, goes to the next period.
+    /// Answers whether there was one.
+    fn move_day(&mut self, close: &Close) -> Result<bool, StoreError>
+        ensures moved { IfOk result (λ found. IsClean (S.Store.view self.new.store)
+            → MovesSome (S.Store.view self.old.store) (S.Store.view self.new.store)
+            close.now.period close.now.through) }
+        ensures ended { IfOk result (λ found. found ≡ false
+            → IsClean (S.Store.view self.new.store)
+            → NoneLater (S.Store.view self.new.store).trees close.now.period close.now.through) }
+        ensures kept { OnErr result (IsClean (S.Store.view self.new.store)
+            → KeepsCommitted (S.Store.view self.old.store) (S.Store.view self.new.store)) }
+        ensures quiet { IsQuiet S.Store.view S.Store.faults S.Store.recovers S.Store.is_shielded
+            self.old.store self.new.store }
+    {
+        later_key(&mut self.key, close)?;
+        if !first_from(&mut self.store, DAYS, &self.key, &mut self.before)? {
+            return Ok(false);
+        }
+        if !is_of(&self.before, close.period) {
+            return Ok(false);
+        }
+        let charge = read_day(&self.before)?;
+        day_row(&mut self.row, u32::from(close.period) + 1, &charge)?;
+        change_row(&mut self.store, DAYS, &self.before, &self.row)?;
+        Ok(true)
+    }
+
+    /// The charge rows of a period that are dated after a day go to the next period.
+    pub fn move_days(&mut self, close: &Close) -> Result<(), StoreError>
+        ensures does { Does result (state S.Store self.old.store) (state S.Store self.new.store)
+            (NoneNext close.now.period)
+            (step.move_day_rows close.now.period close.now.through) }
+    {
+        // A disk that lies could find a row again and again, so the steps are counted.
+        'rows: for _ in 0..MOST_STEPS {
+            if !self.move_day(close)? {
+                return Ok(());
+            }
+        }
+        Err(StoreError::Corrupt)
+    }
+}

@@ -1,0 +1,55 @@
+//! Names of records, as the rows say that find them by their identities or by their marks.
+
+ghost use Rattle.std.specs.Prelude.{◌≡◌, IfOk, length, ◌-◌};
+ghost use Rattle.sqlite_value.specs.Order.{column};
+ghost use Rattle.sqlite_value.specs.declared.value.Value.TheVariants.{Blob};
+
+use crate::cells::hash_at;
+use crate::stored_record::StoredRecord;
+use crate::tables::TreeTables;
+use sqlite_trees::error::StoreError;
+use sqlite_trees::store::Store;
+use sqlite_value::row::Row;
+use std::alloc::Global;
+use tree_rows::ReadRow;
+
+/// The name of a record, which ends the row that finds it.
+#[derive(Clone, Copy, Drop)]
+pub(crate) struct FoundName {
+    pub(crate) name: [u8; 32],
+}
+
+impl ReadRow for FoundName {
+    ghost says = { λ row found. column row (length row - 1) ≡ Blob found.name };
+
+    fn read(row: &Row, _alloc: Global) -> Result<FoundName, StoreError> {
+        Ok(FoundName {
+            name: hash_at(row, row.len().saturating_sub(1))?,
+        })
+    }
+}
+
+impl<S: Store> TreeTables<S> {
+    ghost use Rattle.tree_tables.specs.Answers.{FindsNamed};
+    ghost use Rattle.tree_tables.specs.States.{state};
+    ghost use Rattle.tree_tables.specs.Steps.{Looks};
+
+    /// The records of these names, in their order. A name that has none is an ill-formed row.
+    pub(crate) fn read_named(
+        &mut self,
+        alloc: Global,
+        names: &[FoundName],
+    ) -> Result<Vec<StoredRecord>, StoreError>
+        ensures looks { Looks result (state S.Store self.old.store) (state S.Store self.new.store)
+            (λ tables found. FindsNamed names.now tables found.items) }
+    {
+        let mut all = Vec::new(alloc);
+        for named in names {
+            let Some(record) = self.find_record(alloc, &named.name)? else {
+                return Err(StoreError::Corrupt);
+            };
+            all.push(record)?;
+        }
+        Ok(all)
+    }
+}

@@ -1,0 +1,25 @@
+//! The tables of books, kept in the sorted trees of a store, below SQL: each look at them, and each
+//! step of a change, says what it is of the tables of `kept_tables`.
+#![tactic(auto)]
+
+mod book_row;
+mod cells;
+mod closed_rows;
+mod day_rows;
+mod found_names;
+mod keys;
+mod line_rows;
+mod record_rows;
+mod record_walks;
+mod stored_record;
+mod tables;
+mod tariff_rows;
+
+pub use book_row::{StoredBook, Sums};
+pub use closed_rows::Close;
+pub use day_rows::{DayPlace, DayRow};
+pub use line_rows::{LinePlace, StoredLine};
+pub use record_rows::NewRecord;
+pub use stored_record::StoredRecord;
+pub use tables::TreeTables;
+pub use tariff_rows::{StoredTariff, TariffText};

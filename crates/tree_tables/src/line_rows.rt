@@ -1,0 +1,114 @@
+//! Adjustment lines by period and name.
+
+ghost use Rattle.std.specs.Prelude.{◌≡◌, ◌∷◌, ◌++◌, [], IfOk, OnOk, pos};
+ghost use Rattle.sqlite_value.specs.declared.value.Value.TheVariants.{Blob, Int};
+ghost use Rattle.tree_tables.specs.Columns.{line_columns};
+ghost use Rattle.tree_tables.specs.Stored.{SaysLine};
+
+use crate::cells::{hash_at, mark_at};
+use crate::keys::period_key;
+use crate::tables::TreeTables;
+use sqlite_trees::error::StoreError;
+use sqlite_trees::store::Store;
+use sqlite_value::row::Row;
+use sqlite_value::value::ValueRef;
+use std::alloc::Global;
+use tree_rows::{ReadRow, drop_row, list_run, put_row};
+
+/// The tree of adjustment lines.
+const LINES: u32 = 5;
+
+/// Where a line stands: its period, and the name of its record.
+#[derive(Clone, Copy)]
+pub struct LinePlace<'a> {
+    pub period: u16,
+    pub name: &'a [u8],
+}
+
+/// A line as its row says.
+#[derive(Clone, Copy, Drop)]
+pub struct StoredLine {
+    /// The name of the record.
+    pub name: [u8; 32],
+    /// It adds the record, or takes it back.
+    pub plus: bool,
+}
+
+/// The key of a line.
+fn line_key(key: &mut Row, spot: &LinePlace<'_>) -> Result<(), StoreError>
+    ensures { OnOk result (key.new ≡ Int (pos spot.now.period) ∷ Blob spot.now.name.now ∷ []) }
+{
+    key.clear();
+    key.push(ValueRef::Int(i64::from(spot.period)))?;
+    key.push(ValueRef::Blob(spot.name))?;
+    Ok(())
+}
+
+/// Makes the row of a line.
+fn line_row(row: &mut Row, spot: &LinePlace<'_>, plus: bool) -> Result<(), StoreError>
+    ensures { OnOk result (row.new ≡ line_columns ((spot.now.period, spot.now.name.now), plus)) }
+{
+    line_key(row, spot)?;
+    row.push(ValueRef::Int(i64::from(plus)))?;
+    Ok(())
+}
+
+/// What the row of a line says.
+fn read_line(row: &Row) -> Result<StoredLine, StoreError>
+    ensures { IfOk result (SaysLine row.now) }
+{
+    Ok(StoredLine {
+        name: hash_at(row, 1)?,
+        plus: mark_at(row, 2)?,
+    })
+}
+
+impl ReadRow for StoredLine {
+    ghost says = { SaysLine };
+
+    fn read(row: &Row, alloc: Global) -> Result<StoredLine, StoreError> {
+        read_line(row)
+    }
+}
+
+impl<S: Store> TreeTables<S> {
+    ghost use Rattle.kept_tables.specs.Steps as step;
+    ghost use Rattle.tree_tables.specs.Answers.{ListsLines};
+    ghost use Rattle.tree_tables.specs.States.{state};
+    ghost use Rattle.tree_tables.specs.Steps.{Always, Does, Looks};
+
+    /// A line stands under its period and the name of its record: it adds the record, or takes it
+    /// back.
+    pub fn put_line(&mut self, spot: &LinePlace<'_>, plus: bool) -> Result<(), StoreError>
+        ensures does { Does result (state S.Store self.old.store) (state S.Store self.new.store)
+            Always (step.put_line_row spot.now.period spot.now.name.now plus) }
+    {
+        line_key(&mut self.key, spot)?;
+        line_row(&mut self.row, spot, plus)?;
+        put_row(
+            &mut self.store,
+            LINES,
+            &self.key,
+            &self.row,
+            &mut self.before,
+        )
+    }
+
+    /// A period's line for a record, if there is one, goes.
+    pub fn drop_line(&mut self, spot: &LinePlace<'_>) -> Result<(), StoreError>
+        ensures does { Does result (state S.Store self.old.store) (state S.Store self.new.store)
+            Always (step.drop_line_row spot.now.period spot.now.name.now) }
+    {
+        line_key(&mut self.key, spot)?;
+        drop_row(&mut self.store, LINES, &self.key, &mut self.before)
+    }
+
+    /// The lines of a period, by name.
+    pub fn list_lines(&mut self, alloc: Global, period: u16) -> Result<Vec<StoredLine>, StoreError>
+        ensures looks { Looks result (state S.Store self.old.store) (state S.Store self.new.store)
+            (λ tables list. ListsLines period tables list.items) }
+    {
+        period_key(&mut self.key, period)?;
+        list_run(&mut self.store, LINES, &self.key, &mut self.row, alloc)
+    }
+}

@@ -1,0 +1,213 @@
+//! Records by name, and the two trees that find them by identity and by mark.
+
+ghost use Rattle.std.specs.Prelude.{◌≡◌, ◌∷◌, ◌++◌, [], IfOk, OnOk, pos};
+ghost use Rattle.book_model.specs.Words.{IsPriced};
+ghost use Rattle.sqlite_value.specs.Value.{owned};
+ghost use Rattle.sqlite_value.specs.declared.value.Value.TheVariants.{Blob, Int, Text};
+ghost use Rattle.tree_tables.specs.Columns.{flag, record_columns};
+ghost use Rattle.tree_tables.specs.Stored.{new_entry};
+
+use crate::cells::with_column;
+use crate::keys::{bytes_key, number_key};
+use crate::stored_record::{StoredRecord, read_record};
+use crate::tables::TreeTables;
+use sqlite_trees::error::StoreError;
+use sqlite_trees::store::Store;
+use sqlite_value::row::Row;
+use sqlite_value::value::ValueRef;
+use std::alloc::Global;
+use tariff_rules::Priced;
+use tree_rows::{add_row, change_row, find_row, list_first, list_run};
+
+/// The tree of the records.
+const RECORDS: u32 = 3;
+
+/// The tree of their identities.
+const IDENTITIES: u32 = 6;
+
+/// The tree of their marks.
+const MARKS: u32 = 7;
+
+/// The column of a record's row that says whether it is charged now.
+const CHARGED: usize = 9;
+
+/// The most records of one identity that are looked at: whether there are two is all that counts.
+const MOST_SHARING: usize = 2;
+
+/// A record as its row is written.
+#[derive(Clone, Copy)]
+pub struct NewRecord<'a> {
+    /// The name of the record's data.
+    pub name: &'a [u8],
+    pub identity: &'a [u8],
+    /// The data behind the descriptor.
+    pub data_bytes: &'a [u8],
+    pub priced: Priced,
+    /// It is charged now.
+    pub charged: bool,
+    /// The last close charged it.
+    pub posted: bool,
+}
+
+/// What a record costs joins its row.
+fn push_price(row: &mut Row, priced: &Priced) -> Result<(), StoreError>
+    requires { IsPriced priced.now }
+    ensures { OnOk result (row.new ≡ row.old ++ Int priced.now.day ∷ Text priced.now.shift
+        ∷ Text priced.now.centre ∷ Int (pos priced.now.cpu) ∷ Int (pos priced.now.excp)
+        ∷ Int (pos priced.now.amount) ∷ []) }
+{
+    row.push(ValueRef::Int(i64::from(priced.day)))?;
+    row.push(ValueRef::Text(priced.shift.text().as_bytes()))?;
+    row.push(ValueRef::Text(priced.centre.text().as_bytes()))?;
+    row.push(ValueRef::Int(priced.cpu as i64))?;
+    row.push(ValueRef::Int(priced.excp as i64))?;
+    row.push(ValueRef::Int(priced.amount as i64))?;
+    Ok(())
+}
+
+/// A mark as the value of a column.
+fn mark_value<'a>(mark: bool) -> ValueRef<'a>
+    ensures { owned result ≡ Int (pos (flag mark)) }
+{
+    ValueRef::Int(i64::from(mark))
+}
+
+/// Makes the row of a record.
+fn record_row(row: &mut Row, kept: &NewRecord<'_>) -> Result<(), StoreError>
+    requires { IsPriced kept.now.priced }
+    ensures { OnOk result (row.new ≡ record_columns (new_entry kept.now)) }
+{
+    row.clear();
+    row.push(ValueRef::Blob(kept.name))?;
+    row.push(ValueRef::Blob(kept.identity))?;
+    row.push(ValueRef::Blob(kept.data_bytes))?;
+    push_price(row, &kept.priced)?;
+    row.push(mark_value(kept.charged))?;
+    row.push(mark_value(kept.posted))?;
+    Ok(())
+}
+
+/// Makes the row that finds a record by its identity.
+fn identity_row(row: &mut Row, identity: &[u8], name: &[u8]) -> Result<(), StoreError>
+    ensures { OnOk result (row.new ≡ Blob identity.now ∷ Blob name.now ∷ []) }
+{
+    row.clear();
+    row.push(ValueRef::Blob(identity))?;
+    row.push(ValueRef::Blob(name))?;
+    Ok(())
+}
+
+/// Makes the row that finds a record by its mark.
+fn mark_row(
+    row: &mut Row,
+    mark: ValueRef<'_>,
+    identity: ValueRef<'_>,
+    name: ValueRef<'_>,
+) -> Result<(), StoreError>
+    ensures { OnOk result (row.new
+        ≡ owned mark.entry ∷ owned identity.entry ∷ owned name.entry ∷ []) }
+{
+    row.clear();
+    row.push(mark)?;
+    row.push(identity)?;
+    row.push(name)?;
+    Ok(())
+}
+
+impl<S: Store> TreeTables<S> {
+    ghost use Rattle.std.specs.Prelude.{◌≡◌, ◌<◌, ◌^◌, None};
+    ghost use Rattle.std.specs.FinMap.{get};
+    ghost use Rattle.book_model.specs.Words.{IsPriced};
+    ghost use Rattle.kept_tables.specs.Steps as step;
+    ghost use Rattle.tree_tables.specs.Answers.{FindsRecord, FindsSharing, ListsUncharged};
+    ghost use Rattle.tree_tables.specs.States.{state};
+    ghost use Rattle.tree_tables.specs.Steps.{Always, Does, Looks};
+    ghost use Rattle.tree_tables.specs.Stored.{new_entry};
+
+    /// The record of a name, if there is one.
+    pub fn find_record(
+        &mut self,
+        alloc: Global,
+        name: &[u8],
+    ) -> Result<Option<StoredRecord>, StoreError>
+        ensures looks { Looks result (state S.Store self.old.store) (state S.Store self.new.store)
+            (FindsRecord name.now) }
+    {
+        bytes_key(&mut self.key, name)?;
+        if !find_row(&mut self.store, RECORDS, &self.key, &mut self.row)? {
+            return Ok(None);
+        }
+        Ok(Some(read_record(&self.row, alloc)?))
+    }
+
+    /// The first two of the records that have an identity, by name: more are not looked at, however
+    /// many there are.
+    pub fn find_sharing(
+        &mut self,
+        alloc: Global,
+        identity: &[u8],
+    ) -> Result<Vec<StoredRecord>, StoreError>
+        ensures looks { Looks result (state S.Store self.old.store) (state S.Store self.new.store)
+            (λ tables found. FindsSharing identity.now tables found.items) }
+    {
+        bytes_key(&mut self.key, identity)?;
+        let names = list_first(
+            &mut self.store,
+            IDENTITIES,
+            &self.key,
+            &mut self.row,
+            alloc,
+            MOST_SHARING,
+        )?;
+        self.read_named(alloc, &names)
+    }
+
+    /// The records that are not charged, by identity, then name.
+    pub fn list_uncharged(&mut self, alloc: Global) -> Result<Vec<StoredRecord>, StoreError>
+        ensures looks { Looks result (state S.Store self.old.store) (state S.Store self.new.store)
+            (λ tables list. ListsUncharged tables list.items) }
+    {
+        number_key(&mut self.key, 0)?;
+        let names = list_run(&mut self.store, MARKS, &self.key, &mut self.row, alloc)?;
+        self.read_named(alloc, &names)
+    }
+
+    /// A new record's row joins the table, and is found by its identity and by its mark. What is
+    /// under its name, if anything is, is not looked at.
+    pub fn insert_record(&mut self, kept: &NewRecord<'_>) -> Result<(), StoreError>
+        requires priced { IsPriced kept.now.priced }
+        ensures does { Does result (state S.Store self.old.store) (state S.Store self.new.store)
+            (λ tables. get tables.records kept.now.name.now ≡ None)
+            (step.put_record_row (new_entry kept.now).0 (new_entry kept.now).1) }
+    {
+        record_row(&mut self.row, kept)?;
+        add_row(&mut self.store, RECORDS, &self.row)?;
+        identity_row(&mut self.row, kept.identity, kept.name)?;
+        add_row(&mut self.store, IDENTITIES, &self.row)?;
+        mark_row(
+            &mut self.row,
+            mark_value(kept.charged),
+            ValueRef::Blob(kept.identity),
+            ValueRef::Blob(kept.name),
+        )?;
+        add_row(&mut self.store, MARKS, &self.row)
+    }
+
+    /// The record of a name, if there is one, is charged no more.
+    pub fn unmark_record(&mut self, name: &[u8]) -> Result<(), StoreError>
+        ensures does { Does result (state S.Store self.old.store) (state S.Store self.new.store)
+            Always (step.unmark_row name.now) }
+    {
+        bytes_key(&mut self.key, name)?;
+        if !find_row(&mut self.store, RECORDS, &self.key, &mut self.before)? {
+            return Ok(());
+        }
+        with_column(&mut self.row, &self.before, CHARGED, 0)?;
+        change_row(&mut self.store, RECORDS, &self.before, &self.row)?;
+        let identity = self.before.get(1);
+        let name = self.before.get(0);
+        mark_row(&mut self.key, self.before.get(CHARGED), identity, name)?;
+        mark_row(&mut self.row, mark_value(false), identity, name)?;
+        change_row(&mut self.store, MARKS, &self.key, &self.row)
+    }
+}

@@ -1,0 +1,63 @@
+//! Records as their rows say.
+
+ghost use Rattle.std.specs.Prelude.{◌≡◌, ℕ, IfOk, List, pos};
+ghost use Rattle.sqlite_value.specs.Order.{column};
+ghost use Rattle.sqlite_value.specs.declared.value.Value.TheVariants.{Int, Text};
+ghost use Rattle.kept_tables.specs.Tables.{RecordRow};
+ghost use Rattle.tree_tables.specs.Columns.{record_columns};
+ghost use Rattle.tree_tables.specs.Stored.{stored_entry};
+
+use crate::cells::{bytes_at, count_at, day_at, hash_at, mark_at, name_at};
+use sqlite_trees::error::StoreError;
+use sqlite_value::row::Row;
+use std::alloc::Global;
+use tariff_rules::Priced;
+
+/// A record as its row says.
+#[derive(Drop)]
+pub struct StoredRecord {
+    /// The name of the record's data.
+    pub name: [u8; 32],
+    pub identity: Vec<u8>,
+    /// The data behind the descriptor.
+    pub data_bytes: Vec<u8>,
+    pub priced: Priced,
+    /// It is charged now.
+    pub charged: bool,
+    /// The last close charged it.
+    pub posted: bool,
+}
+
+/// What the row of a record says that it costs.
+fn read_price(row: &Row) -> Result<Priced, StoreError>
+    ensures day { IfOk result (λ priced. column row.now 3 ≡ Int priced.day) }
+    ensures shift { IfOk result (λ priced. column row.now 4 ≡ Text priced.shift) }
+    ensures centre { IfOk result (λ priced. column row.now 5 ≡ Text priced.centre) }
+    ensures cpu { IfOk result (λ priced. column row.now 6 ≡ Int (pos priced.cpu)) }
+    ensures excp { IfOk result (λ priced. column row.now 7 ≡ Int (pos priced.excp)) }
+    ensures amount { IfOk result (λ priced. column row.now 8 ≡ Int (pos priced.amount)) }
+{
+    Ok(Priced {
+        day: day_at(row, 3)?,
+        shift: name_at(row, 4)?,
+        centre: name_at(row, 5)?,
+        cpu: count_at(row, 6)?,
+        excp: count_at(row, 7)?,
+        amount: count_at(row, 8)?,
+    })
+}
+
+/// What the row of a record says.
+pub(crate) fn read_record(row: &Row, alloc: Global) -> Result<StoredRecord, StoreError>
+    ensures read { IfOk result (λ stored. (entry : List ℕ × RecordRow)
+        → row.now ≡ record_columns entry → stored_entry stored ≡ entry) }
+{
+    Ok(StoredRecord {
+        name: hash_at(row, 0)?,
+        identity: bytes_at(row, 1, alloc)?,
+        data_bytes: bytes_at(row, 2, alloc)?,
+        priced: read_price(row)?,
+        charged: mark_at(row, 9)?,
+        posted: mark_at(row, 10)?,
+    })
+}

@@ -1,0 +1,82 @@
+//! The tables of books over a store.
+
+ghost use Rattle.sqlite_trees.specs.View.{IsClean};
+ghost use Rattle.tree_tables.specs.Holds.{HasShapes};
+
+use sqlite_trees::error::StoreError;
+use sqlite_trees::store::Store;
+use sqlite_value::row::Row;
+use std::alloc::Global;
+
+/// The tables of books in the trees of a store, one a table: 0 the book, 1 tariffs, 2 closes,
+/// 3 records, 4 charge rows, 5 adjustment lines; and two more that find records, 6 by identity and
+/// 7 by mark.
+#[derive(Drop)]
+pub struct TreeTables<S: Store> {
+    pub(crate) store: S,
+    /// The key that is looked for.
+    pub(crate) key: Row,
+    /// The row that is written, or that was found.
+    pub(crate) row: Row,
+    /// The row that stood under the key before.
+    pub(crate) before: Row,
+    ghost shaped: { IsClean (S.Store.view store) → HasShapes (S.Store.view store) },
+}
+
+impl<S: Store> TreeTables<S> {
+    ghost use Rattle.std.specs.Prelude.{◌≡◌, OnErr, OnOk};
+    ghost use Rattle.sqlite_trees.specs.View.{Commits, IsClean};
+    ghost use Rattle.tree_tables.specs.Holds.{HasShapes};
+    ghost use Rattle.tree_tables.specs.States.{Survives, state};
+    ghost use Rattle.tree_tables.specs.Steps.{IsUndone, MayCommit};
+
+    /// The tables in a store whose trees are there.
+    pub fn over(alloc: Global, store: S) -> TreeTables<S>
+        requires { IsClean (S.Store.view store) → HasShapes (S.Store.view store) }
+        ensures { result.store ≡ store }
+    {
+        TreeTables {
+            store,
+            key: Row::new(alloc),
+            row: Row::new(alloc),
+            before: Row::new(alloc),
+        }
+    }
+
+    /// The store.
+    pub fn into_store(self) -> S
+        ensures { result ≡ self.store }
+    {
+        self.store
+    }
+
+    /// Commits what was written. A commit that fails takes it back.
+    pub fn commit(&mut self) -> Result<(), StoreError>
+        ensures committed { OnOk result (IsClean (S.Store.view self.new.store)
+            → Commits (S.Store.view self.old.store) (S.Store.view self.new.store)) }
+        ensures refused { OnErr result (IsClean (S.Store.view self.new.store)
+            → IsUndone (S.Store.view self.old.store) (S.Store.view self.new.store)) }
+        ensures survives { Survives (state S.Store self.old.store) (state S.Store self.new.store)
+            (MayCommit (S.Store.view self.old.store)) }
+    {
+        self.store.commit()
+    }
+
+    /// Takes back what was written since the last commit.
+    pub fn roll_back(&mut self)
+        ensures undone { IsClean (S.Store.view self.new.store)
+            → IsUndone (S.Store.view self.old.store) (S.Store.view self.new.store) }
+        ensures survives { Survives (state S.Store self.old.store) (state S.Store self.new.store)
+            (λ trees. ⊥) }
+    {
+        self.store.rollback();
+    }
+
+    /// The store failed, so that what is seen of it says nothing.
+    pub fn is_broken(&self) -> bool
+        ensures { IsClean (S.Store.view self.now.store)
+            → result ≡ (S.Store.view self.now.store).is_broken }
+    {
+        self.store.is_broken()
+    }
+}

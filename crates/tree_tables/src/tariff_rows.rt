@@ -1,0 +1,89 @@
+//! Tariffs by their first days.
+
+ghost use Rattle.std.specs.Prelude.{◌≡◌, OnOk, Some};
+ghost use Rattle.tree_tables.specs.Columns.{tariff_columns};
+
+use crate::cells::{day_at, text_at};
+use crate::keys::day_key;
+use crate::tables::TreeTables;
+use sqlite_trees::error::StoreError;
+use sqlite_trees::store::Store;
+use sqlite_value::row::Row;
+use sqlite_value::value::ValueRef;
+use std::alloc::Global;
+use tree_rows::{ReadRow, list_run, put_row};
+
+/// The tree of tariffs.
+const TARIFFS: u32 = 1;
+
+/// A tariff that came as a text: its first day, and the text.
+#[derive(Clone, Copy)]
+pub struct TariffText<'a> {
+    pub day: i32,
+    pub body: &'a str,
+}
+
+/// A tariff as it was kept.
+#[derive(Drop)]
+pub struct StoredTariff {
+    pub day: i32,
+    pub body: String,
+}
+
+/// Makes the row of a tariff.
+fn tariff_row(row: &mut Row, tariff: &TariffText<'_>) -> Result<(), StoreError>
+    ensures { OnOk result (row.new ≡ tariff_columns (tariff.now.day, Some tariff.now.body.now)) }
+{
+    row.clear();
+    row.push(ValueRef::Int(i64::from(tariff.day)))?;
+    row.push(ValueRef::Text(tariff.body.as_bytes()))?;
+    Ok(())
+}
+
+impl ReadRow for StoredTariff {
+    ghost use Rattle.std.specs.Prelude.{◌≡◌, string_bytes};
+    ghost use Rattle.sqlite_value.specs.Order.{column};
+    ghost use Rattle.sqlite_value.specs.declared.value.Value.TheVariants.{Int, Text};
+
+    ghost says = { λ row tariff. (column row 0 ≡ Int tariff.day)
+        × (column row 1 ≡ Text (string_bytes tariff.body)) };
+
+    fn read(row: &Row, alloc: Global) -> Result<StoredTariff, StoreError> {
+        Ok(StoredTariff {
+            day: day_at(row, 0)?,
+            body: text_at(row, 1, alloc)?,
+        })
+    }
+}
+
+impl<S: Store> TreeTables<S> {
+    ghost use Rattle.kept_tables.specs.Steps as step;
+    ghost use Rattle.tree_tables.specs.Answers.{ListsTariffs};
+    ghost use Rattle.tree_tables.specs.States.{state};
+    ghost use Rattle.tree_tables.specs.Steps.{Always, Does, Looks};
+
+    /// The text of a tariff stands under its first day.
+    pub fn put_tariff(&mut self, tariff: &TariffText<'_>) -> Result<(), StoreError>
+        ensures does { Does result (state S.Store self.old.store) (state S.Store self.new.store)
+            Always (step.put_tariff_row tariff.now.day tariff.now.body.now) }
+    {
+        day_key(&mut self.key, tariff.day)?;
+        tariff_row(&mut self.row, tariff)?;
+        put_row(
+            &mut self.store,
+            TARIFFS,
+            &self.key,
+            &self.row,
+            &mut self.before,
+        )
+    }
+
+    /// All tariffs, by their first days.
+    pub fn list_tariffs(&mut self, alloc: Global) -> Result<Vec<StoredTariff>, StoreError>
+        ensures looks { Looks result (state S.Store self.old.store) (state S.Store self.new.store)
+            (λ tables list. ListsTariffs tables list.items) }
+    {
+        self.key.clear();
+        list_run(&mut self.store, TARIFFS, &self.key, &mut self.row, alloc)
+    }
+}
