@@ -17,3 +17,4 @@ pub mod Dated
 pub mod DayRows
 pub mod LineRows
 pub mod MoveDays
+pub mod MemoryTrees

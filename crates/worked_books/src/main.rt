@@ -5,6 +5,7 @@
 //! |---|---|
 //! | `memory:` | on books in memory |
 //! | `tables:` | on books in the tables of a database, opened for each line and closed behind it |
+//! | `trees:` | on books in the trees of a store, below SQL, opened for each line and closed behind it |
 //! | `commands:` | sessions of the program's commands, over files |
 //! | `stops:` | as those of `tables:`; it stands apart because disks that stop take the longest |
 //!
@@ -55,6 +56,7 @@ mod sessions;
 mod stops;
 mod sweep;
 mod table_books;
+mod tree_books;
 mod unstopped;
 
 use book_core::PlainLedger;
@@ -65,6 +67,7 @@ use sessions::Sessions;
 use std::test::Fail;
 use std::{env, fs, process};
 use table_books::TableBooks;
+use tree_books::TreeBooks;
 
 /// Plays the scripts of a section.
 fn play_section(rt: &HostRuntime, section: &str, names: &[String]) -> Result<(), Fail> {
@@ -72,6 +75,7 @@ fn play_section(rt: &HostRuntime, section: &str, names: &[String]) -> Result<(),
     match section {
         "memory:" => play_files(rt, BookRows::<PlainLedger<Names>>::new(), names),
         "tables:" | "stops:" => play_files(rt, BookRows::<TableBooks>::new(), names),
+        "trees:" => play_files(rt, BookRows::<TreeBooks>::new(), names),
         "commands:" => {
             let within = env::temp_dir(rt)?;
             let id = process::id(rt.process());
