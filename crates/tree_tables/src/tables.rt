@@ -45,7 +45,8 @@ impl<S: Store> TreeTables<S> {
 
     /// The store.
     pub fn into_store(self) -> S
-        ensures { result ≡ self.store }
+        ensures same { result ≡ self.store }
+        ensures shaped { IsClean (S.Store.view result) → HasShapes (S.Store.view result) }
     {
         self.store
     }

@@ -72,6 +72,8 @@ impl<S: Store, N: Naming + Drop> TableLedger<S, N> {
         ensures crash_refused { IfErr result (λ refused. Survives (state S.Store store)
             (state S.Store refused.1) (MayHoldNew (S.Store.view store))) }
         ensures refused { IfErr result (λ refused. IsStoreFault refused.0) }
+        ensures shaped { IfErr result (λ refused. IsClean (S.Store.view refused.1)
+            → HasShapes (S.Store.view refused.1)) }
     {
         let mut tables = TreeTables::over(alloc, store);
         match make_books(&mut tables) {

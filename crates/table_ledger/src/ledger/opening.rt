@@ -42,6 +42,8 @@ impl<S: Store, N: Naming + Drop> TableLedger<S, N> {
             → HasCleanDisk (state S.Store refused.1) → (tables : Tables)
             → ¬ Holds (S.Store.view store).trees tables) }
         ensures refused { IfErr result (λ refused. IsOpenFault refused.0) }
+        ensures shaped { IfErr result (λ refused. IsClean (S.Store.view refused.1)
+            → HasShapes (S.Store.view refused.1)) }
     {
         let mut tables = TreeTables::over(alloc, store);
         match read_summary(alloc, &mut tables) {
@@ -58,7 +60,8 @@ impl<S: Store, N: Naming + Drop> TableLedger<S, N> {
 
     /// Lets the store go.
     pub fn close_store(self) -> S
-        ensures { result ≡ self.tables.store }
+        ensures same { result ≡ self.tables.store }
+        ensures shaped { IsClean (S.Store.view result) → HasShapes (S.Store.view result) }
     {
         self.tables.into_store()
     }

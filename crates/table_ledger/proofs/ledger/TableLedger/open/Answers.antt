@@ -19,5 +19,5 @@ pub returns-in-Err-clause-found : goal.returns-in-Err-clause-found
 returns-in-Err-clause-found g c = λ none clean tables holds.
     never_both c.in-Err.fault none
     (c.in-Err.ensures.reads.refused
-    (subst (λ store. HasCleanDisk (state g.S.Store store)) c.into_store.ensures clean) tables
+    (subst (λ store. HasCleanDisk (state g.S.Store store)) c.into_store.ensures.same clean) tables
     (subst (λ store. Holds (g.S.Store.view store).trees tables) (sym c.over-tables.ensures) holds))
