@@ -5,40 +5,38 @@ use Rattle.sqlite_disk.specs.declared.Disk.{Ghosts}
 use Rattle.sqlite_store.specs.Catalog.{shape_at}
 use Rattle.sqlite_store.specs.FileStore.{view, schema_of}
 use Rattle.sqlite_store.specs.Laws.{unaltered_at}
-use Rattle.sqlite_store.specs.Listing.{all_reals, all_shapes}
+use Rattle.sqlite_store.specs.Listing.{all_shapes}
 use Rattle.sqlite_store.specs.Saved.{kept_schema}
 use Rattle.sqlite_store.specs.declared.store.FileStore.{FileStore}
 use Rattle.sqlite_trees.specs.Objects.{catalog_tree}
 use Rattle.sqlite_trees.specs.Tree.{Trees}
-use Rattle.sqlite_trees.specs.View.{Commits, IsReopened, IsRolledBack, KeepsSchema, View}
+use Rattle.sqlite_trees.specs.View.{IsReopened, View}
 use Rattle.sqlite_trees.specs.declared.store.Shape.TheVariants.{Index}
 use Rattle.sqlite_value.specs.Keys.{plain}
 use Rattle.book_trees.specs.Schema.{books_schema}
 use Rattle.book_trees.specs.Shapes.{HasBookTrees}
 
--- the shape of a tree of books, in the schema and as a store shows it, with no column of floats
+-- the shape of a tree of books, in the schema and as a store shows it
 record IsBookTree (tree : ℕ) : Type 0 where
   wanted : shape_at books_schema tree ≡ Index plain
   shape : all_shapes books_schema tree ≡ Index plain
-  reals : all_reals books_schema tree ≡ 0
 
--- from these three
+-- from these two
 is_book_tree : {tree : ℕ} → shape_at books_schema tree ≡ Index plain
-    → all_shapes books_schema tree ≡ Index plain → all_reals books_schema tree ≡ 0
-    → IsBookTree tree
-is_book_tree wanted shape reals = record { wanted = wanted; shape = shape; reals = reals }
+    → all_shapes books_schema tree ≡ Index plain → IsBookTree tree
+is_book_tree wanted shape = record { wanted = wanted; shape = shape }
 
 -- each tree of the schema is one
 book_tree : (tree : ℕ) → tree < 8 → IsBookTree tree
-unfolding all_shapes all_reals books_schema
-book_tree zero small = is_book_tree refl refl refl
-book_tree (suc zero) small = is_book_tree refl refl refl
-book_tree (suc (suc zero)) small = is_book_tree refl refl refl
-book_tree (suc (suc (suc zero))) small = is_book_tree refl refl refl
-book_tree (suc (suc (suc (suc zero)))) small = is_book_tree refl refl refl
-book_tree (suc (suc (suc (suc (suc zero))))) small = is_book_tree refl refl refl
-book_tree (suc (suc (suc (suc (suc (suc zero)))))) small = is_book_tree refl refl refl
-book_tree (suc (suc (suc (suc (suc (suc (suc zero))))))) small = is_book_tree refl refl refl
+unfolding all_shapes books_schema
+book_tree zero small = is_book_tree refl refl
+book_tree (suc zero) small = is_book_tree refl refl
+book_tree (suc (suc zero)) small = is_book_tree refl refl
+book_tree (suc (suc (suc zero))) small = is_book_tree refl refl
+book_tree (suc (suc (suc (suc zero)))) small = is_book_tree refl refl
+book_tree (suc (suc (suc (suc (suc zero))))) small = is_book_tree refl refl
+book_tree (suc (suc (suc (suc (suc (suc zero)))))) small = is_book_tree refl refl
+book_tree (suc (suc (suc (suc (suc (suc (suc zero))))))) small = is_book_tree refl refl
 book_tree (suc (suc (suc (suc (suc (suc (suc (suc tree)))))))) small = absurd (omega arith)
 
 -- each tree of the schema of books is an index
@@ -55,43 +53,16 @@ has_trees store schema unaltered =
     ap (λ saved. kept_schema saved (schema_of store)) unaltered in
     record {
       shape = λ tree small. ap (λ s. all_shapes s tree) schema ∙ (book_tree tree small).shape;
-      reals = λ tree small. ap (λ s. all_reals s tree) schema ∙ (book_tree tree small).reals;
       committed_shape = ap all_shapes kept;
-      committed_reals = ap all_reals kept;
     }
 
 module _ (old new : View) (trees : HasBookTrees old) where
   -- views with the same shapes have the same trees of books
-  pub same_trees : new.shape ≡ old.shape → new.reals ≡ old.reals
-      → new.committed_shape ≡ new.shape → new.committed_reals ≡ new.reals → HasBookTrees new
-  same_trees shape reals committed_shape committed_reals = record {
+  pub same_trees : new.shape ≡ old.shape → new.committed_shape ≡ new.shape → HasBookTrees new
+  same_trees shape committed_shape = record {
     shape = λ tree small. ap (λ f. f tree) shape ∙ trees.shape tree small;
-    reals = λ tree small. ap (λ f. f tree) reals ∙ trees.reals tree small;
     committed_shape = committed_shape;
-    committed_reals = committed_reals;
   }
-
-  -- a call that changes no schema keeps them
-  pub trees_kept : KeepsSchema old new → HasBookTrees new
-  trees_kept kept =
-      same_trees kept.shape kept.reals
-      (kept.committed_shape ∙ trees.committed_shape ∙ sym kept.shape)
-      (kept.committed_reals ∙ trees.committed_reals ∙ sym kept.reals)
-
-  -- and so does a commit
-  pub trees_committed : Commits old new → HasBookTrees new
-  trees_committed commits =
-      same_trees (ap (λ v. v.shape) commits.is) (ap (λ v. v.reals) commits.is)
-      (ap (λ v. v.committed_shape) commits.is ∙ sym (ap (λ v. v.shape) commits.is))
-      (ap (λ v. v.committed_reals) commits.is ∙ sym (ap (λ v. v.reals) commits.is))
-
-  -- and so does a rollback
-  pub trees_rolled_back : IsRolledBack old new → HasBookTrees new
-  trees_rolled_back back =
-      let shape : new.shape ≡ old.shape = back.shape (sym trees.committed_shape) in
-      let reals : new.reals ≡ old.reals = back.reals (sym trees.committed_reals) in
-      same_trees shape reals (back.committed_shape ∙ trees.committed_shape ∙ sym shape)
-      (back.committed_reals ∙ trees.committed_reals ∙ sym reals)
 
   -- after a crash the shapes are the same, if a crash leaves those of the last commit
   pub shape_stays : (old.shape ≡ old.committed_shape → new.shape ≡ old.shape)
@@ -106,5 +77,4 @@ module _ {D : Type 0} {g : Ghosts D} (old : View) (trees : HasBookTrees old) (ne
         → HasBookTrees (view next)
     trees_reopened again sound =
         let same = unaltered_at next sound (ap (λ (t : Trees). t catalog_tree) again.clean) in
-        same_trees old (view next) trees (again.shape (sym trees.committed_shape))
-        (again.reals (sym trees.committed_reals)) (sym same.0) (sym same.1)
+        same_trees old (view next) trees (again.shape (sym trees.committed_shape)) (sym same.0)

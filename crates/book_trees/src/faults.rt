@@ -5,6 +5,7 @@ ghost use Rattle.book_trees.specs.Refusals.{fault_for};
 
 use sqlite_std_file::OpenError as PathError;
 use sqlite_store::OpenError;
+use std::io::ErrorKind;
 
 /// Why a file of books was not opened or made.
 #[derive(Clone, Copy, Debug, PartialEq, Eq, Drop)]
@@ -13,8 +14,10 @@ pub enum OpenFault {
     NotBooks,
     /// Memory was wanting.
     Memory,
-    /// The files failed, or are full.
+    /// The files failed, or are full, or another program has them open.
     Store,
+    /// The files can't be had at the path.
+    Path,
 }
 
 /// What an error of the store stands for.
@@ -32,9 +35,12 @@ pub(crate) fn fault_of(error: OpenError) -> OpenFault
 pub(crate) fn fault_at(error: PathError) -> OpenFault
     ensures memory { error ≡ PathError.OutOfMemory → result ≡ OpenFault.Memory }
     ensures busy { error ≡ PathError.Busy → result ≡ OpenFault.Store }
+    ensures journal { error ≡ PathError.HotJournal → result ≡ OpenFault.Path }
 {
     match error {
         PathError::OutOfMemory => OpenFault::Memory,
-        PathError::Io(_) | PathError::Busy | PathError::HotJournal => OpenFault::Store,
+        PathError::Busy => OpenFault::Store,
+        PathError::Io(error) if error.kind() == ErrorKind::OutOfMemory => OpenFault::Memory,
+        PathError::Io(_) | PathError::HotJournal => OpenFault::Path,
     }
 }

@@ -14,7 +14,7 @@ mod unopened;
 
 pub use faults::OpenFault;
 pub use left::LeftByLedger;
-pub use new_books::{create_files, open_new_books};
+pub use new_books::{create_at, create_files, open_new_books};
 pub use opening::{open_at, open_files, open_left};
 pub use outcomes::{finds_each, leaves_books};
 pub use reopening::{close_and_open, crash_and_open};

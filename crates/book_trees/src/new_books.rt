@@ -12,12 +12,12 @@ ghost use Rattle.book_trees.specs.Refusals.{StopCreating};
 ghost use Rattle.book_trees.specs.Schema.{books_schema};
 ghost use Rattle.book_trees.specs.Shapes.{HasBookTrees};
 
-use crate::faults::{OpenFault, fault_of};
+use crate::faults::{OpenFault, fault_at, fault_of};
 use crate::left::LeftByLedger;
 use crate::reopening::close_and_open;
 use crate::unopened::unopened;
-use sqlite_disk::{Disk, Files};
-use sqlite_std_file::FileFrom;
+use sqlite_disk::{Disk, Files, Start};
+use sqlite_std_file::{FileFrom, open};
 use sqlite_store::FileStore;
 use std::alloc::Global;
 
@@ -59,6 +59,37 @@ pub fn create_files<D: Disk>(
     match files.create() {
         Ok(store) => Ok(store),
         Err((error, files)) => Err((fault_of(error), files.close())),
+    }
+}
+
+/// Makes new books in two files at a path. `S` stands for what these hold before, which is nothing
+/// where books are made.
+pub fn create_at<S: Start>(
+    rt: &HostRuntime,
+    path: &str,
+    seed: u64,
+    start: S,
+) -> Result<FileStore<FileFrom<S>>, OpenFault>
+    ensures ready { IfOk result IsReady }
+    ensures schema { IfOk result (λ store. schema_of store ≡ books_schema) }
+    ensures trees { IfOk result (λ store. HasBookTrees (view store)) }
+    ensures size { IfOk result (λ store. IsTrue (state store).is_clean
+        → (state store).page_size ≡ page_size) }
+    ensures started { IfOk result (λ store. IsTrue (state store).is_clean
+        → ∥ HoldsNothing (image_at S.Start) ∥₁) }
+    ensures empty { IfOk result (λ store. IsTrue (state store).is_clean
+        → AreEmptyTables (view store).committed) }
+    ensures left { IfOk result (λ store. IsTrue (state store).is_clean
+        → ∥ ((image : Image) × (held : HoldsBooks image) × (state store).may_leave image
+        × AreEmptyTables (tables_at held)) ∥₁) }
+{
+    let files = match open(rt, path, start) {
+        Ok(files) => files,
+        Err(error) => return Err(fault_at(error)),
+    };
+    match create_files(rt.alloc(), files, seed) {
+        Ok(store) => Ok(store),
+        Err((fault, _)) => Err(fault),
     }
 }
 
