@@ -119,6 +119,11 @@ def distinct(count):
     return map(usage, range(count))
 
 
+def variants(count):
+    """Usage records of one step, each with another time: they contradict each other."""
+    return (usage(0, more) for more in range(count))
+
+
 def segments_of(record):
     if record[2] == make.COMPLETE:
         return (record,)

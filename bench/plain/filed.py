@@ -11,15 +11,15 @@ sys.path.insert(0, str(pathlib.Path(__file__).resolve().parent.parent.parent / "
 import office
 
 TABLES = """
-CREATE TABLE book (id INTEGER NOT NULL PRIMARY KEY, rule INT NOT NULL, adopted INT NOT NULL, held INT NOT NULL,
-    amount INT NOT NULL) STRICT;
+CREATE TABLE book (id INT NOT NULL PRIMARY KEY, rule INT NOT NULL, adopted INT NOT NULL, held INT NOT NULL,
+    amount INT NOT NULL) STRICT, WITHOUT ROWID;
 CREATE TABLE record (name BLOB NOT NULL PRIMARY KEY, ident BLOB NOT NULL, data BLOB NOT NULL, day INT NOT NULL,
     shift TEXT NOT NULL, centre TEXT NOT NULL, cpu INT NOT NULL, blocks INT NOT NULL, amount INT NOT NULL,
-    charged INT NOT NULL, posted INT NOT NULL) STRICT;
+    charged INT NOT NULL, posted INT NOT NULL) STRICT, WITHOUT ROWID;
 CREATE TABLE day_sum (period INT NOT NULL, day INT NOT NULL, centre TEXT NOT NULL, shift TEXT NOT NULL, count INT NOT NULL,
-    cpu INT NOT NULL, blocks INT NOT NULL, amount INT NOT NULL, PRIMARY KEY (period, day, centre, shift)) STRICT;
+    cpu INT NOT NULL, blocks INT NOT NULL, amount INT NOT NULL, PRIMARY KEY (period, day, centre, shift)) STRICT, WITHOUT ROWID;
 CREATE INDEX record_ident ON record (ident);
-CREATE INDEX record_charged ON record (charged);
+CREATE INDEX record_charged ON record (charged, ident);
 INSERT INTO book (id, rule, adopted, held, amount) VALUES (1, 1, 0, 0, 0);
 """
 DAY_KEY = "period = 1 AND day = ? AND centre = ? AND shift = ?"

@@ -1,7 +1,7 @@
 //! Books in files: each file a database of its own.
 #![tactic(auto)]
 
-mod connected;
+mod books;
 mod shelf;
 
 pub use shelf::Files;

@@ -4,6 +4,7 @@ pub mod FindLemmas
 pub mod FramingLemmas
 pub mod HeadLemmas
 pub mod LawLemmas
+pub mod MendLemmas
 pub mod NumberLemmas
 pub mod OneLemmas
 pub mod PeriodLemmas

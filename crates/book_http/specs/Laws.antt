@@ -1,7 +1,9 @@
 -- Laws of requests, over the definition of their answers alone.
 use Rattle.std.specs.Prelude.{◌≡◌, ◌≢◌, ℕ, Bool, false, List, ◌++◌}
 use Rattle.book_model.specs.Words.{Naming, Book, Event, after_all, book_after, book_of, IsAnswered}
+use Rattle.book_model.specs.declared.fault.LedgerFault.TheVariants.{DigestClash}
 use Rattle.book_import.specs.declared.receipt.Receipt.{Receipt}
+use Rattle.book_import.specs.declared.receipt.Stop.TheVariants.{Ledger}
 use Rattle.book_import.specs.Repeats as imports
 use Rattle.book_http.specs.declared.status.Status.TheVariants.{Unavailable}
 use Rattle.book_http.specs.Answer.{Answers}
@@ -38,6 +40,23 @@ RequestTwiceIsOnce =
     → Answers naming bytes once false before first between → IsUnhindered once
     → Answers naming bytes twice between (after_all first before) second is
     → after_all (second ++ first) before ≡ after_all first before
+
+-- Nor does it tell that two records have one name.
+pub record IsWhole (reply : Reply) : Type 0 where
+  pub unhindered : IsUnhindered reply
+  pub apart : (told : Receipt) → reply ≡ receipt_reply told → told.stop ≢ Ledger DigestClash
+
+-- Stops are mended: from each of the books that a request may have left, whatever hindered it, the
+-- same request leaves the books of one that nothing hindered. So it is safe to repeat a request
+-- behind a stop, too.
+abbrev pub RequestsAreMended : Type 0
+RequestsAreMended =
+    (naming : Naming) (before : Book) (bytes : List ℕ) (once twice alone : Reply)
+    (first second all : List Event) (between is end : Bool)
+    → Answers naming bytes once false before first between
+    → Answers naming bytes twice false (after_all first before) second is → IsWhole twice
+    → Answers naming bytes alone false before all end → IsUnhindered alone
+    → after_all (second ++ first) before ≡ after_all all before
 
 -- a history that goes on with events, and defines the book that they leave
 pub record GoesOn (naming : Naming) (history events : List Event) : Type 0 where

@@ -1,7 +1,8 @@
 //! Laws of requests, which hold over the definition of their answers alone. Each stands on a
 //! function that does nothing.
 
-ghost use Rattle.book_http.specs.Laws.{AnswersAreOne, RequestTwiceIsOnce, RequestsMakeHistory};
+ghost use Rattle.book_http.specs.Laws.{AnswersAreOne, RequestTwiceIsOnce, RequestsAreMended};
+ghost use Rattle.book_http.specs.Laws.{RequestsMakeHistory};
 
 /// A request has one answer, and does one thing to the books, unless memory or the books fail.
 pub fn answers_are_one()
@@ -12,6 +13,12 @@ pub fn answers_are_one()
 /// nor the store hindered the first; also where its answer was lost.
 pub fn request_twice_is_once()
     ensures { RequestTwiceIsOnce }
+{}
+
+/// From each of the books that a request may have left, whatever hindered it, the same request again
+/// leaves the books of one that nothing hindered.
+pub fn requests_are_mended()
+    ensures { RequestsAreMended }
 {}
 
 /// What a request does to the books of a history that calls made is such a history again.

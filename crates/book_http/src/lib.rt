@@ -19,6 +19,8 @@ mod serve;
 mod served;
 mod status;
 
-pub use laws::{answers_are_one, request_twice_is_once, requests_make_history};
+pub use laws::{
+    answers_are_one, request_twice_is_once, requests_are_mended, requests_make_history,
+};
 pub use serve::serve_one;
 pub use served::Served;

@@ -83,12 +83,12 @@ is_kept bytes book = record {
 }
 
 -- the answer to a usage record, by whether it is held, whether its name is another's, and its price
-abbrev answer_by : Book → Bool → Bool → Option Priced → Result Accepted LedgerFault
+abbrev pub answer_by : Book → Bool → Bool → Option Priced → Result Accepted LedgerFault
 answer_by book known clash price =
     if known then Ok Known else if clash then Err DigestClash else accept_priced book price
 
 -- a usage record was handed in, and this was the answer
-abbrev answered : List ℕ → Imported → Result Accepted LedgerFault → Result Imported LedgerFault
+abbrev pub answered : List ℕ → Imported → Result Accepted LedgerFault → Result Imported LedgerFault
 answered bytes so_far answer = after_answer so_far (accept_event bytes answer) answer
 
 -- a usage record that the books do not refuse counts where it has a price

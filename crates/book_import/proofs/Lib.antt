@@ -1,6 +1,6 @@
 -- Records that are handed in, and what stops an import; how a joiner goes through a dump, and what
 -- an import does with the records that it finds; the events that it makes; the book that those
--- leave, what it holds, and the same import again; what a stop tells.
+-- leave, what it holds, and the same import again, also behind a stop; what a stop tells.
 pub mod ImportLemmas
 pub mod StopLemmas
 pub mod PieceLemmas
@@ -13,4 +13,5 @@ pub mod KeepingLemmas
 pub mod LawLemmas
 pub mod OnceLemmas
 pub mod RepeatLemmas
+pub mod MendLemmas
 pub mod TellLemmas

@@ -21,16 +21,16 @@ use Rattle.book_import.specs.Laws.{is_priced_usage}
 use Rattle.book_import.proofs.LawLemmas.{is_same, HoldsIt, one_handled}
 
 -- a record that these books hold, if it is one that they would hold
-abbrev IsSettled : Book → List ℕ → Type 0
+abbrev pub IsSettled : Book → List ℕ → Type 0
 IsSettled book bytes = is_priced_usage book.rulings bytes ≡ true → has book.held bytes ≡ true
 
 -- the new books hold what the old ones held, under the same rulings
-record Grows (old new : Book) : Type 0 where
-  held : (bytes : List ℕ) → has old.held bytes ≡ true → has new.held bytes ≡ true
-  rulings : new.rulings ≡ old.rulings
+pub record Grows (old new : Book) : Type 0 where
+  pub held : (bytes : List ℕ) → has old.held bytes ≡ true → has new.held bytes ≡ true
+  pub rulings : new.rulings ≡ old.rulings
 
 -- what was settled stays settled
-still_settled : {old new : Book} (bytes : List ℕ) → Grows old new → IsSettled old bytes
+pub still_settled : {old new : Book} (bytes : List ℕ) → Grows old new → IsSettled old bytes
     → IsSettled new bytes
 still_settled bytes grows settled = λ priced.
     grows.held bytes
@@ -45,7 +45,7 @@ grows_by {counts} bytes one = record {
 }
 
 -- it is settled then
-settled_by : {old new : Book} (bytes : List ℕ)
+pub settled_by : {old new : Book} (bytes : List ℕ)
     → HoldsIt (is_priced_usage old.rulings bytes) bytes old new
     → IsSettled new bytes
 settled_by {old} bytes one = λ priced.
@@ -65,7 +65,7 @@ not_more true false false there = refl
 not_more false same false there = refl
 
 -- books that take no new record stay as they are
-stays : {old new : Book} (bytes : List ℕ)
+pub stays : {old new : Book} (bytes : List ℕ)
     → HoldsIt (is_priced_usage old.rulings bytes) bytes old new
     → IsSettled old bytes → new ≡ old
 stays {old} {new} bytes one settled =
@@ -94,7 +94,7 @@ then_grows first second = record {
 }
 
 -- an import takes no record from the books
-all_grow : (naming : Naming) (stop : Stop) (records : List (List ℕ)) (so_far : Imported)
+pub all_grow : (naming : Naming) (stop : Stop) (records : List (List ℕ)) (so_far : Imported)
     → Grows so_far.book (handle_all (accept_outcome naming) stop records so_far).book
 all_grow naming stop [] so_far = grows_none so_far.book
 all_grow naming stop (bytes ∷ rest) so_far =
@@ -116,7 +116,7 @@ still_refused so_far again event (Err refusal) fault refused = refused
 still_refused so_far again event (Ok accepted) fault refused = cc
 
 -- the same, by the record's class, where the books are the same
-refused_again : (naming : Naming) (bytes : List ℕ) (class : Class) (so_far again : Imported)
+pub refused_again : (naming : Naming) (bytes : List ℕ) (class : Class) (so_far again : Imported)
     (fault : LedgerFault) → again.book ≡ so_far.book
     → handle_by (accept_outcome naming) bytes so_far class ≡ Err fault
     → handle_by (accept_outcome naming) bytes again class ≡ Err fault

@@ -63,14 +63,14 @@ is_whole naming stop records before once events is
     absurd (unhindered.store stopped)
 
 -- The events are those of so many of the records, with some stop behind them.
-record AreOfFirst (naming : Naming) (records : List (List ℕ)) (before : Book) (made : List Event)
-    : Type 0 where
-  count : ℕ
-  stop : Stop
-  events : (import_of_records naming before stop (take count records)).events ≡ made
+pub record AreOfFirst (naming : Naming) (records : List (List ℕ)) (before : Book)
+    (made : List Event) : Type 0 where
+  pub count : ℕ
+  pub stop : Stop
+  pub events : (import_of_records naming before stop (take count records)).events ≡ made
 
 -- so are those of any import into open books
-of_first : (naming : Naming) (stop : Stop) (records : List (List ℕ)) (before : Book)
+pub of_first : (naming : Naming) (stop : Stop) (records : List (List ℕ)) (before : Book)
     (told : Receipt) (made : List Event) (is : Bool)
     → Handles naming stop records told false before made is
     → AreOfFirst naming records before made

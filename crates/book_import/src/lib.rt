@@ -11,7 +11,8 @@ mod whole;
 
 pub use ending::reading_end;
 pub use laws::{
-    books_hold_what_came, cuts_make_no_difference, reading_is_limited, stops_tell, twice_is_once,
+    books_hold_what_came, cuts_make_no_difference, reading_is_limited, stops_are_mended,
+    stops_tell, twice_is_once,
 };
 pub use reading::{MAX_READS, PIECE, read_out, read_piece};
 pub use receipt::{Receipt, Stop};

@@ -1,10 +1,10 @@
 -- The trees of books, from the schema of a store, and through what calls do to them.
-use Rattle.std.proofs.Common.{◌≡◌, ◌<◌, ℕ, zero, suc, false, length, None}
-use Rattle.std.proofs.Common.{refl, sym, ap, ◌∙◌, arith}
+use Rattle.std.proofs.Common.{◌≡◌, ◌<◌, ℕ, zero, suc, Bool, true, false, IsTrue, length, None}
+use Rattle.std.proofs.Common.{true≢false, refl, sym, ap, ◌∙◌, arith}
 use Rattle.sqlite_disk.specs.declared.Disk.{Ghosts}
 use Rattle.sqlite_store.specs.Catalog.{shape_at}
 use Rattle.sqlite_store.specs.FileStore.{view, schema_of}
-use Rattle.sqlite_store.specs.Laws.{unaltered_at}
+use Rattle.sqlite_store.specs.Laws.{shut_is_broken, unaltered_at}
 use Rattle.sqlite_store.specs.Listing.{all_shapes}
 use Rattle.sqlite_store.specs.Saved.{kept_schema}
 use Rattle.sqlite_store.specs.declared.store.FileStore.{FileStore}
@@ -14,7 +14,7 @@ use Rattle.sqlite_trees.specs.View.{IsReopened, View}
 use Rattle.sqlite_trees.specs.declared.store.Shape.TheVariants.{Index}
 use Rattle.sqlite_value.specs.Keys.{plain}
 use Rattle.book_trees.specs.Schema.{books_schema}
-use Rattle.book_trees.specs.Shapes.{HasBookTrees}
+use Rattle.tree_tables.specs.Holds.{HasShapes}
 
 -- the shape of a tree of books, in the schema and as a store shows it
 record IsBookTree (tree : ℕ) : Type 0 where
@@ -47,34 +47,51 @@ book_indexes tree below = (book_tree tree below).wanted
 
 -- a store of the schema, which was not changed in its transaction, has them
 pub has_trees : {D : Type 0} {g : Ghosts D} (store : FileStore D g)
-    → schema_of store ≡ books_schema → store.saved ≡ None → HasBookTrees (view store)
+    → schema_of store ≡ books_schema → store.saved ≡ None → HasShapes (view store)
 has_trees store schema unaltered =
     let kept : kept_schema store.saved (schema_of store) ≡ schema_of store =
     ap (λ saved. kept_schema saved (schema_of store)) unaltered in
+    let sorted : (tree : ℕ) → tree < 8 → (view store).shape tree ≡ Index plain =
+    λ tree small. ap (λ s. all_shapes s tree) schema ∙ (book_tree tree small).shape in
     record {
-      shape = λ tree small. ap (λ s. all_shapes s tree) schema ∙ (book_tree tree small).shape;
-      committed_shape = ap all_shapes kept;
+      book = sorted 0 (omega arith);
+      tariffs = sorted 1 (omega arith);
+      closes = sorted 2 (omega arith);
+      records = sorted 3 (omega arith);
+      days = sorted 4 (omega arith);
+      lines = sorted 5 (omega arith);
+      identities = sorted 6 (omega arith);
+      marks = sorted 7 (omega arith);
+      committed = ap all_shapes kept;
     }
 
-module _ (old new : View) (trees : HasBookTrees old) where
-  -- views with the same shapes have the same trees of books
-  pub same_trees : new.shape ≡ old.shape → new.committed_shape ≡ new.shape → HasBookTrees new
-  same_trees shape committed_shape = record {
-    shape = λ tree small. ap (λ f. f tree) shape ∙ trees.shape tree small;
-    committed_shape = committed_shape;
-  }
+-- views with the same shapes have the same trees of books
+same_trees : (old new : View) → HasShapes old → new.shape ≡ old.shape
+    → new.committed_shape ≡ new.shape → HasShapes new
+same_trees old new trees shape committed = record {
+  book = ap (λ f. f 0) shape ∙ trees.book;
+  tariffs = ap (λ f. f 1) shape ∙ trees.tariffs;
+  closes = ap (λ f. f 2) shape ∙ trees.closes;
+  records = ap (λ f. f 3) shape ∙ trees.records;
+  days = ap (λ f. f 4) shape ∙ trees.days;
+  lines = ap (λ f. f 5) shape ∙ trees.lines;
+  identities = ap (λ f. f 6) shape ∙ trees.identities;
+  marks = ap (λ f. f 7) shape ∙ trees.marks;
+  committed = committed;
+}
 
-  -- after a crash the shapes are the same, if a crash leaves those of the last commit
-  pub shape_stays : (old.shape ≡ old.committed_shape → new.shape ≡ old.shape)
-      → (tree : ℕ) → tree < 8 → new.shape tree ≡ Index plain
-  shape_stays stays tree small =
-      ap (λ f. f tree) (stays (sym trees.committed_shape)) ∙ trees.shape tree small
-
-module _ {D : Type 0} {g : Ghosts D} (old : View) (trees : HasBookTrees old) (next : FileStore D g)
+module _ {D : Type 0} {g : Ghosts D} (old : View) (trees : HasShapes old) (next : FileStore D g)
   where
     -- and so are the trees, where the store is sound
     pub trees_reopened : IsReopened old (view next) → (view next).is_broken ≡ false
-        → HasBookTrees (view next)
+        → HasShapes (view next)
     trees_reopened again sound =
         let same = unaltered_at next sound (ap (λ (t : Trees). t catalog_tree) again.clean) in
-        same_trees old (view next) trees (again.shape (sym trees.committed_shape)) (sym same.0)
+        same_trees old (view next) trees (again.shape (sym trees.committed)) (sym same.0)
+
+-- a store that is sound is open
+pub sound_is_open : {D : Type 0} {g : Ghosts D} (store : FileStore D g) (flag : Bool)
+    → (view store).is_open ≡ flag → (view store).is_broken ≡ false → IsTrue (view store).is_open
+sound_is_open store true is sound = is
+sound_is_open store false is sound =
+    absurd (true≢false (sym (shut_is_broken store is) ∙ sound))

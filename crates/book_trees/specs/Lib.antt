@@ -1,9 +1,8 @@
--- Read in this order: the text of each table and index; the list of them; the shapes of their
--- trees; the list that a file has of itself; what a ledger leaves of its two files; what a store
--- shows of files; why books are not opened.
+-- Read in this order: the text of each table and index; the list of them; the list that
+-- a file has of itself; what a ledger leaves of its two files; what a store shows of files; why books
+-- are not opened.
 pub mod Texts
 pub mod Schema
-pub mod Shapes
 pub mod Listing
 pub mod Left
 pub mod Shown

@@ -17,5 +17,5 @@ pub use left::LeftByLedger;
 pub use new_books::{create_at, create_files, open_new_books};
 pub use opening::{open_at, open_files, open_left};
 pub use outcomes::{finds_each, leaves_books};
-pub use reopening::{close_and_open, crash_and_open};
+pub use reopening::{close_and_open, crash_and_open, keeps_books};
 pub use schema::books_objects;

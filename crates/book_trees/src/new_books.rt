@@ -10,13 +10,14 @@ ghost use Rattle.book_trees.specs.Left.{AreEmptyTables};
 ghost use Rattle.book_trees.specs.Refusals.{faults_in, AreKept, HasCause, HoldsNothing};
 ghost use Rattle.book_trees.specs.Refusals.{StopCreating};
 ghost use Rattle.book_trees.specs.Schema.{books_schema};
-ghost use Rattle.book_trees.specs.Shapes.{HasBookTrees};
+ghost use Rattle.tree_tables.specs.Holds.{HasShapes};
 
 use crate::faults::{OpenFault, fault_at, fault_of};
 use crate::left::LeftByLedger;
 use crate::reopening::close_and_open;
 use crate::unopened::unopened;
 use sqlite_disk::{Disk, Files, Start};
+use sqlite_pager::Options;
 use sqlite_std_file::{FileFrom, open};
 use sqlite_store::FileStore;
 use std::alloc::Global;
@@ -26,13 +27,13 @@ use std::alloc::Global;
 pub fn create_files<D: Disk>(
     alloc: Global,
     files: Files<D>,
-    seed: u64,
+    options: Options,
 ) -> Result<FileStore<D>, (OpenFault, Files<D>)>
     requires log { IsTrue (D.Disk.is_usable files.log) }
     requires db { IsTrue (D.Disk.is_usable files.db) }
     ensures ready { IfOk result IsReady }
     ensures schema { IfOk result (λ store. schema_of store ≡ books_schema) }
-    ensures trees { IfOk result (λ store. HasBookTrees (view store)) }
+    ensures trees { IfOk result (λ store. HasShapes (view store)) }
     ensures size { IfOk result (λ store. IsTrue (state store).is_clean
         → (state store).page_size ≡ page_size) }
     ensures honest { IfOk result (λ store. IsTrue (state store).is_clean
@@ -52,7 +53,7 @@ pub fn create_files<D: Disk>(
     ensures unharmed { IfErr result (λ refusal. AreClean D.Disk refusal.1.log refusal.1.db
         → (¬ HoldsNothing (image_of D.Disk files)) → AreKept D.Disk files refusal.1) }
 {
-    let files = match unopened(alloc, files, seed) {
+    let files = match unopened(alloc, files, options) {
         Ok(files) => files,
         Err(files) => return Err((OpenFault::Memory, files)),
     };
@@ -72,7 +73,7 @@ pub fn create_at<S: Start>(
 ) -> Result<FileStore<FileFrom<S>>, OpenFault>
     ensures ready { IfOk result IsReady }
     ensures schema { IfOk result (λ store. schema_of store ≡ books_schema) }
-    ensures trees { IfOk result (λ store. HasBookTrees (view store)) }
+    ensures trees { IfOk result (λ store. HasShapes (view store)) }
     ensures size { IfOk result (λ store. IsTrue (state store).is_clean
         → (state store).page_size ≡ page_size) }
     ensures started { IfOk result (λ store. IsTrue (state store).is_clean
@@ -87,7 +88,7 @@ pub fn create_at<S: Start>(
         Ok(files) => files,
         Err(error) => return Err(fault_at(error)),
     };
-    match create_files(rt.alloc(), files, seed) {
+    match create_files(rt.alloc(), files, Options::new(seed)) {
         Ok(store) => Ok(store),
         Err((fault, _)) => Err(fault),
     }
@@ -108,7 +109,7 @@ pub fn open_new_books<D: Disk + Drop, S: LeftByLedger>(
     requires open { IsTrue (view made).is_open }
     requires empty { AreEmptyTables (view made).committed }
     requires left { (state made).may_leave (image_at S.Start) }
-    ensures trees { IfOk result (λ store. HasBookTrees (view store)) }
+    ensures trees { IfOk result (λ store. HasShapes (view store)) }
     ensures empty { IfOk result (λ store. IsTrue (state store).is_clean
         → AreEmptyTables (view store).trees) }
 {

@@ -9,14 +9,15 @@ ghost use Rattle.sqlite_wal.specs.Reads.{AreClean};
 ghost use Rattle.book_trees.specs.Left.{image_of, page_size, HoldsBooks, tables_at, AreLeft};
 ghost use Rattle.book_trees.specs.Refusals.{faults_in, AreFull, AreKept, HasCause};
 ghost use Rattle.book_trees.specs.Schema.{books_schema};
-ghost use Rattle.book_trees.specs.Shapes.{HasBookTrees};
 ghost use Rattle.book_trees.specs.Shown.{Shows};
+ghost use Rattle.tree_tables.specs.Holds.{HasShapes};
 
 use crate::catalog::lists_books;
 use crate::faults::{OpenFault, fault_at, fault_of};
 use crate::left::LeftByLedger;
 use crate::unopened::unopened;
 use sqlite_disk::{Disk, Files};
+use sqlite_pager::Options;
 use sqlite_std_file::{FileFrom, open};
 use sqlite_store::{FileStore, Unopened};
 use std::alloc::Global;
@@ -29,7 +30,7 @@ pub fn open_left<D: Disk>(files: Unopened<D>) -> Result<FileStore<D>, (OpenFault
     requires left { IsTrue (state_of files).is_clean → AreLeft (image files) }
     ensures ready { IfOk result IsReady }
     ensures schema { IfOk result (λ store. schema_of store ≡ books_schema) }
-    ensures trees { IfOk result (λ store. HasBookTrees (view store)) }
+    ensures trees { IfOk result (λ store. HasShapes (view store)) }
     ensures honest { IfOk result (λ store. IsTrue (state store).is_clean
         → IsTrue (state_of files).is_clean) }
     ensures found { IfOk result (λ store. IsTrue (state store).is_clean
@@ -67,14 +68,14 @@ pub fn open_left<D: Disk>(files: Unopened<D>) -> Result<FileStore<D>, (OpenFault
 pub fn open_files<D: Disk>(
     alloc: Global,
     files: Files<D>,
-    seed: u64,
+    options: Options,
 ) -> Result<FileStore<D>, (OpenFault, Files<D>)>
     requires log { IsTrue (D.Disk.is_usable files.log) }
     requires db { IsTrue (D.Disk.is_usable files.db) }
     requires left { AreClean D.Disk files.log files.db → AreLeft (image_of D.Disk files) }
     ensures ready { IfOk result IsReady }
     ensures schema { IfOk result (λ store. schema_of store ≡ books_schema) }
-    ensures trees { IfOk result (λ store. HasBookTrees (view store)) }
+    ensures trees { IfOk result (λ store. HasShapes (view store)) }
     ensures size { IfOk result (λ store. IsTrue (state store).is_clean
         → (state store).page_size ≡ page_size) }
     ensures honest { IfOk result (λ store. IsTrue (state store).is_clean
@@ -91,7 +92,7 @@ pub fn open_files<D: Disk>(
     ensures unharmed { IfErr result (λ refusal. AreClean D.Disk refusal.1.log refusal.1.db
         → AreKept D.Disk files refusal.1) }
 {
-    let files = match unopened(alloc, files, seed) {
+    let files = match unopened(alloc, files, options) {
         Ok(files) => files,
         Err(files) => return Err((OpenFault::Memory, files)),
     };
@@ -110,7 +111,7 @@ pub fn open_at<S: LeftByLedger>(
 ) -> Result<FileStore<FileFrom<S>>, OpenFault>
     ensures ready { IfOk result IsReady }
     ensures schema { IfOk result (λ store. schema_of store ≡ books_schema) }
-    ensures trees { IfOk result (λ store. HasBookTrees (view store)) }
+    ensures trees { IfOk result (λ store. HasShapes (view store)) }
     ensures size { IfOk result (λ store. IsTrue (state store).is_clean
         → (state store).page_size ≡ page_size) }
     ensures found { IfOk result (λ store. IsTrue (state store).is_clean
@@ -122,7 +123,7 @@ pub fn open_at<S: LeftByLedger>(
         Ok(files) => files,
         Err(error) => return Err(fault_at(error)),
     };
-    match open_files(rt.alloc(), files, seed) {
+    match open_files(rt.alloc(), files, Options::new(seed)) {
         Ok(store) => Ok(store),
         Err((fault, _)) => Err(fault),
     }

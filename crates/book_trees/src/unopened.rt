@@ -14,7 +14,7 @@ use sqlite_wal::PageSize;
 use std::alloc::Global;
 
 /// The size of a page.
-fn page_size() -> PageSize
+pub(crate) fn size_of_a_page() -> PageSize
     ensures { bytes_of result ≡ page_size }
 {
     match PageSize::new(4096) {
@@ -27,14 +27,14 @@ fn page_size() -> PageSize
 pub(crate) fn unopened<D: Disk>(
     alloc: Global,
     files: Files<D>,
-    seed: u64,
+    options: Options,
 ) -> Result<Unopened<D>, Files<D>>
     ensures files { IfOk result (λ it. files_of it ≡ (files.log, files.db)) }
     ensures size { IfOk result (λ it. (state_of it).page_size ≡ page_size) }
     ensures schema { IfOk result (λ it. wanted_by it ≡ books_schema) }
     ensures back { IfErr result (λ back. back ≡ files) }
 {
-    let pager = match Pager::new(alloc, files, page_size(), Options::new(seed)) {
+    let pager = match Pager::new(alloc, files, size_of_a_page(), options) {
         Ok(pager) => pager,
         Err(failed) => return Err(failed.value),
     };

@@ -1,6 +1,7 @@
 -- A call that is served is a call of a ledger.
 use Rattle.std.proofs.Common.{◌≡◌, ◌∙◌, ◌⊎◌, inl, inr, Bool, true, false, true≢false, [], Option}
 use Rattle.std.proofs.Common.{None, Some, Result, Ok, Err, refl, sym, ap, subst, ◌||◌}
+use Rattle.sqlite_trees.specs.Tree.{Trees}
 use Rattle.tree_tables.specs.States.{State, HasCleanDisk, Survives}
 use Rattle.book_model.specs.declared.fault.LedgerFault.{LedgerFault}
 use Rattle.book_model.specs.declared.fault.LedgerFault.TheVariants.{Store, Reopen}
@@ -8,7 +9,7 @@ use Rattle.book_model.specs.Words.{Book, Event, after_any, after_all, Outcome, N
 use Rattle.book_core.specs.Ledgers.{StandsAt, stands_by}
 use Rattle.book_core.specs.Work.{ComesFrom}
 use Rattle.book_core.specs.Calls.{Makes, Calls, IsCall, Reopens, is_store, listed}
-use Rattle.table_ledger.specs.Ready.{IsReadyAt, IsReady}
+use Rattle.table_ledger.specs.Ready.{IsReadyAt, IsReady, KeepBooks}
 use Rattle.table_ledger.specs.Shelf.{Shelf, told_by, LeftIn, AreBooks, seen_on}
 use Rattle.table_ledger.specs.Tries.{MayKeep, Serves}
 use Rattle.table_ledger.specs.declared.summary.Summary.{Summary}
@@ -43,7 +44,8 @@ module _ {V A : Type 0} (view : V → A) (old new : Shelf) (outcome : Book → O
     (last : LeavesTheLast old.state.view old.state.may_leave) (serves : Serves view old new outcome result) where
   -- the books of a shelf
   abbrev AreBooksOn : Shelf → Type 0
-  AreBooksOn shelf = AreBooks shelf.naming shelf.state.view shelf.must_reopen shelf.summary
+  AreBooksOn shelf =
+      AreBooks shelf.naming shelf.state.view shelf.state.may_leave shelf.must_reopen shelf.summary
 
   -- the flags of the call
   reopens : Reopens result old.must_reopen new.must_reopen
@@ -56,16 +58,38 @@ module _ {V A : Type 0} (view : V → A) (old new : Shelf) (outcome : Book → O
   was_clean : HasCleanDisk new.state → HasCleanDisk old.state
   was_clean clean = clean_before serves.survives clean
 
+  -- whatever a stop may leave behind the call are books that calls made
+  books_left : HasCleanDisk new.state → AreBooksOn old → (trees : Trees) → new.state.may_leave trees
+      → KeepBooks new.naming trees
+  books_left clean books trees left =
+      let ready = books.ready is_open (was_clean clean) in
+      subst (λ naming. KeepBooks naming trees) (sym serves.naming)
+      (elim (serves.survives.crash clean trees left) [
+        | inl earlier ↦ books.left (was_clean clean) trees earlier
+        | inr later ↦ record {
+          book = after_any (outcome ready.book).event ready.book;
+          kept = later ready.book ready.ready;
+        }
+      ])
+
   -- the ledger is ready again, where no store failed
-  books_again : HasCleanDisk new.state → AreBooksOn old → AreBooksOn new
-  books_again clean books open_now clean_now =
-      let ready = books is_open (was_clean clean) in
+  ready_again : HasCleanDisk new.state → AreBooksOn old → new.must_reopen ≡ false
+      → IsReady new.naming new.summary new.state.view
+  ready_again clean books open_now =
+      let ready = books.ready is_open (was_clean clean) in
       let answered = serves.answered (sym serves.reopen ∙ open_now) clean ready.book ready.ready in
       record {
         book = after_all answered.events ready.book;
         ready = subst (λ naming. IsReadyAt naming new.summary new.state.view
             (after_all answered.events ready.book)) (sym serves.naming) answered.ready;
       }
+
+  -- so there are books again
+  books_again : HasCleanDisk new.state → AreBooksOn old → AreBooksOn new
+  books_again clean books = record {
+    left = λ clean_now. books_left clean books;
+    ready = λ open_now clean_now. ready_again clean books open_now;
+  }
 
   -- it stood at the book with which it was ready
   stood : (ready : IsReady old.naming old.summary old.state.view) → StandsAt (seen_on old) ready.book
@@ -134,7 +158,7 @@ module _ {V A : Type 0} (view : V → A) (old new : Shelf) (outcome : Book → O
       honest = was_clean;
       books = books_again;
       moves = λ clean books book stands. moves_by (is_store result) refl clean
-          (books is_open (was_clean clean)) book
+          (books.ready is_open (was_clean clean)) book
           (subst (λ flag. stands_by flag (seen_on new) book) serves.reopen stands);
       alone = λ closed. absurd (true≢false (sym closed ∙ is_open));
     };

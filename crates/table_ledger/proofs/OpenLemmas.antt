@@ -1,5 +1,5 @@
 -- A store that keeps the tables of a book, with its summary, is an open ledger.
-use Rattle.std.proofs.Common.{◌≡◌, ◌∙◌, [], ap, false, refl, subst}
+use Rattle.std.proofs.Common.{◌≡◌, ◌∙◌, [], ap, false, refl, subst, sym}
 use Rattle.tree_tables.specs.States.{State, HasCleanDisk}
 use Rattle.book_model.specs.Words.{Book, new_book, Naming, no_rulings}
 use Rattle.book_core.specs.Ledgers.{IsOpenAt}
@@ -10,26 +10,29 @@ use Rattle.kept_tables.proofs.KeepingLemmas.{tables_follow}
 use Rattle.table_readings.specs.FromCalls.{IsFromCalls}
 use Rattle.table_readings.proofs.CallsLemmas.{calls_stay}
 use Rattle.table_ledger.specs.Commits.{Keeping}
-use Rattle.table_ledger.specs.Ready.{IsReadyAt, Remembers}
+use Rattle.table_ledger.specs.Ready.{IsKeptIn, IsReadyAt, Remembers}
 use Rattle.table_ledger.specs.Shelf.{seen_on}
 use Rattle.table_ledger.specs.Summaries.{ruled_in}
-use Rattle.table_ledger.specs.Told.{told_ready}
+use Rattle.table_ledger.specs.Told.{told_ready, LeavesTheLast}
 use Rattle.table_ledger.specs.declared.summary.Summary.{Summary}
 
 -- the ledger is open at the book
 pub opened : (naming : Naming) (state : State) (summary : Summary) (book : Book)
-    → HasCleanDisk state → IsFromCalls naming book → Keeping state.view (tables_of naming book)
-    → Remembers summary book
+    → LeavesTheLast state.view state.may_leave → HasCleanDisk state → IsFromCalls naming book
+    → Keeping state.view (tables_of naming book) → Remembers summary book
     → IsOpenAt naming book (seen_on (record {
       naming = naming;
       state = state;
       must_reopen = false;
       summary = summary;
     }))
-opened naming state summary book clean calls keeping remembers =
+opened naming state summary book last clean calls keeping remembers =
+    let rest = keeping.rest in
+    let kept : IsKeptIn naming book state.view.trees =
+    record { calls = calls; holds = keeping.holds } in
     let ready : IsReadyAt naming summary state.view book = record {
-      rest = keeping.rest;
-      kept = record { calls = calls; holds = keeping.holds };
+      rest = rest;
+      kept = kept;
       remembers = remembers;
     } in
     record {
@@ -37,7 +40,14 @@ opened naming state summary book clean calls keeping remembers =
       naming = refl;
       is_open = refl;
       honest = clean;
-      books = λ open_now clean_now. record { book = book; ready = ready };
+      books = record {
+        left = λ clean_now trees left. record {
+          book = book;
+          kept = subst (IsKeptIn naming book)
+              (rest.settled ∙ sym (last trees rest.is_open left)) kept;
+        };
+        ready = λ open_now clean_now. record { book = book; ready = ready };
+      };
     }
 
 -- the tables of new books are those of the new book
@@ -46,7 +56,7 @@ new_follow naming = tables_follow naming [] tt
 
 -- new books are open, where nothing is remembered
 pub created : (naming : Naming) (state : State) (summary : Summary)
-    → HasCleanDisk state → Keeping state.view new_tables
+    → LeavesTheLast state.view state.may_leave → HasCleanDisk state → Keeping state.view new_tables
     → ruled_in summary ≡ no_rulings → summary.held ≡ 0 → summary.total ≡ 0
     → IsOpenAt naming new_book (seen_on (record {
       naming = naming;
@@ -54,8 +64,8 @@ pub created : (naming : Naming) (state : State) (summary : Summary)
       must_reopen = false;
       summary = summary;
     }))
-created naming state summary clean keeping none held total =
-    opened naming state summary new_book clean (calls_stay.start naming)
+created naming state summary last clean keeping none held total =
+    opened naming state summary new_book last clean (calls_stay.start naming)
     (subst (Keeping state.view) (new_follow naming) keeping)
     (record {
       tariffs = ap (λ ruled. ruled.tariffs) none;

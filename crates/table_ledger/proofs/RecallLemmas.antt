@@ -30,6 +30,7 @@ use Rattle.table_ledger.specs.Ready.{Remembers}
 use Rattle.table_ledger.specs.Recalled.{HasDay, IsRecalled, IsStoreFault, Reads, Recalls}
 use Rattle.table_ledger.specs.Recalled.{SaysTariff, Shows}
 use Rattle.table_ledger.specs.Shelf.{seen_on}
+use Rattle.table_ledger.specs.Told.{LeavesTheLast}
 use Rattle.table_ledger.specs.declared.summary.Summary.{Summary}
 use Rattle.table_ledger.proofs.OpenLemmas.{opened}
 use Rattle.table_ledger.proofs.SurvivalLemmas.{survives_then}
@@ -183,18 +184,18 @@ never_both fault none (inr store) = absurd (let e = sym none ∙ store in cc)
 
 -- books that were read are open
 pub read_open : (naming : Naming) (old new : State) (summary : Summary) (book : Book)
-    → Reads (Ok summary) old new → HasCleanDisk new → IsFromCalls naming book
-    → Keeping old.view (tables_of naming book)
+    → LeavesTheLast new.view new.may_leave → Reads (Ok summary) old new → HasCleanDisk new
+    → IsFromCalls naming book → Keeping old.view (tables_of naming book)
     → IsOpenAt naming book (seen_on (record {
       naming = naming;
       state = new;
       must_reopen = false;
       summary = summary;
     }))
-read_open naming old new summary book reads clean calls keeping =
+read_open naming old new summary book last reads clean calls keeping =
     let read = reads.read clean in
     let tables = tables_of naming book in
-    opened naming new summary book clean calls
+    opened naming new summary book last clean calls
     (record {
       holds = holds_on old.view new.view tables read.same keeping.holds;
       rest = rest_on old.view new.view read.same keeping.rest;

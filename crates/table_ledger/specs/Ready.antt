@@ -22,6 +22,11 @@ pub record IsKeptIn (naming : Naming) (book : Book) (trees : Trees) : Type 0 whe
   pub calls : IsFromCalls naming book
   pub holds : Holds trees (tables_of naming book)
 
+-- so it is with some book
+pub record KeepBooks (naming : Naming) (trees : Trees) : Type 0 where
+  pub book : Book
+  pub kept : IsKeptIn naming book trees
+
 -- The store is open between two transactions, and keeps the book, which calls made; and the summary
 -- is that of the book.
 pub record IsReadyAt (naming : Naming) (summary : Summary) (view : View) (book : Book) : Type 0

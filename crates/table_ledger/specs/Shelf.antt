@@ -7,7 +7,7 @@ use Rattle.book_core.specs.Ledgers.{Seen}
 use Rattle.table_readings.specs.BookIn.{book_in}
 use Rattle.tree_tables.specs.States.{State}
 use Rattle.table_ledger.specs.TablesIn.{tables_in}
-use Rattle.table_ledger.specs.Ready.{IsReady}
+use Rattle.table_ledger.specs.Ready.{IsReady, KeepBooks}
 use Rattle.table_ledger.specs.declared.summary.Summary.{Summary}
 
 -- what a ledger in trees has on its shelf: how it names records, what its store shows, that it is to
@@ -26,10 +26,12 @@ told_by trees = book_in (tables_in trees)
 abbrev pub LeftIn : (Trees → Type 0) → Book → Type 0
 LeftIn may_leave book = (trees : Trees) × may_leave trees × (book ≡ told_by trees)
 
--- the ledger is ready, unless it is to be reopened
-abbrev pub AreBooks : Naming → View → Bool → Summary → Type 0
-AreBooks naming view must_reopen summary =
-    must_reopen ≡ false → IsClean view → IsReady naming summary view
+-- A ledger wrote what is kept there: whatever a stop may leave are books that calls made; and the
+-- ledger is ready, unless it is to be reopened.
+pub record AreBooks (naming : Naming) (view : View) (may_leave : Trees → Type 0)
+    (must_reopen : Bool) (summary : Summary) : Type 0 where
+  pub left : IsClean view → (trees : Trees) → may_leave trees → KeepBooks naming trees
+  pub ready : must_reopen ≡ false → IsClean view → IsReady naming summary view
 
 -- what is seen of such a ledger
 abbrev pub seen_of : Naming → View → (Trees → Type 0) → Bool → Summary → Seen
@@ -39,7 +41,7 @@ seen_of naming view may_leave must_reopen summary = record {
   left = LeftIn may_leave;
   must_reopen = must_reopen;
   is_honest = IsClean view;
-  is_books = AreBooks naming view must_reopen summary;
+  is_books = AreBooks naming view may_leave must_reopen summary;
 }
 
 abbrev pub seen_on : Shelf → Seen

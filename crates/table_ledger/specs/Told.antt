@@ -41,9 +41,9 @@ told_left view may_leave last ready trees left =
 -- an open ledger has its own book alone to leave
 pub settled_on : (naming : Naming) (view : View) (may_leave : Trees → Type 0) (must_reopen : Bool)
     (summary : Summary) → LeavesTheLast view may_leave → IsClean view
-    → AreBooks naming view must_reopen summary
+    → AreBooks naming view may_leave must_reopen summary
     → IsSettled (seen_of naming view may_leave must_reopen summary)
 settled_on naming view may_leave must_reopen summary last clean books is_open book left =
-    let ready = books is_open clean in
+    let ready = books.ready is_open clean in
     left.2 ∙ told_left view may_leave last ready.ready left.0 left.1
     ∙ sym (told_ready ready.ready)

@@ -1,12 +1,9 @@
 //! What the lines of a row have set so far, and how books are asked.
 
-use book_core::{Ledger, Naming};
+use book_core::Ledger;
 use book_rows::{BookLines, answer};
-use book_tables::TableLedger;
-use program_answers::ledger_refused;
 use request_rows::{RequestLines, answer_request};
-use row_scripts::{Ask, Named, push_line};
-use sqlite::{Alter, Connection};
+use row_scripts::{Ask, Named};
 use std::alloc::AllocError;
 
 /// How dumps are read, texts are written and requests come from here on in a row.
@@ -38,31 +35,5 @@ impl Lines {
             return Ok(true);
         }
         answer_request(&mut self.requests, named, ledger, ask, out)
-    }
-
-    /// Asks the books of a database, opened for this line, and gives it back, with whether the line
-    /// was read. What is asked of books that can't be opened is answered by the fault.
-    pub(crate) fn ask_tables<S: Alter + Drop, N: Naming + Drop>(
-        &mut self,
-        named: &Named,
-        conn: Connection<S>,
-        naming: N,
-        ask: Ask<'_>,
-        out: &mut Vec<u8>,
-    ) -> Result<(Connection<S>, bool), AllocError> {
-        if !conn.is_autocommit() {
-            push_line(out, "A TRANSACTION IS OPEN")?;
-            return Ok((conn, true));
-        }
-        match TableLedger::open(named.alloc(), conn, naming) {
-            Ok(mut books) => {
-                let is_read = self.ask(named, &mut books, ask, out)?;
-                Ok((books.close_store(), is_read))
-            }
-            Err((fault, conn)) => {
-                let _ = ledger_refused(out, fault);
-                Ok((conn, true))
-            }
-        }
     }
 }

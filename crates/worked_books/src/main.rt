@@ -4,8 +4,7 @@
 //! | Section | Its rows are |
 //! |---|---|
 //! | `memory:` | on books in memory |
-//! | `tables:` | on books in the tables of a database, opened for each line and closed behind it |
-//! | `trees:` | on books in the trees of a store, below SQL, opened for each line and closed behind it |
+//! | `tables:` | on books in the trees of a store, opened for each line and closed behind it |
 //! | `commands:` | sessions of the program's commands, over files |
 //! | `stops:` | as those of `tables:`; it stands apart because disks that stop take the longest |
 //!
@@ -16,14 +15,15 @@
 //! | `new` | new ones |
 //! | `one-name` | new ones that give every record one name |
 //! | `flat CPU BLOCKS`, `one-name CPU BLOCKS` | the same in memory, under a tariff of two rates |
-//! | `empty` | none, in a database without tables |
+//! | `empty` | none, in trees without rows |
 //!
 //! Its lines are those of `book_rows` and `request_rows`, and in tables also
 //!
 //! | A line | Is answered with |
 //! |---|---|
-//! | `rows`, `lines`, `marks`, `closed`, `tariffs`, `book` | the rows of a table, as SQL shows it |
-//! | `change STATEMENT` | how many rows SQL changed behind the books' back |
+//! | `rows`, `lines`, `marks`, `closed`, `tariffs`, `book` | the rows of a table, in the order of their keys |
+//! | `set day_sum.COLUMN NUMBER` | how many charge rows were changed behind the books' back |
+//! | `empty TABLE` | how many rows were taken away behind the books' back |
 //! | `stops log`, `stops database` | what was found when the disk stopped at each call of it |
 //!
 //! The body of `stops` is a run of commands. The row goes on with the books behind it. Each word of
@@ -43,20 +43,21 @@
 //! | `same FILE FILE`, `missing FILE` | whether they are |
 #![tactic(auto)]
 
+mod changed;
 mod ends;
 mod left;
 mod lines;
 mod names;
 mod plain_books;
-mod queries;
 mod restart;
 mod rows;
 mod run;
 mod sessions;
+mod shown;
 mod stops;
 mod sweep;
-mod table_books;
 mod tree_books;
+mod trees;
 mod unstopped;
 
 use book_core::PlainLedger;
@@ -66,7 +67,6 @@ use rows::BookRows;
 use sessions::Sessions;
 use std::test::Fail;
 use std::{env, fs, process};
-use table_books::TableBooks;
 use tree_books::TreeBooks;
 
 /// Plays the scripts of a section.
@@ -74,8 +74,7 @@ fn play_section(rt: &HostRuntime, section: &str, names: &[String]) -> Result<(),
     println!(rt; "{section}")?;
     match section {
         "memory:" => play_files(rt, BookRows::<PlainLedger<Names>>::new(), names),
-        "tables:" | "stops:" => play_files(rt, BookRows::<TableBooks>::new(), names),
-        "trees:" => play_files(rt, BookRows::<TreeBooks>::new(), names),
+        "tables:" | "stops:" => play_files(rt, BookRows::<TreeBooks>::new(), names),
         "commands:" => {
             let within = env::temp_dir(rt)?;
             let id = process::id(rt.process());

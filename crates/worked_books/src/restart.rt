@@ -1,20 +1,27 @@
 //! Stores whose files outlive them, on disks that can be made to fail.
 
-use sqlite::{Alter, Connection, FileStore, Files, Options};
-use sqlite_disk::Crash;
+ghost use Rattle.std.specs.Prelude.{IfOk};
+ghost use Rattle.sqlite_trees.specs.View.{IsClean};
+ghost use Rattle.tree_tables.specs.Holds.{HasShapes};
+
+use book_trees::create_files;
+use sqlite_disk::{Crash, Files};
+use sqlite_pager::Options;
+use sqlite_store::FileStore;
+use sqlite_trees::store::Reopen;
 use std::alloc::Global;
 
 /// A store whose files are found again after a crash. What works on one by this trait alone is
 /// proved without a look at what the store is made of.
-pub trait Restart: Alter + Drop {
+pub trait Restart: Reopen + Drop {
     /// Its files.
     type Disks: Drop;
 
-    /// The database in the files. Where the disk fails, the files as they are found behind a crash.
-    fn connect(alloc: Global, files: Self::Disks) -> Result<Connection<Self>, Self::Disks>;
-
-    /// Lets the store go. Gives the files as they are found behind a crash.
-    fn crash(self) -> Self::Disks;
+    /// New trees of books, in files that hold nothing. Where the disk fails, the files as they are
+    /// found behind a crash.
+    fn made(alloc: Global, files: Self::Disks) -> Result<Self, Self::Disks>
+        ensures shaped { IfOk result (λ store. IsClean (Self.Store.view store)
+            → HasShapes (Self.Store.view store)) };
 }
 
 /// The files as they are found when the machine is back.
@@ -28,7 +35,7 @@ fn crashed<D: Crash + Drop>(files: Files<D>) -> Files<D> {
 impl<D: Crash + Drop> Restart for FileStore<D> {
     type Disks = Files<D>;
 
-    fn connect(alloc: Global, files: Files<D>) -> Result<Connection<FileStore<D>>, Files<D>> {
+    fn made(alloc: Global, files: Files<D>) -> Result<FileStore<D>, Files<D>> {
         if !files.may_be_used() {
             return Err(crashed(files));
         }
@@ -36,13 +43,9 @@ impl<D: Crash + Drop> Restart for FileStore<D> {
             checkpoint_frames: 8,
             ..Options::new(7)
         };
-        match Connection::open_files(alloc, files, options) {
-            Ok(conn) => Ok(conn),
-            Err((_error, left)) => Err(crashed(left.into_files())),
+        match create_files(alloc, files, options) {
+            Ok(store) => Ok(store),
+            Err((_fault, left)) => Err(crashed(left)),
         }
-    }
-
-    fn crash(self) -> Files<D> {
-        crashed(self.close())
     }
 }

@@ -2,10 +2,12 @@
 
 use crate::run::Run;
 use crate::sweep::meets_stop;
+use crate::trees::Trees;
 use crate::unstopped::{Unstopped, run_unstopped};
 use row_scripts::{Ask, Named, push_line};
-use sqlite::{Alter, Connection, FileStore, Files};
-use sqlite_disk::{Fuse, Memory};
+use sqlite_disk::{Files, Fuse, Memory};
+use sqlite_store::FileStore;
+use sqlite_trees::store::Store;
 use std::alloc::{AllocError, Global};
 
 /// More calls than any run makes of one file.
@@ -51,24 +53,24 @@ fn swept(run: Run<'_>, whole: &Unstopped, stopped: Stopped) -> Result<String, Al
     String::from_str(alloc, "EVERY RUN WAS STOPPED")
 }
 
-/// Answers `stops log` or `stops database`, with commands, and gives the database back, whose books
-/// got them with no stop, with whether the line was read.
-pub(crate) fn answer_stops<S: Alter + Drop>(
+/// Answers `stops log` or `stops database`, with commands, and gives the trees back, whose books got
+/// them with no stop, with whether the line was read.
+pub(crate) fn answer_stops<S: Store + Drop>(
     named: &Named,
-    conn: Connection<S>,
+    trees: Trees<S>,
     ask: Ask<'_>,
     out: &mut Vec<u8>,
-) -> Result<(Connection<S>, bool), AllocError> {
+) -> Result<(Trees<S>, bool), AllocError> {
     let stopped = match *ask.words {
         ["log"] => Stopped::Log,
         ["database"] => Stopped::Database,
-        _ => return Ok((conn, false)),
+        _ => return Ok((trees, false)),
     };
     let run = Run {
         named,
         body: ask.body,
     };
-    let (whole, conn) = run_unstopped(run, conn)?;
+    let (whole, trees) = run_unstopped(run, trees)?;
     push_line(out, swept(run, &whole, stopped)?.as_str())?;
-    Ok((conn, true))
+    Ok((trees, true))
 }

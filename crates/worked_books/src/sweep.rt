@@ -1,14 +1,14 @@
 //! A run over files that may fail: what is found when the machine is back, and how the same
 //! commands then end.
 
-use crate::queries::all_rows;
 use crate::restart::Restart;
 use crate::run::{Came, NOT_BEGUN, Run};
+use crate::shown::all_rows;
+use crate::trees::Trees;
 use crate::unstopped::Unstopped;
 use book_core::{Ledger, LedgerFault, ShaNames};
-use book_tables::TableLedger;
-use sqlite::Connection;
 use std::alloc::{AllocError, Global};
+use table_ledger::TableLedger;
 
 /// Books in files.
 type Books<S> = TableLedger<S, ShaNames>;
@@ -23,45 +23,34 @@ impl From<AllocError> for Other {
     }
 }
 
-/// Books that were opened, or the files of a disk that failed.
-type Opened<S> = Result<Books<S>, <S as Restart>::Disks>;
+/// The trees of books, or the files of a disk that failed before they were made.
+type Left<S> = Result<Trees<S>, <S as Restart>::Disks>;
 
-/// The files of a database in which no books were opened or made, by a fault of the store.
-fn left_by<S: Restart>(fault: LedgerFault, conn: Connection<S>) -> Result<Opened<S>, Other> {
+/// The trees in which no books were opened or made, by a fault of the store.
+fn left_by<S: Restart>(fault: LedgerFault, trees: Trees<S>) -> Result<Opened<S>, Other> {
     match fault {
-        LedgerFault::Store => Ok(Err(conn.into_store().crash())),
+        LedgerFault::Store => Ok(Err(trees)),
         _ => Err(Other("OTHER ANSWERS")),
     }
 }
 
-/// New books in an empty database.
-fn create_on<S: Restart>(alloc: Global, conn: Connection<S>) -> Result<Opened<S>, Other> {
-    if !conn.is_autocommit() {
-        return Err(Other("OTHER ANSWERS"));
-    }
-    match TableLedger::create(alloc, conn, ShaNames) {
+/// Books that were opened, or their trees on a disk that failed.
+type Opened<S> = Result<Books<S>, Trees<S>>;
+
+/// New books in trees that have none.
+fn create_in<S: Restart>(alloc: Global, trees: Trees<S>) -> Result<Opened<S>, Other> {
+    match TableLedger::create(alloc, trees.into_store(), ShaNames) {
         Ok(books) => Ok(Ok(books)),
-        Err((fault, conn)) => left_by(fault, conn),
+        Err((fault, store)) => left_by(fault, Trees::over(store)),
     }
 }
 
-/// The books in a database, new ones where there are none.
-fn open_on<S: Restart>(alloc: Global, conn: Connection<S>) -> Result<Opened<S>, Other> {
-    if !conn.is_autocommit() {
-        return Err(Other("OTHER ANSWERS"));
-    }
-    match TableLedger::open(alloc, conn, ShaNames) {
+/// The books in trees, new ones where there are none.
+fn open_in<S: Restart>(alloc: Global, trees: Trees<S>) -> Result<Opened<S>, Other> {
+    match TableLedger::open(alloc, trees.into_store(), ShaNames) {
         Ok(books) => Ok(Ok(books)),
-        Err((LedgerFault::NotBooks, conn)) => create_on(alloc, conn),
-        Err((fault, conn)) => left_by(fault, conn),
-    }
-}
-
-/// The books in files, new ones where there are none; the files where the disk failed.
-fn open<S: Restart>(alloc: Global, files: S::Disks) -> Result<Opened<S>, Other> {
-    match S::connect(alloc, files) {
-        Ok(conn) => open_on(alloc, conn),
-        Err(files) => Ok(Err(files)),
+        Err((LedgerFault::NotBooks, store)) => create_in(alloc, Trees::over(store)),
+        Err((fault, store)) => left_by(fault, Trees::over(store)),
     }
 }
 
@@ -76,27 +65,54 @@ fn work<L: Ledger>(run: Run<'_>, ledger: &mut L) -> Result<Came, Other> {
     }
 }
 
-/// Works on books in files, and gives back what is found of them when the machine is back.
-fn start<S: Restart>(run: Run<'_>, files: S::Disks) -> Result<(Came, S::Disks), Other> {
-    match open::<S>(run.named.alloc(), files)? {
+/// Makes books in files that hold nothing and works on them, and gives back what is left of them.
+fn start<S: Restart>(run: Run<'_>, files: S::Disks) -> Result<(Came, Left<S>), Other> {
+    let alloc = run.named.alloc();
+    let trees = match S::made(alloc, files) {
+        Ok(store) => Trees::over(store),
+        Err(files) => return Ok((NOT_BEGUN, Err(files))),
+    };
+    match open_in(alloc, trees)? {
         Ok(mut books) => {
             let came = work(run, &mut books)?;
-            Ok((came, books.close_store().into_store().crash()))
+            Ok((came, Ok(Trees::over(books.close_store()))))
         }
-        Err(files) => Ok((NOT_BEGUN, files)),
+        Err(trees) => Ok((NOT_BEGUN, Ok(trees))),
     }
 }
 
-/// The books in files that were found when the machine was back.
-fn reopen<S: Restart>(alloc: Global, files: S::Disks) -> Result<Books<S>, Other> {
-    open::<S>(alloc, files)?.or(Err(Other("NOT OPENED AGAIN")))
+/// The trees as they are found when the machine is back; none where they can't be opened.
+fn behind_crash<S: Restart>(trees: Trees<S>) -> Option<Trees<S>> {
+    let mut store = trees.into_store();
+    match store.crash_and_reopen() {
+        Ok(()) => Some(Trees::over(store)),
+        Err(_error) => None,
+    }
 }
 
-/// All rows of the books in files that were found when the machine was back, and the files.
-fn found<S: Restart>(alloc: Global, files: S::Disks) -> Result<(Vec<u8>, S::Disks), Other> {
-    let mut conn = reopen::<S>(alloc, files)?.close_store();
-    match all_rows(alloc, &mut conn) {
-        Some(rows) => Ok((rows, conn.into_store().crash())),
+/// New trees in files in which none could be made before.
+fn made_again<S: Restart>(alloc: Global, files: S::Disks) -> Option<Trees<S>> {
+    match S::made(alloc, files) {
+        Ok(store) => Some(Trees::over(store)),
+        Err(_files) => None,
+    }
+}
+
+/// The books as they are found when the machine is back, new ones where there are none.
+fn reopen<S: Restart>(alloc: Global, left: Left<S>) -> Result<Books<S>, Other> {
+    let found = match left {
+        Ok(trees) => behind_crash(trees),
+        Err(files) => made_again(alloc, files),
+    };
+    let trees = found.ok_or(Other("NOT OPENED AGAIN"))?;
+    open_in(alloc, trees)?.or(Err(Other("NOT OPENED AGAIN")))
+}
+
+/// All rows of the books that are found when the machine is back, and their trees.
+fn found<S: Restart>(alloc: Global, left: Left<S>) -> Result<(Vec<u8>, Trees<S>), Other> {
+    let mut trees = Trees::over(reopen(alloc, left)?.close_store());
+    match all_rows(alloc, &mut trees) {
+        Some(rows) => Ok((rows, trees)),
         None => Err(Other("OTHER ROWS")),
     }
 }
@@ -120,14 +136,14 @@ pub(crate) fn meets_stop<S: Restart>(
     files: S::Disks,
 ) -> Result<bool, Other> {
     let alloc = run.named.alloc();
-    let (came, files) = start::<S>(run, files)?;
-    let (rows, files) = found::<S>(alloc, files)?;
+    let (came, left) = start::<S>(run, files)?;
+    let (rows, trees) = found(alloc, left)?;
     if !whole.is_reached(came, &rows) {
         return Err(Other("OTHER ROWS"));
     }
-    let mut books = reopen::<S>(alloc, files)?;
+    let mut books = reopen(alloc, Ok(trees))?;
     finish(run, whole, &mut books)?;
-    let (rows, _files) = found::<S>(alloc, books.close_store().into_store().crash())?;
+    let (rows, _trees) = found(alloc, Ok(Trees::over(books.close_store())))?;
     if whole.rows.last() == Some(&rows) {
         Ok(came.stopped)
     } else {

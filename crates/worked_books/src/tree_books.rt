@@ -1,33 +1,57 @@
-//! Books in the trees of a store in memory, below SQL.
+//! Books in the trees of a store in memory.
 
 ghost use Rattle.std.specs.Prelude.{IfSome};
 ghost use Rattle.sqlite_trees.specs.Memory.{memory_view};
 ghost use Rattle.sqlite_trees.specs.View.{IsClean};
 ghost use Rattle.tree_tables.specs.Holds.{HasShapes};
 
+use crate::changed::{change_of, change_rows};
 use crate::lines::Lines;
 use crate::names::Names;
 use crate::rows::Books;
-use program_answers::ledger_refused;
-use row_scripts::{Ask, Named};
+use crate::shown::shown_table;
+use crate::stops::answer_stops;
+use crate::trees::Trees;
+use row_scripts::{Ask, Named, push_line};
 use sqlite_trees::memory::MemStore;
 use std::alloc::{AllocError, Global};
 use table_ledger::TableLedger;
 use tree_tables::trees_in_memory;
 
-/// The store, while no books are open on it.
+/// The trees, while no books are open on them.
 #[derive(Drop)]
 pub(crate) struct TreeBooks {
-    store: MemStore,
+    trees: Trees<MemStore>,
     names: Names,
-    ghost shaped: { IsClean (memory_view store) → HasShapes (memory_view store) },
+}
+
+/// Answers a line that shows or changes rows. False where it is none.
+fn answer_by_rows(
+    alloc: Global,
+    trees: &mut Trees<MemStore>,
+    ask: Ask<'_>,
+    out: &mut Vec<u8>,
+) -> Result<bool, AllocError> {
+    if let Some(asked) = change_of(ask) {
+        match change_rows(alloc, trees, asked) {
+            Some(count) => push_line(out, format!(in alloc; "CHANGED {count}")?.as_str())?,
+            None => push_line(out, "NOT CHANGED")?,
+        }
+        return Ok(true);
+    }
+    match shown_table(alloc, trees, ask) {
+        None => return Ok(false),
+        Some(None) => push_line(out, "NOT SHOWN")?,
+        Some(Some(rows)) => out.extend_from_slice(&rows)?,
+    }
+    Ok(true)
 }
 
 impl Books for TreeBooks {
     fn begun(alloc: Global, words: &[&str]) -> Option<TreeBooks> {
         let names = Names::of(words);
-        let store = begun_store(alloc, words, names)?;
-        Some(TreeBooks { store, names })
+        let trees = Trees::over(begun_store(alloc, words, names)?);
+        Some(TreeBooks { trees, names })
     }
 
     fn answer(
@@ -37,18 +61,16 @@ impl Books for TreeBooks {
         ask: Ask<'_>,
         out: &mut Vec<u8>,
     ) -> Result<(TreeBooks, bool), AllocError> {
-        let TreeBooks { store, names } = self;
-        match TableLedger::open(named.alloc(), store, names) {
-            Ok(mut books) => {
-                let is_read = lines.ask(named, &mut books, ask, out)?;
-                let store = books.close_store();
-                Ok((TreeBooks { store, names }, is_read))
-            }
-            Err((fault, store)) => {
-                let _ = ledger_refused(out, fault);
-                Ok((TreeBooks { store, names }, true))
-            }
+        let TreeBooks { mut trees, names } = self;
+        if answer_by_rows(named.alloc(), &mut trees, ask, out)? {
+            return Ok((TreeBooks { trees, names }, true));
         }
+        let (trees, is_read) = if ask.verb == "stops" {
+            answer_stops(named, trees, ask, out)?
+        } else {
+            trees.ask(lines, named, names, ask, out)?
+        };
+        Ok((TreeBooks { trees, names }, is_read))
     }
 }
 

@@ -1,11 +1,12 @@
 //! A run that nothing stops, change by change.
 
 use crate::lines::Lines;
-use crate::queries::all_rows;
 use crate::run::{Came, Run, ask_of};
+use crate::shown::all_rows;
+use crate::trees::Trees;
 use book_core::ShaNames;
 use row_scripts::Ask;
-use sqlite::{Alter, Connection};
+use sqlite_trees::store::Store;
 use std::alloc::AllocError;
 
 /// What a run that nothing stops leaves.
@@ -32,26 +33,26 @@ impl Unstopped {
     }
 }
 
-/// Asks the books of a database, and gives it back, with what they answer.
-fn answered<S: Alter + Drop>(
+/// Asks the books in trees, and gives the trees back, with what the books answer.
+fn answered<S: Store + Drop>(
     run: Run<'_>,
-    conn: Connection<S>,
+    trees: Trees<S>,
     ask: Ask<'_>,
-) -> Result<(Connection<S>, Vec<u8>), AllocError> {
+) -> Result<(Trees<S>, Vec<u8>), AllocError> {
     let mut answers = Vec::new(run.named.alloc());
-    let (conn, _) = Lines::new().ask_tables(run.named, conn, ShaNames, ask, &mut answers)?;
-    Ok((conn, answers))
+    let (trees, _) = trees.ask(&mut Lines::new(), run.named, ShaNames, ask, &mut answers)?;
+    Ok((trees, answers))
 }
 
-/// Gives the books of a database the command of a line, each record of an import by a command of
-/// its own, and adds all rows behind each change.
-fn take_line<S: Alter + Drop>(
+/// Gives the books in trees the command of a line, each record of an import by a command of its own,
+/// and adds all rows behind each change.
+fn take_line<S: Store + Drop>(
     run: Run<'_>,
-    conn: Connection<S>,
+    trees: Trees<S>,
     words: &[&str],
     rows: &mut Vec<Vec<u8>>,
-) -> Result<Connection<S>, AllocError> {
-    let mut conn = conn;
+) -> Result<Trees<S>, AllocError> {
+    let mut trees = trees;
     let ask = ask_of(words);
     let size = if ask.verb == "import" {
         1
@@ -59,28 +60,28 @@ fn take_line<S: Alter + Drop>(
         ask.words.len().max(1)
     };
     for words in ask.words.chunks(size) {
-        let (then, answers) = answered(run, conn, Ask { words, ..ask })?;
-        conn = then;
+        let (then, answers) = answered(run, trees, Ask { words, ..ask })?;
+        trees = then;
         if run.came_by(&answers)?.changes == 1 {
-            rows.extend(all_rows(run.named.alloc(), &mut conn))?;
+            rows.extend(all_rows(run.named.alloc(), &mut trees))?;
         }
     }
-    Ok(conn)
+    Ok(trees)
 }
 
-/// What a run leaves that nothing stops, and the database behind it.
-pub(crate) fn run_unstopped<S: Alter + Drop>(
+/// What a run leaves that nothing stops, and the trees behind it.
+pub(crate) fn run_unstopped<S: Store + Drop>(
     run: Run<'_>,
-    conn: Connection<S>,
-) -> Result<(Unstopped, Connection<S>), AllocError> {
+    trees: Trees<S>,
+) -> Result<(Unstopped, Trees<S>), AllocError> {
     let alloc = run.named.alloc();
-    let mut conn = conn;
+    let mut trees = trees;
     let mut rows = Vec::new(alloc);
-    rows.extend(all_rows(alloc, &mut conn))?;
+    rows.extend(all_rows(alloc, &mut trees))?;
     for line in run.body.lines() {
         let words: Vec<&str> = line.split_whitespace().collect(alloc)?;
-        conn = take_line(run, conn, &words, &mut rows)?;
+        trees = take_line(run, trees, &words, &mut rows)?;
     }
-    let (conn, texts) = answered(run, conn, ask_of(&["changes"]))?;
-    Ok((Unstopped { rows, texts }, conn))
+    let (trees, texts) = answered(run, trees, ask_of(&["changes"]))?;
+    Ok((Unstopped { rows, texts }, trees))
 }

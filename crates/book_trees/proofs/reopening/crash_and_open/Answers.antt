@@ -1,7 +1,7 @@
-use Rattle.std.proofs.Common.{sym, subst, ◌∙◌}
+use Rattle.std.proofs.Common.{refl, sym, subst, ◌∙◌}
 use Rattle.sqlite_store.specs.FileStore.{recovers, view}
 use Rattle.sqlite_store.specs.Laws.{settled_at}
-use Rattle.book_trees.proofs.Trees.{shape_stays, trees_reopened}
+use Rattle.book_trees.proofs.Trees.{sound_is_open, trees_reopened}
 use Rattle.book_trees.proofs.reopening.crash_and_open.Goals as goal
 
 pub returns-in-Ok-clause-found : goal.returns-in-Ok-clause-found
@@ -21,11 +21,11 @@ returns-in-Ok-clause-trees g c trees clean =
     (c.in-Ok.ensures.fresh.sound clean)
 
 pub returns-in-Ok-clause-shape : goal.returns-in-Ok-clause-shape
-returns-in-Ok-clause-shape g c trees =
-    shape_stays (view c.args.store.now) (view c.crash_and_reopen.new.self) trees
-    c.crash_and_reopen.ensures.shape
+returns-in-Ok-clause-shape g c trees = c.crash_and_reopen.ensures.shape (sym trees.committed)
 
 pub returns-in-Err-clause-shape : goal.returns-in-Err-clause-shape
-returns-in-Err-clause-shape g c trees =
-    shape_stays (view c.args.store.now) (view c.crash_and_reopen.new.self) trees
-    c.crash_and_reopen.ensures.shape
+returns-in-Err-clause-shape g c trees = c.crash_and_reopen.ensures.shape (sym trees.committed)
+
+pub returns-in-Ok-clause-is_open : goal.returns-in-Ok-clause-is_open
+returns-in-Ok-clause-is_open g c clean =
+    sound_is_open c.crash_and_reopen.new.self _ refl (c.in-Ok.ensures.fresh.sound clean)

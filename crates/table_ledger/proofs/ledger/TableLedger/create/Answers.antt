@@ -1,4 +1,5 @@
 use Rattle.std.proofs.Common.{refl, subst, sym}
+use Rattle.sqlite_trees.specs.Tree.{Trees}
 use Rattle.tree_tables.specs.States.{state}
 use Rattle.tree_tables.specs.Steps.{HasNoRows}
 use Rattle.table_ledger.specs.Commits.{IsAtRest}
@@ -11,7 +12,7 @@ returns-in-Ok-clause-books g c = λ clean rest none.
     let closes = c.new-in-Ok.ensures.items in
     let given = sym c.over-tables.ensures in
     created (g.N.Naming.name_of c.args.naming) (state g.S.Store c.make_books.new.tables.store) _
-    clean
+    (λ (trees : Trees). g.met.S.Store.settled c.make_books.new.tables.store trees) clean
     (c.in-Ok.ensures.made clean (subst (λ store. IsAtRest (g.S.Store.view store)) given rest)
     (subst (λ store. HasNoRows (g.S.Store.view store).trees) given none))
     (λ i. record { tariffs = tariffs i; closes = closes i }) refl refl

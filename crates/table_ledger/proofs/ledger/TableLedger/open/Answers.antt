@@ -1,4 +1,5 @@
 use Rattle.std.proofs.Common.{subst, sym}
+use Rattle.sqlite_trees.specs.Tree.{Trees}
 use Rattle.kept_tables.specs.TablesOf.{tables_of}
 use Rattle.tree_tables.specs.Holds.{Holds}
 use Rattle.tree_tables.specs.States.{HasCleanDisk, state}
@@ -10,8 +11,9 @@ pub returns-in-Ok-clause-books : goal.returns-in-Ok-clause-books
 returns-in-Ok-clause-books g c = λ clean book calls keeping.
     let names = g.N.Naming.name_of c.args.naming in
     read_open names (state g.S.Store c.over-tables.result.store)
-    (state g.S.Store c.read_summary.new.tables.store) c.in-Ok.summary book c.in-Ok.ensures.reads clean
-    calls
+    (state g.S.Store c.read_summary.new.tables.store) c.in-Ok.summary book
+    (λ (trees : Trees). g.met.S.Store.settled c.read_summary.new.tables.store trees)
+    c.in-Ok.ensures.reads clean calls
     (subst (λ store. Keeping (g.S.Store.view store) (tables_of names book))
     (sym c.over-tables.ensures) keeping)
 

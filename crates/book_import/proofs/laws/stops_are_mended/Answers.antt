@@ -1,0 +1,5 @@
+use Rattle.book_import.proofs.MendLemmas.{stops_are_mended}
+use Rattle.book_import.proofs.laws.stops_are_mended.Goals as goal
+
+pub returns : goal.returns
+returns c = stops_are_mended

@@ -1,0 +1,52 @@
+-- A ledger that is opened on what another left stands where that one stood.
+use Rattle.std.proofs.Common.{◌≡◌, Bool, true, false, refl, sym, subst}
+use Rattle.sqlite_trees.specs.Tree.{Trees}
+use Rattle.sqlite_trees.specs.View.{View, IsClean}
+use Rattle.book_model.specs.Words.{Book, Naming}
+use Rattle.book_core.specs.Ledgers.{Seen, IsOpenAt, stands_by}
+use Rattle.kept_tables.specs.TablesOf.{tables_of}
+use Rattle.table_readings.specs.FromCalls.{IsFromCalls}
+use Rattle.table_ledger.specs.Commits.{IsAtRest, Keeping}
+use Rattle.table_ledger.specs.Ready.{IsKeptIn}
+use Rattle.table_ledger.specs.Shelf.{AreBooks, seen_of}
+use Rattle.table_ledger.specs.Told.{LeavesTheLast, settled_on, told_kept}
+use Rattle.table_ledger.specs.declared.summary.Summary.{Summary}
+use Rattle.book_restarts.specs.Restarts.{IsRestart}
+
+module _ (naming : Naming) (view : View) (may_leave : Trees → Type 0) (must_reopen : Bool)
+    (summary : Summary) (last : LeavesTheLast view may_leave) (found : View) (new : Seen)
+    (rest : new.is_honest → IsAtRest found) (left : new.is_honest → may_leave found.trees)
+    (given : Naming) (same : given ≡ naming) (opens : new.is_honest → (book : Book)
+    → IsFromCalls given book → Keeping found (tables_of given book) → IsOpenAt given book new)
+  where
+    -- what was seen of the ledger that was let go
+    abbrev old : Seen
+    old = seen_of naming view may_leave must_reopen summary
+
+    -- it stood at the book that is found
+    stood : (flag : Bool) → must_reopen ≡ flag → IsClean view
+        → AreBooks naming view may_leave must_reopen summary → new.is_honest → (book : Book)
+        → IsKeptIn naming book found.trees → stands_by flag old book
+    stood true closed clean books honest book kept =
+        (found.trees, left honest, sym (told_kept kept))
+    stood false is_open clean books honest book kept =
+        settled_on naming view may_leave must_reopen summary last clean books is_open book
+        (found.trees, left honest, sym (told_kept kept))
+
+    -- and the new one is open at it
+    opened : new.is_honest → (book : Book) → IsKeptIn naming book found.trees
+        → IsOpenAt naming book new
+    opened honest book kept =
+        let open_at = subst (λ name. IsFromCalls name book → Keeping found (tables_of name book)
+        → IsOpenAt name book new) same (opens honest book) in
+        open_at kept.calls (record { holds = kept.holds; rest = rest honest })
+
+    -- so this is a restart
+    pub restarted : IsRestart old new
+    restarted clean honest books =
+        let kept = books.left clean found.trees (left honest) in
+        record {
+          book = kept.book;
+          stood = stood must_reopen refl clean books honest kept.book kept.kept;
+          opened = opened honest kept.book kept.kept;
+        }

@@ -1,8 +1,0 @@
-use Rattle.std.proofs.Common.{arith}
-use Rattle.book_tables.proofs.RisingNames.{rising_apart}
-use Rattle.book_tables.proofs.adjustments.are_apart.Goals as goal
-
-pub returns : goal.returns
-returns c = λ passed.
-    rising_apart c.args.lines.now (λ k any within.
-    c.loop-at.invariant.rise k any (omega (arith, within, c.loop-at-test.false)))
