@@ -58,8 +58,7 @@ fn failed(error: &io::Error) -> ShelfFault {
 }
 
 /// What it stands for that books were not opened or made.
-fn refused(fault: OpenFault) -> ShelfFault
-{
+fn refused(fault: OpenFault) -> ShelfFault {
     match fault {
         OpenFault::NotBooks => ShelfFault::Ledger(LedgerFault::NotBooks),
         OpenFault::Memory => ShelfFault::Ledger(LedgerFault::Memory),

@@ -37,12 +37,7 @@ fn set(column: usize, number: &str) -> Option<Change> {
 }
 
 /// A row with another number in a column.
-fn with_number(
-    alloc: Global,
-    row: &Row,
-    column: usize,
-    number: i64,
-) -> Result<Row, AllocError> {
+fn with_number(alloc: Global, row: &Row, column: usize, number: i64) -> Result<Row, AllocError> {
     let mut changed = Row::new(alloc);
     for at in 0..row.len() {
         let value = if at == column {

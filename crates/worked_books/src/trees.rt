@@ -71,8 +71,7 @@ impl<S: Store + Drop> Trees<S> {
 
     /// Takes a row, or answers that the store can't.
     pub(crate) fn take(&mut self, tree: u32, row: &Row) -> bool {
-        self.store.shape(tree) == Shape::Index(Order::PLAIN)
-            && self.store.remove(tree, row).is_ok()
+        self.store.shape(tree) == Shape::Index(Order::PLAIN) && self.store.remove(tree, row).is_ok()
     }
 
     /// Keeps what was changed, or answers that the store can't.
