@@ -9,6 +9,7 @@ mod OneCall
 mod SettleLemmas
 mod StepLemmas
 mod LastClose
+mod RowsTaken
 mod CodeDays
 mod TariffTries
 mod CloseTries
@@ -21,3 +22,4 @@ mod RisingNames
 mod JoinLemmas
 mod OpenLemmas
 mod RecallLemmas
+mod OwnBooks

@@ -12,7 +12,7 @@ use Rattle.tree_tables.specs.States.{State, HasCleanDisk, Survives}
 use Rattle.sqlite_trees.specs.declared.error.StoreError.{StoreError}
 use Rattle.book_model.specs.Words.{IsDay, Book, Naming, Rulings, Tariffed}
 use Rattle.book_model.specs.declared.fault.LedgerFault.{LedgerFault}
-use Rattle.book_model.specs.declared.fault.LedgerFault.TheVariants.{NotBooks}
+use Rattle.book_model.specs.declared.fault.LedgerFault.TheVariants.{NotBooks, Store}
 use Rattle.book_core.specs.Ledgers.{IsOpenAt}
 use Rattle.kept_tables.specs.Tables.{BookRow, Tables}
 use Rattle.kept_tables.specs.TablesOf.{tables_of}
@@ -27,12 +27,13 @@ use Rattle.tree_tables.specs.declared.closed_rows.Close.{Close}
 use Rattle.tree_tables.specs.declared.tariff_rows.StoredTariff.{StoredTariff}
 use Rattle.table_ledger.specs.Commits.{Keeping, Saw}
 use Rattle.table_ledger.specs.Ready.{Remembers}
-use Rattle.table_ledger.specs.Recalled.{HasDay, IsRecalled, IsStoreFault, Reads, Recalls}
+use Rattle.table_ledger.specs.Recalled.{AreRowsOf, HasDay, IsRecalled, IsStoreFault, Reads, Recalls}
 use Rattle.table_ledger.specs.Recalled.{SaysTariff, Shows}
 use Rattle.table_ledger.specs.Shelf.{seen_on}
 use Rattle.table_ledger.specs.Told.{LeavesTheLast}
 use Rattle.table_ledger.specs.declared.summary.Summary.{Summary}
 use Rattle.table_ledger.proofs.OpenLemmas.{opened}
+use Rattle.table_ledger.proofs.RowsTaken.{index_again, rows_of}
 use Rattle.table_ledger.proofs.SurvivalLemmas.{survives_then}
 use Rattle.table_ledger.proofs.Standing.{holds_on, rest_on}
 use Rattle.table_ledger.proofs.TryLemmas.{looks_refused}
@@ -50,15 +51,6 @@ zip_next Says (first ∷ rows) (suc at) [] row value so_far below is said = absu
 zip_next Says (first ∷ rows) (suc at) (other ∷ values) row value so_far below is said =
     let rest : at < length rows = omega (arith, below) in
     (so_far.0, zip_next Says rows at values row value so_far.1 rest is said)
-
--- a place within a list has its element, whatever stands for none
-index_again : {A : Type 0} (rows : List A) (at : ℕ) (row other : A) → at < length rows
-    → slice_index_or rows at row ≡ slice_index_or rows at other
-index_again [] at row other below = absurd (omega (arith, below))
-index_again (first ∷ rows) zero row other below = refl
-index_again (first ∷ rows) (suc at) row other below =
-    let rest : at < length rows = omega (arith, below) in
-    index_again rows at row other rest
 
 -- one row more says a value
 pub zip_at : {A B : Type 0} (Says : A → B → Type 0) (rows : List A) (at : ℕ) (values : List B)
@@ -116,12 +108,21 @@ recalled summary tables row tariffs closes shows book texts days =
 -- so is what is answered of the rows
 pub recalled_by : (answer : Result Summary LedgerFault) (tables : Tables) (row : Stored)
     (texts : List StoredTariff) (days : List Close) → IfOk answer (Shows row texts days)
-    → IfErr answer IsStoreFault → book_of row ≡ tables.book
+    → IfErr answer IsStoreFault
+    → IfErr answer (λ fault. fault ≡ Store → (rulings : Rulings) → AreRowsOf row texts days rulings
+    → ⊥) → book_of row ≡ tables.book
     → map tariff_of texts ≡ entries tables.tariffs → map close_of days ≡ entries tables.closes
     → IsRecalled tables answer
-recalled_by (Ok summary) tables row texts days shows kinds book said had =
+recalled_by (Ok summary) tables row texts days shows kinds refused book said had =
     recalled summary tables row texts days shows book said had
-recalled_by (Err fault) tables row texts days shows kinds book said had = kinds
+recalled_by (Err fault) tables row texts days shows kinds refused book said had = (
+  kinds,
+  λ store naming of calls are.
+      refused store of.rulings (rows_of naming of row texts days calls
+      (book ∙ ap (λ (tables : Tables). tables.book) are)
+      (said ∙ ap (λ (tables : Tables). entries tables.tariffs) are)
+      (had ∙ ap (λ (tables : Tables). entries tables.closes) are)),
+)
 
 -- a summary of the tables of a book is one of the book
 pub remembered : (naming : Naming) (book : Book) (summary : Summary) → IsFromCalls naming book
@@ -147,7 +148,7 @@ reads_answer old new (Ok summary) looks = record {
 reads_answer old new (Err fault) looks = record {
   survives = looks.survives;
   read = λ clean. tt;
-  refused = λ clean. (looks.found clean).known;
+  refused = λ clean tables holds. ((looks.found clean).known tables holds).0;
 }
 
 -- looks that were refused

@@ -1,18 +1,31 @@
 -- What is read of a store when its books are opened.
-use Rattle.std.specs.Prelude.{◌≡◌, ◌⊎◌, IfErr, IfOk, Some, Result, Ok, Err, List, ℤ}
-use Rattle.std.specs.List.{AllZip}
+use Rattle.std.specs.Prelude.{◌≡◌, ◌≢◌, ◌⊎◌, ◌≤◌, ◌<◌, ◌+◌, All, IfErr, IfOk, Some, None, Result, Ok}
+use Rattle.std.specs.Prelude.{Err, List, ℕ, ℤ, int_lt, length, map, true}
+use Rattle.std.specs.List.{AllZip, last_or}
+use Rattle.std.specs.List.Sorted.{IsStrictlySortedBy}
+use Rattle.std.specs.Option.{option_map_or}
+use Rattle.std.specs.Ordering.{int_cmp}
+use Rattle.std.specs.FinMap.{entries}
+use Rattle.std.specs.Str.{IsUtf8}
+use Rattle.sqlite_disk.specs.Disk.{MoreFaults}
 use Rattle.tree_tables.specs.States.{State, HasCleanDisk, Survives}
-use Rattle.book_model.specs.Words.{IsDay, Tariffed}
+use Rattle.book_model.specs.Words.{IsDay, Tariffed, Rulings, Book, Naming, are_rising, last_period}
+use Rattle.book_model.specs.Words.{most_cost, most_held}
 use Rattle.book_model.specs.declared.fault.LedgerFault.{LedgerFault}
 use Rattle.book_model.specs.declared.fault.LedgerFault.TheVariants.{Memory, Store, NotBooks}
-use Rattle.kept_tables.specs.Tables.{Tables}
+use Rattle.kept_tables.specs.Tables.{Tables, first_rule, never_adopted}
+use Rattle.kept_tables.specs.TablesOf.{close_entries, tables_of}
 use Rattle.table_readings.specs.BookIn.{rulings_in, tariff_read}
+use Rattle.table_readings.specs.FromCalls.{IsFromCalls}
+use Rattle.tree_tables.specs.Columns.{closed_columns, tariff_columns}
+use Rattle.tree_tables.specs.Fits.{CloseFits, RowsFit, TariffFits}
 use Rattle.tree_tables.specs.Holds.{Holds}
 use Rattle.tree_tables.specs.Steps.{Sees}
-use Rattle.tree_tables.specs.Stored.{tariff_of}
+use Rattle.tree_tables.specs.Stored.{close_of, tariff_of}
 use Rattle.tree_tables.specs.declared.book_row.StoredBook.{StoredBook as Stored}
 use Rattle.tree_tables.specs.declared.closed_rows.Close.{Close}
 use Rattle.tree_tables.specs.declared.tariff_rows.StoredTariff.{StoredTariff}
+use Rattle.table_ledger.specs.Commits.{Keeping}
 use Rattle.table_ledger.specs.Summaries.{ruled_in}
 use Rattle.table_ledger.specs.declared.summary.Summary.{Summary}
 
@@ -28,9 +41,43 @@ IsOpenFault fault = (fault ≡ NotBooks) ⊎ IsStoreFault fault
 abbrev pub SaysTariff : StoredTariff → Tariffed → Type 0
 SaysTariff row tariff = tariff_read (tariff_of row) ≡ Some tariff
 
+-- it does, and the row stands under the first day of the tariff
+abbrev pub TellsTariff : StoredTariff → Tariffed → Type 0
+TellsTariff row tariff = SaysTariff row tariff × (tariff.terms.effective ≡ row.day)
+
 -- a row has the day, which is one
 abbrev pub HasDay : Close → ℤ → Type 0
 HasDay row day = (day ≡ row.through) × IsDay day
+
+-- a row is that of the next close behind those through some days: of the next period, through a day
+-- that is later than the last of them
+pub record IsNextClose (days : List ℤ) (row : Close) : Type 0 where
+  pub period : row.period ≡ length days + 1
+  pub later : option_map_or (λ last. int_lt last row.through) (last_or None days) true ≡ true
+  pub day : IsDay row.through
+
+-- a row is one of a book: of the rule of identity that this product knows, which was never adopted
+-- anew, and within the office's limits
+pub record IsBookRow (row : Stored) : Type 0 where
+  pub rule : row.rule ≡ first_rule
+  pub adopted : row.adopted ≡ never_adopted
+  pub held : row.held ≤ most_held
+  pub amount : row.amount ≤ most_cost
+
+-- rows are those of closes through some days: from period 1 on, each day later than the one before
+pub record AreCloses (rows : List Close) (closes : List ℤ) : Type 0 where
+  pub numbered : map close_of rows ≡ close_entries 1 closes
+  pub days : All IsDay closes
+  pub in_order : IsStrictlySortedBy int_cmp closes
+
+-- rows are those of a book of these rulings, which are within the office's limits
+pub record AreRowsOf (row : Stored) (texts : List StoredTariff) (days : List Close)
+    (rulings : Rulings) : Type 0 where
+  pub book : IsBookRow row
+  pub tariffs : AllZip TellsTariff texts rulings.tariffs
+  pub rising : are_rising rulings.tariffs ≡ true
+  pub closes : AreCloses days rulings.closes
+  pub few : length rulings.closes < last_period
 
 -- the summary is what the rows show
 pub record Shows (row : Stored) (texts : List StoredTariff) (days : List Close)
@@ -46,10 +93,39 @@ pub record Recalls (summary : Summary) (tables : Tables) : Type 0 where
   pub held : summary.held ≡ tables.book.held
   pub total : summary.total ≡ tables.book.amount
 
--- where the tables of books are looked at, the summary is theirs; no fault is that there are none
+-- the tables are those of no book that calls made
+abbrev pub AreOfNone : Tables → Type 0
+AreOfNone tables =
+    (naming : Naming) (book : Book) → IsFromCalls naming book → tables ≢ tables_of naming book
+
+-- Where the tables of books are looked at, the summary is theirs; no fault is that there are none,
+-- and it is one of the store only where calls made no such tables.
 abbrev pub IsRecalled : Tables → Result Summary LedgerFault → Type 0
 IsRecalled tables (Ok summary) = Recalls summary tables
-IsRecalled tables (Err fault) = IsStoreFault fault
+IsRecalled tables (Err fault) = IsStoreFault fault × (fault ≡ Store → AreOfNone tables)
+
+-- the rows of tariffs and closes fit, so that they can be listed
+pub record CanBeListed (tables : Tables) : Type 0 where
+  pub tariffs : RowsFit TariffFits (map tariff_columns (entries tables.tariffs))
+  pub closes : RowsFit CloseFits (map closed_columns (entries tables.closes))
+
+-- the texts of the tariffs are such of characters, as any text that a call is given
+abbrev pub HasTexts : Book → Type 0
+HasTexts book =
+    All (λ (tariff : Tariffed). (text : List ℕ) → tariff.text ≡ Some text → IsUtf8 text)
+    book.rulings.tariffs
+
+-- why books are not opened: memory was wanting, or the disk failed or refused meanwhile
+abbrev pub IsOpenCause : State → State → LedgerFault → Type 0
+IsOpenCause old new fault =
+    (fault ≡ Memory) ⊎ ((fault ≡ Store) × MoreFaults old.faults new.faults)
+
+-- books that calls made are read again, or there is such a cause
+abbrev pub ReadsItsOwn : Result Summary LedgerFault → State → State → Type 0
+ReadsItsOwn result old new =
+    IfErr result (λ fault. HasCleanDisk new → (naming : Naming) (book : Book)
+    → IsFromCalls naming book → HasTexts book → Keeping old.view (tables_of naming book)
+    → IsOpenCause old new fault)
 
 -- Books are looked for in a store, where nothing is committed.
 pub record Reads (result : Result Summary LedgerFault) (old new : State) : Type 0 where

@@ -1,12 +1,15 @@
 //! The summary of a book, read from its tables.
 
-ghost use Rattle.std.specs.Prelude.{◌≡◌, ◌≤◌, IfErr, IfOk, IsTrue, true};
-ghost use Rattle.std.specs.List.{AllZip};
+ghost use Rattle.std.specs.Prelude.{◌≡◌, ◌<◌, ◌≤◌, IfErr, IfOk, IsTrue, List, None, false, length};
+ghost use Rattle.std.specs.Prelude.{true, ℤ};
+ghost use Rattle.std.specs.List.{AllZip, last_or};
 ghost use Rattle.tree_tables.specs.States.{state};
-ghost use Rattle.book_model.specs.Words.{most_cost, most_held, are_rising};
-ghost use Rattle.tree_tables.specs.Steps.{Looks};
-ghost use Rattle.table_ledger.specs.Recalled.{HasDay, IsOpenFault, IsRecalled, IsStoreFault};
-ghost use Rattle.table_ledger.specs.Recalled.{Reads, SaysTariff, Shows};
+ghost use Rattle.book_model.specs.Words.{Rulings, Tariffed, are_rising, last_period, most_cost};
+ghost use Rattle.book_model.specs.Words.{most_held};
+ghost use Rattle.tree_tables.specs.Steps.{FailsByStore, Looks};
+ghost use Rattle.table_ledger.specs.Recalled.{AreCloses, AreRowsOf, CanBeListed, HasDay, IsBookRow};
+ghost use Rattle.table_ledger.specs.Recalled.{IsNextClose, IsOpenFault, IsRecalled, IsStoreFault};
+ghost use Rattle.table_ledger.specs.Recalled.{Reads, ReadsItsOwn, SaysTariff, Shows, TellsTariff};
 
 use crate::settle::fault_of;
 use crate::summary::Summary;
@@ -26,7 +29,10 @@ const FIRST_RULE: u64 = 1;
 /// The tariff of a row, where its text is one and says the row's day.
 fn tariff_at(alloc: Global, row: &StoredTariff) -> Result<AcceptedTariff, LedgerFault>
     ensures says { IfOk result (λ tariff. SaysTariff row.now tariff) }
+    ensures day { IfOk result (λ tariff. tariff.terms.effective ≡ row.now.day) }
     ensures kinds { IfErr result IsStoreFault }
+    ensures refused { IfErr result (λ fault. fault ≡ LedgerFault.Store
+        → (tariff : Tariffed) → ¬ TellsTariff row.now tariff) }
 {
     let tariff = match Tariff::parse(alloc, &row.body) {
         Ok(tariff) => tariff,
@@ -45,6 +51,9 @@ fn tariffs_of(alloc: Global, rows: &[StoredTariff]) -> Result<Vec<AcceptedTariff
     ensures say { IfOk result (λ tariffs. AllZip SaysTariff rows.now tariffs.items) }
     ensures rising { IfOk result (λ tariffs. are_rising tariffs.items ≡ true) }
     ensures kinds { IfErr result IsStoreFault }
+    ensures refused { IfErr result (λ fault. fault ≡ LedgerFault.Store
+        → (tariffs : List Tariffed) → AllZip TellsTariff rows.now tariffs
+        → ¬ (are_rising tariffs ≡ true)) }
 {
     let mut tariffs = Vec::with_capacity(alloc, rows.len())?;
     for row in rows {
@@ -57,15 +66,33 @@ fn tariffs_of(alloc: Global, rows: &[StoredTariff]) -> Result<Vec<AcceptedTariff
     Ok(tariffs)
 }
 
+/// The last of some days, if there is one.
+fn last_of(days: &[i32]) -> Option<i32>
+    ensures { result ≡ last_or None days.now }
+{
+    days.last().copied()
+}
+
+/// The row is that of the next close behind those through some days.
+fn is_next(days: &[i32], row: &Close) -> bool
+    ensures next { result ≡ true → IsNextClose days.now row.now }
+    ensures other { result ≡ false → ¬ IsNextClose days.now row.now }
+{
+    row.period as usize == days.len() + 1
+        && is_after(last_of(days), row.through)
+        && FIRST_DAY <= row.through
+        && row.through <= LAST_DAY
+}
+
 /// The day of the next close: of the period behind the last, through a later day.
 fn next_day(days: &[i32], row: &Close) -> Result<i32, LedgerFault>
     ensures has { IfOk result (λ day. HasDay row.now day) }
+    ensures next { IfOk result (λ day. IsNextClose days.now row.now) }
     ensures kinds { IfErr result IsStoreFault }
+    ensures refused { IfErr result (λ fault. ¬ IsNextClose days.now row.now) }
 {
-    let day = row.through;
-    let is_next = row.period as usize == days.len() + 1 && is_after(days.last().copied(), day);
-    if is_next && FIRST_DAY <= day && day <= LAST_DAY {
-        Ok(day)
+    if is_next(days, row) {
+        Ok(row.through)
     } else {
         Err(LedgerFault::Store)
     }
@@ -75,6 +102,8 @@ fn next_day(days: &[i32], row: &Close) -> Result<i32, LedgerFault>
 fn days_of(alloc: Global, rows: &[Close]) -> Result<Vec<i32>, LedgerFault>
     ensures have { IfOk result (λ days. AllZip HasDay rows.now days.items) }
     ensures kinds { IfErr result IsStoreFault }
+    ensures refused { IfErr result (λ fault. fault ≡ LedgerFault.Store
+        → (days : List ℤ) → ¬ AreCloses rows.now days) }
 {
     let mut days = Vec::with_capacity(alloc, rows.len())?;
     for row in rows {
@@ -88,11 +117,21 @@ fn days_of(alloc: Global, rows: &[Close]) -> Result<Vec<i32>, LedgerFault>
 fn is_kept(row: &StoredBook) -> bool
     ensures held { IsTrue result → row.now.held ≤ most_held }
     ensures amount { IsTrue result → row.now.amount ≤ most_cost }
+    ensures kept { result ≡ true → IsBookRow row.now }
+    ensures refused { result ≡ false → ¬ IsBookRow row.now }
 {
     row.rule == FIRST_RULE
         && row.adopted == 0
         && row.held <= MAX_HELD as u64
         && row.amount <= MAX_COST
+}
+
+/// There are fewer closes than there may be periods.
+fn are_few(closes: &[i32]) -> bool
+    ensures few { result ≡ true → length closes.now < last_period }
+    ensures many { result ≡ false → last_period ≤ length closes.now }
+{
+    closes.len() < LAST_PERIOD as usize
 }
 
 /// The summary of the rows, where they are those of a book.
@@ -104,10 +143,12 @@ fn summary_of(
 ) -> Result<Summary, LedgerFault>
     ensures shows { IfOk result (Shows row.now tariffs.now closes.now) }
     ensures kinds { IfErr result IsStoreFault }
+    ensures refused { IfErr result (λ fault. fault ≡ LedgerFault.Store
+        → (rulings : Rulings) → ¬ AreRowsOf row.now tariffs.now closes.now rulings) }
 {
     let tariffs = tariffs_of(alloc, tariffs)?;
     let closes = days_of(alloc, closes)?;
-    if !is_kept(row) || closes.len() >= LAST_PERIOD as usize {
+    if !is_kept(row) || !are_few(&closes) {
         return Err(LedgerFault::Store);
     }
     Ok(Summary {
@@ -126,6 +167,8 @@ fn look_for_summary<S: Store>(
     ensures looks { Looks result (state S.Store tables.old.store) (state S.Store tables.new.store)
         IsRecalled }
     ensures kinds { IfOk result (λ answer. IfErr answer IsOpenFault) }
+    ensures cause { FailsByStore result (state S.Store tables.old.store)
+        (state S.Store tables.new.store) CanBeListed }
 {
     let Some(row) = tables.find_book()? else {
         return Ok(Err(LedgerFault::NotBooks));
@@ -142,6 +185,8 @@ pub(crate) fn read_summary<S: Store>(
 ) -> Result<Summary, LedgerFault>
     ensures reads { Reads result (state S.Store tables.old.store) (state S.Store tables.new.store) }
     ensures kinds { IfErr result IsOpenFault }
+    ensures own { ReadsItsOwn result (state S.Store tables.old.store)
+        (state S.Store tables.new.store) }
 {
     match look_for_summary(alloc, tables) {
         Ok(answer) => answer,

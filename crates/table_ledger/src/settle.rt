@@ -1,6 +1,6 @@
 //! What becomes of a call that the store refused.
 
-ghost use Rattle.std.specs.Prelude.{◌≡◌, ◌⊎◌, false};
+ghost use Rattle.std.specs.Prelude.{◌≡◌, ◌⊎◌, IsTrue, false};
 ghost use Rattle.sqlite_trees.specs.View.{IsClean};
 ghost use Rattle.tree_tables.specs.States.{Survives, state};
 ghost use Rattle.table_ledger.specs.Tries.{IsBack, Settles};
@@ -17,6 +17,9 @@ pub(crate) fn fault_of<S: Store>(tables: &mut TreeTables<S>, error: StoreError) 
     ensures told { result ≡ LedgerFault.Memory → error ≡ StoreError.OutOfMemory }
     ensures served { IsClean (S.Store.view tables.new.store) → error ≡ StoreError.OutOfMemory
         → (S.Store.view tables.new.store).is_broken ≡ false → result ≡ LedgerFault.Memory }
+    ensures mended { IsClean (S.Store.view tables.new.store)
+        → IsTrue (S.Store.view tables.new.store).is_open
+        → (S.Store.view tables.new.store).is_broken ≡ false }
     ensures back { IsClean (S.Store.view tables.new.store) → result ≡ LedgerFault.Memory
         → IsBack (S.Store.view tables.old.store) (S.Store.view tables.new.store) }
     ensures survives { Survives (state S.Store tables.old.store) (state S.Store tables.new.store)

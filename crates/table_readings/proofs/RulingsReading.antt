@@ -52,7 +52,7 @@ tariffs_rise (tariff ∷ tariffs) rising =
     (tariffs_rise tariffs (second_of first (are_rising tariffs) rising))
 
 -- a tariff that has a text is read back
-one_read : (tariff : Tariffed) → IsTexted tariff
+pub one_read : (tariff : Tariffed) → IsTexted tariff
     → tariff_read (tariff.terms.effective, tariff.text) ≡ Some tariff
 one_read tariff texted =
     ap (option_and_then (λ text. tariff_saying text (terms_in text))) texted.is
@@ -68,21 +68,29 @@ all_read (tariff ∷ tariffs) texted =
     let rest = all_read tariffs (All-tail IsTexted tariff tariffs texted) in
     λ i. cons_option (first i) (rest i)
 
+-- the rows of rising tariffs stand in their table in this order
+pub tariffs_kept : (tariffs : List Tariffed) → are_rising tariffs ≡ true
+    → entries (from_entries {R = int_cmp} (tariff_entries tariffs)) ≡ tariff_entries tariffs
+tariffs_kept tariffs rising =
+    entries-sorted int_cmp_total int_cmp-IsAntisymmetric (tariff_entries tariffs)
+    (tariffs_rise tariffs rising)
+
 -- and from their table
 pub tariffs_back : (tariffs : List Tariffed) → are_rising tariffs ≡ true → All IsTexted tariffs
     → filter_map tariff_read (entries (from_entries {R = int_cmp} (tariff_entries tariffs)))
     ≡ tariffs
 tariffs_back tariffs rising texted =
-    ap (filter_map tariff_read)
-    (entries-sorted int_cmp_total int_cmp-IsAntisymmetric (tariff_entries tariffs)
-    (tariffs_rise tariffs rising))
-    ∙ all_read tariffs texted
+    ap (filter_map tariff_read) (tariffs_kept tariffs rising) ∙ all_read tariffs texted
+
+-- so do those of closes
+pub closes_kept : (closes : List ℤ)
+    → entries (from_entries {R = nat_cmp} (close_entries 1 closes)) ≡ close_entries 1 closes
+closes_kept closes =
+    entries-sorted nat_cmp_total nat_cmp-IsAntisymmetric (close_entries 1 closes)
+    (closes_rise 1 closes)
 
 -- so are the closes
 pub closes_back : (closes : List ℤ)
     → values (from_entries {R = nat_cmp} (close_entries 1 closes)) ≡ closes
 closes_back closes =
-    ap (map (λ (e : ℕ × ℤ). e.1))
-    (entries-sorted nat_cmp_total nat_cmp-IsAntisymmetric (close_entries 1 closes)
-    (closes_rise 1 closes))
-    ∙ closes_days 1 closes
+    ap (map (λ (e : ℕ × ℤ). e.1)) (closes_kept closes) ∙ closes_days 1 closes

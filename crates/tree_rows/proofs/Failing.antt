@@ -1,7 +1,10 @@
 -- A failure after cursors have moved.
-use Rattle.std.proofs.Common.{◌≡◌, subst, List, Option, ℕ}
-use Rattle.sqlite_trees.specs.View.{View, IsFailure}
+use Rattle.std.proofs.Common.{◌≡◌, ◌≤◌, subst, List, Option, ℕ, IsTrue, ap, sym, rules}
+use Rattle.sqlite_disk.specs.Disk.{MoreFaults}
+use Rattle.sqlite_trees.specs.View.{View, IsFailure, HasCause}
 use Rattle.sqlite_trees.specs.declared.error.StoreError.{StoreError}
+use Rattle.sqlite_trees.specs.declared.error.StoreError.TheVariants.{OutOfMemory, Io, Corrupt, Full}
+use Rattle.sqlite_trees.specs.declared.error.StoreError.TheVariants.{Broken, Unstorable}
 use Rattle.sqlite_value.specs.Order.{Row}
 
 -- it is one of the store as it was before they moved
@@ -26,3 +29,24 @@ pub failed_after : (old mid new : View) (cursors : ℕ → Option (List Row)) (e
     → mid ≡ record old { cursors = cursors } → IsFailure mid new e → IsFailure old new e
 failed_after old mid new cursors e is failed =
     moved old new cursors e (subst (λ v. IsFailure v new e) is failed)
+
+-- more faults since a call are more since one before it
+pub more_since : (one two three : ℕ) → one ≤ two → MoreFaults two three → MoreFaults one three
+more_since one two three less more = search rules
+
+-- what failed behind looks has a cause of the store as it was before them
+pub caused_after : (old mid : View) (one two three : ℕ) (e : StoreError)
+    → mid ≡ record old { cursors = mid.cursors } → one ≤ two
+    → HasCause mid (MoreFaults two three) ⊥ e → HasCause old (MoreFaults one three) ⊥ e
+caused_after old mid one two three OutOfMemory same less cause = cause
+caused_after old mid one two three Io same less cause = more_since one two three less cause
+caused_after old mid one two three Corrupt same less cause = more_since one two three less cause
+caused_after old mid one two three Full same less cause = more_since one two three less cause
+caused_after old mid one two three Broken same less cause =
+    subst IsTrue (ap (λ (v : View). v.is_broken) same) cause
+caused_after old mid one two three Unstorable same less cause = cause
+
+-- want of memory is a cause
+pub caused_by_memory : (old : View) (fault : Type 0) (e : StoreError) → e ≡ OutOfMemory
+    → HasCause old fault ⊥ e
+caused_by_memory old fault e is = subst (HasCause old fault ⊥) (sym is) tt

@@ -1,8 +1,9 @@
 //! The rows that begin alike, read in order into values.
 
-ghost use Rattle.std.specs.Prelude.{◌≡◌, take, IfOk, IfErr, OnOk};
-ghost use Rattle.std.specs.List.{AllZip};
-ghost use Rattle.sqlite_trees.specs.View.{IsClean, IsQuiet, KeepsCommitted, KeepsSchema};
+ghost use Rattle.std.specs.Prelude.{◌≡◌, ◌≤◌, ◌^◌, length, take, IfOk, IfErr, OnOk};
+ghost use Rattle.std.specs.List.{AllByRecursion, AllZip};
+ghost use Rattle.sqlite_disk.specs.Disk.{MoreFaults};
+ghost use Rattle.sqlite_trees.specs.View.{HasCause, IsClean, IsQuiet, KeepsCommitted, KeepsSchema};
 ghost use Rattle.sqlite_value.specs.Keys.{plain};
 ghost use Rattle.sqlite_value.specs.Order.{Row as Columns};
 ghost use Rattle.tree_rows.specs.Rows.{IsUnchanged};
@@ -25,14 +26,18 @@ pub trait ReadRow: Sized {
     // what the columns of its row say
     ghost says: { Columns → Self → Type 0 };
 
+    // the columns of a row are those of a value
+    ghost fits: { Columns → Type 0 };
+
     /// Reads the value of a row, or answers that the row has none.
     fn read(row: &Row, alloc: Global) -> Result<Self, StoreError>
-        ensures read { IfOk result (says row.now) };
+        ensures read { IfOk result (says row.now) }
+        ensures taken { IfErr result (λ error. fits row.now → error ≡ StoreError.OutOfMemory) };
 }
 
 /// Reads the first rows that begin with the columns of `part`, in order and as many as there are
 /// up to `most`. Nothing is written to the store; an error is the store's own, or that of a row
-/// that was not read. What is in `row` is lost.
+/// that was not read: where all of them fit, it has a cause of the store. What is in `row` is lost.
 pub fn list_first<S: Store, T: ReadRow + Drop>(
     store: &mut S,
     tree: u32,
@@ -51,6 +56,10 @@ pub fn list_first<S: Store, T: ReadRow + Drop>(
     ensures schema { KeepsSchema (S.Store.view store.old) (S.Store.view store.new) }
     ensures kept { IfErr result (λ error. IsClean (S.Store.view store.new)
         → KeepsCommitted (S.Store.view store.old) (S.Store.view store.new)) }
+    ensures cause { IfErr result (λ error. IsClean (S.Store.view store.new)
+        → AllByRecursion T.ReadRow.fits (run_of part.now ((S.Store.view store.old).trees tree))
+        → HasCause (S.Store.view store.old)
+        (MoreFaults (S.Store.faults store.old) (S.Store.faults store.new)) ⊥ error) }
     ensures quiet { IsQuiet S.Store.view S.Store.faults S.Store.recovers S.Store.is_shielded
         store.old store.new }
 {
@@ -87,6 +96,11 @@ pub fn list_run<S: Store, T: ReadRow + Drop>(
     ensures schema { KeepsSchema (S.Store.view store.old) (S.Store.view store.new) }
     ensures kept { IfErr result (λ error. IsClean (S.Store.view store.new)
         → KeepsCommitted (S.Store.view store.old) (S.Store.view store.new)) }
+    ensures cause { IfErr result (λ error. IsClean (S.Store.view store.new)
+        → AllByRecursion T.ReadRow.fits (run_of part.now ((S.Store.view store.old).trees tree))
+        → length (run_of part.now ((S.Store.view store.old).trees tree)) ≤ 2 ^ 32
+        → HasCause (S.Store.view store.old)
+        (MoreFaults (S.Store.faults store.old) (S.Store.faults store.new)) ⊥ error) }
     ensures quiet { IsQuiet S.Store.view S.Store.faults S.Store.recovers S.Store.is_shielded
         store.old store.new }
 {

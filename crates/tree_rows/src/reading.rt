@@ -2,7 +2,9 @@
 
 ghost use Rattle.std.specs.Prelude.{◌≡◌, IfOk, IfErr, OnErr, OnOk};
 ghost use Rattle.sqlite_trees.specs.Tree.{from_key};
-ghost use Rattle.sqlite_trees.specs.View.{IsClean, IsFailure, IsQuiet, KeepsCommitted, KeepsSchema};
+ghost use Rattle.sqlite_disk.specs.Disk.{MoreFaults};
+ghost use Rattle.sqlite_trees.specs.View.{HasCause, IsClean, IsFailure, IsQuiet, KeepsCommitted};
+ghost use Rattle.sqlite_trees.specs.View.{KeepsSchema};
 ghost use Rattle.sqlite_value.specs.Keys.{plain, prefix_cmp};
 ghost use Rattle.std.specs.Ordering.{is_eq};
 ghost use Rattle.tree_rows.specs.Rows.{Finds, IsFirst, IsUnchanged, past_key};
@@ -35,6 +37,9 @@ pub fn first_from<S: Store>(
     ensures schema { KeepsSchema (S.Store.view store.old) (S.Store.view store.new) }
     ensures err { IfErr result (λ error. IsClean (S.Store.view store.new)
         → IsFailure (S.Store.view store.old) (S.Store.view store.new) error) }
+    ensures cause { IfErr result (λ error. IsClean (S.Store.view store.new)
+        → HasCause (S.Store.view store.old)
+        (MoreFaults (S.Store.faults store.old) (S.Store.faults store.new)) ⊥ error) }
     ensures quiet { IsQuiet S.Store.view S.Store.faults S.Store.recovers S.Store.is_shielded
         store.old store.new }
 {
@@ -62,6 +67,9 @@ pub fn find_row<S: Store>(
     ensures schema { KeepsSchema (S.Store.view store.old) (S.Store.view store.new) }
     ensures err { IfErr result (λ error. IsClean (S.Store.view store.new)
         → IsFailure (S.Store.view store.old) (S.Store.view store.new) error) }
+    ensures cause { IfErr result (λ error. IsClean (S.Store.view store.new)
+        → HasCause (S.Store.view store.old)
+        (MoreFaults (S.Store.faults store.old) (S.Store.faults store.new)) ⊥ error) }
     ensures quiet { IsQuiet S.Store.view S.Store.faults S.Store.recovers S.Store.is_shielded
         store.old store.new }
 {
@@ -88,6 +96,9 @@ pub fn first_after<S: Store>(
     ensures kept { OnErr result (IsClean (S.Store.view store.new)
         → KeepsCommitted (S.Store.view store.old) (S.Store.view store.new)) }
     ensures schema { KeepsSchema (S.Store.view store.old) (S.Store.view store.new) }
+    ensures cause { IfErr result (λ error. IsClean (S.Store.view store.new)
+        → HasCause (S.Store.view store.old)
+        (MoreFaults (S.Store.faults store.old) (S.Store.faults store.new)) ⊥ error) }
     ensures quiet { IsQuiet S.Store.view S.Store.faults S.Store.recovers S.Store.is_shielded
         store.old store.new }
 {

@@ -1,7 +1,7 @@
 -- Looks at the tables, and steps of them, by what calls on rows say.
 use Rattle.std.proofs.Common.{◌≡◌, ◌∙◌, ℕ, List, Option, inl, inr, Result, Ok, Err, refl, sym}
 use Rattle.std.proofs.Common.{ap, subst, true≢false, arith, rules}
-use Rattle.std.specs.Prelude.{IsErr, IfOk, OnErr, OnOk}
+use Rattle.std.specs.Prelude.{IfErr, IsErr, IfOk, OnErr, OnOk}
 use Rattle.sqlite_trees.specs.Tree.{Trees}
 use Rattle.sqlite_trees.specs.View.{View, IsClean, IsQuiet, KeepsCommitted}
 use Rattle.sqlite_trees.specs.View.{OnlyWrites}
@@ -66,6 +66,18 @@ kept_after {old} {mid} {new} only kept =
       committed = kept.committed;
       marks = kept.marks;
     }
+
+-- what is said of any error is said of one
+pub any_err : {A : Type 0} {Said : StoreError → Type 0} (result : Result A StoreError)
+    → ((error : StoreError) → Said error) → IfErr result Said
+any_err (Ok answer) said = tt
+any_err (Err error) said = said error
+
+-- what is said of an error may be said in other words
+pub err_so : {A : Type 0} {One Other : StoreError → Type 0} (result : Result A StoreError)
+    → IfErr result One → ((error : StoreError) → One error → Other error) → IfErr result Other
+err_so (Ok answer) one so = tt
+err_so (Err error) one so = so error one
 
 -- a look alone leaves what was committed
 pub kept_same : {old new : View} → IsUnchanged old new → KeepsCommitted old new

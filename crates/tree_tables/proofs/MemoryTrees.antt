@@ -1,5 +1,5 @@
 -- The trees of books that a store in memory was made with.
-use Rattle.std.proofs.Common.{◌≡◌, ◌∙◌, List, [], ◌∷◌, Result, Ok, Err, refl, sym, ap}
+use Rattle.std.proofs.Common.{◌≡◌, ◌∙◌, List, [], ◌∷◌, Result, Ok, Err, sym, ap}
 use Rattle.std.specs.Prelude.{IfOk}
 use Rattle.std.specs.declared.alloc.AllocError.{AllocError}
 use Rattle.sqlite_trees.specs.Memory.{memory_view, memory_is_unaltered}
@@ -8,7 +8,6 @@ use Rattle.sqlite_trees.specs.Tree.{Trees}
 use Rattle.sqlite_trees.specs.View.{shapes_of}
 use Rattle.sqlite_trees.specs.declared.memory.MemStore.{MemStore}
 use Rattle.sqlite_trees.specs.declared.schema.Object.{Object}
-use Rattle.sqlite_trees.specs.declared.store.Shape.{Shape}
 use Rattle.sqlite_trees.specs.declared.store.Shape.TheVariants.{Index, Table}
 use Rattle.sqlite_value.specs.Keys.{plain}
 use Rattle.tree_tables.specs.Holds.{HasShapes}

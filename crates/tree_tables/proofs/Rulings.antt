@@ -66,15 +66,27 @@ closes_said (close ∷ closes) (stored ∷ list) says =
     let more = closes_said closes list says.1 in
     λ i. (period i, day i) ∷ more i
 
+-- the run of all rows of tariffs is that of the table
+pub tariffs_run : (trees : Trees) (tables : Tables) (part : Row) → Holds trees tables → part ≡ []
+    → run_of part (trees 1) ≡ map tariff_columns (entries tables.tariffs)
+tariffs_run trees tables part holds whole =
+    ap (λ part. run_of part (trees 1)) whole ∙ ap (run_of []) holds.tariffs
+    ∙ run_all tariff_layout tables.tariffs
+
+-- and so is that of closes
+pub closes_run : (trees : Trees) (tables : Tables) (part : Row) → Holds trees tables → part ≡ []
+    → run_of part (trees 2) ≡ map closed_columns (entries tables.closes)
+closes_run trees tables part holds whole =
+    ap (λ part. run_of part (trees 2)) whole ∙ ap (run_of []) holds.closes
+    ∙ run_all closed_layout tables.closes
+
 -- the tariffs that are read of the run of all rows are those of the table
 pub all_tariffs : (trees : Trees) (tables : Tables) (part : Row) (list : List StoredTariff)
     → Holds trees tables → part ≡ [] → AllZip SaysTariff (run_of part (trees 1)) list
     → map tariff_of list ≡ entries tables.tariffs
 all_tariffs trees tables part list holds whole says =
     tariffs_said (entries tables.tariffs) list
-    (subst (λ rows. AllZip SaysTariff rows list)
-    (ap (λ part. run_of part (trees 1)) whole ∙ ap (run_of []) holds.tariffs
-    ∙ run_all tariff_layout tables.tariffs) says)
+    (subst (λ rows. AllZip SaysTariff rows list) (tariffs_run trees tables part holds whole) says)
 
 -- and so are the closes
 pub all_closes : (trees : Trees) (tables : Tables) (part : Row) (list : List Close)
@@ -82,6 +94,4 @@ pub all_closes : (trees : Trees) (tables : Tables) (part : Row) (list : List Clo
     → map close_of list ≡ entries tables.closes
 all_closes trees tables part list holds whole says =
     closes_said (entries tables.closes) list
-    (subst (λ rows. AllZip SaysClose rows list)
-    (ap (λ part. run_of part (trees 2)) whole ∙ ap (run_of []) holds.closes
-    ∙ run_all closed_layout tables.closes) says)
+    (subst (λ rows. AllZip SaysClose rows list) (closes_run trees tables part holds whole) says)

@@ -14,6 +14,7 @@ use Rattle.kept_tables.specs.Tables.{BookRow}
 use Rattle.tree_rows.specs.Rows.{Finds, IsFirst}
 use Rattle.tree_rows.proofs.Maps.{begins_with, prefix_of}
 use Rattle.tree_tables.specs.Columns.{book_columns}
+use Rattle.tree_tables.specs.Fits.{BookFits}
 use Rattle.tree_tables.specs.Stored.{book_of}
 use Rattle.tree_tables.specs.declared.book_row.StoredBook.{StoredBook}
 
@@ -40,6 +41,15 @@ book_there rows book key row hit is named finds =
           ∙ ap is_eq (at_first book),
       both.1,
     )
+
+-- the row of a book has its numbers
+pub book_fits : (book : BookRow) → BookFits (book_columns book)
+book_fits book = record {
+  rule = (book.rule, refl);
+  adopted = (book.adopted, refl);
+  held = (book.held, refl);
+  amount = (book.amount, refl);
+}
 
 -- it is the only one, so another in its place is the only one
 pub book_changed : (rows : List Row) (book : BookRow) (row : Row) → rows ≡ book_columns book ∷ []

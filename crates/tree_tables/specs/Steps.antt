@@ -1,7 +1,8 @@
 -- What a look at the tables answers, and what a step inside the transaction does to them.
-use Rattle.std.specs.Prelude.{◌≡◌, ◌<◌, [], ℕ, false, IfOk, IsTrue, OnErr, OnOk, Result}
+use Rattle.std.specs.Prelude.{◌≡◌, ◌<◌, [], ℕ, false, IfErr, IfOk, IsTrue, OnErr, OnOk, Result}
+use Rattle.sqlite_disk.specs.Disk.{MoreFaults}
 use Rattle.sqlite_trees.specs.Tree.{Trees}
-use Rattle.sqlite_trees.specs.View.{View, KeepsCommitted, OnlyWrites}
+use Rattle.sqlite_trees.specs.View.{View, HasCause, KeepsCommitted, OnlyWrites}
 use Rattle.sqlite_trees.specs.declared.error.StoreError.{StoreError}
 use Rattle.kept_tables.specs.Keeping.{new_tables}
 use Rattle.kept_tables.specs.Tables.{Tables}
@@ -22,6 +23,18 @@ pub record Looks {A : Type 0} (result : Result A StoreError) (old new : State)
   pub found : HasCleanDisk new
       → IfOk result (λ answer. Sees old.view new.view (λ tables. Answers tables answer))
   pub refused : HasCleanDisk new → OnErr result (KeepsCommitted old.view new.view)
+
+-- why a look failed: memory was wanting, or the disk failed or refused meanwhile; or the store was
+-- broken before
+abbrev pub IsCaused : State → State → StoreError → Type 0
+IsCaused old new = HasCause old.view (MoreFaults old.faults new.faults) ⊥
+
+-- of tables of which the premise holds, a look fails for a cause of the store alone
+abbrev pub FailsByStore : {A : Type 0} → Result A StoreError → State → State → (Tables → Type 0)
+    → Type 0
+FailsByStore result old new When =
+    IfErr result (λ error. HasCleanDisk new → (tables : Tables) → Holds old.view.trees tables
+    → When tables → IsCaused old new error)
 
 -- tables of which the premise holds are changed so, and nothing else is
 pub record Changes (old new : View) (When : Tables → Type 0) (change : Tables → Tables) : Type 0

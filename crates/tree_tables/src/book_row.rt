@@ -1,9 +1,10 @@
 //! The one row of the book.
 
-ghost use Rattle.std.specs.Prelude.{◌≡◌, ◌<◌, ◌∷◌, ◌^◌, [], IfOk, OnOk, pos};
+ghost use Rattle.std.specs.Prelude.{◌≡◌, ◌<◌, ◌∷◌, ◌^◌, [], IfErr, IfOk, OnOk, pos};
 ghost use Rattle.sqlite_value.specs.Order.{column};
 ghost use Rattle.sqlite_value.specs.declared.value.Value.TheVariants.{Int};
 ghost use Rattle.tree_tables.specs.Columns.{book_columns};
+ghost use Rattle.tree_tables.specs.Fits.{BookFits};
 ghost use Rattle.tree_tables.specs.Stored.{book_of};
 
 use crate::cells::count_at;
@@ -62,6 +63,7 @@ fn read_book(row: &Row) -> Result<StoredBook, StoreError>
     ensures held { IfOk result (λ book. column row.now 3 ≡ Int (pos book.held)) }
     ensures amount { IfOk result (λ book. column row.now 4 ≡ Int (pos book.amount)) }
     ensures small { IfOk result (λ book. (book.rule < 2 ^ 63) × (book.adopted < 2 ^ 63)) }
+    ensures taken { IfErr result (λ error. ¬ BookFits row.now) }
 {
     Ok(StoredBook {
         rule: count_at(row, 1)?,
@@ -91,12 +93,14 @@ impl<S: Store> TreeTables<S> {
     ghost use Rattle.kept_tables.specs.Steps as step;
     ghost use Rattle.tree_tables.specs.Answers.{FindsBook};
     ghost use Rattle.tree_tables.specs.States.{state};
-    ghost use Rattle.tree_tables.specs.Steps.{Always, Does, Looks, Makes};
+    ghost use Rattle.tree_tables.specs.Steps.{Always, Does, FailsByStore, Looks, Makes};
 
     /// The row of the book, if it is there.
     pub fn find_book(&mut self) -> Result<Option<StoredBook>, StoreError>
         ensures looks { Looks result (state S.Store self.old.store) (state S.Store self.new.store)
             FindsBook }
+        ensures cause { FailsByStore result (state S.Store self.old.store)
+            (state S.Store self.new.store) Always }
     {
         number_key(&mut self.key, FIRST)?;
         if !find_row(&mut self.store, BOOK, &self.key, &mut self.row)? {

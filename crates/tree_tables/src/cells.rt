@@ -1,9 +1,12 @@
 //! Columns that are read into types of the books. What does not fit is an ill-formed row.
 
-ghost use Rattle.std.specs.Prelude.{◌≡◌, ◌<◌, ◌^◌, IfOk, IfSome, OnOk, pos, slice_set, string_bytes};
+ghost use Rattle.std.specs.Prelude.{◌≡◌, ◌≢◌, ◌<◌, ◌^◌, IfErr, IfOk, IfSome, None, OnOk, ℤ, length};
+ghost use Rattle.std.specs.Prelude.{pos, slice_set, string_bytes};
 ghost use Rattle.sqlite_value.specs.Order.{column};
 ghost use Rattle.sqlite_value.specs.declared.value.Value.TheVariants.{Blob, Int, Text};
 ghost use Rattle.tree_tables.specs.Columns.{flag};
+ghost use Rattle.tree_tables.specs.Fits.{HasBytes, HasCount, HasDay, HasHash, HasMark, HasName};
+ghost use Rattle.tree_tables.specs.Fits.{HasPeriod, HasText};
 
 use smf_text::Name;
 use sqlite_trees::error::StoreError;
@@ -14,6 +17,7 @@ use std::alloc::Global;
 /// The number in a column.
 fn int_at(row: &Row, at: usize) -> Result<i64, StoreError>
     ensures read { IfOk result (λ n. column row.now at ≡ Int n) }
+    ensures taken { IfErr result (λ error. (n : ℤ) → column row.now at ≢ Int n) }
 {
     match row.get(at) {
         ValueRef::Int(n) => Ok(n),
@@ -22,33 +26,37 @@ fn int_at(row: &Row, at: usize) -> Result<i64, StoreError>
 }
 
 /// The number in a column, where it is not below 0.
-pub(crate) fn count_at(row: &Row, at: usize) -> Result<u64, StoreError>
+pub fn count_at(row: &Row, at: usize) -> Result<u64, StoreError>
     ensures read { IfOk result (λ n. column row.now at ≡ Int (pos n)) }
     ensures small { IfOk result (λ n. n < 2 ^ 63) }
+    ensures taken { IfErr result (λ error. ¬ HasCount (column row.now at)) }
 {
     let n = int_at(row, at)?;
     u64::try_from(n).map_err(|_| StoreError::Corrupt)
 }
 
 /// The period in a column.
-pub(crate) fn period_at(row: &Row, at: usize) -> Result<u16, StoreError>
+pub fn period_at(row: &Row, at: usize) -> Result<u16, StoreError>
     ensures read { IfOk result (λ n. column row.now at ≡ Int (pos n)) }
+    ensures taken { IfErr result (λ error. ¬ HasPeriod (column row.now at)) }
 {
     let n = int_at(row, at)?;
     u16::try_from(n).map_err(|_| StoreError::Corrupt)
 }
 
 /// The day in a column.
-pub(crate) fn day_at(row: &Row, at: usize) -> Result<i32, StoreError>
+pub fn day_at(row: &Row, at: usize) -> Result<i32, StoreError>
     ensures read { IfOk result (λ day. column row.now at ≡ Int day) }
+    ensures taken { IfErr result (λ error. ¬ HasDay (column row.now at)) }
 {
     let n = int_at(row, at)?;
     i32::try_from(n).map_err(|_| StoreError::Corrupt)
 }
 
 /// The mark in a column, which is 1 or 0.
-pub(crate) fn mark_at(row: &Row, at: usize) -> Result<bool, StoreError>
+pub fn mark_at(row: &Row, at: usize) -> Result<bool, StoreError>
     ensures read { IfOk result (λ mark. column row.now at ≡ Int (pos (flag mark))) }
+    ensures taken { IfErr result (λ error. ¬ HasMark (column row.now at)) }
 {
     match int_at(row, at)? {
         0 => Ok(false),
@@ -58,8 +66,10 @@ pub(crate) fn mark_at(row: &Row, at: usize) -> Result<bool, StoreError>
 }
 
 /// The bytes in a column.
-pub(crate) fn bytes_at(row: &Row, at: usize, alloc: Global) -> Result<Vec<u8>, StoreError>
+pub fn bytes_at(row: &Row, at: usize, alloc: Global) -> Result<Vec<u8>, StoreError>
     ensures read { IfOk result (λ bytes. column row.now at ≡ Blob bytes.items) }
+    ensures taken { IfErr result (λ error. HasBytes (column row.now at)
+        → error ≡ StoreError.OutOfMemory) }
 {
     match row.get(at) {
         ValueRef::Blob(bytes) => Ok(Vec::from_slice(alloc, bytes)?),
@@ -68,8 +78,9 @@ pub(crate) fn bytes_at(row: &Row, at: usize, alloc: Global) -> Result<Vec<u8>, S
 }
 
 /// The 32 bytes in a column.
-pub(crate) fn hash_at(row: &Row, at: usize) -> Result<[u8; 32], StoreError>
+pub fn hash_at(row: &Row, at: usize) -> Result<[u8; 32], StoreError>
     ensures read { IfOk result (λ bytes. column row.now at ≡ Blob bytes) }
+    ensures taken { IfErr result (λ error. ¬ HasHash (column row.now at)) }
 {
     match row.get(at) {
         ValueRef::Blob(bytes) => hash_of(bytes).ok_or(StoreError::Corrupt),
@@ -80,6 +91,7 @@ pub(crate) fn hash_at(row: &Row, at: usize) -> Result<[u8; 32], StoreError>
 /// The 32 bytes that stand for data.
 fn hash_of(bytes: &[u8]) -> Option<[u8; 32]>
     ensures value { IfSome result (λ hash. hash ≡ bytes.now) }
+    ensures taken { result ≡ None → length bytes.now ≢ 32 }
 {
     if bytes.len() != 32 {
         return None;
@@ -90,6 +102,7 @@ fn hash_of(bytes: &[u8]) -> Option<[u8; 32]>
 /// The text in a column.
 fn str_at<'a>(row: &'a Row, at: usize) -> Result<&'a str, StoreError>
     ensures read { IfOk result (λ text. column row.now at ≡ Text text.now) }
+    ensures taken { IfErr result (λ error. ¬ HasText (column row.now at)) }
 {
     match row.get(at) {
         ValueRef::Text(bytes) => str::from_utf8(bytes).map_err(|_| StoreError::Corrupt),
@@ -98,16 +111,19 @@ fn str_at<'a>(row: &'a Row, at: usize) -> Result<&'a str, StoreError>
 }
 
 /// The text in a column.
-pub(crate) fn text_at(row: &Row, at: usize, alloc: Global) -> Result<String, StoreError>
+pub fn text_at(row: &Row, at: usize, alloc: Global) -> Result<String, StoreError>
     ensures read { IfOk result (λ text. column row.now at ≡ Text (string_bytes text)) }
+    ensures taken { IfErr result (λ error. HasText (column row.now at)
+        → error ≡ StoreError.OutOfMemory) }
 {
     let text = str_at(row, at)?;
     Ok(String::from_str(alloc, text)?)
 }
 
 /// The name in a column.
-pub(crate) fn name_at(row: &Row, at: usize) -> Result<Name, StoreError>
+pub fn name_at(row: &Row, at: usize) -> Result<Name, StoreError>
     ensures read { IfOk result (λ name. column row.now at ≡ Text name) }
+    ensures taken { IfErr result (λ error. ¬ HasName (column row.now at)) }
 {
     let text = str_at(row, at)?;
     Name::of(text).ok_or(StoreError::Corrupt)

@@ -38,9 +38,12 @@ impl ReadRow for Close {
     ghost use Rattle.std.specs.Prelude.{◌≡◌, pos};
     ghost use Rattle.sqlite_value.specs.Order.{column};
     ghost use Rattle.sqlite_value.specs.declared.value.Value.TheVariants.{Int};
+    ghost use Rattle.tree_tables.specs.Fits.{CloseFits};
 
     ghost says = { λ row close. (column row 0 ≡ Int (pos close.period))
         × (column row 1 ≡ Int close.through) };
+
+    ghost fits = { CloseFits };
 
     fn read(row: &Row, _alloc: Global) -> Result<Close, StoreError> {
         Ok(Close {
@@ -54,7 +57,11 @@ impl<S: Store> TreeTables<S> {
     ghost use Rattle.kept_tables.specs.Steps as step;
     ghost use Rattle.tree_tables.specs.Answers.{ListsCloses};
     ghost use Rattle.tree_tables.specs.States.{state};
-    ghost use Rattle.tree_tables.specs.Steps.{Always, Does, Looks};
+    ghost use Rattle.tree_tables.specs.Steps.{Always, Does, FailsByStore, Looks};
+    ghost use Rattle.std.specs.FinMap.{entries};
+    ghost use Rattle.std.specs.Prelude.{map};
+    ghost use Rattle.tree_tables.specs.Columns.{closed_columns};
+    ghost use Rattle.tree_tables.specs.Fits.{CloseFits, RowsFit};
 
     /// The day of a close stands under its period.
     pub fn put_close(&mut self, close: &Close) -> Result<(), StoreError>
@@ -76,6 +83,9 @@ impl<S: Store> TreeTables<S> {
     pub fn list_closes(&mut self, alloc: Global) -> Result<Vec<Close>, StoreError>
         ensures looks { Looks result (state S.Store self.old.store) (state S.Store self.new.store)
             (λ tables list. ListsCloses tables list.items) }
+        ensures cause { FailsByStore result (state S.Store self.old.store)
+            (state S.Store self.new.store)
+            (λ tables. RowsFit CloseFits (map closed_columns (entries tables.closes))) }
     {
         self.key.clear();
         list_run(&mut self.store, CLOSES, &self.key, &mut self.row, alloc)

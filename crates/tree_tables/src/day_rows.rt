@@ -1,11 +1,12 @@
 //! Charge rows by period and place.
 
-ghost use Rattle.std.specs.Prelude.{◌≡◌, ◌==◌, ◌∷◌, ◌+ℤ◌, [], ℕ, IfOk, OnOk, map, pos};
+ghost use Rattle.std.specs.Prelude.{◌≡◌, ◌==◌, ◌∷◌, ◌+ℤ◌, [], ℕ, IfErr, IfOk, OnOk, map, pos};
 ghost use Rattle.sqlite_value.specs.Order.{column};
 ghost use Rattle.sqlite_value.specs.declared.value.Value.TheVariants.{Int};
 ghost use Rattle.kept_tables.specs.TablesOf.{place_of};
 ghost use Rattle.tree_tables.specs.Columns.{day_columns, place_columns};
 ghost use Rattle.tree_tables.specs.Days.{RowFits, SaysDay};
+ghost use Rattle.tree_tables.specs.Fits.{ChargeFits};
 
 use crate::cells::{count_at, day_at, name_at};
 use crate::closed_rows::Close;
@@ -100,6 +101,7 @@ fn is_of(row: &Row, period: u16) -> bool
 fn read_day(row: &Row) -> Result<ChargeRow, StoreError>
     ensures says { IfOk result (SaysDay row.now) }
     ensures fits { IfOk result RowFits }
+    ensures taken { IfErr result (λ error. ¬ ChargeFits row.now) }
 {
     Ok(ChargeRow {
         day: day_at(row, 1)?,
@@ -120,6 +122,8 @@ struct StoredDay {
 
 impl ReadRow for StoredDay {
     ghost says = { λ row day. SaysDay row day.charge };
+
+    ghost fits = { ChargeFits };
 
     fn read(row: &Row, alloc: Global) -> Result<StoredDay, StoreError> {
         Ok(StoredDay {

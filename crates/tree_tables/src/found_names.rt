@@ -3,6 +3,7 @@
 ghost use Rattle.std.specs.Prelude.{◌≡◌, IfOk, length, ◌-◌};
 ghost use Rattle.sqlite_value.specs.Order.{column};
 ghost use Rattle.sqlite_value.specs.declared.value.Value.TheVariants.{Blob};
+ghost use Rattle.tree_tables.specs.Fits.{HasHash};
 
 use crate::cells::hash_at;
 use crate::stored_record::StoredRecord;
@@ -21,6 +22,8 @@ pub(crate) struct FoundName {
 
 impl ReadRow for FoundName {
     ghost says = { λ row found. column row (length row - 1) ≡ Blob found.name };
+
+    ghost fits = { λ row. HasHash (column row (length row - 1)) };
 
     fn read(row: &Row, _alloc: Global) -> Result<FoundName, StoreError> {
         Ok(FoundName {

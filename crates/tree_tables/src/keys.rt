@@ -1,6 +1,6 @@
 //! Keys as they are looked for: the first columns of rows.
 
-ghost use Rattle.std.specs.Prelude.{◌≡◌, ◌∷◌, [], OnOk, pos};
+ghost use Rattle.std.specs.Prelude.{◌≡◌, ◌∷◌, [], IfErr, OnOk, pos};
 ghost use Rattle.sqlite_value.specs.declared.value.Value.TheVariants.{Blob, Int};
 
 use sqlite_trees::error::StoreError;
@@ -9,7 +9,8 @@ use sqlite_value::value::ValueRef;
 
 /// A number as a key.
 pub(crate) fn number_key(key: &mut Row, number: i64) -> Result<(), StoreError>
-    ensures { OnOk result (key.new ≡ Int number ∷ []) }
+    ensures made { OnOk result (key.new ≡ Int number ∷ []) }
+    ensures memory { IfErr result (λ error. error ≡ StoreError.OutOfMemory) }
 {
     key.clear();
     key.push(ValueRef::Int(number))?;

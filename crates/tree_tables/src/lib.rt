@@ -17,11 +17,13 @@ mod tables;
 mod tariff_rows;
 
 pub use book_row::{StoredBook, Sums};
+// How columns are read, for who reads the rows anew.
+pub use cells::{bytes_at, count_at, day_at, hash_at, mark_at, name_at, period_at, text_at};
 pub use closed_rows::Close;
 pub use day_rows::{DayPlace, DayRow};
 pub use line_rows::{LinePlace, StoredLine};
 pub use memory::trees_in_memory;
 pub use record_rows::NewRecord;
-pub use stored_record::StoredRecord;
+pub use stored_record::{StoredRecord, read_record};
 pub use tables::TreeTables;
 pub use tariff_rows::{StoredTariff, TariffText};

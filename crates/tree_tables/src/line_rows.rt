@@ -1,8 +1,9 @@
 //! Adjustment lines by period and name.
 
-ghost use Rattle.std.specs.Prelude.{◌≡◌, ◌∷◌, ◌++◌, [], IfOk, OnOk, pos};
+ghost use Rattle.std.specs.Prelude.{◌≡◌, ◌∷◌, ◌++◌, [], IfErr, IfOk, OnOk, pos};
 ghost use Rattle.sqlite_value.specs.declared.value.Value.TheVariants.{Blob, Int};
 ghost use Rattle.tree_tables.specs.Columns.{line_columns};
+ghost use Rattle.tree_tables.specs.Fits.{LineFits};
 ghost use Rattle.tree_tables.specs.Stored.{SaysLine};
 
 use crate::cells::{hash_at, mark_at};
@@ -55,7 +56,8 @@ fn line_row(row: &mut Row, spot: &LinePlace<'_>, plus: bool) -> Result<(), Store
 
 /// What the row of a line says.
 fn read_line(row: &Row) -> Result<StoredLine, StoreError>
-    ensures { IfOk result (SaysLine row.now) }
+    ensures says { IfOk result (SaysLine row.now) }
+    ensures taken { IfErr result (λ error. ¬ LineFits row.now) }
 {
     Ok(StoredLine {
         name: hash_at(row, 1)?,
@@ -65,6 +67,8 @@ fn read_line(row: &Row) -> Result<StoredLine, StoreError>
 
 impl ReadRow for StoredLine {
     ghost says = { SaysLine };
+
+    ghost fits = { LineFits };
 
     fn read(row: &Row, alloc: Global) -> Result<StoredLine, StoreError> {
         read_line(row)

@@ -48,7 +48,7 @@ fn read_price(row: &Row) -> Result<Priced, StoreError>
 }
 
 /// What the row of a record says.
-pub(crate) fn read_record(row: &Row, alloc: Global) -> Result<StoredRecord, StoreError>
+pub fn read_record(row: &Row, alloc: Global) -> Result<StoredRecord, StoreError>
     ensures read { IfOk result (λ stored. (entry : List ℕ × RecordRow)
         → row.now ≡ record_columns entry → stored_entry stored ≡ entry) }
 {

@@ -44,9 +44,12 @@ impl ReadRow for StoredTariff {
     ghost use Rattle.std.specs.Prelude.{◌≡◌, string_bytes};
     ghost use Rattle.sqlite_value.specs.Order.{column};
     ghost use Rattle.sqlite_value.specs.declared.value.Value.TheVariants.{Int, Text};
+    ghost use Rattle.tree_tables.specs.Fits.{TariffFits};
 
     ghost says = { λ row tariff. (column row 0 ≡ Int tariff.day)
         × (column row 1 ≡ Text (string_bytes tariff.body)) };
+
+    ghost fits = { TariffFits };
 
     fn read(row: &Row, alloc: Global) -> Result<StoredTariff, StoreError> {
         Ok(StoredTariff {
@@ -60,7 +63,11 @@ impl<S: Store> TreeTables<S> {
     ghost use Rattle.kept_tables.specs.Steps as step;
     ghost use Rattle.tree_tables.specs.Answers.{ListsTariffs};
     ghost use Rattle.tree_tables.specs.States.{state};
-    ghost use Rattle.tree_tables.specs.Steps.{Always, Does, Looks};
+    ghost use Rattle.tree_tables.specs.Steps.{Always, Does, FailsByStore, Looks};
+    ghost use Rattle.std.specs.FinMap.{entries};
+    ghost use Rattle.std.specs.Prelude.{map};
+    ghost use Rattle.tree_tables.specs.Columns.{tariff_columns};
+    ghost use Rattle.tree_tables.specs.Fits.{RowsFit, TariffFits};
 
     /// The text of a tariff stands under its first day.
     pub fn put_tariff(&mut self, tariff: &TariffText<'_>) -> Result<(), StoreError>
@@ -82,6 +89,9 @@ impl<S: Store> TreeTables<S> {
     pub fn list_tariffs(&mut self, alloc: Global) -> Result<Vec<StoredTariff>, StoreError>
         ensures looks { Looks result (state S.Store self.old.store) (state S.Store self.new.store)
             (λ tables list. ListsTariffs tables list.items) }
+        ensures cause { FailsByStore result (state S.Store self.old.store)
+            (state S.Store self.new.store)
+            (λ tables. RowsFit TariffFits (map tariff_columns (entries tables.tariffs))) }
     {
         self.key.clear();
         list_run(&mut self.store, TARIFFS, &self.key, &mut self.row, alloc)

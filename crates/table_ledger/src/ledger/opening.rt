@@ -19,7 +19,7 @@ impl<S: Store, N: Naming + Drop> TableLedger<S, N> {
     ghost use Rattle.tree_tables.specs.Holds.{HasShapes, Holds};
     ghost use Rattle.tree_tables.specs.States.{HasCleanDisk, Survives, state};
     ghost use Rattle.table_ledger.specs.Commits.{Keeping};
-    ghost use Rattle.table_ledger.specs.Recalled.{IsOpenFault};
+    ghost use Rattle.table_ledger.specs.Recalled.{HasTexts, IsOpenCause, IsOpenFault};
 
     /// The books that a store keeps.
     pub fn open(alloc: Global, store: S, naming: N) -> Result<TableLedger<S, N>, (LedgerFault, S)>
@@ -42,6 +42,12 @@ impl<S: Store, N: Naming + Drop> TableLedger<S, N> {
             → HasCleanDisk (state S.Store refused.1) → (tables : Tables)
             → ¬ Holds (S.Store.view store).trees tables) }
         ensures refused { IfErr result (λ refused. IsOpenFault refused.0) }
+
+        // What calls made is read again, unless memory is wanting or the disk fails.
+        ensures own { IfErr result (λ refused. HasCleanDisk (state S.Store refused.1)
+            → (book : Book) → IsFromCalls (N.name_of naming) book → HasTexts book
+            → Keeping (S.Store.view store) (tables_of (N.name_of naming) book)
+            → IsOpenCause (state S.Store store) (state S.Store refused.1) refused.0) }
         ensures shaped { IfErr result (λ refused. IsClean (S.Store.view refused.1)
             → HasShapes (S.Store.view refused.1)) }
     {

@@ -1,10 +1,12 @@
 use Rattle.std.proofs.Common.{◌≡◌, ◌∙◌, ◌+◌, ◌++◌, ◌∷◌, [], ap, arith, subst, suc, sym, take, w32}
-use Rattle.std.proofs.Common.{ℤ}
+use Rattle.std.proofs.Common.{ℤ, List, rules, slice_index_or, pos}
 use Rattle.std.specs.List.{AllZip}
 use Rattle.std.proofs.lemmas.Int.{to_z-of_z}
 use Rattle.book_model.proofs.DayLemmas.{day_fits}
-use Rattle.table_ledger.specs.Recalled.{HasDay}
+use Rattle.table_ledger.specs.Recalled.{AreCloses, HasDay, IsNextClose}
 use Rattle.table_ledger.proofs.RecallLemmas.{zip_at}
+use Rattle.table_ledger.proofs.RowsTaken.{next_at}
+use Rattle.tree_tables.specs.declared.closed_rows.Close.{Close}
 use Rattle.table_ledger.proofs.recall.days_of.Goals as goal
 
 pub loop-row-preserved : goal.loop-row-preserved
@@ -20,3 +22,15 @@ loop-row-preserved c =
     subst (λ n. AllZip HasDay (take n rows) c.push.new.self.items) next
     (subst (AllZip HasDay (take (suc at) rows)) (sym pushed)
     (zip_at HasDay rows at so_far _ day c.loop-row.invariant c.loop-row-test.true had))
+
+pub returns-in_err-day-clause-refused : goal.returns-in_err-day-clause-refused
+returns-in_err-day-clause-refused c =
+    let rows = c.args.rows.now in
+    let refused = c.in_err-day.ensures.refused in
+    let none : (days : List ℤ) → AreCloses rows days → ⊥ = λ days are.
+    let other : Close = record { period = 0; through = pos 0 } in
+    refused (subst (λ days. IsNextClose days (slice_index_or rows c.loop-row.row-index other))
+    (sym c.deref.ensures.value)
+    (next_at c.loop-row.row-index rows c.loop-row.days.items days other
+    c.loop-row.invariant are c.loop-row-test.true)) in
+    search rules

@@ -1,7 +1,13 @@
 use Rattle.std.proofs.Common.{◌≡◌, ◌∙◌, None, ap, map, rules, sym}
+use Rattle.std.proofs.lemmas.Result.{err_from_is_err_and}
 use Rattle.kept_tables.specs.Tables.{Tables}
 use Rattle.std.specs.Option.{option_map}
 use Rattle.tree_tables.specs.Stored.{book_of, close_of, tariff_of}
+use Rattle.tree_tables.specs.Holds.{Holds}
+use Rattle.tree_tables.specs.States.{HasCleanDisk, state}
+use Rattle.tree_tables.specs.Steps.{IsCaused}
+use Rattle.table_ledger.specs.Recalled.{CanBeListed}
+use Rattle.table_ledger.proofs.OwnBooks.{fails_behind}
 use Rattle.table_ledger.proofs.RecallLemmas.{never_missed, recalled_by, refused_at}
 use Rattle.table_ledger.proofs.TryLemmas.{looks_known, saw_found, saw_none, saw_then}
 use Rattle.table_ledger.proofs.recall.look_for_summary.Goals as goal
@@ -40,5 +46,30 @@ returns-clause-looks g c =
     (λ (tables : Tables) known.
     let found = ap (option_map book_of) (sym c.in-Some.is) ∙ known.0.0 in
     recalled_by c.summary_of.result tables c.in-Some.row texts days
-    c.summary_of.ensures.shows c.summary_of.ensures.kinds (let e = found in cc)
+    c.summary_of.ensures.shows c.summary_of.ensures.kinds c.summary_of.ensures.refused (let e = found in cc)
     (ap (map tariff_of) all_texts ∙ known.0.1) (ap (map close_of) all_days ∙ known.1))
+
+-- why the tariffs were not listed, behind the look at the row of the book
+pub returns-in_err-tariffs-clause-cause : goal.returns-in_err-tariffs-clause-cause
+returns-in_err-tariffs-clause-cause g c =
+    let start = state g.S.Store c.args.tables.now.store in
+    let end = state g.S.Store c.list_tariffs.new.self.store in
+    let cause : HasCleanDisk end → (tables : Tables) → Holds start.view.trees tables
+    → CanBeListed tables → IsCaused start end c.in_err-tariffs.field-0.0 =
+    fails_behind _ (saw_found c.in_ok-row.ensures.looks) c.in_err-tariffs.ensures.looks.survives
+    (λ clean tables holds when. c.in_err-tariffs.ensures.cause clean tables holds when.tariffs) in
+    let p = err_from_is_err_and c.from_residual-in_err-tariffs.result
+    c.from_residual-in_err-tariffs.ensures.1 in
+    rw (p.1, p.2) cause
+
+-- why the closes were not, behind both
+pub returns-in_err-closes-clause-cause : goal.returns-in_err-closes-clause-cause
+returns-in_err-closes-clause-cause g c =
+    let start = state g.S.Store c.args.tables.now.store in
+    let end = state g.S.Store c.list_closes.new.self.store in
+    let cause : HasCleanDisk end → (tables : Tables) → Holds start.view.trees tables
+    → CanBeListed tables → IsCaused start end c.in_err-closes.field-0.0 =
+    fails_behind _ (saw_then (saw_found c.in_ok-row.ensures.looks)
+    (saw_found c.in_ok-tariffs.ensures.looks)) c.in_err-closes.ensures.looks.survives
+    (λ clean tables holds when. c.in_err-closes.ensures.cause clean tables holds when.closes) in
+    search rules

@@ -1,6 +1,24 @@
+use Rattle.std.proofs.Common.{◌≤◌, arith, length, rules}
+use Rattle.book_model.specs.Words.{last_period}
 use Rattle.table_ledger.proofs.RecallLemmas.{all_days}
+use Rattle.table_ledger.proofs.RowsTaken.{as_many}
 use Rattle.table_ledger.proofs.recall.summary_of.Goals as goal
+use Rattle.table_ledger.proofs.recall.summary_of.Goals.{then-not-is_kept-via-then-not-is_kept}
+use Rattle.table_ledger.proofs.recall.summary_of.Goals.{then-not-is_kept-via-else-not-is_kept+then-not-are_few}
 
 pub invariant_of-result-clause-days : goal.invariant_of-result-clause-days
 invariant_of-result-clause-days c =
     all_days c.args.closes.now c.in_ok-closes.closes.items c.in_ok-closes.ensures.have
+
+pub returns-then-not-is_kept-clause-refused : goal.returns-then-not-is_kept-clause-refused
+returns-then-not-is_kept-clause-refused c = λ store rulings are.
+    elim c.then-not-is_kept.branch [
+      | then-not-is_kept-via-then-not-is_kept w ↦
+          c.is_kept.ensures.refused w.if-not-is_kept.true are.book
+      | then-not-is_kept-via-else-not-is_kept+then-not-are_few w ↦
+          let same = as_many c.args.closes.now c.in_ok-closes.closes.items rulings.closes
+          c.in_ok-closes.ensures.have are.closes in
+          let few = are.few in
+          let many : last_period ≤ length c.in_ok-closes.closes.items = search rules in
+          absurd (omega (arith, same, few, many))
+    ]

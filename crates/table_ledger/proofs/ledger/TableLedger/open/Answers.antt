@@ -4,6 +4,7 @@ use Rattle.kept_tables.specs.TablesOf.{tables_of}
 use Rattle.tree_tables.specs.Holds.{Holds}
 use Rattle.tree_tables.specs.States.{HasCleanDisk, state}
 use Rattle.table_ledger.specs.Commits.{Keeping}
+use Rattle.table_ledger.specs.Recalled.{IsOpenCause}
 use Rattle.table_ledger.proofs.RecallLemmas.{never_both, read_open}
 use Rattle.table_ledger.proofs.ledger.TableLedger.open.Goals as goal
 
@@ -23,3 +24,17 @@ returns-in-Err-clause-found g c = λ none clean tables holds.
     (c.in-Err.ensures.reads.refused
     (subst (λ store. HasCleanDisk (state g.S.Store store)) c.into_store.ensures.same clean) tables
     (subst (λ store. Holds (g.S.Store.view store).trees tables) (sym c.over-tables.ensures) holds))
+
+pub returns-in-Err-clause-own : goal.returns-in-Err-clause-own
+returns-in-Err-clause-own g c = λ clean book calls texts keeping.
+    let names = g.N.Naming.name_of c.args.naming in
+    let fault = c.in-Err.fault in
+    let own = c.in-Err.ensures.own
+    (subst (λ store. HasCleanDisk (state g.S.Store store)) c.into_store.ensures.same clean) names
+    book calls texts
+    (subst (λ store. Keeping (g.S.Store.view store) (tables_of names book))
+    (sym c.over-tables.ensures) keeping) in
+    subst (λ store. IsOpenCause (state g.S.Store store) (state g.S.Store c.into_store.result) fault)
+    c.over-tables.ensures
+    (subst (λ store. IsOpenCause (state g.S.Store c.over-tables.result.store)
+    (state g.S.Store store) fault) (sym c.into_store.ensures.same) own)

@@ -1,13 +1,41 @@
-use Rattle.std.proofs.Common.{◌∙◌, sym, true≢false}
-use Rattle.tree_tables.proofs.Looking.{looks_found}
-use Rattle.tree_tables.proofs.TheBook.{book_there}
+use Rattle.std.proofs.Common.{◌∙◌, rules, subst, sym, true≢false}
+use Rattle.sqlite_disk.specs.Disk.{MoreFaults}
+use Rattle.kept_tables.specs.Tables.{Tables}
+use Rattle.tree_rows.proofs.Failing.{caused_by_memory}
+use Rattle.tree_tables.specs.Fits.{BookFits}
+use Rattle.tree_tables.specs.Holds.{Holds}
+use Rattle.tree_tables.specs.States.{HasCleanDisk, state}
+use Rattle.tree_tables.specs.Steps.{Always, IsCaused}
+use Rattle.tree_tables.proofs.Looking.{any_err, looks_found}
+use Rattle.tree_tables.proofs.TheBook.{book_fits, book_there}
 use Rattle.tree_tables.proofs.tables.TreeTables.find_book.Goals as goal
 
 pub returns-then-not-branch : goal.returns-then-not-branch
 returns-then-not-branch g c = record {
+  cause = tt;
   looks = looks_found g.S.Store c.find_row.ensures.quiet c.in_ok-find_row.ensures.same
       (λ clean tables holds. absurd (true≢false
       (sym (book_there _ tables.book c.number_key.new.key c.find_row.new.row
-      c.in_ok-find_row.field-0 holds.book c.in_ok-number_key.ensures
+      c.in_ok-find_row.field-0 holds.book c.in_ok-number_key.ensures.made
       (c.in_ok-find_row.ensures.found clean)).0 ∙ c.if-not-branch.true)));
 }
+
+-- for a key memory alone may be wanting
+pub returns-in_err-number_key-clause-cause : goal.returns-in_err-number_key-clause-cause
+returns-in_err-number_key-clause-cause g c =
+    let start = state g.S.Store c.args.self.now.store in
+    let cause : HasCleanDisk start → (tables : Tables) → Holds start.view.trees tables
+    → Always tables → IsCaused start start c.in_err-number_key.field-0.0 =
+    λ clean tables holds always.
+    caused_by_memory start.view (MoreFaults start.faults start.faults) _
+    c.in_err-number_key.ensures.memory in
+    search rules
+
+-- and the row of a book fits
+pub returns-in_err-read_book-clause-cause : goal.returns-in_err-read_book-clause-cause
+returns-in_err-read_book-clause-cause g c =
+    any_err c.from_residual-in_err-read_book.result (λ error clean tables holds always.
+    let row = c.find_row.new.row in
+    let is = (book_there _ tables.book c.number_key.new.key row c.in_ok-find_row.field-0
+    holds.book c.in_ok-number_key.ensures.made (c.in_ok-find_row.ensures.found clean)).1 in
+    absurd (c.in_err-read_book.ensures.taken (subst BookFits (sym is) (book_fits tables.book))))

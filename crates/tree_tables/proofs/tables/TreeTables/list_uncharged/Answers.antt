@@ -22,6 +22,6 @@ returns g c = record {
       holds.marks (c.in_ok-names.ensures.found clean)) in
       looks_behind c.read_named.result listed c.read_named.ensures.looks
       (λ tables found ends all. uncharged_found tables key names.items found.items
-      c.in_ok-number_key.ensures ends
+      c.in_ok-number_key.ensures.made ends
       (subst (λ some. FindsNamed some tables found.items) c.deref.ensures.value all));
 }

@@ -15,7 +15,7 @@ returns g c = record {
       (λ clean rewritten tables holds when.
       let before = clean_before g.S.Store c.change_row.ensures.quiet clean in
       let there = book_there _ tables.book c.number_key.new.key c.find_row.new.row
-      c.in_ok-find_row.field-0 holds.book c.in_ok-number_key.ensures
+      c.in_ok-find_row.field-0 holds.book c.in_ok-number_key.ensures.made
       (c.in_ok-find_row.ensures.found before) in
       let said = book_said c.find_row.new.row tables.book c.in_ok-read_book.field-0.rule
       c.in_ok-read_book.field-0.adopted there.1 c.in_ok-read_book.ensures.rule

@@ -1,0 +1,220 @@
+-- Books that calls made are read again: their rows fit, and what fails has a cause of the store.
+use Rattle.std.proofs.Common.{◌≡◌, ◌∙◌, ◌+◌, ◌≤◌, ◌^◌, ℕ, ℤ, suc, List, [], ◌∷◌, Option, Some}
+use Rattle.std.proofs.Common.{Result, Ok, Err, IsTrue, ap, arith, false, inl, inr, length, map, pos}
+use Rattle.std.proofs.Common.{refl, rules, subst, sym, true, true≢false}
+use Rattle.std.specs.Prelude.{◌⊎◌, All, int_lt, ◌≤ℤ◌, ◌+ℤ◌}
+use Rattle.std.specs.List.{AllByRecursion, list_all}
+use Rattle.std.specs.Str.{IsUtf8}
+use Rattle.std.proofs.lemmas.Int.{ints}
+use Rattle.std.proofs.lemmas.List.Elements.{All-head, All-tail}
+use Rattle.sqlite_disk.specs.Disk.{MoreFaults}
+use Rattle.sqlite_value.specs.Order.{Row}
+use Rattle.sqlite_trees.specs.declared.error.StoreError.{StoreError}
+use Rattle.sqlite_trees.specs.declared.error.StoreError.TheVariants.{Broken, Corrupt, Full, Io}
+use Rattle.sqlite_trees.specs.declared.error.StoreError.TheVariants.{OutOfMemory, Unstorable}
+use Rattle.book_model.specs.Words.{Book, IsDay, Naming, Tariffed, are_rising, last_period}
+use Rattle.book_model.proofs.RecordSets.{first_of, second_of}
+use Rattle.book_model.specs.declared.fault.LedgerFault.{LedgerFault}
+use Rattle.book_model.specs.declared.fault.LedgerFault.TheVariants.{Memory, Store}
+use Rattle.kept_tables.specs.Tables.{Tables}
+use Rattle.kept_tables.specs.TablesOf.{close_entries, tables_of, tariff_entries}
+use Rattle.table_readings.specs.FromCalls.{IsFromCalls}
+use Rattle.table_readings.specs.Readable.{IsTexted}
+use Rattle.table_readings.proofs.ReadableLemmas.{calls_read}
+use Rattle.table_readings.proofs.RulingsReading.{closes_kept, tariffs_kept}
+use Rattle.tree_rows.proofs.Failing.{caused_after}
+use Rattle.tree_tables.specs.Columns.{closed_columns, tariff_columns, text_of}
+use Rattle.tree_tables.specs.Fits.{CloseFits, HasText, TariffFits}
+use Rattle.tree_tables.specs.Holds.{Holds}
+use Rattle.tree_tables.specs.States.{State, HasCleanDisk, Survives}
+use Rattle.tree_tables.specs.Steps.{IsCaused, Looks}
+use Rattle.table_ledger.specs.Commits.{IsAtRest, Saw}
+use Rattle.table_ledger.specs.Recalled.{CanBeListed, HasTexts, IsOpenCause, IsRecalled, ReadsItsOwn}
+use Rattle.table_ledger.specs.declared.summary.Summary.{Summary}
+use Rattle.table_ledger.proofs.Standing.{holds_on}
+use Rattle.table_ledger.proofs.SurvivalLemmas.{clean_before, survives_then}
+
+-- what fails behind looks at tables has a cause of the store as it was before them
+pub fails_behind : {old middle new : State} {Known When : Tables → Type 0} (error : StoreError)
+    → Saw old middle Known → Survives middle new (λ trees. ⊥)
+    → (HasCleanDisk new → (tables : Tables) → Holds middle.view.trees tables → When tables
+    → IsCaused middle new error)
+    → HasCleanDisk new → (tables : Tables) → Holds old.view.trees tables → When tables
+    → IsCaused old new error
+fails_behind {old} {middle} {new} error saw survives cause clean tables holds when =
+    let seen = saw.seen (clean_before survives clean) in
+    caused_after old.view middle.view old.faults middle.faults new.faults error seen.same
+    saw.survives.counts
+    (cause clean tables (holds_on old.view middle.view tables seen.same holds) when)
+
+-- a tariff's text that is one of characters
+text_fits : (found : Option (List ℕ)) (text : List ℕ) → found ≡ Some text → IsUtf8 text
+    → HasText (text_of found)
+text_fits found text is utf8 = (text, utf8, ap text_of is)
+
+-- the rows of tariffs with texts fit
+tariffs_fit : (tariffs : List Tariffed) → All IsTexted tariffs
+    → All (λ (tariff : Tariffed). (text : List ℕ) → tariff.text ≡ Some text → IsUtf8 text) tariffs
+    → AllByRecursion TariffFits (map tariff_columns (tariff_entries tariffs))
+tariffs_fit [] texted texts = tt
+tariffs_fit (tariff ∷ tariffs) texted texts =
+    let Utf8 : Tariffed → Type 0 =
+    λ tariff. (text : List ℕ) → tariff.text ≡ Some text → IsUtf8 text in
+    let one = All-head IsTexted tariff tariffs texted in (
+      record {
+        day = (tariff.terms.effective, one.day, refl);
+        text = text_fits tariff.text one.text one.is
+            (All-head Utf8 tariff tariffs texts one.text one.is);
+      },
+      tariffs_fit tariffs (All-tail IsTexted tariff tariffs texted)
+          (All-tail Utf8 tariff tariffs texts),
+    )
+
+-- the rows of so many closes fit
+closes_fit : (number : ℕ) (days : List ℤ) → number + length days ≤ last_period → All IsDay days
+    → AllByRecursion CloseFits (map closed_columns (close_entries number days))
+closes_fit number [] few dated = tt
+closes_fit number (day ∷ days) few dated = (
+  record {
+    period = (number, omega (arith, few), refl);
+    through = (day, All-head IsDay day days dated, refl);
+  },
+  closes_fit (suc number) days (omega (arith, few)) (All-tail IsDay day days dated),
+)
+
+-- there are as many rows as closes
+closes_many : (number : ℕ) (days : List ℤ)
+    → length (map closed_columns (close_entries number days)) ≡ length days
+closes_many number [] = refl
+closes_many number (day ∷ days) = ap suc (closes_many (suc number) days)
+
+-- as many as tariffs
+tariffs_many : (tariffs : List Tariffed)
+    → length (map tariff_columns (tariff_entries tariffs)) ≡ length tariffs
+tariffs_many [] = refl
+tariffs_many (tariff ∷ tariffs) = ap suc (tariffs_many tariffs)
+
+-- rising tariffs are no more than the days from the first of them on
+rising_few : (tariff : Tariffed) (tariffs : List Tariffed) → are_rising (tariff ∷ tariffs) ≡ true
+    → All IsTexted (tariff ∷ tariffs)
+    → (pos (length tariffs) +ℤ tariff.terms.effective) ≤ℤ pos 47481
+rising_few tariff [] rising texted =
+    let day = (All-head IsTexted tariff [] texted).day in
+    grind (arith, ints)
+rising_few tariff (next ∷ tariffs) rising texted =
+    let others = rising_few next tariffs
+    (second_of (list_all (λ later. int_lt tariff.terms.effective later.terms.effective)
+    (next ∷ tariffs)) (are_rising (next ∷ tariffs)) rising)
+    (All-tail IsTexted tariff (next ∷ tariffs) texted) in
+    let own : int_lt tariff.terms.effective next.terms.effective ≡ true =
+    first_of (int_lt tariff.terms.effective next.terms.effective)
+    (list_all (λ later. int_lt tariff.terms.effective later.terms.effective) tariffs)
+    (first_of (list_all (λ later. int_lt tariff.terms.effective later.terms.effective)
+    (next ∷ tariffs)) (are_rising (next ∷ tariffs)) rising) in
+    step (length tariffs) tariff.terms.effective next.terms.effective own others
+  where
+    step : (n : ℕ) (day later : ℤ) → int_lt day later ≡ true → (pos n +ℤ later) ≤ℤ pos 47481
+        → (pos (suc n) +ℤ day) ≤ℤ pos 47481
+    step n day later less few = grind (arith, ints)
+
+tariffs_few : (tariffs : List Tariffed) → are_rising tariffs ≡ true → All IsTexted tariffs
+    → length tariffs ≤ 2 ^ 32
+tariffs_few [] rising texted = omega arith
+tariffs_few (tariff ∷ tariffs) rising texted =
+    let few = rising_few tariff tariffs rising texted in
+    let day = (All-head IsTexted tariff tariffs texted).day in
+    within (length tariffs) tariff.terms.effective day few
+  where
+    within : (n : ℕ) (day : ℤ) → IsDay day → (pos n +ℤ day) ≤ℤ pos 47481 → suc n ≤ 2 ^ 32
+    within n day is few = grind (arith, ints)
+
+-- so the rows of books that calls made can be listed
+pub can_be_listed : (naming : Naming) (book : Book) → IsFromCalls naming book → HasTexts book
+    → CanBeListed (tables_of naming book)
+can_be_listed naming book calls texts =
+    let whole = calls_read naming book calls in
+    let tariffs = book.rulings.tariffs in
+    let closes = book.rulings.closes in
+    let texted = whole.texts in
+    let few = whole.limits.closes in
+    let rows = ap (map tariff_columns) (sym (tariffs_kept tariffs whole.rising)) in
+    let days = ap (map closed_columns) (sym (closes_kept closes)) in
+    let many = tariffs_few tariffs whole.rising texted in
+    record {
+      tariffs = record {
+        fit = subst (AllByRecursion TariffFits) rows (tariffs_fit tariffs texted texts);
+        few = subst (λ (rows : List Row). length rows ≤ 2 ^ 32) rows
+            (subst (λ n. n ≤ 2 ^ 32) (sym (tariffs_many tariffs)) many);
+      };
+      closes = record {
+        fit = subst (AllByRecursion CloseFits) days
+            (closes_fit 1 closes (omega (arith, few)) whole.days);
+        few = subst (λ (rows : List Row). length rows ≤ 2 ^ 32) days
+            (subst (λ n. n ≤ 2 ^ 32) (sym (closes_many 1 closes)) (omega (arith, few)));
+      };
+    }
+
+-- a fault of the store behind more faults of the disk
+faults_since : (old middle new : State) (fault : LedgerFault) → (fault ≡ Memory) ⊎ (fault ≡ Store)
+    → middle.faults ≤ new.faults → MoreFaults old.faults middle.faults → IsOpenCause old new fault
+faults_since old middle new fault (inl memory) less more = inl memory
+faults_since old middle new fault (inr store) less more =
+    inr (store, later old.faults middle.faults new.faults less more)
+  where
+    later : (one two three : ℕ) → two ≤ three → MoreFaults one two → MoreFaults one three
+    later one two three less more = search rules
+
+-- where memory was wanting, the fault of the store is that a disk failed in the rollback
+wanting : (old new : State) (fault : LedgerFault) → (fault ≡ Memory) ⊎ (fault ≡ Store)
+    → (new.view.is_broken ≡ false → fault ≡ Memory)
+    → (IsTrue new.view.is_open → new.view.is_broken ≡ false)
+    → IsTrue new.view.is_open ⊎ MoreFaults old.faults new.faults → IsOpenCause old new fault
+wanting old new fault (inl memory) served mended stays = inl memory
+wanting old new fault (inr store) served mended (inl is_open) = inl (served (mended is_open))
+wanting old new fault (inr store) served mended (inr more) = inr (store, more)
+
+-- the fault that is answered for an error of such a cause has one
+pub cause_told : (old middle new : State) (error : StoreError) (fault : LedgerFault)
+    → IsAtRest old.view → IsCaused old middle error → Survives old middle (λ trees. ⊥)
+    → Survives middle new (λ trees. ⊥) → HasCleanDisk new → (fault ≡ Memory) ⊎ (fault ≡ Store)
+    → (error ≡ OutOfMemory → new.view.is_broken ≡ false → fault ≡ Memory)
+    → (IsTrue new.view.is_open → new.view.is_broken ≡ false) → IsOpenCause old new fault
+cause_told old middle new OutOfMemory fault rest cause one two clean kind served mended =
+    wanting old new fault kind (served refl) mended
+    ((survives_then one two).closes clean rest.is_open)
+cause_told old middle new Io fault rest cause one two clean kind served mended =
+    faults_since old middle new fault kind two.counts cause
+cause_told old middle new Corrupt fault rest cause one two clean kind served mended =
+    faults_since old middle new fault kind two.counts cause
+cause_told old middle new Full fault rest cause one two clean kind served mended =
+    faults_since old middle new fault kind two.counts cause
+cause_told old middle new Broken fault rest cause one two clean kind served mended =
+    absurd (true≢false (sym cause ∙ rest.sound))
+cause_told old middle new Unstorable fault rest cause one two clean kind served mended =
+    absurd cause
+
+-- an answer of looks is no fault of the store, where calls made the tables
+pub own_answer : (old new : State) (answer : Result Summary LedgerFault)
+    → Looks (Ok answer) old new IsRecalled → ReadsItsOwn answer old new
+own_answer old new (Ok summary) looks = tt
+own_answer old new (Err fault) looks = λ clean naming book calls texts keeping.
+    let known = (looks.found clean).known (tables_of naming book) keeping.holds in
+    elim known.0 [
+      | inl memory ↦ inl memory
+      | inr store ↦ absurd (known.1 store naming book calls refl)
+    ]
+
+-- nor are looks that were refused
+pub own_refused : (old middle new : State) (error : StoreError) (fault : LedgerFault)
+    → (HasCleanDisk middle → (tables : Tables) → Holds old.view.trees tables → CanBeListed tables
+    → IsCaused old middle error)
+    → Survives old middle (λ trees. ⊥) → Survives middle new (λ trees. ⊥)
+    → (fault ≡ Memory) ⊎ (fault ≡ Store)
+    → (HasCleanDisk new → error ≡ OutOfMemory → new.view.is_broken ≡ false → fault ≡ Memory)
+    → (HasCleanDisk new → IsTrue new.view.is_open → new.view.is_broken ≡ false)
+    → ReadsItsOwn (Err fault) old new
+own_refused old middle new error fault cause one two kind served mended clean naming book calls
+    texts keeping =
+    cause_told old middle new error fault keeping.rest
+    (cause (clean_before two clean) (tables_of naming book) keeping.holds
+    (can_be_listed naming book calls texts)) one two clean kind (served clean) (mended clean)

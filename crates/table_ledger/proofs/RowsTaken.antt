@@ -1,0 +1,238 @@
+-- Rows of books are taken: what is refused of rows that are read in order is none of a book.
+use Rattle.std.proofs.Common.{◌≡◌, ◌∙◌, ℕ, ℤ, zero, suc, List, [], ◌∷◌, ap, arith, map, refl}
+use Rattle.std.proofs.Common.{subst, sym, None, Option, Some, slice_index_or, take, ◌<◌, ◌+◌, true}
+use Rattle.std.proofs.Common.{length, Bool, ◌&&◌}
+use Rattle.std.specs.Prelude.{All, int_lt, ◌<ℤ◌, ◌≤◌}
+use Rattle.std.specs.FinMap.{entries}
+use Rattle.std.specs.Cmp.{int_ranked}
+use Rattle.std.specs.List.{AllByRecursion, AllZip, last_or, list_all}
+use Rattle.std.specs.List.Sorted.{IsStrictlySortedBy}
+use Rattle.std.specs.Option.{option_map_or}
+use Rattle.std.specs.Ordering.{int_cmp}
+use Rattle.std.specs.declared.cmp.Ordering.TheVariants.{Less}
+use Rattle.std.proofs.lemmas.Int.{ints}
+use Rattle.std.proofs.lemmas.List.Elements.{All-head, All-tail}
+use Rattle.book_model.specs.Words.{IsDay, Tariffed, are_rising, Book, Naming, members, total_of}
+use Rattle.book_model.specs.Words.{most_cost, most_held}
+use Rattle.book_model.proofs.RecordSets.{first_of, second_of}
+use Rattle.kept_tables.specs.Tables.{BookRow}
+use Rattle.kept_tables.specs.TablesOf.{close_entries, tables_of, tariff_entries}
+use Rattle.table_readings.specs.BookIn.{tariff_read}
+use Rattle.table_readings.specs.FromCalls.{IsFromCalls}
+use Rattle.table_readings.specs.Readable.{IsTexted}
+use Rattle.table_readings.proofs.ReadableLemmas.{calls_read}
+use Rattle.table_readings.proofs.RulingsReading.{closes_kept, one_read, tariffs_kept}
+use Rattle.tree_tables.specs.Stored.{book_of, close_of, tariff_of}
+use Rattle.tree_tables.specs.declared.book_row.StoredBook.{StoredBook as Stored}
+use Rattle.tree_tables.specs.declared.closed_rows.Close.{Close}
+use Rattle.tree_tables.specs.declared.tariff_rows.StoredTariff.{StoredTariff}
+use Rattle.table_ledger.specs.Recalled.{AreCloses, AreRowsOf, HasDay, IsNextClose, SaysTariff, TellsTariff}
+
+-- a place within a list has its element, whatever stands for none
+pub index_again : {A : Type 0} (rows : List A) (at : ℕ) (row other : A) → at < length rows
+    → slice_index_or rows at row ≡ slice_index_or rows at other
+index_again [] at row other below = absurd (omega (arith, below))
+index_again (first ∷ rows) zero row other below = refl
+index_again (first ∷ rows) (suc at) row other below =
+    let rest : at < length rows = omega (arith, below) in
+    index_again rows at row other rest
+
+-- of rows that say values, the row at a place says one
+pub zip_found : {A B : Type 0} (Says : A → B → Type 0) (rows : List A) (at : ℕ) (values : List B)
+    (row : A) → AllZip Says rows values → at < length rows → row ≡ slice_index_or rows at row
+    → (value : B) × Says row value
+zip_found Says [] at values row says below is = absurd (omega (arith, below))
+zip_found Says (first ∷ rows) at [] row says below is = absurd says
+zip_found Says (first ∷ rows) zero (value ∷ values) row says below is =
+    (value, subst (λ it. Says it value) (sym is) says.0)
+zip_found Says (first ∷ rows) (suc at) (value ∷ values) row says below is =
+    let rest : at < length rows = omega (arith, below) in
+    zip_found Says rows at values row says.1 rest is
+
+-- what a row says is one tariff
+one_tariff : (row : StoredTariff) (one other : Tariffed) → SaysTariff row one
+    → SaysTariff row other → one ≡ other
+one_tariff row one other says too =
+    let both : Some one ≡ Some other = sym says ∙ too in cc
+
+-- a test that all tariffs pass, the one of a row does
+passes_at : (test : Tariffed → Bool) (rows : List StoredTariff) (at : ℕ) (tariffs : List Tariffed)
+    (row : StoredTariff) (tariff : Tariffed) → AllZip TellsTariff rows tariffs
+    → list_all test tariffs ≡ true → at < length rows → row ≡ slice_index_or rows at row
+    → SaysTariff row tariff → test tariff ≡ true
+passes_at test [] at tariffs row tariff tells all below is says = absurd (omega (arith, below))
+passes_at test (first ∷ rows) at [] row tariff tells all below is says = absurd tells
+passes_at test (first ∷ rows) zero (other ∷ tariffs) row tariff tells all below is says =
+    let same = one_tariff first other tariff tells.0.0
+    (subst (λ it. SaysTariff it tariff) is says) in
+    ap test (sym same) ∙ first_of (test other) (list_all test tariffs) all
+passes_at test (first ∷ rows) (suc at) (other ∷ tariffs) row tariff tells all below is says =
+    let rest : at < length rows = omega (arith, below) in
+    passes_at test rows at tariffs row tariff tells.1
+    (second_of (test other) (list_all test tariffs) all) rest is says
+
+-- the first tariff begins before the other
+abbrev precedes : Tariffed → Tariffed → Bool
+precedes one other = int_lt one.terms.effective other.terms.effective
+
+-- the tariffs of the rows before one begin before its own, where those of all rows rise
+pub before_at : (rows : List StoredTariff) (at : ℕ) (so_far tariffs : List Tariffed)
+    (row : StoredTariff) (tariff : Tariffed) → AllZip SaysTariff (take at rows) so_far
+    → AllZip TellsTariff rows tariffs → are_rising tariffs ≡ true → at < length rows
+    → row ≡ slice_index_or rows at row → SaysTariff row tariff
+    → list_all (λ one. precedes one tariff) so_far ≡ true
+before_at [] at so_far tariffs row tariff said tells rising below is says =
+    absurd (omega (arith, below))
+before_at (first ∷ rows) at so_far [] row tariff said tells rising below is says = absurd tells
+before_at (first ∷ rows) zero [] (other ∷ tariffs) row tariff said tells rising below is says = refl
+before_at (first ∷ rows) zero (one ∷ so_far) (other ∷ tariffs) row tariff said tells rising below
+    is says =
+    absurd said
+before_at (first ∷ rows) (suc at) [] (other ∷ tariffs) row tariff said tells rising below is says =
+    refl
+before_at (first ∷ rows) (suc at) (one ∷ so_far) (other ∷ tariffs) row tariff said tells rising
+    below is says =
+    let rest : at < length rows = omega (arith, below) in
+    let same = one_tariff first other one tells.0.0 said.0 in
+    let all = list_all (precedes other) tariffs in
+    let own = ap (λ it. precedes it tariff) (sym same) ∙ passes_at (precedes other) rows at tariffs
+    row tariff tells.1 (first_of all (are_rising tariffs) rising) rest is says in
+    let others = before_at rows at so_far tariffs row tariff said.1 tells.1
+    (second_of all (are_rising tariffs) rising) rest is says in
+    λ i. own i && others i
+
+-- days that are later than one, if there is one
+abbrev Behind : Option ℤ → List ℤ → Type 0
+Behind None days = Unit {0}
+Behind (Some last) days = AllByRecursion (λ day. int_cmp last day ≡ Less) days
+
+-- the first of them is
+late_first : (last : Option ℤ) (day : ℤ) (days : List ℤ) → Behind last (day ∷ days)
+    → option_map_or (λ last. int_lt last day) last true ≡ true
+late_first None day days behind = refl
+late_first (Some last) day days behind =
+    let less : last <ℤ day = int_ranked last day Less (sym behind.0) in
+    grind (arith, ints)
+
+-- a row of closes is that of the next one behind those before it
+next_from : (number at : ℕ) (last : Option ℤ) (rows : List Close) (so_far days : List ℤ)
+    (row : Close) → AllZip HasDay (take at rows) so_far → map close_of rows ≡ close_entries number days
+    → All IsDay days → IsStrictlySortedBy int_cmp days → Behind last days → at < length rows
+    → row ≡ slice_index_or rows at row
+    → (row.period ≡ length so_far + number)
+    × (option_map_or (λ day. int_lt day row.through) (last_or last so_far) true ≡ true)
+    × IsDay row.through
+unfolding IsStrictlySortedBy
+next_from number at last [] so_far days row had same dated rising behind below is =
+    absurd (omega (arith, below))
+next_from number at last (first ∷ rows) so_far [] row had same dated rising behind below is =
+    absurd (let e = same in cc)
+next_from number zero last (first ∷ rows) (one ∷ so_far) (day ∷ days) row had same dated rising
+    behind below is =
+    absurd had
+next_from number zero last (first ∷ rows) [] (day ∷ days) row had same dated rising behind below
+    is =
+    let itself : row ≡ first = is in
+    let its : close_of first ≡ (number, day) = (let e = same in cc) in
+    let its_number : first.period ≡ number = ap (λ (close : ℕ × ℤ). close.0) its in
+    let its_day : first.through ≡ day = ap (λ (close : ℕ × ℤ). close.1) its in
+    let through : row.through ≡ day = ap (λ (row : Close). row.through) itself ∙ its_day in
+    let period = ap (λ (row : Close). row.period) itself ∙ its_number in (
+      omega (arith, period),
+      ap (λ through. option_map_or (λ last. int_lt last through) last true) through
+          ∙ late_first last day days behind,
+      subst IsDay (sym through) (All-head IsDay day days dated),
+    )
+next_from number (suc at) last (first ∷ rows) [] (day ∷ days) row had same dated rising behind
+    below is =
+    absurd had
+next_from number (suc at) last (first ∷ rows) (one ∷ so_far) (day ∷ days) row had same dated rising
+    behind below is =
+    let rest : at < length rows = omega (arith, below) in
+    let others : map close_of rows ≡ close_entries (suc number) days = (let e = same in cc) in
+    let its : close_of first ≡ (number, day) = (let e = same in cc) in
+    let its_day : first.through ≡ day = ap (λ (close : ℕ × ℤ). close.1) its in
+    let one_day : one ≡ day = had.0.0 ∙ its_day in
+    let next = next_from (suc number) at (Some one) rows so_far days row had.1 others
+    (All-tail IsDay day days dated) rising.1
+    (subst (λ it. Behind (Some it) days) (sym one_day) rising.0) rest is in
+    let period = next.0 in
+    (omega (arith, period), next.1, next.2)
+
+-- so is the row at a place, of rows of closes
+pub next_at : (at : ℕ) (rows : List Close) (so_far days : List ℤ) (other : Close)
+    → AllZip HasDay (take at rows) so_far → AreCloses rows days → at < length rows
+    → IsNextClose so_far (slice_index_or rows at other)
+next_at at rows so_far days other had closes below =
+    let row = slice_index_or rows at other in
+    let next = next_from 1 at None rows so_far days row had closes.numbered closes.days closes.in_order
+    tt below (index_again rows at other row below) in
+    record { period = next.0; later = next.1; day = next.2 }
+
+-- there are as many closes as rows, and as days
+closes_count : (number : ℕ) (rows : List Close) (closes : List ℤ)
+    → map close_of rows ≡ close_entries number closes → length rows ≡ length closes
+closes_count number [] [] same = refl
+closes_count number [] (day ∷ closes) same = absurd (let e = same in cc)
+closes_count number (row ∷ rows) [] same = absurd (let e = same in cc)
+closes_count number (row ∷ rows) (day ∷ closes) same =
+    let others : map close_of rows ≡ close_entries (suc number) closes = (let e = same in cc) in
+    ap suc (closes_count (suc number) rows closes others)
+
+days_count : (rows : List Close) (days : List ℤ) → AllZip HasDay rows days
+    → length rows ≡ length days
+days_count [] [] had = refl
+days_count [] (day ∷ days) had = absurd had
+days_count (row ∷ rows) [] had = absurd had
+days_count (row ∷ rows) (day ∷ days) had = ap suc (days_count rows days had.1)
+
+-- so the days that are read are as many as the closes of the rulings
+pub as_many : (rows : List Close) (days closes : List ℤ) → AllZip HasDay rows days
+    → AreCloses rows closes → length days ≡ length closes
+as_many rows days closes had are =
+    sym (days_count rows days had) ∙ closes_count 1 rows closes are.numbered
+
+-- rows that hold tariffs with texts tell them
+texts_tell : (rows : List StoredTariff) (tariffs : List Tariffed) → All IsTexted tariffs
+    → map tariff_of rows ≡ tariff_entries tariffs → AllZip TellsTariff rows tariffs
+texts_tell [] [] texted same = tt
+texts_tell [] (tariff ∷ tariffs) texted same = absurd (let e = same in cc)
+texts_tell (row ∷ rows) [] texted same = absurd (let e = same in cc)
+texts_tell (row ∷ rows) (tariff ∷ tariffs) texted same =
+    let its : tariff_of row ≡ (tariff.terms.effective, tariff.text) = (let e = same in cc) in
+    let rest : map tariff_of rows ≡ tariff_entries tariffs = (let e = same in cc) in (
+      (
+        ap tariff_read its ∙ one_read tariff (All-head IsTexted tariff tariffs texted),
+        sym (ap (λ (entry : ℤ × Option (List ℕ)). entry.0) its),
+      ),
+      texts_tell rows tariffs (All-tail IsTexted tariff tariffs texted) rest,
+    )
+
+-- rows of the tables of a book that calls made are those of its rulings, within the limits
+pub rows_of : (naming : Naming) (book : Book) (row : Stored) (texts : List StoredTariff)
+    (days : List Close) → IsFromCalls naming book → book_of row ≡ (tables_of naming book).book
+    → map tariff_of texts ≡ entries (tables_of naming book).tariffs
+    → map close_of days ≡ entries (tables_of naming book).closes
+    → AreRowsOf row texts days book.rulings
+rows_of naming book row texts days calls kept said had =
+    let whole = calls_read naming book calls in
+    let rulings = book.rulings in
+    let held : row.held ≡ length (members book.held) = ap (λ (it : BookRow). it.held) kept in
+    let cost : row.amount ≡ total_of rulings book.held = ap (λ (it : BookRow). it.amount) kept in
+    record {
+      book = record {
+        rule = ap (λ (it : BookRow). it.rule) kept;
+        adopted = ap (λ (it : BookRow). it.adopted) kept;
+        held = subst (λ n. n ≤ most_held) (sym held) whole.limits.held;
+        amount = subst (λ n. n ≤ most_cost) (sym cost) whole.limits.cost;
+      };
+      tariffs = texts_tell texts rulings.tariffs whole.texts
+          (said ∙ tariffs_kept rulings.tariffs whole.rising);
+      rising = whole.rising;
+      closes = record {
+        numbered = had ∙ closes_kept rulings.closes;
+        days = whole.days;
+        in_order = whole.in_order;
+      };
+      few = whole.limits.closes;
+    }
