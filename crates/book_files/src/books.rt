@@ -5,6 +5,7 @@ ghost use Rattle.sqlite_store.specs.FileStore.{view};
 ghost use Rattle.sqlite_trees.specs.View.{IsClean};
 ghost use Rattle.tree_tables.specs.Holds.{HasShapes};
 
+use book_audit::{Audited, audit_trees};
 use book_core::{LedgerFault, ShaNames};
 use office::{ShelfFault, Visit};
 use sqlite_disk::Disk;
@@ -77,4 +78,17 @@ pub(crate) fn make_and_close<D: Disk + Drop>(
     requires { HasShapes (view store) }
 {
     closed(make_in(alloc, store))
+}
+
+/// Looks the books in a file that was opened through, and lets it go. Nothing was written, and its log
+/// is left as it is.
+pub(crate) fn audit_and_close<D: Disk + Drop>(
+    alloc: Global,
+    store: FileStore<D>,
+) -> Result<Audited, ShelfFault>
+    requires { HasShapes (view store) }
+{
+    let (audited, store) = audit_trees(alloc, store);
+    drop(store.close());
+    audited.map_err(ShelfFault::Ledger)
 }

@@ -4,4 +4,4 @@
 mod books;
 mod shelf;
 
-pub use shelf::Files;
+pub use shelf::{Anything, Files, Supposed};

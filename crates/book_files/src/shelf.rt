@@ -1,8 +1,9 @@
 //! The files of one machine, by their paths.
 
-use crate::books::{make_and_close, visit_and_close};
+use crate::books::{audit_and_close, make_and_close, visit_and_close};
+use book_audit::{Audited, AuditedShelf, Finding, Place, Wrong};
 use book_core::LedgerFault;
-use book_trees::{OpenFault, create_at, open_at};
+use book_trees::{LeftByLedger, OpenFault, create_at, look_through_at, open_at};
 use office::{Shelf, ShelfFault, Visit};
 use sqlite_disk::Unknown;
 use std::alloc::AllocError;
@@ -11,16 +12,39 @@ use std::hash::{BuildHasher, RandomState};
 use std::io::ErrorKind;
 use std::{fs, io};
 
-/// Files, each with the books of one office.
-#[derive(Clone, Copy)]
-pub struct Files<'a> {
-    rt: &'a HostRuntime,
+/// What is supposed of files as they are opened. No code can read it: the clauses of an open are
+/// proved of whatever is supposed, as long as it is nothing, or what a ledger left.
+pub trait Supposed {
+    /// Stands for what one opening finds.
+    type Start: LeftByLedger;
+
+    /// What the next opening finds.
+    fn start(&self) -> Self::Start;
 }
 
-impl<'a> Files<'a> {
+/// For a program to name: nothing is known of what its files hold. What is proved of openings is
+/// proved of any `Supposed`.
+pub struct Anything;
+
+impl Supposed for Anything {
+    type Start = Unknown;
+
+    fn start(&self) -> Unknown {
+        Unknown
+    }
+}
+
+/// Files, each with the books of one office.
+#[derive(Drop)]
+pub struct Files<'a, P: Supposed> {
+    rt: &'a HostRuntime,
+    supposed: &'a P,
+}
+
+impl<'a, P: Supposed> Files<'a, P> {
     /// The files that this machine has.
-    pub fn of(rt: &'a HostRuntime) -> Files<'a> {
-        Files { rt }
+    pub fn of(rt: &'a HostRuntime, supposed: &'a P) -> Files<'a, P> {
+        Files { rt, supposed }
     }
 
     /// A number that no one can foresee, for the digests of a store.
@@ -33,7 +57,7 @@ impl<'a> Files<'a> {
 
     /// Makes new books in a file that is empty.
     fn make_in(&self, book: &str) -> Result<(), ShelfFault> {
-        match create_at(self.rt, book, self.seed()?, Unknown) {
+        match create_at(self.rt, book, self.seed()?, self.supposed.start()) {
             Ok(store) => make_and_close(self.rt.alloc(), store),
             Err(fault) => Err(refused(fault)),
         }
@@ -67,7 +91,7 @@ fn refused(fault: OpenFault) -> ShelfFault {
     }
 }
 
-impl Shelf for Files<'_> {
+impl<P: Supposed> Shelf for Files<'_, P> {
     /// Says whether the file is there.
     fn expect(&self, book: &str) -> Result<(), ShelfFault> {
         match fs::exists(self.rt, book) {
@@ -93,8 +117,22 @@ impl Shelf for Files<'_> {
     /// Visits the books of a file that is there. What a ledger left in it is opened at the same cost
     /// whatever it holds: the file is not read through.
     fn open<V: Visit + Drop>(&self, book: &str, visit: V) -> Result<V::Answer, ShelfFault> {
-        match open_at(self.rt, book, self.seed()?, Unknown) {
+        match open_at(self.rt, book, self.seed()?, self.supposed.start()) {
             Ok(store) => visit_and_close(self.rt.alloc(), store, visit),
+            Err(fault) => Err(refused(fault)),
+        }
+    }
+}
+
+impl<P: Supposed> AuditedShelf for Files<'_, P> {
+    /// Looks the whole file through: all of its pages, and then each row of its trees.
+    fn audit(&self, book: &str) -> Result<Audited, ShelfFault> {
+        match look_through_at(self.rt, book, self.seed()?, self.supposed.start()) {
+            Ok(Some(store)) => audit_and_close(self.rt.alloc(), store),
+            Ok(None) => Ok(Audited::Unsound(Finding {
+                place: Place::File,
+                wrong: Wrong::Pages,
+            })),
             Err(fault) => Err(refused(fault)),
         }
     }

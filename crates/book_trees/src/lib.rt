@@ -5,6 +5,7 @@
 mod catalog;
 mod faults;
 mod left;
+mod looking;
 mod new_books;
 mod opening;
 mod outcomes;
@@ -14,6 +15,7 @@ mod unopened;
 
 pub use faults::OpenFault;
 pub use left::LeftByLedger;
+pub use looking::{look_through, look_through_at};
 pub use new_books::{create_at, create_files, open_new_books};
 pub use opening::{open_at, open_files, open_left};
 pub use outcomes::{finds_each, leaves_books};

@@ -6,6 +6,7 @@ ghost use Rattle.office.proofs.AskLemmas.{askable_once};
 
 use crate::progress::Watched;
 use crate::trouble::{Trouble, ended};
+use book_audit::{Audited, AuditedShelf, audit_text};
 use book_core::{Ledger, LedgerFault, Sink, Source};
 use command_words::DumpFile;
 use office::{Answer, Asked, Report, Shelf, Visit, answer};
@@ -143,4 +144,22 @@ pub(crate) fn report<S: Shelf, O: Write + Drop>(
     let asked = Asked::Report(report);
     ask_books(rt, shelf, book, asked, io::empty(), output)?;
     Ok(())
+}
+
+/// Looks the whole file of books through, and prints what came of it.
+pub(crate) fn audit<S: AuditedShelf, O: Write + Drop>(
+    alloc: Global,
+    shelf: &S,
+    book: &str,
+    mut output: O,
+) -> Result<(), Trouble> {
+    shelf.expect(book)?;
+    let audited = shelf.audit(book)?;
+    let text = audit_text(alloc, &audited)?;
+    write!(output, "{text}")?;
+    output.flush()?;
+    match audited {
+        Audited::Sound(_) => Ok(()),
+        Audited::Unsound(_) => Err(Trouble::Unsound),
+    }
 }

@@ -1,14 +1,14 @@
 //! What the program does with its words and streams.
 
-use crate::book_commands::{close, import_dump, report, tariff};
+use crate::book_commands::{audit, close, import_dump, report, tariff};
 use crate::explained::explained;
 use crate::progress::Watched;
 use crate::serve::serve;
 use crate::trouble::{Trouble, ended};
+use book_audit::AuditedShelf;
 use book_core::{Sink, Source};
 use book_import::MAX_READS;
 use command_words::{BookRequest, DumpFile, NumberKind, Request, WordFault, requested_by};
-use office::Shelf;
 use program_answers::{PROGRAM, Status, check_list, io_failed, out_of_memory, trial};
 use smf_frames::Layout;
 use std::alloc::Global;
@@ -17,7 +17,7 @@ use std::io::{IsTerminal, Read, Write};
 use tariff_rules::{MAX_RATE, Tariff};
 
 /// Does what the words ask for, of which the first is the program's name. Books are kept on a shelf.
-pub fn command<S: Shelf, I: Read + Drop, O: Write + Drop, E: Write>(
+pub fn command<S: AuditedShelf, I: Read + Drop, O: Write + Drop, E: Write>(
     rt: &HostRuntime,
     shelf: &S,
     words: &[String],
@@ -39,7 +39,7 @@ fn status_of<E: Write>(ended: Result<(), Trouble>, errors: &mut E) -> Status {
 }
 
 /// Does what is asked.
-fn run<S: Shelf, I: Read + Drop, O: Write + Drop>(
+fn run<S: AuditedShelf, I: Read + Drop, O: Write + Drop>(
     rt: &HostRuntime,
     shelf: &S,
     request: Request<'_>,
@@ -63,7 +63,7 @@ fn run<S: Shelf, I: Read + Drop, O: Write + Drop>(
 }
 
 /// Does what is asked of books.
-fn run_on_books<S: Shelf, O: Write + Drop>(
+fn run_on_books<S: AuditedShelf, O: Write + Drop>(
     rt: &HostRuntime,
     shelf: &S,
     book: &str,
@@ -76,6 +76,7 @@ fn run_on_books<S: Shelf, O: Write + Drop>(
         BookRequest::Import(dump) => import_dump(rt, shelf, book, dump, output),
         BookRequest::Close { period, date } => close(rt, shelf, book, period, date, output),
         BookRequest::Print(asked) => report(rt, shelf, book, asked, output),
+        BookRequest::Audit => audit(rt.alloc(), shelf, book, output),
         BookRequest::Serve { port, requests } => serve(rt, shelf, book, port, requests, output),
     }
 }

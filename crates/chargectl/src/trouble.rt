@@ -3,7 +3,7 @@ use book_import::Stop;
 use book_reports::ReportFault;
 use office::ShelfFault;
 use program_answers::{
-    Status, io_failed, ledger_refused, no_such_number, report_failed, said, stopped,
+    Status, books_unsound, io_failed, ledger_refused, no_such_number, report_failed, said, stopped,
 };
 use std::alloc::AllocError;
 use std::io;
@@ -26,6 +26,8 @@ pub(crate) enum Trouble {
     Report(ReportFault),
     /// An import stopped before the dump's end.
     Stopped(Stop),
+    /// An audit found the books unsound.
+    Unsound,
 }
 
 impl Trouble {
@@ -40,6 +42,7 @@ impl Trouble {
             Trouble::Ledger(fault) => ledger_refused(errors, fault),
             Trouble::Report(fault) => report_failed(errors, fault),
             Trouble::Stopped(stop) => stopped(errors, stop),
+            Trouble::Unsound => books_unsound(errors),
         }
     }
 }

@@ -1,7 +1,7 @@
 //! The program of the chargeback office.
 #![tactic(auto)]
 
-use book_files::Files;
+use book_files::{Anything, Files};
 use chargectl::{command, words_failed};
 use std::process::ExitCode;
 use std::{env, io};
@@ -12,7 +12,7 @@ fn main(rt: HostRuntime) -> ExitCode {
             let (input, output) = (rt.reader(), io::writer(&rt));
             command(
                 &rt,
-                &Files::of(&rt),
+                &Files::of(&rt, &Anything),
                 &words,
                 input,
                 output,

@@ -57,6 +57,7 @@ fn asked_in<'a>(name: &str, found: &ArgMatches<'a>) -> Option<BookRequest<'a>> {
         "tariff" => tariff_in(found),
         "import" => Some(BookRequest::Import(dump_in(found)?)),
         "close" => close_in(found),
+        "audit" => Some(BookRequest::Audit),
         "serve" => serve_in(found),
         _ => Some(BookRequest::Print(report_in(name, found)?)),
     }

@@ -165,7 +165,7 @@ const NUMBER: Word = Word::InPlace(Valued {
 });
 
 /// The commands in the order of the program's help.
-pub(crate) static KNOWN: [Known; 11] = [
+pub(crate) static KNOWN: [Known; 12] = [
     Known {
         name: "trial",
         about: "Prices a dump: standard input into new books, their statement to standard output",
@@ -209,6 +209,11 @@ pub(crate) static KNOWN: [Known; 11] = [
     Known {
         name: "disputes",
         about: "Prints the records in dispute",
+        words: &[BOOK],
+    },
+    Known {
+        name: "audit",
+        about: "Looks the whole file of books through",
         words: &[BOOK],
     },
     Known {

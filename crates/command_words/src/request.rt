@@ -46,6 +46,8 @@ pub enum BookRequest<'a> {
     },
     /// A report printed.
     Print(Report),
+    /// The whole file looked through.
+    Audit,
     /// The books answered for over HTTP, to this machine alone.
     Serve {
         port: u16,

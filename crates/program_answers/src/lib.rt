@@ -12,8 +12,8 @@ mod trials;
 pub use check::check_list;
 pub use laws::same_records_same_texts;
 pub use message::{
-    PROGRAM, io_failed, ledger_refused, no_such_number, out_of_memory, report_failed, said,
-    stopped, words_failed,
+    PROGRAM, books_unsound, io_failed, ledger_refused, no_such_number, out_of_memory,
+    report_failed, said, stopped, words_failed,
 };
 pub use status::Status;
 pub use trials::trial;

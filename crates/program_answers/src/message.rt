@@ -88,6 +88,14 @@ pub fn said<E: Write>(errors: &mut E, word: &str) -> Status
     Status::Refused
 }
 
+/// Says that an audit found books unsound.
+pub fn books_unsound<E: Write>(errors: &mut E) -> Status
+    ensures { result ≡ Status.Store }
+{
+    let _ = writeln!(errors, "{PROGRAM}: unsound");
+    Status::Store
+}
+
 /// Says why a ledger refused.
 pub fn ledger_refused<E: Write>(errors: &mut E, fault: LedgerFault) -> Status
     ensures { result ≡ spec.ledger_status fault }

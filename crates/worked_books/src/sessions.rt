@@ -2,7 +2,7 @@
 
 use crate::ends::{Input, Output};
 use crate::left::{Showing, push_left};
-use book_files::Files;
+use book_files::{Anything, Files};
 use chargectl::command;
 use row_scripts::{Answers, Ask, Named, push_line};
 use std::alloc::AllocError;
@@ -121,7 +121,7 @@ impl<'a> Sessions<'a> {
             taken: Vec::new(alloc),
         };
         let mut errors = Vec::new(alloc);
-        let files = Files::of(self.rt);
+        let files = Files::of(self.rt, &Anything);
         let status = command(self.rt, &files, &line, input, &mut output, &mut errors).code();
         push_left(alloc, out, showing, output.taken, errors, status)?;
         Ok(true)

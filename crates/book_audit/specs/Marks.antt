@@ -1,0 +1,13 @@
+-- How a record is posted.
+use Rattle.std.specs.Prelude.{◌&&◌, not, Bool, true, false, Option, Some, None}
+
+-- Whether a record is posted as the last close charged it, by its two marks, by whether it is dated no
+-- later than that close, and by what the line of the open period says, if there is one: as it is charged
+-- now, but for what the line changed since.
+abbrev pub is_posted_so : Bool → Bool → Bool → Option Bool → Bool
+is_posted_so true posted true None = posted
+is_posted_so false posted true None = not posted
+is_posted_so charged posted true (Some true) = charged && not posted
+is_posted_so charged posted true (Some false) = not charged && posted
+is_posted_so charged posted false None = not posted
+is_posted_so charged posted false (Some plus) = false

@@ -1,0 +1,22 @@
+use crate::finding::Finding;
+
+/// How many rows sound books have.
+#[derive(Clone, Copy, Debug, PartialEq, Eq)]
+pub struct Counts {
+    pub records: u64,
+    pub tariffs: u64,
+    pub closes: u64,
+    /// Charge rows.
+    pub rows: u64,
+    /// Adjustment lines.
+    pub lines: u64,
+}
+
+/// What came of an audit.
+#[derive(Clone, Copy, Drop)]
+pub enum Audited {
+    /// Each row is as the records and the tariffs want it.
+    Sound(Counts),
+    /// The first thing that is not.
+    Unsound(Finding),
+}

@@ -1,0 +1,34 @@
+//! How many entries a tree has.
+
+use crate::finding::{Place, Tree, Wrong};
+use crate::stop::{Stop, unsound};
+use crate::trees::Trees;
+use crate::walk::{MOST_ROWS, Walk, endless};
+use sqlite_trees::store::Store;
+use std::alloc::Global;
+
+/// How many rows a tree has.
+fn count_rows<S: Store>(alloc: Global, trees: &mut Trees<S>, tree: Tree) -> Result<u64, Stop> {
+    let mut walk = Walk::over(alloc, tree);
+    for count in 0..MOST_ROWS {
+        if !walk.next(trees)? {
+            return Ok(count);
+        }
+    }
+    Err(endless(tree))
+}
+
+/// A tree that finds records has an entry for each, which was looked up, and no other.
+pub(crate) fn check_entries<S: Store>(
+    alloc: Global,
+    trees: &mut Trees<S>,
+    tree: Tree,
+    records: u64,
+) -> Result<(), Stop> {
+    let entries = count_rows(alloc, trees, tree)?;
+    if entries == records {
+        Ok(())
+    } else {
+        Err(unsound(Place::Tree(tree), Wrong::Entries))
+    }
+}

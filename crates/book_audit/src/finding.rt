@@ -1,0 +1,153 @@
+//! What is wrong with books, and where.
+
+ghost use Rattle.std.specs.Prelude.{◌≡◌};
+ghost use Rattle.sqlite_trees.specs.View.{View};
+ghost use Rattle.sqlite_value.specs.Keys.{plain};
+ghost use Rattle.tree_tables.specs.Holds.{HasShapes};
+ghost use Rattle.book_audit.specs.Trees.{number_of};
+
+use sqlite_trees::store::Shape;
+use tree_tables::DayPlace;
+
+/// A tree of books.
+#[derive(Clone, Copy, Debug, PartialEq, Eq)]
+pub enum Tree {
+    Book,
+    Tariffs,
+    Closes,
+    Records,
+    /// The charge rows.
+    Days,
+    /// The adjustment lines.
+    Lines,
+    /// It finds records by their identities.
+    Identities,
+    /// It finds records by their marks.
+    Marks,
+}
+
+impl Tree {
+    /// Its number in a store.
+    pub(crate) fn number(self) -> u32
+        ensures value { result ≡ number_of self }
+        ensures shape { (view : View) → HasShapes view → view.shape result ≡ Shape.Index plain }
+    {
+        match self {
+            Tree::Book => 0,
+            Tree::Tariffs => 1,
+            Tree::Closes => 2,
+            Tree::Records => 3,
+            Tree::Days => 4,
+            Tree::Lines => 5,
+            Tree::Identities => 6,
+            Tree::Marks => 7,
+        }
+    }
+
+    /// Its name in the file.
+    pub(crate) fn name(self) -> &'static str {
+        match self {
+            Tree::Book => "book",
+            Tree::Tariffs => "tariff",
+            Tree::Closes => "closed",
+            Tree::Records => "record",
+            Tree::Days => "day_sum",
+            Tree::Lines => "line",
+            Tree::Identities => "record_ident",
+            Tree::Marks => "record_charged",
+        }
+    }
+
+    /// How many of the first columns of a row are its key.
+    pub(crate) fn key_columns(self) -> usize {
+        match self {
+            Tree::Book | Tree::Tariffs | Tree::Closes | Tree::Records => 1,
+            Tree::Lines | Tree::Identities => 2,
+            Tree::Marks => 3,
+            Tree::Days => 4,
+        }
+    }
+}
+
+/// Where something is wrong.
+#[derive(Clone, Copy)]
+pub enum Place {
+    /// The pages of the file.
+    File,
+    /// A tree.
+    Tree(Tree),
+    /// The tariff of a first day.
+    Tariff(i32),
+    /// The close of a period.
+    Close(u16),
+    /// The record of a name.
+    Record([u8; 32]),
+    /// A charge row.
+    Day(DayPlace),
+    /// A period's line for the record of a name.
+    Line(u16, [u8; 32]),
+}
+
+/// What is wrong there.
+#[derive(Clone, Copy, Debug, PartialEq, Eq)]
+pub enum Wrong {
+    /// The pages are not those of the sorted trees of books.
+    Pages,
+    /// A page or a row can't be read.
+    Unreadable,
+    /// The rows do not stand in the order of their keys.
+    Order,
+    /// The tree has more rows than one.
+    MoreRows,
+    /// The row of the book has another number or rule, or an adoption.
+    Rule,
+    /// It has another number of records.
+    Held,
+    /// It has another amount.
+    Amount,
+    /// The text is no tariff, or one of another day.
+    TariffText,
+    /// A period is left out, or the day is none or not later than that of the close before.
+    CloseOrder,
+    /// There are more closes than periods can be closed.
+    Closes,
+    /// The name is not the digest of the data.
+    Name,
+    /// The data are those of no usage record.
+    NoUsage,
+    /// The identity is not that of the bytes.
+    Identity,
+    /// No tariff is in force on the day of the bytes.
+    Unpriced,
+    /// The price is not that of the tariff in force.
+    Price,
+    /// The record is not found by its identity.
+    NoIdentity,
+    /// The record is not found by its mark.
+    NoMark,
+    /// The record is charged and not alone in its identity, or the other way round.
+    Charged,
+    /// The record is not posted as the last close charged it.
+    Posted,
+    /// A tree that finds records has another number of entries.
+    Entries,
+    /// A line's record is not held.
+    NoRecord,
+    /// A line's record is dated after the close before the line's period, or there is none.
+    LineDate,
+    /// A charge row is not one of its day's period.
+    Period,
+    /// A charge row counts no record.
+    NoCount,
+    /// A charge row is not the sum of its records.
+    Sums,
+    /// Records are charged at a place that has no charge row.
+    NoRow,
+}
+
+/// The first thing that is wrong, and its place.
+#[derive(Clone, Copy)]
+pub struct Finding {
+    pub place: Place,
+    pub wrong: Wrong,
+}

@@ -1,0 +1,26 @@
+//! A second reading of books: each row of each tree is held against the bytes of the records and the
+//! texts of the tariffs. It rests on no sum and no mark that a ledger keeps, and writes nothing.
+#![tactic(auto)]
+
+mod audited;
+mod bytes;
+mod day_sums;
+mod entries;
+mod finding;
+mod keys;
+mod lines;
+mod marks;
+mod records;
+mod rulings;
+mod shelf;
+mod stop;
+mod texts;
+mod trees;
+mod walk;
+mod whole;
+
+pub use audited::{Audited, Counts};
+pub use finding::{Finding, Place, Tree, Wrong};
+pub use shelf::AuditedShelf;
+pub use texts::audit_text;
+pub use whole::audit_trees;

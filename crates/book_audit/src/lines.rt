@@ -1,0 +1,77 @@
+//! The adjustment lines.
+
+use crate::day_sums::Places;
+use crate::finding::{Place, Tree, Wrong};
+use crate::rulings::Rulings;
+use crate::stop::{Stop, met, unsound};
+use crate::trees::Trees;
+use crate::walk::{MOST_ROWS, Walk, endless};
+use sqlite_trees::error::StoreError;
+use sqlite_trees::store::Store;
+use sqlite_value::row::Row;
+use std::alloc::Global;
+use tree_tables::{hash_at, mark_at, period_at};
+
+/// A line as its row says.
+#[derive(Clone, Copy)]
+struct Line {
+    period: u16,
+    /// The name of the record.
+    name: [u8; 32],
+    /// It adds the record, or takes it back.
+    plus: bool,
+}
+
+/// What the row of a line says.
+fn line_in(row: &Row) -> Result<Line, StoreError> {
+    Ok(Line {
+        period: period_at(row, 0)?,
+        name: hash_at(row, 1)?,
+        plus: mark_at(row, 2)?,
+    })
+}
+
+/// A line names a record that is held and is dated by the close before its period. What it adds its
+/// record's charge row does not count, and what it takes back that row does.
+fn check_line<S: Store>(
+    alloc: Global,
+    trees: &mut Trees<S>,
+    rulings: &Rulings,
+    places: &mut Places,
+    line: &Line,
+) -> Result<(), Stop> {
+    let place = Place::Line(line.period, line.name);
+    let record = trees
+        .record_of(alloc, &line.name)
+        .map_err(|error| met(Tree::Records, error))?;
+    let Some(record) = record else {
+        return Err(unsound(place, Wrong::NoRecord));
+    };
+    if !rulings.is_before(record.priced.day, line.period) {
+        return Err(unsound(place, Wrong::LineDate));
+    }
+    if line.plus {
+        places.discount(&record.priced)?;
+    } else {
+        places.count(&record.priced)?;
+    }
+    Ok(())
+}
+
+/// Reads all lines. Answers how many there are.
+pub(crate) fn check_lines<S: Store>(
+    alloc: Global,
+    trees: &mut Trees<S>,
+    rulings: &Rulings,
+    places: &mut Places,
+) -> Result<u64, Stop> {
+    let mut walk = Walk::over(alloc, Tree::Lines);
+    for count in 0..MOST_ROWS {
+        if !walk.next(trees)? {
+            return Ok(count);
+        }
+        let line = line_in(walk.row()).map_err(|error| met(Tree::Lines, error))?;
+        check_line(alloc, trees, rulings, places, &line)?;
+    }
+    Err(endless(Tree::Lines))
+}

@@ -1,0 +1,80 @@
+//! The records.
+
+use crate::bytes::check_data;
+use crate::day_sums::Places;
+use crate::entries::check_entries;
+use crate::finding::{Place, Tree, Wrong};
+use crate::marks::check_marks;
+use crate::rulings::Rulings;
+use crate::stop::{Stop, met, unsound};
+use crate::trees::Trees;
+use crate::walk::{MOST_ROWS, Walk, endless};
+use sqlite_trees::store::Store;
+use std::alloc::Global;
+use tree_tables::{StoredRecord, read_record};
+
+/// How many records there are, and what they cost together.
+#[derive(Clone, Copy)]
+struct Held {
+    records: u64,
+    amount: u64,
+}
+
+/// A record is as its data, the tariffs and the other trees want it. Where it is charged, its place
+/// counts it.
+fn check_record<S: Store>(
+    alloc: Global,
+    trees: &mut Trees<S>,
+    rulings: &Rulings,
+    places: &mut Places,
+    record: &StoredRecord,
+) -> Result<(), Stop> {
+    check_data(alloc, rulings, record)?;
+    check_marks(trees, rulings, record)?;
+    if record.charged {
+        places.count(&record.priced)?;
+    }
+    Ok(())
+}
+
+/// Reads all records, one at a time.
+fn read_records<S: Store>(
+    alloc: Global,
+    trees: &mut Trees<S>,
+    rulings: &Rulings,
+    places: &mut Places,
+) -> Result<Held, Stop> {
+    let tree = Tree::Records;
+    let mut walk = Walk::over(alloc, tree);
+    let mut amount = 0u64;
+    for records in 0..MOST_ROWS {
+        if !walk.next(trees)? {
+            return Ok(Held { records, amount });
+        }
+        let record = read_record(walk.row(), alloc).map_err(|error| met(tree, error))?;
+        check_record(alloc, trees, rulings, places, &record)?;
+        // Each amount is the price of its record: no sum of so many comes near 2^64.
+        amount = amount.wrapping_add(record.priced.amount);
+    }
+    Err(endless(tree))
+}
+
+/// Reads all records and the trees that find them; the row of the book has to be their sum. Answers
+/// how many there are.
+pub(crate) fn check_records<S: Store>(
+    alloc: Global,
+    trees: &mut Trees<S>,
+    rulings: &Rulings,
+    places: &mut Places,
+) -> Result<u64, Stop> {
+    let held = read_records(alloc, trees, rulings, places)?;
+    check_entries(alloc, trees, Tree::Identities, held.records)?;
+    check_entries(alloc, trees, Tree::Marks, held.records)?;
+    if held.records != rulings.held {
+        return Err(unsound(Place::Tree(Tree::Book), Wrong::Held));
+    }
+    if held.amount != rulings.amount {
+        return Err(unsound(Place::Tree(Tree::Book), Wrong::Amount));
+    }
+    Ok(held.records)
+}

@@ -1,0 +1,119 @@
+//! What is printed of an audit.
+
+use crate::audited::{Audited, Counts};
+use crate::finding::{Finding, Place, Wrong};
+use smf_text::{FIRST_DAY, LAST_DAY, day_text};
+use std::alloc::{AllocError, Global};
+use tree_tables::DayPlace;
+
+/// What is wrong, in words.
+fn wrong_text(wrong: Wrong) -> &'static str {
+    match wrong {
+        Wrong::Pages => "its pages are not those of sorted tables",
+        Wrong::Unreadable => "a page or a row of it can't be read",
+        Wrong::Order => "its rows do not stand in the order of their keys",
+        Wrong::MoreRows => "it has more than one row",
+        Wrong::Rule => "its row is not that of books of rule 1",
+        Wrong::Held => "held is not the number of records",
+        Wrong::Amount => "amount is not what the records cost together",
+        Wrong::TariffText => "its text is no tariff of that day",
+        Wrong::CloseOrder => "it does not follow the close before",
+        Wrong::Closes => "it has more closes than there are periods",
+        Wrong::Name => "its name is not the SHA-256 of its data",
+        Wrong::NoUsage => "its data are those of no usage record",
+        Wrong::Identity => "its identity is not that of its bytes",
+        Wrong::Unpriced => "no tariff is in force on its day",
+        Wrong::Price => "its price is not that of the tariff in force",
+        Wrong::NoIdentity => "record_ident does not find it",
+        Wrong::NoMark => "record_charged does not find it",
+        Wrong::Charged => "charged does not say whether it is alone in its identity",
+        Wrong::Posted => "posted does not say whether the last close charged it",
+        Wrong::Entries => "it has not as many entries as there are records",
+        Wrong::NoRecord => "no record of that name is held",
+        Wrong::LineDate => "its record is not dated by the close before",
+        Wrong::Period => "its day is in another period",
+        Wrong::NoCount => "it counts no record",
+        Wrong::Sums => "it is not the sum of its records",
+        Wrong::NoRow => "there is no row for its records",
+    }
+}
+
+/// Adds a day, or its number where it is none.
+fn push_day(alloc: Global, out: &mut String, day: i32) -> Result<(), AllocError> {
+    if FIRST_DAY <= day && day <= LAST_DAY {
+        return out.push_str(day_text(alloc, day)?.as_str());
+    }
+    write!(out, "{day}")
+}
+
+/// Adds where a charge row stands.
+fn push_spot(alloc: Global, out: &mut String, spot: &DayPlace) -> Result<(), AllocError> {
+    let period = spot.period;
+    write!(out, "day_sum {period} ")?;
+    push_day(alloc, out, spot.place.day)?;
+    out.push_str(" ")?;
+    out.push_str(spot.place.centre.text())?;
+    out.push_str(" ")?;
+    out.push_str(spot.place.shift.text())
+}
+
+/// Adds the name of a record.
+fn push_name(alloc: Global, out: &mut String, name: &[u8; 32]) -> Result<(), AllocError> {
+    out.push_str(hex::encode(alloc, *name)?.as_str())
+}
+
+/// Adds a place.
+fn push_place(alloc: Global, out: &mut String, place: &Place) -> Result<(), AllocError> {
+    match place {
+        Place::File => out.push_str("file"),
+        Place::Tree(tree) => out.push_str(tree.name()),
+        Place::Tariff(day) => {
+            out.push_str("tariff ")?;
+            push_day(alloc, out, *day)
+        }
+        Place::Close(period) => write!(out, "closed {period}"),
+        Place::Record(name) => {
+            out.push_str("record ")?;
+            push_name(alloc, out, name)
+        }
+        Place::Day(spot) => push_spot(alloc, out, spot),
+        Place::Line(period, name) => {
+            write!(out, "line {period} ")?;
+            push_name(alloc, out, name)
+        }
+    }
+}
+
+/// Adds the line of what is wrong.
+fn push_finding(alloc: Global, out: &mut String, finding: &Finding) -> Result<(), AllocError> {
+    out.push_str("UNSOUND ")?;
+    push_place(alloc, out, &finding.place)?;
+    out.push_str(": ")?;
+    out.push_str(wrong_text(finding.wrong))?;
+    out.push_str("\n")
+}
+
+/// Adds a line of a word and a number.
+fn push_count(out: &mut String, word: &str, count: u64) -> Result<(), AllocError> {
+    writeln!(out, "{word} {count}")
+}
+
+/// Adds the lines of sound books.
+fn push_counts(out: &mut String, counts: &Counts) -> Result<(), AllocError> {
+    out.push_str("SOUND\n")?;
+    push_count(out, "RECORDS", counts.records)?;
+    push_count(out, "TARIFFS", counts.tariffs)?;
+    push_count(out, "CLOSES", counts.closes)?;
+    push_count(out, "ROWS", counts.rows)?;
+    push_count(out, "LINES", counts.lines)
+}
+
+/// The text of an audit.
+pub fn audit_text(alloc: Global, audited: &Audited) -> Result<String, AllocError> {
+    let mut out = String::new(alloc);
+    match audited {
+        Audited::Sound(counts) => push_counts(&mut out, counts)?,
+        Audited::Unsound(finding) => push_finding(alloc, &mut out, finding)?,
+    }
+    Ok(out)
+}

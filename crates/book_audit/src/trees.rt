@@ -1,0 +1,160 @@
+//! The trees of books, which are read and never written.
+
+ghost use Rattle.sqlite_trees.specs.View.{IsClean};
+ghost use Rattle.tree_tables.specs.Holds.{HasShapes};
+
+use crate::finding::Tree;
+use crate::keys::{bytes_key, identity_key, line_key, mark_key};
+use sqlite_trees::error::StoreError;
+use sqlite_trees::store::Store;
+use sqlite_value::row::Row;
+use std::alloc::Global;
+use tree_rows::{find_row, first_after, first_from, has_key};
+use tree_tables::{StoredRecord, mark_at, read_record};
+
+/// The tree that finds records by their identities.
+const IDENTITIES: u32 = 6;
+
+/// The trees in a store.
+#[derive(Drop)]
+pub(crate) struct Trees<S: Store> {
+    pub(crate) store: S,
+    /// The key that is looked for.
+    key: Row,
+    /// The row that was found.
+    found: Row,
+    ghost shaped: { IsClean (S.Store.view store) → HasShapes (S.Store.view store) },
+}
+
+impl<S: Store> Trees<S> {
+    ghost use Rattle.std.specs.Prelude.{◌≡◌, ◌∷◌, [], IfOk, OnOk, pos};
+    ghost use Rattle.sqlite_trees.specs.View.{IsClean};
+    ghost use Rattle.sqlite_value.specs.declared.value.Value.TheVariants.{Blob, Int};
+    ghost use Rattle.tree_rows.specs.Rows.{Finds, IsFirst, IsUnchanged};
+    ghost use Rattle.tree_tables.specs.Columns.{flag};
+    ghost use Rattle.tree_tables.specs.Holds.{HasShapes};
+    ghost use Rattle.tree_tables.specs.Walks.{rows_behind};
+    ghost use Rattle.book_audit.specs.Trees.{FindsTwo, number_of};
+
+    /// The trees in a store that has them.
+    pub(crate) fn over(alloc: Global, store: S) -> Trees<S>
+        requires { IsClean (S.Store.view store) → HasShapes (S.Store.view store) }
+        ensures { result.store ≡ store }
+    {
+        Trees {
+            store,
+            key: Row::new(alloc),
+            found: Row::new(alloc),
+        }
+    }
+
+    /// The store.
+    pub(crate) fn into_store(self) -> S
+        ensures { result ≡ self.store }
+    {
+        self.store
+    }
+
+    /// Reads the first row behind that of a key over `row`, or the very first where the key has no
+    /// columns; or answers that there is none.
+    pub(crate) fn row_behind(
+        &mut self,
+        tree: Tree,
+        key: &Row,
+        row: &mut Row,
+    ) -> Result<bool, StoreError>
+        ensures found { IfOk result (λ there. IsClean (S.Store.view self.new.store)
+            → IsFirst (rows_behind key.now ((S.Store.view self.old.store).trees (number_of tree)))
+            row.new there) }
+        ensures same { OnOk result (IsClean (S.Store.view self.new.store)
+            → IsUnchanged (S.Store.view self.old.store) (S.Store.view self.new.store)) }
+    {
+        let number = tree.number();
+        if key.is_empty() {
+            return first_from(&mut self.store, number, key, row);
+        }
+        first_after(&mut self.store, number, key, row)
+    }
+
+    /// Whether a row of a tree has the key; it is found then.
+    fn finds(&mut self, tree: Tree) -> Result<bool, StoreError>
+        ensures found { IfOk result (λ hit. IsClean (S.Store.view self.new.store)
+            → Finds self.old.key ((S.Store.view self.old.store).trees (number_of tree))
+            self.new.found hit) }
+        ensures same { OnOk result (IsClean (S.Store.view self.new.store)
+            → IsUnchanged (S.Store.view self.old.store) (S.Store.view self.new.store)) }
+    {
+        find_row(&mut self.store, tree.number(), &self.key, &mut self.found)
+    }
+
+    /// Whether a record is found by its identity.
+    pub(crate) fn has_identity(&mut self, stored: &StoredRecord) -> Result<bool, StoreError>
+        ensures found { IfOk result (λ hit. IsClean (S.Store.view self.new.store)
+            → Finds (Blob stored.now.identity.items ∷ Blob stored.now.name ∷ [])
+            ((S.Store.view self.old.store).trees 6) self.new.found hit) }
+        ensures same { OnOk result (IsClean (S.Store.view self.new.store)
+            → IsUnchanged (S.Store.view self.old.store) (S.Store.view self.new.store)) }
+    {
+        identity_key(&mut self.key, stored)?;
+        self.finds(Tree::Identities)
+    }
+
+    /// Whether a record is found by its mark and its identity.
+    pub(crate) fn has_mark(&mut self, stored: &StoredRecord) -> Result<bool, StoreError>
+        ensures found { IfOk result (λ hit. IsClean (S.Store.view self.new.store)
+            → Finds (Int (pos (flag stored.now.charged)) ∷ Blob stored.now.identity.items
+            ∷ Blob stored.now.name ∷ []) ((S.Store.view self.old.store).trees 7)
+            self.new.found hit) }
+        ensures same { OnOk result (IsClean (S.Store.view self.new.store)
+            → IsUnchanged (S.Store.view self.old.store) (S.Store.view self.new.store)) }
+    {
+        mark_key(&mut self.key, stored)?;
+        self.finds(Tree::Marks)
+    }
+
+    /// Whether two entries or more have an identity: whether the row behind the first that has it
+    /// has it too.
+    pub(crate) fn is_shared(&mut self, identity: &[u8]) -> Result<bool, StoreError>
+        ensures found { IfOk result (λ shared. IsClean (S.Store.view self.new.store)
+            → FindsTwo (Blob identity.now ∷ []) ((S.Store.view self.old.store).trees 6)
+            self.new.found shared) }
+        ensures same { OnOk result (IsClean (S.Store.view self.new.store)
+            → IsUnchanged (S.Store.view self.old.store) (S.Store.view self.new.store)) }
+    {
+        bytes_key(&mut self.key, identity)?;
+        let there = first_after(&mut self.store, IDENTITIES, &self.key, &mut self.found)?;
+        Ok(there && has_key(&self.found, &self.key))
+    }
+
+    /// Whether a period's line for a record adds it, if there is a line.
+    pub(crate) fn line_of(
+        &mut self,
+        period: u16,
+        name: &[u8; 32],
+    ) -> Result<Option<bool>, StoreError>
+        ensures same { OnOk result (IsClean (S.Store.view self.new.store)
+            → IsUnchanged (S.Store.view self.old.store) (S.Store.view self.new.store)) }
+    {
+        line_key(&mut self.key, period, name)?;
+        if !self.finds(Tree::Lines)? {
+            return Ok(None);
+        }
+        Ok(Some(mark_at(&self.found, 2)?))
+    }
+
+    /// The record of a name, if there is one.
+    pub(crate) fn record_of(
+        &mut self,
+        alloc: Global,
+        name: &[u8; 32],
+    ) -> Result<Option<StoredRecord>, StoreError>
+        ensures same { OnOk result (IsClean (S.Store.view self.new.store)
+            → IsUnchanged (S.Store.view self.old.store) (S.Store.view self.new.store)) }
+    {
+        bytes_key(&mut self.key, name)?;
+        if !self.finds(Tree::Records)? {
+            return Ok(None);
+        }
+        Ok(Some(read_record(&self.found, alloc)?))
+    }
+}

@@ -1,0 +1,82 @@
+//! A walk through a tree, a row at a time.
+
+use crate::finding::{Place, Tree, Wrong};
+use crate::stop::{Stop, met, unsound};
+use crate::trees::Trees;
+use sqlite_trees::store::Store;
+use sqlite_value::keys::Order;
+use sqlite_value::row::Row;
+use std::alloc::{AllocError, Global};
+
+/// The most rows that are walked over: more than any tree of a sound store has.
+pub(crate) const MOST_ROWS: u64 = 1 << 32;
+
+/// The first columns of a row become the key.
+fn take_key(key: &mut Row, row: &Row, columns: usize) -> Result<(), AllocError> {
+    key.clear();
+    for at in 0..columns {
+        key.push(row.get(at))?;
+    }
+    Ok(())
+}
+
+/// How far a tree was walked: the row that was read last, and its key.
+#[derive(Drop)]
+pub(crate) struct Walk {
+    tree: Tree,
+    key: Row,
+    row: Row,
+}
+
+impl Walk {
+    ghost use Rattle.std.specs.Prelude.{◌≡◌, IfOk, OnOk};
+    ghost use Rattle.sqlite_trees.specs.View.{IsClean};
+    ghost use Rattle.tree_rows.specs.Rows.{IsFirst, IsUnchanged};
+    ghost use Rattle.tree_tables.specs.Walks.{rows_behind};
+    ghost use Rattle.book_audit.specs.Trees.{number_of};
+
+    /// Before the first row.
+    pub(crate) fn over(alloc: Global, tree: Tree) -> Walk {
+        Walk {
+            tree,
+            key: Row::new(alloc),
+            row: Row::new(alloc),
+        }
+    }
+
+    /// The row that was read last.
+    pub(crate) fn row(&self) -> &Row
+        ensures { result.now ≡ self.now.row }
+    {
+        &self.row
+    }
+
+    /// Reads the next row, or answers that there is none. A row whose key is not behind that of the
+    /// row before is unsound, so a walk ends whatever the tree holds.
+    pub(crate) fn next<S: Store>(&mut self, trees: &mut Trees<S>) -> Result<bool, Stop>
+        ensures next { IfOk result (λ there. IsClean (S.Store.view trees.new.store)
+            → IsFirst (rows_behind self.old.key
+            ((S.Store.view trees.old.store).trees (number_of self.old.tree))) self.new.row there) }
+        ensures same { OnOk result (IsClean (S.Store.view trees.new.store)
+            → IsUnchanged (S.Store.view trees.old.store) (S.Store.view trees.new.store)) }
+    {
+        let tree = self.tree;
+        let there = trees
+            .row_behind(tree, &self.key, &mut self.row)
+            .map_err(|error| met(tree, error))?;
+        if !there {
+            return Ok(false);
+        }
+        if !self.key.is_empty() && !self.row.cmp_prefix(Order::PLAIN, &self.key).is_gt() {
+            return Err(unsound(Place::Tree(tree), Wrong::Order));
+        }
+        take_key(&mut self.key, &self.row, tree.key_columns())?;
+        Ok(true)
+    }
+}
+
+/// A walk that does not end.
+pub(crate) fn endless(tree: Tree) -> Stop {
+    // Only a disk that lies has more rows.
+    unsound(Place::Tree(tree), Wrong::Unreadable)
+}

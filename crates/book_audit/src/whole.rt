@@ -1,0 +1,46 @@
+//! All trees of books.
+
+ghost use Rattle.std.specs.Prelude.{◌≡◌};
+ghost use Rattle.sqlite_trees.specs.View.{IsClean};
+ghost use Rattle.tree_tables.specs.Holds.{HasShapes};
+
+use crate::audited::{Audited, Counts};
+use crate::day_sums::{Places, check_rows};
+use crate::lines::check_lines;
+use crate::records::check_records;
+use crate::rulings::read_rulings;
+use crate::stop::Stop;
+use crate::trees::Trees;
+use book_model::LedgerFault;
+use sqlite_trees::store::Store;
+use std::alloc::Global;
+
+/// Reads all trees.
+fn read_trees<S: Store>(alloc: Global, trees: &mut Trees<S>) -> Result<Counts, Stop> {
+    let rulings = read_rulings(alloc, trees)?;
+    let mut places = Places::new(alloc);
+    let records = check_records(alloc, trees, &rulings, &mut places)?;
+    let lines = check_lines(alloc, trees, &rulings, &mut places)?;
+    let rows = check_rows(alloc, trees, &rulings, &mut places)?;
+    Ok(Counts {
+        records,
+        tariffs: rulings.tariffs.len() as u64,
+        closes: rulings.closes.len() as u64,
+        rows,
+        lines,
+    })
+}
+
+/// Reads the books in a store through, and answers what came of it; a fault is that memory or the
+/// store failed, or that there are no books. The store is given back.
+pub fn audit_trees<S: Store>(alloc: Global, store: S) -> (Result<Audited, LedgerFault>, S)
+    requires { IsClean (S.Store.view store) → HasShapes (S.Store.view store) }
+{
+    let mut trees = Trees::over(alloc, store);
+    let audited = match read_trees(alloc, &mut trees) {
+        Ok(counts) => Ok(Audited::Sound(counts)),
+        Err(Stop::Unsound(finding)) => Ok(Audited::Unsound(finding)),
+        Err(Stop::Fault(fault)) => Err(fault),
+    };
+    (audited, trees.into_store())
+}
