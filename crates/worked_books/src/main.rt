@@ -24,7 +24,10 @@
 //! | `rows`, `lines`, `marks`, `closed`, `tariffs`, `book` | the rows of a table, in the order of their keys |
 //! | `set day_sum.COLUMN NUMBER` | how many charge rows were changed behind the books' back |
 //! | `empty TABLE` | how many rows were taken away behind the books' back |
-//! | `stops log`, `stops database` | what was found when the disk stopped at each call of it |
+//! | `stops log`, `stops database` | what was found when the disk stopped at each call of that file, and lost what was not synced |
+//! | `stops FILE written` | the same, where what was written was not lost |
+//! | `stops FILE torn` | the same, where of a write in hand the first half got there |
+//! | `stops FILE twice`, `stops FILE twice written` | the same, where the disk stopped again at each call on the way back into the books |
 //!
 //! The body of `stops` is a run of commands. The row goes on with the books behind it. Each word of
 //! an import names one record there.
@@ -54,6 +57,7 @@ mod rows;
 mod run;
 mod sessions;
 mod shown;
+mod stopping;
 mod stops;
 mod sweep;
 mod tree_books;

@@ -4,7 +4,7 @@ ghost use Rattle.std.specs.Prelude.{IfOk};
 ghost use Rattle.sqlite_trees.specs.View.{IsClean};
 ghost use Rattle.tree_tables.specs.Holds.{HasShapes};
 
-use book_trees::create_files;
+use book_trees::{create_files, keeps_books};
 use sqlite_disk::{Crash, Files};
 use sqlite_pager::Options;
 use sqlite_store::FileStore;
@@ -20,6 +20,12 @@ pub trait Restart: Reopen + Drop {
     /// New trees of books, in files that hold nothing. Where the disk fails, the files as they are
     /// found behind a crash.
     fn made(alloc: Global, files: Self::Disks) -> Result<Self, Self::Disks>
+        ensures shaped { IfOk result (λ store. IsClean (Self.Store.view store)
+            → HasShapes (Self.Store.view store)) };
+
+    /// What is found when the machine is back. Where the disk stops once more, or holds no trees of
+    /// books, the store is given back.
+    fn back(self) -> Result<Self, Self>
         ensures shaped { IfOk result (λ store. IsClean (Self.Store.view store)
             → HasShapes (Self.Store.view store)) };
 }
@@ -46,6 +52,17 @@ impl<D: Crash + Drop> Restart for FileStore<D> {
         match create_files(alloc, files, options) {
             Ok(store) => Ok(store),
             Err((_fault, left)) => Err(crashed(left)),
+        }
+    }
+
+    fn back(self) -> Result<FileStore<D>, FileStore<D>> {
+        let mut store = self;
+        if store.crash_and_reopen().is_err() {
+            return Err(store);
+        }
+        match keeps_books(&store) {
+            Ok(true) => Ok(store),
+            _ => Err(store),
         }
     }
 }

@@ -1,11 +1,12 @@
 //! A disk that stops at each call of a file.
 
 use crate::run::Run;
-use crate::sweep::meets_stop;
+use crate::stopping::{Found, Stop, Stopping};
+use crate::sweep::{Met, Other, meet_stops};
 use crate::trees::Trees;
 use crate::unstopped::{Unstopped, run_unstopped};
 use row_scripts::{Ask, Named, push_line};
-use sqlite_disk::{Files, Fuse, Memory};
+use sqlite_disk::{Files, Memory};
 use sqlite_store::FileStore;
 use sqlite_trees::store::Store;
 use std::alloc::{AllocError, Global};
@@ -20,29 +21,86 @@ enum Stopped {
     Database,
 }
 
-/// Empty files in memory, of which one fails behind so many calls.
-fn failing(alloc: Global, stopped: Stopped, calls: u64) -> Files<Fuse<Memory>> {
+/// How a run is stopped at each call of a file.
+#[derive(Clone, Copy)]
+struct Sweep {
+    stopped: Stopped,
+    found: Found,
+    /// And once more at each call on the way back.
+    twice: bool,
+}
+
+/// A stop that never comes.
+const NEVER: Stop = Stop {
+    calls: u64::MAX,
+    calls_again: u64::MAX,
+    found: Found::Synced,
+};
+
+/// Empty files in memory, of which one stops. What a crash leaves of the other is the same.
+fn failing(alloc: Global, stopped: Stopped, stop: Stop) -> Files<Stopping<Memory>> {
+    let other = Stop {
+        found: stop.found,
+        ..NEVER
+    };
     let (log, db) = match stopped {
-        Stopped::Log => (calls, u64::MAX),
-        Stopped::Database => (u64::MAX, calls),
+        Stopped::Log => (stop, other),
+        Stopped::Database => (other, stop),
     };
     Files {
-        log: Fuse::new(Memory::new(alloc), log),
-        db: Fuse::new(Memory::new(alloc), db),
+        log: Stopping::new(Memory::new(alloc), log),
+        db: Stopping::new(Memory::new(alloc), db),
     }
+}
+
+/// Stops a run behind so many calls, and once more behind so many on the way back.
+fn stop_at(
+    run: Run<'_>,
+    whole: &Unstopped,
+    sweep: Sweep,
+    calls: u64,
+    calls_again: u64,
+) -> Result<Met, Other> {
+    let stop = Stop {
+        calls,
+        calls_again,
+        found: sweep.found,
+    };
+    let files = failing(run.named.alloc(), sweep.stopped, stop);
+    meet_stops::<FileStore<Stopping<Memory>>>(run, whole, files, sweep.twice)
+}
+
+/// Stops a run behind so many calls, and where that is asked once more at each call on the way back.
+/// Adds how often it was stopped, and answers whether that was in its commands.
+fn stop_behind(
+    run: Run<'_>,
+    whole: &Unstopped,
+    sweep: Sweep,
+    calls: u64,
+    stops: &mut usize,
+) -> Result<bool, Other> {
+    for again in 0..ENOUGH {
+        let calls_again = if sweep.twice { again } else { u64::MAX };
+        let met = stop_at(run, whole, sweep, calls, calls_again)?;
+        let counts = if sweep.twice { met.again } else { met.stopped };
+        *stops = stops.saturating_add(usize::from(counts));
+        if !sweep.twice || !met.again {
+            return Ok(met.stopped);
+        }
+    }
+    Err(Other("EVERY WAY BACK WAS STOPPED"))
 }
 
 /// Stops a run at each call of a file, up to one that meets no stop. Answers what came of it: how
 /// many changes the run has and how often it was stopped, or the first stop that leaves what it
 /// should not.
-fn swept(run: Run<'_>, whole: &Unstopped, stopped: Stopped) -> Result<String, AllocError> {
+fn swept(run: Run<'_>, whole: &Unstopped, sweep: Sweep) -> Result<String, AllocError> {
     let alloc = run.named.alloc();
     let changes = whole.changes();
     let mut stops: usize = 0;
     for calls in 0..ENOUGH {
-        let files = failing(alloc, stopped, calls);
-        match meets_stop::<FileStore<Fuse<Memory>>>(run, whole, files) {
-            Ok(true) => stops = stops.saturating_add(1),
+        match stop_behind(run, whole, sweep, calls, &mut stops) {
+            Ok(true) => {}
             Ok(false) if stops > changes => {
                 return format!(in alloc; "CHANGES {changes} STOPS MORE");
             }
@@ -53,24 +111,45 @@ fn swept(run: Run<'_>, whole: &Unstopped, stopped: Stopped) -> Result<String, Al
     String::from_str(alloc, "EVERY RUN WAS STOPPED")
 }
 
-/// Answers `stops log` or `stops database`, with commands, and gives the trees back, whose books got
-/// them with no stop, with whether the line was read.
+/// What the words of a line ask.
+fn sweep_of(words: &[&str]) -> Option<Sweep> {
+    let (file, rest) = words.split_first()?;
+    let stopped = match *file {
+        "log" => Stopped::Log,
+        "database" => Stopped::Database,
+        _ => return None,
+    };
+    let (found, twice) = match *rest {
+        [] => (Found::Synced, false),
+        ["written"] => (Found::Written, false),
+        ["torn"] => (Found::Torn, false),
+        ["twice"] => (Found::Synced, true),
+        ["twice", "written"] => (Found::Written, true),
+        _ => return None,
+    };
+    Some(Sweep {
+        stopped,
+        found,
+        twice,
+    })
+}
+
+/// Answers `stops FILE`, with commands, and gives the trees back, whose books got them with no stop,
+/// with whether the line was read.
 pub(crate) fn answer_stops<S: Store + Drop>(
     named: &Named,
     trees: Trees<S>,
     ask: Ask<'_>,
     out: &mut Vec<u8>,
 ) -> Result<(Trees<S>, bool), AllocError> {
-    let stopped = match *ask.words {
-        ["log"] => Stopped::Log,
-        ["database"] => Stopped::Database,
-        _ => return Ok((trees, false)),
+    let Some(sweep) = sweep_of(ask.words) else {
+        return Ok((trees, false));
     };
     let run = Run {
         named,
         body: ask.body,
     };
     let (whole, trees) = run_unstopped(run, trees)?;
-    push_line(out, swept(run, &whole, stopped)?.as_str())?;
+    push_line(out, swept(run, &whole, sweep)?.as_str())?;
     Ok((trees, true))
 }

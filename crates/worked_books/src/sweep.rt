@@ -5,7 +5,7 @@ use crate::restart::Restart;
 use crate::run::{Came, NOT_BEGUN, Run};
 use crate::shown::all_rows;
 use crate::trees::Trees;
-use crate::unstopped::Unstopped;
+use crate::unstopped::{Stage, Unstopped};
 use book_core::{Ledger, LedgerFault, ShaNames};
 use std::alloc::{AllocError, Global};
 use table_ledger::TableLedger;
@@ -23,8 +23,12 @@ impl From<AllocError> for Other {
     }
 }
 
-/// The trees of books, or the files of a disk that failed before they were made.
-type Left<S> = Result<Trees<S>, <S as Restart>::Disks>;
+/// What is left of books: their store, or the files of a disk that failed before it was made.
+#[derive(Drop)]
+enum Left<S: Restart> {
+    Store(S),
+    Files(S::Disks),
+}
 
 /// The trees in which no books were opened or made, by a fault of the store.
 fn left_by<S: Restart>(fault: LedgerFault, trees: Trees<S>) -> Result<Opened<S>, Other> {
@@ -70,83 +74,116 @@ fn start<S: Restart>(run: Run<'_>, files: S::Disks) -> Result<(Came, Left<S>), O
     let alloc = run.named.alloc();
     let trees = match S::made(alloc, files) {
         Ok(store) => Trees::over(store),
-        Err(files) => return Ok((NOT_BEGUN, Err(files))),
+        Err(files) => return Ok((NOT_BEGUN, Left::Files(files))),
     };
     match open_in(alloc, trees)? {
         Ok(mut books) => {
             let came = work(run, &mut books)?;
-            Ok((came, Ok(Trees::over(books.close_store()))))
+            Ok((came, Left::Store(books.close_store())))
         }
-        Err(trees) => Ok((NOT_BEGUN, Ok(trees))),
+        Err(trees) => Ok((NOT_BEGUN, Left::Store(trees.into_store()))),
     }
 }
 
-/// The trees as they are found when the machine is back; none where they can't be opened.
-fn behind_crash<S: Restart>(trees: Trees<S>) -> Option<Trees<S>> {
-    let mut store = trees.into_store();
-    match store.crash_and_reopen() {
-        Ok(()) => Some(Trees::over(store)),
-        Err(_error) => None,
+/// The trees as they are found when the machine is back, new ones where there are none; or what is
+/// left where the disk stops once more.
+fn trees_behind<S: Restart>(alloc: Global, left: Left<S>) -> Result<Trees<S>, Left<S>> {
+    match left {
+        Left::Store(store) => match store.back() {
+            Ok(store) => Ok(Trees::over(store)),
+            Err(store) => Err(Left::Store(store)),
+        },
+        Left::Files(files) => match S::made(alloc, files) {
+            Ok(store) => Ok(Trees::over(store)),
+            Err(files) => Err(Left::Files(files)),
+        },
     }
 }
 
-/// New trees in files in which none could be made before.
-fn made_again<S: Restart>(alloc: Global, files: S::Disks) -> Option<Trees<S>> {
-    match S::made(alloc, files) {
-        Ok(store) => Some(Trees::over(store)),
-        Err(_files) => None,
+/// The books as they are found when the machine is back, or what is left where the disk stops once
+/// more.
+fn books_behind<S: Restart>(
+    alloc: Global,
+    left: Left<S>,
+) -> Result<Result<Books<S>, Left<S>>, Other> {
+    match trees_behind(alloc, left) {
+        Ok(trees) => match open_in(alloc, trees)? {
+            Ok(books) => Ok(Ok(books)),
+            Err(trees) => Ok(Err(Left::Store(trees.into_store()))),
+        },
+        Err(left) => Ok(Err(left)),
     }
 }
 
-/// The books as they are found when the machine is back, new ones where there are none.
-fn reopen<S: Restart>(alloc: Global, left: Left<S>) -> Result<Books<S>, Other> {
-    let found = match left {
-        Ok(trees) => behind_crash(trees),
-        Err(files) => made_again(alloc, files),
+/// The books as they are found in the end, and whether the disk stopped once more on the way there. It
+/// does so once.
+fn reopen<S: Restart>(alloc: Global, left: Left<S>) -> Result<(Books<S>, bool), Other> {
+    let left = match books_behind(alloc, left)? {
+        Ok(books) => return Ok((books, false)),
+        Err(left) => left,
     };
-    let trees = found.ok_or(Other("NOT OPENED AGAIN"))?;
-    open_in(alloc, trees)?.or(Err(Other("NOT OPENED AGAIN")))
+    match books_behind(alloc, left)? {
+        Ok(books) => Ok((books, true)),
+        Err(_) => Err(Other("NOT OPENED AGAIN")),
+    }
 }
 
-/// All rows of the books that are found when the machine is back, and their trees.
-fn found<S: Restart>(alloc: Global, left: Left<S>) -> Result<(Vec<u8>, Trees<S>), Other> {
-    let mut trees = Trees::over(reopen(alloc, left)?.close_store());
-    match all_rows(alloc, &mut trees) {
-        Some(rows) => Ok((rows, trees)),
+/// All rows and texts of books, and what is left of them.
+fn stage_of<S: Restart>(run: Run<'_>, books: Books<S>) -> Result<(Stage, Left<S>), Other> {
+    let mut books = books;
+    let texts = run.texts(&mut books)?;
+    let mut trees = Trees::over(books.close_store());
+    match all_rows(run.named.alloc(), &mut trees) {
+        Some(rows) => Ok((Stage { rows, texts }, Left::Store(trees.into_store()))),
         None => Err(Other("OTHER ROWS")),
     }
 }
 
-/// Gives books all commands once more, which brings them to the end.
-fn finish<L: Ledger>(run: Run<'_>, whole: &Unstopped, ledger: &mut L) -> Result<(), Other> {
-    let came = run.give_all(ledger)?;
-    let texts = run.texts(ledger)?;
-    if came.is_as_told && !came.stopped && whole.texts == texts {
+/// Gives the books that are left all commands once more, which brings them to the end.
+fn finish<S: Restart>(run: Run<'_>, whole: &Unstopped, left: Left<S>) -> Result<(), Other> {
+    let alloc = run.named.alloc();
+    let (mut books, _) = reopen(alloc, left)?;
+    let came = run.give_all(&mut books)?;
+    let (books, _) = reopen(alloc, Left::Store(books.close_store()))?;
+    let (end, _) = stage_of(run, books)?;
+    if came.is_as_told && !came.stopped && whole.is_end(&end) {
         Ok(())
     } else {
         Err(Other("ANOTHER END"))
     }
 }
 
-/// Makes a run on books in files that may fail, and answers whether it was stopped, if what is
-/// found and how it ends are as they have to be.
-pub(crate) fn meets_stop<S: Restart>(
+/// Where a disk stopped.
+#[derive(Clone, Copy)]
+pub(crate) struct Met {
+    /// In the commands of the run.
+    pub(crate) stopped: bool,
+    /// On the way back into the books.
+    pub(crate) again: bool,
+}
+
+/// Makes a run on books in files that may fail, and answers where it was stopped, if what is found and
+/// how it ends are as they have to be. Where `twice` says so, that is looked at only behind a second
+/// stop on the way back.
+pub(crate) fn meet_stops<S: Restart>(
     run: Run<'_>,
     whole: &Unstopped,
     files: S::Disks,
-) -> Result<bool, Other> {
-    let alloc = run.named.alloc();
+    twice: bool,
+) -> Result<Met, Other> {
     let (came, left) = start::<S>(run, files)?;
-    let (rows, trees) = found(alloc, left)?;
-    if !whole.is_reached(came, &rows) {
-        return Err(Other("OTHER ROWS"));
+    let (books, again) = reopen(run.named.alloc(), left)?;
+    let met = Met {
+        stopped: came.stopped,
+        again,
+    };
+    if twice && !again {
+        return Ok(met);
     }
-    let mut books = reopen(alloc, Ok(trees))?;
-    finish(run, whole, &mut books)?;
-    let (rows, _trees) = found(alloc, Ok(Trees::over(books.close_store())))?;
-    if whole.rows.last() == Some(&rows) {
-        Ok(came.stopped)
-    } else {
-        Err(Other("ANOTHER END"))
+    let (found, left) = stage_of(run, books)?;
+    if !whole.is_reached(came, &found) {
+        return Err(Other("OTHER BOOKS"));
     }
+    finish(run, whole, left)?;
+    Ok(met)
 }

@@ -9,27 +9,36 @@ use row_scripts::Ask;
 use sqlite_trees::store::Store;
 use std::alloc::AllocError;
 
-/// What a run that nothing stops leaves.
+/// Books as they stand between two changes: all their rows, and all their texts.
+#[derive(Drop, PartialEq)]
+pub(crate) struct Stage {
+    pub(crate) rows: Vec<u8>,
+    pub(crate) texts: Vec<u8>,
+}
+
+/// What a run that nothing stops leaves: new books, and those behind each change.
 #[derive(Drop)]
 pub(crate) struct Unstopped {
-    /// All rows of new books, and those behind each change.
-    pub(crate) rows: Vec<Vec<u8>>,
-    /// All texts of the books at its end.
-    pub(crate) texts: Vec<u8>,
+    stages: Vec<Stage>,
 }
 
 impl Unstopped {
     /// How many changes it makes.
     pub(crate) fn changes(&self) -> usize {
-        self.rows.len().saturating_sub(1)
+        self.stages.len().saturating_sub(1)
     }
 
-    /// These are the rows behind the last change that a run was told of, or behind the one in hand
+    /// These are the books behind the last change that a run was told of, or behind the one in hand
     /// where it was stopped.
-    pub(crate) fn is_reached(&self, came: Came, rows: &Vec<u8>) -> bool {
+    pub(crate) fn is_reached(&self, came: Came, found: &Stage) -> bool {
         let in_hand = if came.stopped { 2 } else { 1 };
-        let mut reached = self.rows.iter().skip(came.changes).take(in_hand);
-        reached.any(|other| other == rows)
+        let mut reached = self.stages.iter().skip(came.changes).take(in_hand);
+        reached.any(|stage| stage == found)
+    }
+
+    /// These are the books at its end.
+    pub(crate) fn is_end(&self, found: &Stage) -> bool {
+        self.stages.last() == Some(found)
     }
 }
 
@@ -44,13 +53,27 @@ fn answered<S: Store + Drop>(
     Ok((trees, answers))
 }
 
+/// Adds the books in trees as they stand, and gives the trees back. Books whose rows can't be read
+/// are not added.
+fn add_stage<S: Store + Drop>(
+    run: Run<'_>,
+    trees: Trees<S>,
+    stages: &mut Vec<Stage>,
+) -> Result<Trees<S>, AllocError> {
+    let (mut trees, texts) = answered(run, trees, ask_of(&["changes"]))?;
+    if let Some(rows) = all_rows(run.named.alloc(), &mut trees) {
+        stages.push(Stage { rows, texts })?;
+    }
+    Ok(trees)
+}
+
 /// Gives the books in trees the command of a line, each record of an import by a command of its own,
-/// and adds all rows behind each change.
+/// and adds the books behind each change.
 fn take_line<S: Store + Drop>(
     run: Run<'_>,
     trees: Trees<S>,
     words: &[&str],
-    rows: &mut Vec<Vec<u8>>,
+    stages: &mut Vec<Stage>,
 ) -> Result<Trees<S>, AllocError> {
     let mut trees = trees;
     let ask = ask_of(words);
@@ -63,7 +86,7 @@ fn take_line<S: Store + Drop>(
         let (then, answers) = answered(run, trees, Ask { words, ..ask })?;
         trees = then;
         if run.came_by(&answers)?.changes == 1 {
-            rows.extend(all_rows(run.named.alloc(), &mut trees))?;
+            trees = add_stage(run, trees, stages)?;
         }
     }
     Ok(trees)
@@ -75,13 +98,11 @@ pub(crate) fn run_unstopped<S: Store + Drop>(
     trees: Trees<S>,
 ) -> Result<(Unstopped, Trees<S>), AllocError> {
     let alloc = run.named.alloc();
-    let mut trees = trees;
-    let mut rows = Vec::new(alloc);
-    rows.extend(all_rows(alloc, &mut trees))?;
+    let mut stages = Vec::new(alloc);
+    let mut trees = add_stage(run, trees, &mut stages)?;
     for line in run.body.lines() {
         let words: Vec<&str> = line.split_whitespace().collect(alloc)?;
-        trees = take_line(run, trees, &words, &mut rows)?;
+        trees = take_line(run, trees, &words, &mut stages)?;
     }
-    let (trees, texts) = answered(run, trees, ask_of(&["changes"]))?;
-    Ok((Unstopped { rows, texts }, trees))
+    Ok((Unstopped { stages }, trees))
 }
