@@ -8,6 +8,7 @@ use crate::rulings::Rulings;
 use crate::stop::{Stop, met, unsound};
 use crate::trees::Trees;
 use crate::walk::{MOST_ROWS, Walk, endless};
+use crate::watch::Watch;
 use book_model::RowKey;
 use sqlite_trees::error::StoreError;
 use sqlite_trees::store::Store;
@@ -164,14 +165,16 @@ fn check_left(rulings: &Rulings, places: &Places) -> Result<(), Stop> {
 }
 
 /// Reads all charge rows, which have to be the sums of the places. Answers how many there are.
-pub(crate) fn check_rows<S: Store>(
+pub(crate) fn check_rows<S: Store, W: Watch>(
     alloc: Global,
     trees: &mut Trees<S>,
     rulings: &Rulings,
     places: &mut Places,
+    watch: &mut W,
 ) -> Result<u64, Stop> {
     let mut walk = Walk::over(alloc, Tree::Days);
     for count in 0..MOST_ROWS {
+        watch.read(Tree::Days, count);
         if !walk.next(trees)? {
             check_left(rulings, places)?;
             return Ok(count);

@@ -4,13 +4,20 @@ use crate::finding::{Place, Tree, Wrong};
 use crate::stop::{Stop, unsound};
 use crate::trees::Trees;
 use crate::walk::{MOST_ROWS, Walk, endless};
+use crate::watch::Watch;
 use sqlite_trees::store::Store;
 use std::alloc::Global;
 
 /// How many rows a tree has.
-fn count_rows<S: Store>(alloc: Global, trees: &mut Trees<S>, tree: Tree) -> Result<u64, Stop> {
+fn count_rows<S: Store, W: Watch>(
+    alloc: Global,
+    trees: &mut Trees<S>,
+    tree: Tree,
+    watch: &mut W,
+) -> Result<u64, Stop> {
     let mut walk = Walk::over(alloc, tree);
     for count in 0..MOST_ROWS {
+        watch.read(tree, count);
         if !walk.next(trees)? {
             return Ok(count);
         }
@@ -19,13 +26,14 @@ fn count_rows<S: Store>(alloc: Global, trees: &mut Trees<S>, tree: Tree) -> Resu
 }
 
 /// A tree that finds records has an entry for each, which was looked up, and no other.
-pub(crate) fn check_entries<S: Store>(
+pub(crate) fn check_entries<S: Store, W: Watch>(
     alloc: Global,
     trees: &mut Trees<S>,
     tree: Tree,
     records: u64,
+    watch: &mut W,
 ) -> Result<(), Stop> {
-    let entries = count_rows(alloc, trees, tree)?;
+    let entries = count_rows(alloc, trees, tree, watch)?;
     if entries == records {
         Ok(())
     } else {

@@ -45,7 +45,7 @@ impl Tree {
     }
 
     /// Its name in the file.
-    pub(crate) fn name(self) -> &'static str {
+    pub fn name(self) -> &'static str {
         match self {
             Tree::Book => "book",
             Tree::Tariffs => "tariff",

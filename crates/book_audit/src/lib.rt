@@ -17,10 +17,12 @@ mod stop;
 mod texts;
 mod trees;
 mod walk;
+mod watch;
 mod whole;
 
 pub use audited::{Audited, Counts};
 pub use finding::{Finding, Place, Tree, Wrong};
 pub use shelf::AuditedShelf;
 pub use texts::audit_text;
+pub use watch::Watch;
 pub use whole::audit_trees;

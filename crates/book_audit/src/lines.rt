@@ -6,6 +6,7 @@ use crate::rulings::Rulings;
 use crate::stop::{Stop, met, unsound};
 use crate::trees::Trees;
 use crate::walk::{MOST_ROWS, Walk, endless};
+use crate::watch::Watch;
 use sqlite_trees::error::StoreError;
 use sqlite_trees::store::Store;
 use sqlite_value::row::Row;
@@ -59,14 +60,16 @@ fn check_line<S: Store>(
 }
 
 /// Reads all lines. Answers how many there are.
-pub(crate) fn check_lines<S: Store>(
+pub(crate) fn check_lines<S: Store, W: Watch>(
     alloc: Global,
     trees: &mut Trees<S>,
     rulings: &Rulings,
     places: &mut Places,
+    watch: &mut W,
 ) -> Result<u64, Stop> {
     let mut walk = Walk::over(alloc, Tree::Lines);
     for count in 0..MOST_ROWS {
+        watch.read(Tree::Lines, count);
         if !walk.next(trees)? {
             return Ok(count);
         }

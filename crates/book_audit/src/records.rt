@@ -9,6 +9,7 @@ use crate::rulings::Rulings;
 use crate::stop::{Stop, met, unsound};
 use crate::trees::Trees;
 use crate::walk::{MOST_ROWS, Walk, endless};
+use crate::watch::Watch;
 use sqlite_trees::store::Store;
 use std::alloc::Global;
 use tree_tables::{StoredRecord, read_record};
@@ -38,16 +39,18 @@ fn check_record<S: Store>(
 }
 
 /// Reads all records, one at a time.
-fn read_records<S: Store>(
+fn read_records<S: Store, W: Watch>(
     alloc: Global,
     trees: &mut Trees<S>,
     rulings: &Rulings,
     places: &mut Places,
+    watch: &mut W,
 ) -> Result<Held, Stop> {
     let tree = Tree::Records;
     let mut walk = Walk::over(alloc, tree);
     let mut amount = 0u64;
     for records in 0..MOST_ROWS {
+        watch.read(tree, records);
         if !walk.next(trees)? {
             return Ok(Held { records, amount });
         }
@@ -61,15 +64,16 @@ fn read_records<S: Store>(
 
 /// Reads all records and the trees that find them; the row of the book has to be their sum. Answers
 /// how many there are.
-pub(crate) fn check_records<S: Store>(
+pub(crate) fn check_records<S: Store, W: Watch>(
     alloc: Global,
     trees: &mut Trees<S>,
     rulings: &Rulings,
     places: &mut Places,
+    watch: &mut W,
 ) -> Result<u64, Stop> {
-    let held = read_records(alloc, trees, rulings, places)?;
-    check_entries(alloc, trees, Tree::Identities, held.records)?;
-    check_entries(alloc, trees, Tree::Marks, held.records)?;
+    let held = read_records(alloc, trees, rulings, places, watch)?;
+    check_entries(alloc, trees, Tree::Identities, held.records, watch)?;
+    check_entries(alloc, trees, Tree::Marks, held.records, watch)?;
     if held.records != rulings.held {
         return Err(unsound(Place::Tree(Tree::Book), Wrong::Held));
     }

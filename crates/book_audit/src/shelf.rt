@@ -1,8 +1,9 @@
 use crate::audited::Audited;
+use crate::watch::Watch;
 use office::{Shelf, ShelfFault};
 
 /// Where books are kept by their names, and can be looked through.
 pub trait AuditedShelf: Shelf {
     /// Looks the books of a name through, and says what came of it. Nothing is written.
-    fn audit(&self, book: &str) -> Result<Audited, ShelfFault>;
+    fn audit<W: Watch>(&self, book: &str, watch: &mut W) -> Result<Audited, ShelfFault>;
 }

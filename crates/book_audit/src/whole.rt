@@ -11,17 +11,22 @@ use crate::records::check_records;
 use crate::rulings::read_rulings;
 use crate::stop::Stop;
 use crate::trees::Trees;
+use crate::watch::Watch;
 use book_model::LedgerFault;
 use sqlite_trees::store::Store;
 use std::alloc::Global;
 
 /// Reads all trees.
-fn read_trees<S: Store>(alloc: Global, trees: &mut Trees<S>) -> Result<Counts, Stop> {
+fn read_trees<S: Store, W: Watch>(
+    alloc: Global,
+    trees: &mut Trees<S>,
+    watch: &mut W,
+) -> Result<Counts, Stop> {
     let rulings = read_rulings(alloc, trees)?;
     let mut places = Places::new(alloc);
-    let records = check_records(alloc, trees, &rulings, &mut places)?;
-    let lines = check_lines(alloc, trees, &rulings, &mut places)?;
-    let rows = check_rows(alloc, trees, &rulings, &mut places)?;
+    let records = check_records(alloc, trees, &rulings, &mut places, watch)?;
+    let lines = check_lines(alloc, trees, &rulings, &mut places, watch)?;
+    let rows = check_rows(alloc, trees, &rulings, &mut places, watch)?;
     Ok(Counts {
         records,
         tariffs: rulings.tariffs.len() as u64,
@@ -33,11 +38,15 @@ fn read_trees<S: Store>(alloc: Global, trees: &mut Trees<S>) -> Result<Counts, S
 
 /// Reads the books in a store through, and answers what came of it; a fault is that memory or the
 /// store failed, or that there are no books. The store is given back.
-pub fn audit_trees<S: Store>(alloc: Global, store: S) -> (Result<Audited, LedgerFault>, S)
+pub fn audit_trees<S: Store, W: Watch>(
+    alloc: Global,
+    store: S,
+    watch: &mut W,
+) -> (Result<Audited, LedgerFault>, S)
     requires { IsClean (S.Store.view store) → HasShapes (S.Store.view store) }
 {
     let mut trees = Trees::over(alloc, store);
-    let audited = match read_trees(alloc, &mut trees) {
+    let audited = match read_trees(alloc, &mut trees, watch) {
         Ok(counts) => Ok(Audited::Sound(counts)),
         Err(Stop::Unsound(finding)) => Ok(Audited::Unsound(finding)),
         Err(Stop::Fault(fault)) => Err(fault),

@@ -5,8 +5,9 @@ ghost use Rattle.sqlite_store.specs.FileStore.{view};
 ghost use Rattle.sqlite_trees.specs.View.{IsClean};
 ghost use Rattle.tree_tables.specs.Holds.{HasShapes};
 
-use book_audit::{Audited, audit_trees};
+use book_audit::{Audited, Watch, audit_trees};
 use book_core::{LedgerFault, ShaNames};
+use book_trees::shut;
 use office::{ShelfFault, Visit};
 use sqlite_disk::Disk;
 use sqlite_store::FileStore;
@@ -41,12 +42,11 @@ fn make_in<S: Store>(alloc: Global, store: S) -> (Result<(), LedgerFault>, S)
     }
 }
 
-/// Closes the store of a file, and brings what its log holds into the file. What was acknowledged is
-/// in one of the two already, so a fault here loses nothing and is let go.
+/// Closes the store of a file, and brings what its log holds into the file. A fault here loses
+/// nothing, and is let go.
 fn close<D: Disk + Drop>(store: FileStore<D>) {
     let mut store = store;
-    store.rollback();
-    let _ = store.checkpoint();
+    let _ = shut(&mut store);
     drop(store.close());
 }
 
@@ -82,13 +82,14 @@ pub(crate) fn make_and_close<D: Disk + Drop>(
 
 /// Looks the books in a file that was opened through, and lets it go. Nothing was written, and its log
 /// is left as it is.
-pub(crate) fn audit_and_close<D: Disk + Drop>(
+pub(crate) fn audit_and_close<D: Disk + Drop, W: Watch>(
     alloc: Global,
     store: FileStore<D>,
+    watch: &mut W,
 ) -> Result<Audited, ShelfFault>
     requires { HasShapes (view store) }
 {
-    let (audited, store) = audit_trees(alloc, store);
+    let (audited, store) = audit_trees(alloc, store, watch);
     drop(store.close());
     audited.map_err(ShelfFault::Ledger)
 }

@@ -1,7 +1,7 @@
 //! The files of one machine, by their paths.
 
 use crate::books::{audit_and_close, make_and_close, visit_and_close};
-use book_audit::{Audited, AuditedShelf, Finding, Place, Wrong};
+use book_audit::{Audited, AuditedShelf, Finding, Place, Watch, Wrong};
 use book_core::LedgerFault;
 use book_trees::{LeftByLedger, OpenFault, create_at, look_through_at, open_at};
 use office::{Shelf, ShelfFault, Visit};
@@ -126,9 +126,9 @@ impl<P: Supposed> Shelf for Files<'_, P> {
 
 impl<P: Supposed> AuditedShelf for Files<'_, P> {
     /// Looks the whole file through: all of its pages, and then each row of its trees.
-    fn audit(&self, book: &str) -> Result<Audited, ShelfFault> {
+    fn audit<W: Watch>(&self, book: &str, watch: &mut W) -> Result<Audited, ShelfFault> {
         match look_through_at(self.rt, book, self.seed()?, self.supposed.start()) {
-            Ok(Some(store)) => audit_and_close(self.rt.alloc(), store),
+            Ok(Some(store)) => audit_and_close(self.rt.alloc(), store, watch),
             Ok(None) => Ok(Audited::Unsound(Finding {
                 place: Place::File,
                 wrong: Wrong::Pages,

@@ -3,6 +3,7 @@
 #![tactic(auto)]
 
 mod catalog;
+mod closing;
 mod faults;
 mod left;
 mod looking;
@@ -13,6 +14,7 @@ mod reopening;
 mod schema;
 mod unopened;
 
+pub use closing::shut;
 pub use faults::OpenFault;
 pub use left::LeftByLedger;
 pub use looking::{look_through, look_through_at};

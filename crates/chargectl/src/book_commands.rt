@@ -4,7 +4,7 @@
 ghost use Rattle.office.specs.Requests.{IsAskableAnew};
 ghost use Rattle.office.proofs.AskLemmas.{askable_once};
 
-use crate::progress::Watched;
+use crate::progress::{Watched, WatchedRows};
 use crate::trouble::{Trouble, ended};
 use book_audit::{Audited, AuditedShelf, audit_text};
 use book_core::{Ledger, LedgerFault, Sink, Source};
@@ -148,14 +148,18 @@ pub(crate) fn report<S: Shelf, O: Write + Drop>(
 
 /// Looks the whole file of books through, and prints what came of it.
 pub(crate) fn audit<S: AuditedShelf, O: Write + Drop>(
-    alloc: Global,
+    rt: &HostRuntime,
     shelf: &S,
     book: &str,
+    quiet: bool,
     mut output: O,
 ) -> Result<(), Trouble> {
     shelf.expect(book)?;
-    let audited = shelf.audit(book)?;
-    let text = audit_text(alloc, &audited)?;
+    let mut rows = WatchedRows::new(rt, !quiet && rt.stderr().is_terminal());
+    let audited = shelf.audit(book, &mut rows);
+    rows.clear();
+    let audited = audited?;
+    let text = audit_text(rt.alloc(), &audited)?;
     write!(output, "{text}")?;
     output.flush()?;
     match audited {

@@ -76,7 +76,7 @@ fn run_on_books<S: AuditedShelf, O: Write + Drop>(
         BookRequest::Import(dump) => import_dump(rt, shelf, book, dump, output),
         BookRequest::Close { period, date } => close(rt, shelf, book, period, date, output),
         BookRequest::Print(asked) => report(rt, shelf, book, asked, output),
-        BookRequest::Audit => audit(rt.alloc(), shelf, book, output),
+        BookRequest::Audit { quiet } => audit(rt, shelf, book, quiet, output),
         BookRequest::Serve { port, requests } => serve(rt, shelf, book, port, requests, output),
     }
 }

@@ -1,5 +1,6 @@
 //! How far a long command is, on one line of standard error, where that is a terminal.
 
+use book_audit::{Tree, Watch};
 use smf_frames::{Joiner, Layout};
 use std::io;
 use std::io::{Read, Write};
@@ -11,28 +12,59 @@ const STANDING: u64 = 500;
 /// Carriage return, and the terminal's order to clear the line.
 const CLEARED: &str = "\r\x1b[K";
 
-/// What went through a reader.
+/// The line.
 #[derive(Drop)]
-struct Progress<'a> {
+struct Line<'a> {
     rt: &'a HostRuntime,
-    joiner: Joiner,
-    bytes: u64,
-    records: u64,
-    /// When the line was last written.
+    /// When it was last written.
     shown: Instant,
 }
 
-impl<'a> Progress<'a> {
-    /// Nothing yet. None where there is no memory or no clock: then nothing is shown.
-    fn started(rt: &'a HostRuntime, layout: Layout) -> Option<Progress<'a>> {
-        let joiner = Joiner::new(rt.alloc(), layout).ok()?;
+impl<'a> Line<'a> {
+    /// Not written yet. None where there is no clock: then nothing is shown.
+    fn started(rt: &'a HostRuntime) -> Option<Line<'a>> {
         let shown = Instant::now(rt).ok()?;
+        Some(Line { rt, shown })
+    }
+
+    /// It stood long enough.
+    fn is_due(&self) -> bool {
+        match self.shown.elapsed(self.rt) {
+            Ok(time) => time >= Duration::from_millis(STANDING),
+            Err(_) => false,
+        }
+    }
+
+    /// It was written just now.
+    fn stand(&mut self) {
+        if let Ok(now) = Instant::now(self.rt) {
+            self.shown = now;
+        }
+    }
+
+    /// Takes it away.
+    fn clear(&self) {
+        let _ = write!(self.rt.stderr(), "{CLEARED}");
+    }
+}
+
+/// What went through a reader.
+#[derive(Drop)]
+struct Progress<'a> {
+    line: Line<'a>,
+    joiner: Joiner,
+    bytes: u64,
+    records: u64,
+}
+
+impl<'a> Progress<'a> {
+    /// Nothing yet. None where there is no memory or no clock.
+    fn started(rt: &'a HostRuntime, layout: Layout) -> Option<Progress<'a>> {
         Some(Progress {
-            rt,
-            joiner,
+            line: Line::started(rt)?,
+            joiner: Joiner::new(rt.alloc(), layout).ok()?,
             bytes: 0,
             records: 0,
-            shown,
         })
     }
 
@@ -40,11 +72,7 @@ impl<'a> Progress<'a> {
     fn count(&mut self, piece: &[u8]) {
         self.bytes = self.bytes.saturating_add(piece.len() as u64);
         self.count_records(piece);
-        let is_due = match self.shown.elapsed(self.rt) {
-            Ok(time) => time >= Duration::from_millis(STANDING),
-            Err(_) => false,
-        };
-        if is_due {
+        if self.line.is_due() {
             self.show();
         }
     }
@@ -65,20 +93,13 @@ impl<'a> Progress<'a> {
         }
     }
 
-    /// Takes the line away.
-    fn clear(&self) {
-        let _ = write!(self.rt.stderr(), "{CLEARED}");
-    }
-
     fn show(&mut self) {
         let (bytes, records) = (self.bytes, self.records);
         let _ = write!(
-            self.rt.stderr(),
+            self.line.rt.stderr(),
             "{CLEARED}{bytes} bytes, {records} records"
         );
-        if let Ok(now) = Instant::now(self.rt) {
-            self.shown = now;
-        }
+        self.line.stand();
     }
 }
 
@@ -112,9 +133,51 @@ impl<R: Read + Drop> Read for Watched<'_, R> {
         if let Some(progress) = &mut self.progress {
             match &answer {
                 Ok(count) if *count > 0 => progress.count(buffer.get(..*count).unwrap_or(&[])),
-                _ => progress.clear(),
+                _ => progress.line.clear(),
             }
         }
         answer
+    }
+}
+
+/// The rows between two looks at the clock.
+const ROWS: u64 = 1_024;
+
+/// How far an audit is.
+#[derive(Drop)]
+pub(crate) struct WatchedRows<'a> {
+    line: Option<Line<'a>>,
+}
+
+impl<'a> WatchedRows<'a> {
+    /// An audit that begins with the pages of the file, which is shown where that is asked for.
+    pub(crate) fn new(rt: &'a HostRuntime, is_shown: bool) -> WatchedRows<'a> {
+        if !is_shown {
+            return WatchedRows { line: None };
+        }
+        let _ = write!(rt.stderr(), "{CLEARED}pages");
+        WatchedRows {
+            line: Line::started(rt),
+        }
+    }
+
+    /// The audit has ended.
+    pub(crate) fn clear(&self) {
+        if let Some(line) = &self.line {
+            line.clear();
+        }
+    }
+}
+
+impl Watch for WatchedRows<'_> {
+    fn read(&mut self, tree: Tree, rows: u64) {
+        let Some(line) = &mut self.line else {
+            return;
+        };
+        if rows % ROWS == 0 && line.is_due() {
+            let table = tree.name();
+            let _ = write!(line.rt.stderr(), "{CLEARED}{table}, {rows} rows");
+            line.stand();
+        }
     }
 }

@@ -57,7 +57,7 @@ fn asked_in<'a>(name: &str, found: &ArgMatches<'a>) -> Option<BookRequest<'a>> {
         "tariff" => tariff_in(found),
         "import" => Some(BookRequest::Import(dump_in(found)?)),
         "close" => close_in(found),
-        "audit" => Some(BookRequest::Audit),
+        "audit" => Some(audit_in(found)),
         "serve" => serve_in(found),
         _ => Some(BookRequest::Print(report_in(name, found)?)),
     }
@@ -94,6 +94,11 @@ fn statement_in(found: &ArgMatches<'_>) -> Option<Report> {
     } else {
         Some(Report::Statement(period))
     }
+}
+
+fn audit_in<'a>(found: &ArgMatches<'_>) -> BookRequest<'a> {
+    let quiet = found.get_flag("quiet");
+    BookRequest::Audit { quiet }
 }
 
 fn serve_in<'a>(found: &ArgMatches<'_>) -> Option<BookRequest<'a>> {

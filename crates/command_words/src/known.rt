@@ -214,7 +214,7 @@ pub(crate) static KNOWN: [Known; 12] = [
     Known {
         name: "audit",
         about: "Looks the whole file of books through",
-        words: &[BOOK],
+        words: &[BOOK, QUIET],
     },
     Known {
         name: "serve",

@@ -47,7 +47,10 @@ pub enum BookRequest<'a> {
     /// A report printed.
     Print(Report),
     /// The whole file looked through.
-    Audit,
+    Audit {
+        /// Nothing is shown of how far it is.
+        quiet: bool,
+    },
     /// The books answered for over HTTP, to this machine alone.
     Serve {
         port: u16,

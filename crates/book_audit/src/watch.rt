@@ -1,0 +1,9 @@
+//! How far an audit is.
+
+use crate::finding::Tree;
+
+/// Is told over and over how far an audit is.
+pub trait Watch {
+    /// So many rows of a tree were read.
+    fn read(&mut self, tree: Tree, rows: u64);
+}
