@@ -4,7 +4,7 @@ ghost use Rattle.std.specs.Prelude.{IfOk};
 ghost use Rattle.sqlite_trees.specs.View.{IsClean};
 ghost use Rattle.tree_tables.specs.Holds.{HasShapes};
 
-use book_trees::{create_files, keeps_books};
+use book_trees::{create_files, keeps_books, shut};
 use sqlite_disk::{Crash, Files};
 use sqlite_pager::Options;
 use sqlite_store::FileStore;
@@ -22,6 +22,10 @@ pub trait Restart: Reopen + Drop {
     fn made(alloc: Global, files: Self::Disks) -> Result<Self, Self::Disks>
         ensures shaped { IfOk result (λ store. IsClean (Self.Store.view store)
             → HasShapes (Self.Store.view store)) };
+
+    /// The store, behind the end of the work on it: what its log holds is in its files, unless the
+    /// disk stopped meanwhile, which is answered too.
+    fn shut(self) -> (Self, bool);
 
     /// What is found when the machine is back. Where the disk stops once more, or holds no trees of
     /// books, the store is given back.
@@ -53,6 +57,12 @@ impl<D: Crash + Drop> Restart for FileStore<D> {
             Ok(store) => Ok(store),
             Err((_fault, left)) => Err(crashed(left)),
         }
+    }
+
+    fn shut(self) -> (FileStore<D>, bool) {
+        let mut store = self;
+        let is_shut = shut(&mut store).is_ok();
+        (store, is_shut)
     }
 
     fn back(self) -> Result<FileStore<D>, FileStore<D>> {

@@ -71,7 +71,7 @@ fn stop_at(
 }
 
 /// Stops a run behind so many calls, and where that is asked once more at each call on the way back.
-/// Adds how often it was stopped, and answers whether that was in its commands.
+/// Adds how often it was stopped, and answers whether it was before its end.
 fn stop_behind(
     run: Run<'_>,
     whole: &Unstopped,

@@ -85,6 +85,18 @@ fn start<S: Restart>(run: Run<'_>, files: S::Disks) -> Result<(Came, Left<S>), O
     }
 }
 
+/// What is left of books behind the end of the work on them, and whether that was reached with no
+/// stop.
+fn shut<S: Restart>(left: Left<S>) -> (Left<S>, bool) {
+    match left {
+        Left::Store(store) => {
+            let (store, is_shut) = store.shut();
+            (Left::Store(store), is_shut)
+        }
+        Left::Files(files) => (Left::Files(files), false),
+    }
+}
+
 /// The trees as they are found when the machine is back, new ones where there are none; or what is
 /// left where the disk stops once more.
 fn trees_behind<S: Restart>(alloc: Global, left: Left<S>) -> Result<Trees<S>, Left<S>> {
@@ -156,7 +168,7 @@ fn finish<S: Restart>(run: Run<'_>, whole: &Unstopped, left: Left<S>) -> Result<
 /// Where a disk stopped.
 #[derive(Clone, Copy)]
 pub(crate) struct Met {
-    /// In the commands of the run.
+    /// In the commands of the run, or in the closing behind them.
     pub(crate) stopped: bool,
     /// On the way back into the books.
     pub(crate) again: bool,
@@ -172,9 +184,10 @@ pub(crate) fn meet_stops<S: Restart>(
     twice: bool,
 ) -> Result<Met, Other> {
     let (came, left) = start::<S>(run, files)?;
+    let (left, is_shut) = shut(left);
     let (books, again) = reopen(run.named.alloc(), left)?;
     let met = Met {
-        stopped: came.stopped,
+        stopped: came.stopped || !is_shut,
         again,
     };
     if twice && !again {
