@@ -158,6 +158,16 @@ module _ (period : ℕ) (place : RowKey) (tables : Tables) {rows : List Row} {ke
           (placed (period, place) answer.0 answer.1) answer.2 says) ∙ sym answer.1
       by_answer false found answer = absurd (true≢false (sym found))
 
+-- the run of a period's number is that of its charge rows
+pub days_run : (period : ℕ) (tables : Tables) (rows : List Row) (key : Row)
+    → rows ≡ map day_columns (entries tables.days) → key ≡ Int (pos period) ∷ []
+    → run_of key rows ≡ map day_columns (rows_under period tables.days)
+days_run period tables rows key held key_is =
+    ap (λ k. run_of k rows) key_is ∙ ap (run_of (Int (pos period) ∷ [])) held
+    ∙ run_numbered by_key day_layout
+    (λ (place : RowKey). Int place.day ∷ Text place.centre ∷ Text place.shift ∷ [])
+    (λ n place. refl) period tables.days
+
 -- the charge rows of a period are those that are read of the rows of its number
 pub days_read : (period : ℕ) (tables : Tables) (rows : List Row) (key : Row)
     (days : List StoredDay) → rows ≡ map day_columns (entries tables.days)
@@ -174,7 +184,4 @@ days_read period tables rows key days held placed key_is says =
     (λ row. row.0.0 == period) (entries tables.days)
     (all_entries day_layout.total day_layout.exact
     (λ (row : (ℕ × RowKey) × ChargeRow). place_of row.1 ≡ row.0.1) tables.days placed)) says
-    (ap (λ k. run_of k rows) key_is ∙ ap (run_of (Int (pos period) ∷ [])) held
-    ∙ run_numbered by_key day_layout
-    (λ (place : RowKey). Int place.day ∷ Text place.centre ∷ Text place.shift ∷ [])
-    (λ n place. refl) period tables.days)
+    (days_run period tables rows key held key_is)

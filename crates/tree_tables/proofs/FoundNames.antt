@@ -1,5 +1,5 @@
 -- Records that are found by the names that an index gives.
-use Rattle.std.proofs.Common.{◌≡◌, ◌∙◌, ℕ, ◌+◌, ◌-◌, ◌<◌, List, [], ◌∷◌, ◌++◌, Option, Some}
+use Rattle.std.proofs.Common.{◌≡◌, ◌∙◌, ℕ, ◌+◌, ◌-◌, ◌<◌, List, [], ◌∷◌, ◌++◌, Option, None, Some}
 use Rattle.std.proofs.Common.{map, take, get_or, length, refl, sym, ap, subst, cond}
 use Rattle.std.specs.Prelude.{T}
 use Rattle.std.specs.Cmp.{IsTotalOrder, tied_itself}
@@ -12,12 +12,15 @@ use Rattle.std.specs.declared.cmp.Ordering.{Ordering}
 use Rattle.std.proofs.lemmas.List.{take_more}
 use Rattle.std.proofs.lemmas.List.Elements.{All-from_recursion}
 use Rattle.std.proofs.lemmas.Slice.Zip.{all_zipped_more}
+use Rattle.sqlite_trees.proofs.ListLemmas.{all-get_or}
 use Rattle.sqlite_value.specs.Order.{Row, column}
 use Rattle.sqlite_value.specs.declared.value.Value.TheVariants.{Blob}
 use Rattle.kept_tables.specs.Tables.{RecordRow, RecordTable, Tables}
 use Rattle.tree_rows.specs.Indexes.{IsKeyOf}
 use Rattle.tree_rows.proofs.Maps.{first, second, less}
 use Rattle.tree_tables.specs.Answers.{FindsNamed, FindsRecord}
+use Rattle.tree_tables.specs.Columns.{record_columns}
+use Rattle.tree_tables.specs.Fits.{AllNamed, NamedFits, RecordFits}
 use Rattle.tree_tables.specs.Stored.{stored_entry}
 use Rattle.tree_tables.specs.declared.found_names.FoundName.{FoundName}
 use Rattle.tree_tables.specs.declared.stored_record.StoredRecord.{StoredRecord}
@@ -47,6 +50,33 @@ named_more names i default tables all more one within more_is so_far found =
     (take i names) all (get_or names i default) one so_far found in
     subst (λ front. FindsNamed front tables more) (sym (take_more names i default within))
     (subst (FindsNamed (take i names ++ get_or names i default ∷ []) tables) (sym more_is) both)
+
+-- where each of some names is that of a record that fits, the record of one fits,
+pub named_fits : (tables : Tables) (names : List FoundName) (i : ℕ) (default : FoundName)
+    → i < length names → AllNamed names tables
+    → NamedFits (get_or names i default).name tables
+named_fits tables names i default within all row there =
+    let named = get_or names i default in
+    let here = all-get_or (λ (named : FoundName). (row : RecordRow)
+    × (get tables.records named.name ≡ Some row)
+    × RecordFits (record_columns (named.name, row))) names i default all within in
+    let same : here.0 ≡ row = same_some here.0 row (sym here.1 ∙ there) in
+    subst (λ (row : RecordRow). RecordFits (record_columns (named.name, row))) same here.2
+  where
+    same_some : (one other : RecordRow) → Some one ≡ Some other → one ≡ other
+    same_some one other same = cc
+
+-- and is not missed
+pub never_missed : (tables : Tables) (names : List FoundName) (i : ℕ) (default : FoundName)
+    → i < length names → AllNamed names tables
+    → FindsRecord (get_or names i default).name tables None → ⊥
+never_missed tables names i default within all missed =
+    let named = get_or names i default in
+    let here = all-get_or (λ (named : FoundName). (row : RecordRow)
+    × (get tables.records named.name ≡ Some row)
+    × RecordFits (record_columns (named.name, row))) names i default all within in
+    let both = missed ∙ ap (option_map (λ (row : RecordRow). (named.name, row))) here.1 in
+    absurd (let e = both in cc)
 
 -- the records that were found are those of the names
 pub named_found : (names : List FoundName) (tables : Tables) (found : List StoredRecord)

@@ -66,6 +66,15 @@ line_said line entry row good is says =
     same_blob : (one other : List ℕ) → Blob one ≡ Blob other → one ≡ other
     same_blob one other same = cc
 
+-- the run of a period's number is that of its lines
+pub lines_run : (period : ℕ) (tables : Tables) (rows : List Row) (key : Row)
+    → rows ≡ map line_columns (entries tables.lines) → key ≡ Int (pos period) ∷ []
+    → run_of key rows ≡ map line_columns (rows_under period tables.lines)
+lines_run period tables rows key held key_is =
+    ap (λ k. run_of k rows) key_is ∙ ap (run_of (Int (pos period) ∷ [])) held
+    ∙ run_numbered by_bytes line_layout (λ name. Blob name ∷ []) (λ n name. refl) period
+    tables.lines
+
 -- the lines of a period are those that are read of the rows of its number
 pub lines_read : (period : ℕ) (tables : Tables) (rows : List Row) (key : Row)
     (all : List StoredLine) → rows ≡ map line_columns (entries tables.lines)
@@ -76,6 +85,4 @@ lines_read period tables rows key all held key_is says =
     (λ (row : (ℕ × List ℕ) × Bool). (row.0.1, row.1)) (λ entry. Unit {0}) line_said
     (run_of key rows) all (rows_under period tables.lines)
     (nothing_asked (rows_under period tables.lines)) says
-    (ap (λ k. run_of k rows) key_is ∙ ap (run_of (Int (pos period) ∷ [])) held
-    ∙ run_numbered by_bytes line_layout (λ name. Blob name ∷ []) (λ n name. refl) period
-    tables.lines)
+    (lines_run period tables rows key held key_is)

@@ -2,17 +2,20 @@
 use Rattle.std.proofs.Common.{◌≡◌, ◌∙◌, ℕ, List, Option, inl, inr, Result, Ok, Err, refl, sym}
 use Rattle.std.proofs.Common.{ap, subst, true≢false, arith, rules}
 use Rattle.std.specs.Prelude.{IfErr, IsErr, IfOk, OnErr, OnOk}
+use Rattle.sqlite_disk.specs.Disk.{MoreFaults}
 use Rattle.sqlite_trees.specs.Tree.{Trees}
 use Rattle.sqlite_trees.specs.View.{View, IsClean, IsQuiet, KeepsCommitted}
 use Rattle.sqlite_trees.specs.View.{OnlyWrites}
 use Rattle.sqlite_value.specs.Order.{Row}
 use Rattle.sqlite_trees.specs.declared.error.StoreError.{StoreError}
+use Rattle.sqlite_trees.specs.declared.error.StoreError.TheVariants.{OutOfMemory}
 use Rattle.sqlite_trees.specs.declared.store.Store.{Ghosts}
 use Rattle.kept_tables.specs.Tables.{Tables}
 use Rattle.tree_rows.specs.Rows.{IsUnchanged, Rewrites}
+use Rattle.tree_rows.proofs.Failing.{caused_after, caused_by_memory}
 use Rattle.tree_tables.specs.Holds.{Holds}
 use Rattle.tree_tables.specs.States.{HasCleanDisk, State, Survives, state}
-use Rattle.tree_tables.specs.Steps.{Changes, Does, Looks}
+use Rattle.tree_tables.specs.Steps.{Changes, Does, IsCaused, Looks}
 
 -- a tree that is rewritten behind a look is rewritten
 pub rewrites_behind : {old mid new : View} {tree : ℕ} {rows : List Row} → IsUnchanged old mid
@@ -72,6 +75,12 @@ pub any_err : {A : Type 0} {Said : StoreError → Type 0} (result : Result A Sto
     → ((error : StoreError) → Said error) → IfErr result Said
 any_err (Ok answer) said = tt
 any_err (Err error) said = said error
+
+-- want of memory is a cause
+pub caused_memory : (old new : State) (error : StoreError) → error ≡ OutOfMemory
+    → IsCaused old new error
+caused_memory old new error is =
+    caused_by_memory old.view (MoreFaults old.faults new.faults) error is
 
 -- what is said of an error may be said in other words
 pub err_so : {A : Type 0} {One Other : StoreError → Type 0} (result : Result A StoreError)
@@ -157,6 +166,21 @@ survives_both one two = record {
     | inr none ↦ absurd none
   ];
 }
+
+-- what fails behind a look has a cause of the store as it was before it
+pub fails_behind : {A : Type 0} {old mid new : State} {Answers : Tables → A → Type 0} {answer : A}
+    {When : Tables → Type 0} (error : StoreError) → Looks (Ok answer) old mid Answers
+    → Survives mid new (λ trees. ⊥)
+    → (HasCleanDisk new → (tables : Tables) → Holds mid.view.trees tables
+    → Answers tables answer → When tables → IsCaused mid new error)
+    → HasCleanDisk new → (tables : Tables) → Holds old.view.trees tables → When tables
+    → IsCaused old new error
+fails_behind {old = old} {mid = mid} {new = new} error looks survives cause clean tables holds
+    when =
+    let seen = looks.found (was_clean survives clean) in
+    caused_after old.view mid.view old.faults mid.faults new.faults error seen.same
+    looks.survives.counts
+    (cause clean tables (held_behind old.view seen.same holds) (seen.known tables holds) when)
 
 -- a look behind another, which says more by what the other has answered
 pub looks_behind : {A B : Type 0} {First : Tables → A → Type 0} {Second Both : Tables → B → Type 0}

@@ -1,7 +1,7 @@
 -- The records that have an identity, and those that are not charged, as the two trees list them.
 use Rattle.std.proofs.Common.{◌≡◌, ◌∙◌, ℕ, ◌==◌, ◌-◌, List, [], ◌∷◌, Bool, true, false, not, Some}
 use Rattle.std.proofs.Common.{map, take, pos, refl, sym, ap, subst, arith, length}
-use Rattle.std.specs.Prelude.{T, filter}
+use Rattle.std.specs.Prelude.{◌≤◌, T, filter}
 use Rattle.std.specs.Cmp.{nat_cmp_total, tied_itself}
 use Rattle.std.specs.Cmp.Lexicographic.{nat_list_cmp_total}
 use Rattle.std.specs.FinMap.{entries, entries_sorted, get, is_sorted}
@@ -12,10 +12,11 @@ use Rattle.std.specs.Ordering.{eq_by_cmp, nat_cmp, ordering_then}
 use Rattle.std.specs.declared.cmp.Ordering.{Ordering}
 use Rattle.std.specs.declared.cmp.Ordering.TheVariants.{Less}
 use Rattle.std.proofs.lemmas.Bool.Decides.{nat_tests}
-use Rattle.std.proofs.lemmas.List.{take-map}
+use Rattle.std.proofs.lemmas.List.{length-map, take-map}
 use Rattle.std.proofs.lemmas.List.Elements.{All-filter, All-take, filter_agree, filter_passes}
 use Rattle.std.proofs.lemmas.List.Elements.{recursion_from_All}
-use Rattle.std.proofs.lemmas.List.Sorted.{IsPermutation-map}
+use Rattle.std.proofs.lemmas.List.Sorted.{IsPermutation-map, length_permutation}
+use Rattle.std.proofs.lemmas.List.Sums.{count_by-le-length, length-filter}
 use Rattle.std.proofs.lemmas.Map.Views.{tells_apart}
 use Rattle.sqlite_trees.proofs.ListLemmas.{IsPermutation-flat_map, filter-map, map-map}
 use Rattle.sqlite_value.specs.Order.{Row, column}
@@ -38,6 +39,7 @@ use Rattle.tree_tables.proofs.RecordIndexes.{mark_named}
 use Rattle.tree_tables.specs.Answers.{FindsNamed, FindsSharing, ListsUncharged, by_identity}
 use Rattle.tree_tables.specs.Answers.{is_uncharged}
 use Rattle.tree_tables.specs.Columns.{flag, identity_columns, mark_columns}
+use Rattle.tree_tables.specs.Fits.{AllNamed, EndsInName, RecordsFit, RowsFit}
 use Rattle.tree_tables.specs.Holds.{identities, mark_key, marks}
 use Rattle.tree_tables.specs.Stored.{stored_entry}
 use Rattle.tree_tables.specs.declared.found_names.FoundName.{FoundName}
@@ -113,7 +115,7 @@ below_each R k [] below = tt
 below_each R k (e ∷ es) below = (less _ (first _ _ below), below_each R k es (second _ _ below))
 
 -- the keys of sorted entries are in strict order
-keys_rise : {K V : Type 0} (R : K → K → Ordering) (es : List (K × V)) → T (is_sorted R es)
+pub keys_rise : {K V : Type 0} (R : K → K → Ordering) (es : List (K × V)) → T (is_sorted R es)
     → IsStrictlySortedBy R (map (λ e. e.0) es)
 unfolding IsStrictlySortedBy
 keys_rise R [] sorted = tt
@@ -187,13 +189,28 @@ module _ (records : RecordTable) where
   listed_names = sym (map-map name_in (λ (e : Key × Unit {0}). e.0) listed)
       ∙ ap (map name_in) listed_keys
 
-  -- the keys are those of the records that are found by their names
-  found_keys : map mark_key (flat_map (at_name records) (map name_in keys)) ≡ keys
-  found_keys =
+  -- each of the keys is that of a record
+  keys_each : AllByRecursion (IsKeyOf mark_key name_in records) keys
+  keys_each =
       let Is : Key → Type 0 = IsKeyOf mark_key name_in records in
       let all = map (λ (e : Key × Unit {0}). e.0) (entries (marks records)) in
-      keys_named mark_key name_in records keys (recursion_from_All Is keys
-      (All-filter has_none Is all (index_names_all mark_named records)))
+      recursion_from_All Is keys (All-filter has_none Is all (index_names_all mark_named records))
+
+  -- there are no more of them than records
+  keys_few : length keys ≤ length (entries records)
+  keys_few =
+      let test : Entry → Bool = λ e. has_none (mark_key e) in
+      let some = filter test (entries records) in
+      let same = length_permutation keys (map mark_key some)
+      (index_permutes mark_named has_none records) in
+      let mapped = length-map some mark_key in
+      let counted = length-filter test (entries records) in
+      let few = count_by-le-length test (entries records) in
+      omega (arith, same, mapped, counted, few)
+
+  -- the keys are those of the records that are found by their names
+  found_keys : map mark_key (flat_map (at_name records) (map name_in keys)) ≡ keys
+  found_keys = keys_named mark_key name_in records keys keys_each
 
   -- which stand in the order of the keys
   found_rise : IsStrictlySortedBy by_identity (flat_map (at_name records) (map name_in keys))
@@ -227,6 +244,14 @@ module _ (records : RecordTable) where
       (IsPermutation-map name_in keys (map mark_key some)
       (index_permutes mark_named has_none records)))
 
+-- the run of the mark 0 is that of the records that are not charged
+pub marks_run : (records : RecordTable) (part : Row) → part ≡ Int (pos 0) ∷ []
+    → run_of part (mark_rows records) ≡ map mark_columns (listed records)
+marks_run records part part_is =
+    ap (λ key. run_of key (mark_rows records)) part_is
+    ∙ run_numbered by_both mark_layout (λ pair. Blob pair.0 ∷ Blob pair.1 ∷ [])
+    (λ n more. refl) 0 (marks records)
+
 -- The rows of the mark 0 name the records that are not charged, in the order of identity and name.
 pub uncharged_found : (tables : Tables) (part : Row) (names : List FoundName)
     (found : List StoredRecord) → part ≡ Int (pos 0) ∷ []
@@ -234,10 +259,7 @@ pub uncharged_found : (tables : Tables) (part : Row) (names : List FoundName)
     → ListsUncharged tables found
 uncharged_found tables part names found part_is ends all =
     let records = tables.records in
-    let run : run_of part (mark_rows records) ≡ map mark_columns (listed records) =
-    ap (λ key. run_of key (mark_rows records)) part_is
-    ∙ run_numbered by_both mark_layout (λ pair. Blob pair.0 ∷ Blob pair.1 ∷ [])
-    (λ n more. refl) 0 (marks records) in
+    let run = marks_run records part part_is in
     let read : names_of names ≡ map (λ e. e.0.1.1) (listed records) =
     names_read mark_columns (λ e. e.0.1.1) (λ e. refl) (listed records) names
     (subst (λ some. EndIn some names) run ends) in
@@ -250,3 +272,57 @@ uncharged_found tables part names found part_is ends all =
           (found_same records);
       sorted = subst (IsStrictlySortedBy by_identity) (sym are) (found_rise records);
     }
+
+-- ---- where all records fit
+
+module _ (tables : Tables) (fit : RecordsFit tables) where
+  -- a key is that of a record
+  abbrev IsKey : Key → Type 0
+  IsKey = IsKeyOf mark_key (name_in tables.records) tables.records
+
+  -- rows of keys of records end in names
+  rows_end : (es : List (Key × Unit {0})) → AllByRecursion IsKey (map (λ e. e.0) es)
+      → AllByRecursion EndsInName (map mark_columns es)
+  rows_end [] are = tt
+  rows_end (e ∷ es) are =
+      let here = are.0 in
+      ((fit.each e.0.1.1 here.0 here.1).name, rows_end es are.1)
+
+  -- so the rows of the mark 0 can be listed
+  pub marks_fit : (part : Row) → part ≡ Int (pos 0) ∷ []
+      → RowsFit EndsInName (run_of part (mark_rows tables.records))
+  marks_fit part part_is =
+      let records = tables.records in
+      let few = fit.few in
+      let mapped = length-map (listed records) mark_columns in
+      let keyed = length-map (listed records) (λ (e : Key × Unit {0}). e.0) in
+      let same = ap length (listed_keys records) in
+      let less = keys_few records in
+      subst (RowsFit EndsInName) (sym (marks_run records part part_is)) (record {
+        fit = rows_end (listed records)
+            (subst (AllByRecursion IsKey) (sym (listed_keys records)) (keys_each records));
+        few = omega (arith, few, mapped, keyed, same, less);
+      })
+
+  -- and the names that are read of them are those of records that fit
+  named_fit : (qs : List Key) (names : List FoundName)
+      → names_of names ≡ map (name_in tables.records) qs → AllByRecursion IsKey qs
+      → AllNamed names tables
+  named_fit [] [] same are = tt
+  named_fit [] (one ∷ names) same are = absurd (let e = same in cc)
+  named_fit (q ∷ qs) [] same are = absurd (let e = same in cc)
+  named_fit (q ∷ qs) (one ∷ names) same are =
+      let here = are.0 in
+      let name : one.name ≡ q.1.1 = (let e = same in cc) in
+      let rest : names_of names ≡ map (name_in tables.records) qs = (let e = same in cc) in
+      let there : get tables.records one.name ≡ Some here.0 = ap (get tables.records) name ∙ here.1 in
+      ((here.0, there, fit.each one.name here.0 there), named_fit qs names rest are.1)
+
+  pub all_named : (part : Row) (names : List FoundName) → part ≡ Int (pos 0) ∷ []
+      → EndIn (run_of part (mark_rows tables.records)) names → AllNamed names tables
+  all_named part names part_is ends =
+      let records = tables.records in
+      let read : names_of names ≡ map (λ e. e.0.1.1) (listed records) =
+      names_read mark_columns (λ e. e.0.1.1) (λ e. refl) (listed records) names
+      (subst (λ some. EndIn some names) (marks_run records part part_is) ends) in
+      named_fit (keys records) names (read ∙ listed_names records) (keys_each records)

@@ -1,12 +1,16 @@
 -- Rows whose columns are those of a value: a row that fits is refused for want of memory alone.
-use Rattle.std.specs.Prelude.{◌≡◌, ◌≤◌, ◌<◌, ◌^◌, ℕ, ℤ, pos, List, Bool, length}
+use Rattle.std.specs.Prelude.{◌≡◌, ◌≤◌, ◌<◌, ◌-◌, ◌^◌, ℕ, ℤ, pos, List, Bool, Some, length, map}
+use Rattle.std.specs.FinMap.{entries, get}
 use Rattle.std.specs.List.{AllByRecursion}
 use Rattle.std.specs.Str.{IsUtf8}
 use Rattle.sqlite_value.specs.Order.{Row, column}
 use Rattle.sqlite_value.specs.declared.value.Value.{Value}
 use Rattle.sqlite_value.specs.declared.value.Value.TheVariants.{Blob, Int, Text}
 use Rattle.book_model.specs.Words.{IsDay, IsName}
-use Rattle.tree_tables.specs.Columns.{flag}
+use Rattle.kept_tables.specs.Numbered.{rows_under}
+use Rattle.kept_tables.specs.Tables.{RecordRow, Tables}
+use Rattle.tree_tables.specs.Columns.{day_columns, flag, line_columns, record_columns}
+use Rattle.tree_tables.specs.declared.found_names.FoundName.{FoundName}
 
 -- a column has a number that is not below 0
 abbrev pub HasCount : Value → Type 0
@@ -72,7 +76,53 @@ pub record LineFits (row : Row) : Type 0 where
   pub name : HasHash (column row 1)
   pub plus : HasMark (column row 2)
 
+-- a row has what a record costs
+pub record PriceFits (row : Row) : Type 0 where
+  pub day : HasDay (column row 3)
+  pub shift : HasName (column row 4)
+  pub centre : HasName (column row 5)
+  pub cpu : HasCount (column row 6)
+  pub excp : HasCount (column row 7)
+  pub amount : HasCount (column row 8)
+
+-- a row has what is kept of a record
+pub record RecordFits (row : Row) : Type 0 where
+  pub name : HasHash (column row 0)
+  pub identity : HasBytes (column row 1)
+  pub data_bytes : HasBytes (column row 2)
+  pub price : PriceFits row
+  pub charged : HasMark (column row 9)
+  pub posted : HasMark (column row 10)
+
+-- a row ends in the name of a record
+abbrev pub EndsInName : Row → Type 0
+EndsInName row = HasHash (column row (length row - 1))
+
 -- all of some rows fit, and they are no more than are listed at once
 pub record RowsFit (Fits : Row → Type 0) (rows : List Row) : Type 0 where
   pub fit : AllByRecursion Fits rows
   pub few : length rows ≤ 2 ^ 32
+
+-- the charge rows of a period fit
+abbrev pub DaysFit : ℕ → Tables → Type 0
+DaysFit period tables = RowsFit ChargeFits (map day_columns (rows_under period tables.days))
+
+-- the lines of a period fit
+abbrev pub LinesFit : ℕ → Tables → Type 0
+LinesFit period tables = RowsFit LineFits (map line_columns (rows_under period tables.lines))
+
+-- the record of a name, if there is one, fits
+abbrev pub NamedFits : List ℕ → Tables → Type 0
+NamedFits name tables =
+    (row : RecordRow) → get tables.records name ≡ Some row → RecordFits (record_columns (name, row))
+
+-- each of some names is that of a record, which fits
+abbrev pub AllNamed : List FoundName → Tables → Type 0
+AllNamed names tables =
+    AllByRecursion (λ named. (row : RecordRow) × (get tables.records named.name ≡ Some row)
+    × RecordFits (record_columns (named.name, row))) names
+
+-- all records fit, and they are no more than are listed at once
+pub record RecordsFit (tables : Tables) : Type 0 where
+  pub each : (name : List ℕ) → NamedFits name tables
+  pub few : length (entries tables.records) ≤ 2 ^ 32

@@ -134,7 +134,8 @@ impl ReadRow for StoredDay {
 
 /// The charge rows that were read.
 fn charges(days: Vec<StoredDay>, alloc: Global) -> Result<Vec<ChargeRow>, StoreError>
-    ensures { IfOk result (λ list. list.items ≡ map (λ day. day.charge) days.items) }
+    ensures made { IfOk result (λ list. list.items ≡ map (λ day. day.charge) days.items) }
+    ensures memory { IfErr result (λ error. error ≡ StoreError.OutOfMemory) }
 {
     Ok(days.into_iter().map(|day| day.charge).collect(alloc)?)
 }
@@ -145,8 +146,9 @@ impl<S: Store> TreeTables<S> {
     ghost use Rattle.kept_tables.specs.Steps as step;
     ghost use Rattle.tree_tables.specs.Answers.{FindsDay, ListsDays};
     ghost use Rattle.tree_tables.specs.Days.{MovesSome, NoneLater, NoneNext};
+    ghost use Rattle.tree_tables.specs.Fits.{DaysFit};
     ghost use Rattle.tree_tables.specs.States.{state};
-    ghost use Rattle.tree_tables.specs.Steps.{Always, Does, Looks};
+    ghost use Rattle.tree_tables.specs.Steps.{Always, Does, FailsByStore, Looks};
 
     /// A period's charge row at a place, if there is one.
     pub fn find_day(&mut self, spot: &DayPlace) -> Result<Option<ChargeRow>, StoreError>
@@ -164,6 +166,8 @@ impl<S: Store> TreeTables<S> {
     pub fn list_days(&mut self, alloc: Global, period: u16) -> Result<Vec<ChargeRow>, StoreError>
         ensures looks { Looks result (state S.Store self.old.store) (state S.Store self.new.store)
             (λ tables list. ListsDays period tables list.items) }
+        ensures cause { FailsByStore result (state S.Store self.old.store)
+            (state S.Store self.new.store) (DaysFit period) }
     {
         period_key(&mut self.key, period)?;
         let days = list_run(&mut self.store, DAYS, &self.key, &mut self.row, alloc)?;

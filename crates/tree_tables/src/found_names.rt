@@ -3,7 +3,7 @@
 ghost use Rattle.std.specs.Prelude.{◌≡◌, IfOk, length, ◌-◌};
 ghost use Rattle.sqlite_value.specs.Order.{column};
 ghost use Rattle.sqlite_value.specs.declared.value.Value.TheVariants.{Blob};
-ghost use Rattle.tree_tables.specs.Fits.{HasHash};
+ghost use Rattle.tree_tables.specs.Fits.{EndsInName};
 
 use crate::cells::hash_at;
 use crate::stored_record::StoredRecord;
@@ -23,7 +23,7 @@ pub(crate) struct FoundName {
 impl ReadRow for FoundName {
     ghost says = { λ row found. column row (length row - 1) ≡ Blob found.name };
 
-    ghost fits = { λ row. HasHash (column row (length row - 1)) };
+    ghost fits = { EndsInName };
 
     fn read(row: &Row, _alloc: Global) -> Result<FoundName, StoreError> {
         Ok(FoundName {
@@ -35,7 +35,8 @@ impl ReadRow for FoundName {
 impl<S: Store> TreeTables<S> {
     ghost use Rattle.tree_tables.specs.Answers.{FindsNamed};
     ghost use Rattle.tree_tables.specs.States.{state};
-    ghost use Rattle.tree_tables.specs.Steps.{Looks};
+    ghost use Rattle.tree_tables.specs.Fits.{AllNamed};
+    ghost use Rattle.tree_tables.specs.Steps.{FailsByStore, Looks};
 
     /// The records of these names, in their order. A name that has none is an ill-formed row.
     pub(crate) fn read_named(
@@ -45,6 +46,8 @@ impl<S: Store> TreeTables<S> {
     ) -> Result<Vec<StoredRecord>, StoreError>
         ensures looks { Looks result (state S.Store self.old.store) (state S.Store self.new.store)
             (λ tables found. FindsNamed names.now tables found.items) }
+        ensures cause { FailsByStore result (state S.Store self.old.store)
+            (state S.Store self.new.store) (AllNamed names.now) }
     {
         let mut all = Vec::new(alloc);
         for named in names {

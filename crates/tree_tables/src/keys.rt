@@ -26,14 +26,16 @@ pub(crate) fn day_key(key: &mut Row, day: i32) -> Result<(), StoreError>
 
 /// A period as a key.
 pub(crate) fn period_key(key: &mut Row, period: u16) -> Result<(), StoreError>
-    ensures { OnOk result (key.new ≡ Int (pos period) ∷ []) }
+    ensures made { OnOk result (key.new ≡ Int (pos period) ∷ []) }
+    ensures memory { IfErr result (λ error. error ≡ StoreError.OutOfMemory) }
 {
     number_key(key, i64::from(period))
 }
 
 /// Bytes as a key.
 pub(crate) fn bytes_key(key: &mut Row, bytes: &[u8]) -> Result<(), StoreError>
-    ensures { OnOk result (key.new ≡ Blob bytes.now ∷ []) }
+    ensures made { OnOk result (key.new ≡ Blob bytes.now ∷ []) }
+    ensures memory { IfErr result (λ error. error ≡ StoreError.OutOfMemory) }
 {
     key.clear();
     key.push(ValueRef::Blob(bytes))?;

@@ -79,7 +79,8 @@ impl<S: Store> TreeTables<S> {
     ghost use Rattle.kept_tables.specs.Steps as step;
     ghost use Rattle.tree_tables.specs.Answers.{ListsLines};
     ghost use Rattle.tree_tables.specs.States.{state};
-    ghost use Rattle.tree_tables.specs.Steps.{Always, Does, Looks};
+    ghost use Rattle.tree_tables.specs.Fits.{LinesFit};
+    ghost use Rattle.tree_tables.specs.Steps.{Always, Does, FailsByStore, Looks};
 
     /// A line stands under its period and the name of its record: it adds the record, or takes it
     /// back.
@@ -111,6 +112,8 @@ impl<S: Store> TreeTables<S> {
     pub fn list_lines(&mut self, alloc: Global, period: u16) -> Result<Vec<StoredLine>, StoreError>
         ensures looks { Looks result (state S.Store self.old.store) (state S.Store self.new.store)
             (λ tables list. ListsLines period tables list.items) }
+        ensures cause { FailsByStore result (state S.Store self.old.store)
+            (state S.Store self.new.store) (LinesFit period) }
     {
         period_key(&mut self.key, period)?;
         list_run(&mut self.store, LINES, &self.key, &mut self.row, alloc)

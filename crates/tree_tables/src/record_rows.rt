@@ -121,7 +121,8 @@ impl<S: Store> TreeTables<S> {
     ghost use Rattle.kept_tables.specs.Steps as step;
     ghost use Rattle.tree_tables.specs.Answers.{FindsRecord, FindsSharing, ListsUncharged};
     ghost use Rattle.tree_tables.specs.States.{state};
-    ghost use Rattle.tree_tables.specs.Steps.{Always, Does, Looks};
+    ghost use Rattle.tree_tables.specs.Fits.{NamedFits, RecordsFit};
+    ghost use Rattle.tree_tables.specs.Steps.{Always, Does, FailsByStore, Looks};
     ghost use Rattle.tree_tables.specs.Stored.{new_entry};
 
     /// The record of a name, if there is one.
@@ -132,6 +133,8 @@ impl<S: Store> TreeTables<S> {
     ) -> Result<Option<StoredRecord>, StoreError>
         ensures looks { Looks result (state S.Store self.old.store) (state S.Store self.new.store)
             (FindsRecord name.now) }
+        ensures cause { FailsByStore result (state S.Store self.old.store)
+            (state S.Store self.new.store) (NamedFits name.now) }
     {
         bytes_key(&mut self.key, name)?;
         if !find_row(&mut self.store, RECORDS, &self.key, &mut self.row)? {
@@ -166,6 +169,8 @@ impl<S: Store> TreeTables<S> {
     pub fn list_uncharged(&mut self, alloc: Global) -> Result<Vec<StoredRecord>, StoreError>
         ensures looks { Looks result (state S.Store self.old.store) (state S.Store self.new.store)
             (λ tables list. ListsUncharged tables list.items) }
+        ensures cause { FailsByStore result (state S.Store self.old.store)
+            (state S.Store self.new.store) RecordsFit }
     {
         number_key(&mut self.key, 0)?;
         let names = list_run(&mut self.store, MARKS, &self.key, &mut self.row, alloc)?;

@@ -1,10 +1,11 @@
 //! Records as their rows say.
 
-ghost use Rattle.std.specs.Prelude.{◌≡◌, ℕ, IfOk, List, pos};
+ghost use Rattle.std.specs.Prelude.{◌≡◌, ℕ, IfErr, IfOk, List, pos};
 ghost use Rattle.sqlite_value.specs.Order.{column};
 ghost use Rattle.sqlite_value.specs.declared.value.Value.TheVariants.{Int, Text};
 ghost use Rattle.kept_tables.specs.Tables.{RecordRow};
 ghost use Rattle.tree_tables.specs.Columns.{record_columns};
+ghost use Rattle.tree_tables.specs.Fits.{PriceFits, RecordFits};
 ghost use Rattle.tree_tables.specs.Stored.{stored_entry};
 
 use crate::cells::{bytes_at, count_at, day_at, hash_at, mark_at, name_at};
@@ -36,6 +37,7 @@ fn read_price(row: &Row) -> Result<Priced, StoreError>
     ensures cpu { IfOk result (λ priced. column row.now 6 ≡ Int (pos priced.cpu)) }
     ensures excp { IfOk result (λ priced. column row.now 7 ≡ Int (pos priced.excp)) }
     ensures amount { IfOk result (λ priced. column row.now 8 ≡ Int (pos priced.amount)) }
+    ensures taken { IfErr result (λ error. ¬ PriceFits row.now) }
 {
     Ok(Priced {
         day: day_at(row, 3)?,
@@ -51,6 +53,8 @@ fn read_price(row: &Row) -> Result<Priced, StoreError>
 pub fn read_record(row: &Row, alloc: Global) -> Result<StoredRecord, StoreError>
     ensures read { IfOk result (λ stored. (entry : List ℕ × RecordRow)
         → row.now ≡ record_columns entry → stored_entry stored ≡ entry) }
+    ensures taken { IfErr result (λ error. RecordFits row.now
+        → error ≡ StoreError.OutOfMemory) }
 {
     Ok(StoredRecord {
         name: hash_at(row, 0)?,

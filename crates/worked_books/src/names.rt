@@ -18,10 +18,15 @@ impl Names {
 }
 
 impl Naming for Names {
-    ghost use Rattle.std.specs.Prelude.{if◌then◌else◌, replicate};
+    ghost use Rattle.std.specs.Prelude.{◌≡◌, if◌then◌else◌, length, refl, replicate, true, false};
+    ghost use Rattle.sha2.proofs.Facts256.{length-sha256};
     ghost use Rattle.sha2.specs.Sha256.{sha256};
 
     ghost name_of = { λ names bytes. if names.has_one then replicate 32 7 else sha256 bytes };
+
+    ghost wide = { λ names bytes.
+        elim names.has_one as (λ one. length (if one then replicate 32 7 else sha256 bytes) ≡ 32)
+        [ true ↦ refl | false ↦ length-sha256 bytes ] };
 
     fn name(&self, bytes: &[u8]) -> [u8; 32] {
         if self.has_one {

@@ -22,6 +22,6 @@ returns g c = record {
       holds.identities (c.in_ok-names.ensures.found clean)) in
       looks_behind c.read_named.result listed c.read_named.ensures.looks
       (λ tables found ends all. sharing_found tables c.args.identity.now key names.items
-      found.items c.in_ok-bytes_key.ensures ends
+      found.items c.in_ok-bytes_key.ensures.made ends
       (subst (λ some. FindsNamed some tables found.items) c.deref.ensures.value all));
 }

@@ -1,27 +1,58 @@
-use Rattle.std.proofs.Common.{Ok, subst}
+use Rattle.std.proofs.Common.{Ok, rules, subst, sym}
+use Rattle.kept_tables.specs.Tables.{Tables}
 use Rattle.tree_rows.specs.Runs.{run_of}
 use Rattle.tree_tables.specs.Answers.{FindsNamed}
-use Rattle.tree_tables.specs.States.{state}
-use Rattle.tree_tables.specs.Steps.{Looks}
-use Rattle.tree_tables.proofs.Looking.{looks_behind, looks_found}
-use Rattle.tree_tables.proofs.RecordLists.{EndIn, mark_rows, uncharged_found}
+use Rattle.tree_tables.specs.Fits.{AllNamed, EndsInName, RecordsFit, RowsFit}
+use Rattle.tree_tables.specs.Holds.{Holds}
+use Rattle.tree_tables.specs.States.{HasCleanDisk, state}
+use Rattle.tree_tables.specs.Steps.{IsCaused, Looks}
+use Rattle.tree_tables.proofs.Looking.{caused_memory, err_so, fails_behind, looks_behind, looks_found}
+use Rattle.tree_tables.proofs.RecordLists.{EndIn, all_named, mark_rows, marks_fit, uncharged_found}
 use Rattle.tree_tables.proofs.tables.TreeTables.list_uncharged.Goals as goal
 
 -- the names are those of the mark, and the records those of the names
 pub returns : goal.returns
-returns g c = record {
-  looks =
-      let ghosts = g.S.Store in
-      let key = c.number_key.new.key in
-      let names = c.in_ok-names.names in
-      let listed : Looks (Ok names) (state ghosts c.args.self.now.store)
-      (state ghosts c.list_run.new.store)
-      (λ tables names. EndIn (run_of key (mark_rows tables.records)) names.items) =
-      looks_found ghosts c.list_run.ensures.quiet c.in_ok-names.ensures.same
-      (λ clean tables holds. subst (λ rows. EndIn (run_of key rows) names.items)
-      holds.marks (c.in_ok-names.ensures.found clean)) in
-      looks_behind c.read_named.result listed c.read_named.ensures.looks
-      (λ tables found ends all. uncharged_found tables key names.items found.items
-      c.in_ok-number_key.ensures.made ends
-      (subst (λ some. FindsNamed some tables found.items) c.deref.ensures.value all));
-}
+returns g c =
+    let ghosts = g.S.Store in
+    let key = c.number_key.new.key in
+    let names = c.in_ok-names.names in
+    let listed : Looks (Ok names) (state ghosts c.args.self.now.store)
+    (state ghosts c.list_run.new.store)
+    (λ tables names. EndIn (run_of key (mark_rows tables.records)) names.items) =
+    looks_found ghosts c.list_run.ensures.quiet c.in_ok-names.ensures.same
+    (λ clean tables holds. subst (λ rows. EndIn (run_of key rows) names.items)
+    holds.marks (c.in_ok-names.ensures.found clean)) in
+    record {
+      looks = looks_behind c.read_named.result listed c.read_named.ensures.looks
+          (λ tables found ends all. uncharged_found tables key names.items found.items
+          c.in_ok-number_key.ensures.made ends
+          (subst (λ some. FindsNamed some tables found.items) c.deref.ensures.value all));
+      cause = err_so c.read_named.result c.read_named.ensures.cause (λ error cause.
+          fails_behind {When = RecordsFit} error listed c.read_named.ensures.looks.survives
+          (λ clean tables holds ends fit. cause clean tables holds
+          (subst (λ some. AllNamed some tables) (sym c.deref.ensures.value)
+          (all_named tables fit key names.items c.in_ok-number_key.ensures.made ends))));
+    }
+
+-- for a key memory alone may be wanting
+pub returns-in_err-number_key-clause-cause : goal.returns-in_err-number_key-clause-cause
+returns-in_err-number_key-clause-cause g c =
+    let start = state g.S.Store c.args.self.now.store in
+    let cause : HasCleanDisk start → (tables : Tables) → Holds start.view.trees tables
+    → RecordsFit tables → IsCaused start start c.in_err-number_key.field-0.0 =
+    λ clean tables holds fit. caused_memory start start _ c.in_err-number_key.ensures.memory in
+    search rules
+
+-- the rows of the marks fit where those of the records do
+pub returns-in_err-names-clause-cause : goal.returns-in_err-names-clause-cause
+returns-in_err-names-clause-cause g c =
+    let start = state g.S.Store c.args.self.now.store in
+    let end = state g.S.Store c.list_run.new.store in
+    let cause : HasCleanDisk end → (tables : Tables) → Holds start.view.trees tables
+    → RecordsFit tables → IsCaused start end c.in_err-names.field-0.0 =
+    λ clean tables holds fit.
+    let key = c.number_key.new.key in
+    let rows = subst (λ rows. RowsFit EndsInName (run_of key rows)) (sym holds.marks)
+    (marks_fit tables fit key c.in_ok-number_key.ensures.made) in
+    c.in_err-names.ensures.cause clean rows.fit rows.few in
+    search rules

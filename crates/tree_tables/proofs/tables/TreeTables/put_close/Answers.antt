@@ -16,6 +16,6 @@ returns g c = record {
             let day = c.args.close.now.through in
             with_closes holds (insert tables.closes period day) puts.rewrites.others
             (rows_put closed_layout tables.closes period day puts holds.closes
-            c.in_ok-period_key.ensures c.in_ok-close_row.ensures);
+            c.in_ok-period_key.ensures.made c.in_ok-close_row.ensures);
       });
 }

@@ -13,7 +13,7 @@ returns-then-not-branch g c = record {
   does = does_nothing g.S.Store c.find_row.ensures.quiet c.in_ok-find_row.ensures.same
       (λ clean tables holds.
       ap (λ found. record tables { records = unmark_at c.args.name.now found tables.records })
-      (record_missing tables holds.records c.in_ok-bytes_key.ensures
+      (record_missing tables holds.records c.in_ok-bytes_key.ensures.made
       (c.in_ok-find_row.ensures.found clean) c.if-not-branch.true));
 }
 
@@ -41,7 +41,7 @@ returns g c = record {
       (λ clean rewritten tables holds when.
       let after = clean_before ghosts last clean in
       let before = clean_before ghosts step after in
-      let there = record_there tables holds.records c.in_ok-bytes_key.ensures
+      let there = record_there tables holds.records c.in_ok-bytes_key.ensures.made
       (c.in_ok-find_row.ensures.found before) c.if-not-branch.false in
       record_unmarked old tables c.args.name.now there.0 (c.in_ok-find_row.ensures.same before)
       (c.in_ok-change_row.ensures.done after) rewritten there.2 c.in_ok-with_column.ensures from_is
