@@ -30,6 +30,14 @@ struct Sweep {
     twice: bool,
 }
 
+impl Sweep {
+    /// How many calls further on the next run is stopped. Behind each stop there are many on the way
+    /// back, so that only every seventh is tried then.
+    fn stride(self) -> u64 {
+        if self.twice { 7 } else { 1 }
+    }
+}
+
 /// A stop that never comes.
 const NEVER: Stop = Stop {
     calls: u64::MAX,
@@ -91,14 +99,15 @@ fn stop_behind(
     Err(Other("EVERY WAY BACK WAS STOPPED"))
 }
 
-/// Stops a run at each call of a file, up to one that meets no stop. Answers what came of it: how
+/// Stops a run at the calls of a file, up to one that meets no stop. Answers what came of it: how
 /// many changes the run has and how often it was stopped, or the first stop that leaves what it
 /// should not.
 fn swept(run: Run<'_>, whole: &Unstopped, sweep: Sweep) -> Result<String, AllocError> {
     let alloc = run.named.alloc();
     let changes = whole.changes();
     let mut stops: usize = 0;
-    for calls in 0..ENOUGH {
+    for turn in 0..ENOUGH {
+        let calls = turn.saturating_mul(sweep.stride());
         match stop_behind(run, whole, sweep, calls, &mut stops) {
             Ok(true) => {}
             Ok(false) if stops > changes => {
