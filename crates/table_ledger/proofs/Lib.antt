@@ -23,3 +23,6 @@ mod JoinLemmas
 mod OpenLemmas
 mod RecallLemmas
 mod OwnBooks
+mod BookRows
+mod BookLists
+mod SettledLists

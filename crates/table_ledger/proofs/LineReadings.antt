@@ -41,6 +41,18 @@ named_first : {A : Type 0} (make : NamedRow → A) (name : List ℕ) (found : Op
 named_first make name None = refl
 named_first make name (Some row) = refl
 
+-- a record that was found is there
+pub found_there : (name : List ℕ) (tables : Tables) (held : StoredRecord)
+    → FindsRecord name tables (Some held)
+    → get tables.records name ≡ Some (stored_entry held).1
+found_there name tables held finds = by (get tables.records name) finds
+  where
+    by : (found : Option RecordRow)
+        → Some (stored_entry held) ≡ option_map (λ (row : RecordRow). (name, row)) found
+        → found ≡ Some (stored_entry held).1
+    by None is = absurd (let e = is in cc)
+    by (Some row) is = sym (ap (option_map (λ (entry : NamedRow). entry.1)) is)
+
 -- The line that is stored, by the record that was found.
 pub line_found : (period : ℕ) (stored : StoredLine) (tables : Tables)
     (found is : Option StoredRecord) → found ≡ is → FindsRecord stored.name tables found

@@ -50,7 +50,7 @@ later_refused {B = B} view naming summary outcome {Answers = Answers} saw looks 
     (looks_err {A = B} {B = B} {Answers = Answers} {Others = Answers} looks)
 
 -- what is remembered are the book's rulings
-rulings_are : {summary : Summary} {book : Book} → Remembers summary book
+pub rulings_are : {summary : Summary} {book : Book} → Remembers summary book
     → book.rulings ≡ ruled_in summary
 rulings_are remembers = λ i. record {
   tariffs = sym remembers.tariffs i;

@@ -9,6 +9,7 @@ use Rattle.std.proofs.lemmas.Int.{ints}
 use Rattle.std.proofs.lemmas.List.Elements.{All-head, All-tail}
 use Rattle.sqlite_disk.specs.Disk.{MoreFaults}
 use Rattle.sqlite_value.specs.Order.{Row}
+use Rattle.sqlite_trees.specs.Tree.{Trees}
 use Rattle.sqlite_trees.specs.declared.error.StoreError.{StoreError}
 use Rattle.sqlite_trees.specs.declared.error.StoreError.TheVariants.{Broken, Corrupt, Full, Io}
 use Rattle.sqlite_trees.specs.declared.error.StoreError.TheVariants.{OutOfMemory, Unstorable}
@@ -174,8 +175,9 @@ wanting old new fault (inr store) served mended (inl is_open) = inl (served (men
 wanting old new fault (inr store) served mended (inr more) = inr (store, more)
 
 -- the fault that is answered for an error of such a cause has one
-pub cause_told : (old middle new : State) (error : StoreError) (fault : LedgerFault)
-    → IsAtRest old.view → IsCaused old middle error → Survives old middle (λ trees. ⊥)
+pub cause_told : {Commits : Trees → Type 0} (old middle new : State) (error : StoreError)
+    (fault : LedgerFault) → IsAtRest old.view → IsCaused old middle error
+    → Survives old middle Commits
     → Survives middle new (λ trees. ⊥) → HasCleanDisk new → (fault ≡ Memory) ⊎ (fault ≡ Store)
     → (error ≡ OutOfMemory → new.view.is_broken ≡ false → fault ≡ Memory)
     → (IsTrue new.view.is_open → new.view.is_broken ≡ false) → IsOpenCause old new fault

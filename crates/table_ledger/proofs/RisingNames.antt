@@ -1,6 +1,6 @@
 -- Lines whose names rise are of different records.
 use Rattle.std.proofs.Common.{◌≡◌, ◌∙◌, ℕ, List, [], ◌∷◌, ◌+◌, ◌<◌, true, true≢false, length}
-use Rattle.std.proofs.Common.{slice_index_or, refl, sym, subst, arith, map}
+use Rattle.std.proofs.Common.{slice_index_or, ap, refl, sym, subst, arith, map}
 use Rattle.std.specs.declared.cmp.Ordering.{Ordering}
 use Rattle.std.specs.declared.cmp.Ordering.TheVariants.{Less, Equal, Greater}
 use Rattle.std.specs.List.{IsDistinct}
@@ -8,7 +8,8 @@ use Rattle.std.specs.List.Sorted.{IsStrictlySortedBy}
 use Rattle.std.specs.Ordering.{is_lt}
 use Rattle.std.proofs.lemmas.Cmp.{nat_list_cmp_total}
 use Rattle.std.proofs.lemmas.List.{get_or-map, length-map}
-use Rattle.std.proofs.lemmas.Map.Keys.{IsDistinct-from_sorted, sorted_from_all_adjacent}
+use Rattle.std.proofs.lemmas.Map.Keys.{IsDistinct-from_sorted, Less-from_sorted}
+use Rattle.std.proofs.lemmas.Map.Keys.{sorted_from_all_adjacent}
 use Rattle.book_model.specs.declared.line.Line.{Line}
 use Rattle.book_model.specs.Words.{by_bytes, same_bytes}
 use Rattle.book_model.proofs.SetLemmas.{same_bytes-by_cmp}
@@ -50,3 +51,19 @@ pub rising_apart : (lines : List Line) → RiseBelow lines (length lines)
 rising_apart lines rise =
     subst (λ same. IsDistinct same (names lines)) (sym same_bytes-by_cmp)
     (IsDistinct-from_sorted by_bytes (names lines) (names_rise lines rise))
+
+-- Of lines whose names rise, one stands before a later one.
+pub rise_at : (lines : List Line) (at later : ℕ) (one other : Line) → at < later
+    → later < length lines → one ≡ slice_index_or lines at one
+    → other ≡ slice_index_or lines later other
+    → IsStrictlySortedBy by_bytes (map (λ (line : Line). line.name) lines)
+    → by_bytes one.name other.name ≡ Less
+rise_at lines at later one other less within is too rise =
+    let name = λ (one : Line). one.name in
+    let long : length (names lines) ≡ length lines = length-map lines name in
+    let here : at < length lines = omega (arith, less, within) in
+    let next : later < length (names lines) = omega (arith, within, long) in
+    let first = ap name is ∙ sym (get_or-map name lines at one [] here) in
+    let second = ap name too ∙ sym (get_or-map name lines later other [] within) in
+    (λ i. by_bytes (first i) (second i))
+    ∙ Less-from_sorted by_bytes (names lines) at later [] rise less next

@@ -14,6 +14,7 @@ pub mod Keepings
 pub mod Closings
 pub mod Unread
 pub mod TotalsFit
+pub mod RecordReads
 pub mod LineReads
 pub mod DisputeReads
 pub mod Tries

@@ -1,6 +1,8 @@
 -- Adjustment lines that are read of the tables.
-use Rattle.std.specs.Prelude.{ℕ, List, Option}
+use Rattle.std.specs.Prelude.{ℕ, List, Option, map}
 use Rattle.std.specs.List.{filter_map}
+use Rattle.std.specs.List.Sorted.{IsStrictlySortedBy}
+use Rattle.book_model.specs.Words.{by_bytes}
 use Rattle.book_model.specs.declared.line.Line.{Line}
 use Rattle.kept_tables.specs.Reading.{line_read}
 use Rattle.kept_tables.specs.Tables.{RecordTable}
@@ -13,3 +15,7 @@ line_stored period records stored = line_read records ((period, stored.name), st
 -- those whose records are there
 abbrev pub lines_stored : ℕ → RecordTable → List StoredLine → List Line
 lines_stored period records = filter_map (line_stored period records)
+
+-- the names of lines rise
+abbrev pub NamesRise : List Line → Type 0
+NamesRise lines = IsStrictlySortedBy by_bytes (map (λ line. line.name) lines)

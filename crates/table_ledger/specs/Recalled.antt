@@ -1,6 +1,6 @@
 -- What is read of a store when its books are opened.
 use Rattle.std.specs.Prelude.{◌≡◌, ◌≢◌, ◌⊎◌, ◌≤◌, ◌<◌, ◌+◌, All, IfErr, IfOk, Some, None, Result, Ok}
-use Rattle.std.specs.Prelude.{Err, List, ℕ, ℤ, int_lt, length, map, true}
+use Rattle.std.specs.Prelude.{Err, List, ℕ, ℤ, int_lt, length, map, false, true}
 use Rattle.std.specs.List.{AllZip, last_or}
 use Rattle.std.specs.List.Sorted.{IsStrictlySortedBy}
 use Rattle.std.specs.Option.{option_map_or}
@@ -12,7 +12,8 @@ use Rattle.tree_tables.specs.States.{State, HasCleanDisk, Survives}
 use Rattle.book_model.specs.Words.{IsDay, Tariffed, Rulings, Book, Naming, are_rising, last_period}
 use Rattle.book_model.specs.Words.{most_cost, most_held}
 use Rattle.book_model.specs.declared.fault.LedgerFault.{LedgerFault}
-use Rattle.book_model.specs.declared.fault.LedgerFault.TheVariants.{Memory, Store, NotBooks}
+use Rattle.book_model.specs.declared.fault.LedgerFault.TheVariants.{Memory, NoSuchPeriod, NotBooks}
+use Rattle.book_model.specs.declared.fault.LedgerFault.TheVariants.{Store}
 use Rattle.kept_tables.specs.Tables.{Tables, first_rule, never_adopted}
 use Rattle.kept_tables.specs.TablesOf.{close_entries, tables_of}
 use Rattle.table_readings.specs.BookIn.{rulings_in, tariff_read}
@@ -26,6 +27,7 @@ use Rattle.tree_tables.specs.declared.book_row.StoredBook.{StoredBook as Stored}
 use Rattle.tree_tables.specs.declared.closed_rows.Close.{Close}
 use Rattle.tree_tables.specs.declared.tariff_rows.StoredTariff.{StoredTariff}
 use Rattle.table_ledger.specs.Commits.{Keeping}
+use Rattle.table_ledger.specs.Shelf.{Shelf, seen_on}
 use Rattle.table_ledger.specs.Summaries.{ruled_in}
 use Rattle.table_ledger.specs.declared.summary.Summary.{Summary}
 
@@ -119,6 +121,13 @@ HasTexts book =
 abbrev pub IsOpenCause : State → State → LedgerFault → Type 0
 IsOpenCause old new fault =
     (fault ≡ Memory) ⊎ ((fault ≡ Store) × MoreFaults old.faults new.faults)
+
+-- Why a list fails, other than that there is no such period: where a ledger wrote what is kept and
+-- was not to be reopened, and the disk is clean behind the call, for such a cause alone.
+abbrev pub FailsAsItsOwn : {V : Type 0} → Result V LedgerFault → Shelf → Shelf → Type 0
+FailsAsItsOwn result old new =
+    IfErr result (λ fault. fault ≢ NoSuchPeriod → HasCleanDisk new.state
+    → (seen_on old).is_books → old.must_reopen ≡ false → IsOpenCause old.state new.state fault)
 
 -- books that calls made are read again, or there is such a cause
 abbrev pub ReadsItsOwn : Result Summary LedgerFault → State → State → Type 0

@@ -5,9 +5,11 @@ use Rattle.sqlite_trees.specs.View.{View, IsClean}
 use Rattle.book_model.specs.Words.{Book, Naming}
 use Rattle.book_core.specs.Ledgers.{Seen}
 use Rattle.table_readings.specs.BookIn.{book_in}
-use Rattle.tree_tables.specs.States.{State}
+use Rattle.sqlite_trees.specs.declared.store.Store.{Ghosts}
+use Rattle.tree_tables.specs.States.{State, state}
 use Rattle.table_ledger.specs.TablesIn.{tables_in}
 use Rattle.table_ledger.specs.Ready.{IsReady, KeepBooks}
+use Rattle.table_ledger.specs.declared.ledger.TableLedger.{TableLedger}
 use Rattle.table_ledger.specs.declared.summary.Summary.{Summary}
 
 -- what a ledger in trees has on its shelf: how it names records, what its store shows, that it is to
@@ -17,6 +19,16 @@ pub record Shelf : Type 1 where
   pub state : State
   pub must_reopen : Bool
   pub summary : Summary
+
+-- a ledger's own, by what its store shows and how it names records
+abbrev pub shelf_of : {S N : Type 0} → (ghosts : Ghosts S) → (N → Naming) → TableLedger S N ghosts
+    → Shelf
+shelf_of ghosts name_of ledger = record {
+  naming = name_of ledger.naming;
+  state = state ghosts ledger.tables.store;
+  must_reopen = ledger.must_reopen;
+  summary = ledger.summary;
+}
 
 -- the book that trees tell
 abbrev pub told_by : Trees → Book
@@ -47,3 +59,7 @@ seen_of naming view may_leave must_reopen summary = record {
 abbrev pub seen_on : Shelf → Seen
 seen_on shelf =
     seen_of shelf.naming shelf.state.view shelf.state.may_leave shelf.must_reopen shelf.summary
+
+abbrev pub seen_in : {S N : Type 0} → (ghosts : Ghosts S) → (N → Naming) → TableLedger S N ghosts
+    → Seen
+seen_in ghosts name_of ledger = seen_on (shelf_of ghosts name_of ledger)

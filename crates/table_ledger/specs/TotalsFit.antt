@@ -1,5 +1,6 @@
 -- Sums of charge rows that 64 bits hold.
-use Rattle.std.specs.Prelude.{◌<◌, ◌^◌}
+use Rattle.std.specs.Prelude.{◌<◌, ◌+◌, ◌^◌}
+use Rattle.book_model.specs.declared.row.ChargeRow.{ChargeRow}
 use Rattle.table_ledger.specs.declared.charges.Totals.{Totals}
 
 -- each of the sums
@@ -8,3 +9,10 @@ pub record TotalsFit (totals : Totals) : Type 0 where
   pub cpu : totals.cpu < 2 ^ 64
   pub blocks : totals.blocks < 2 ^ 64
   pub amount : totals.amount < 2 ^ 64
+
+-- and each with a row more
+pub record FitsMore (totals : Totals) (row : ChargeRow) : Type 0 where
+  pub count : totals.count + row.count < 2 ^ 64
+  pub cpu : totals.cpu + row.cpu < 2 ^ 64
+  pub blocks : totals.blocks + row.blocks < 2 ^ 64
+  pub amount : totals.amount + row.amount < 2 ^ 64

@@ -1,15 +1,15 @@
 -- How a call is tried on the store, and how it is answered.
-use Rattle.std.specs.Prelude.{◌≡◌, ◌⊎◌, Bool, true, false, IsTrue, List, Result, Ok, Err, IfOk}
+use Rattle.std.specs.Prelude.{◌≡◌, ◌⊎◌, Bool, true, false, IsTrue, List, Result, Ok, Err, IfErr, IfOk}
 use Rattle.sqlite_trees.specs.Tree.{Trees}
 use Rattle.sqlite_trees.specs.View.{View, IsClean}
 use Rattle.sqlite_trees.specs.declared.error.StoreError.{StoreError}
 use Rattle.book_model.specs.declared.fault.LedgerFault.{LedgerFault}
-use Rattle.book_model.specs.declared.fault.LedgerFault.TheVariants.{Memory, Store}
+use Rattle.book_model.specs.declared.fault.LedgerFault.TheVariants.{Memory, NoSuchPeriod, Store}
 use Rattle.book_model.specs.Words.{Book, Event, after_any, after_all, Outcome, Naming}
 use Rattle.book_core.specs.Calls.{Makes, is_store, is_reopen}
 use Rattle.sqlite_trees.specs.declared.store.Store.{Ghosts}
 use Rattle.tree_tables.specs.States.{State, HasCleanDisk, Survives, state}
-use Rattle.tree_tables.specs.Steps.{Stands}
+use Rattle.tree_tables.specs.Steps.{IsCaused, Stands}
 use Rattle.table_ledger.specs.Commits.{IsAtRest}
 use Rattle.table_ledger.specs.Ready.{IsReadyAt, IsKeptIn, Remembers}
 use Rattle.table_ledger.specs.Shelf.{Shelf}
@@ -54,6 +54,15 @@ pub record Tries {V A : Type 0} (view : V → A) (naming : Naming) (was is : Sum
   pub survives : Survives old new (MayKeep naming was old.view outcome)
   pub found : HasCleanDisk new → (book : Book) → IsReadyAt naming was old.view book
       → Found view naming is old.view new.view (outcome book) book tried
+
+-- A list that is tried: its own refusal is that there is no such period; and where the ledger is
+-- ready and the store refuses, there is a cause in the store.
+abbrev pub TriesItsOwn : {V : Type 0} → Naming → Summary → State → State
+    → Result (Result V LedgerFault) StoreError → Type 0
+TriesItsOwn naming summary old new (Ok answer) = IfErr answer (λ fault. fault ≡ NoSuchPeriod)
+TriesItsOwn naming summary old new (Err error) =
+    HasCleanDisk new → (book : Book) → IsReadyAt naming summary old.view book
+    → IsCaused old new error
 
 -- the last commit is seen again
 pub record IsBack (old new : View) : Type 0 where

@@ -1,14 +1,15 @@
 //! The adjustment lines of a period.
 
-ghost use Rattle.std.specs.Prelude.{◌≡◌, IfOk, IfSome, IsTrue, false, map, sum_by};
+ghost use Rattle.std.specs.Prelude.{◌≡◌, ◌≤◌, ◌^◌, IfOk, IfSome, IsTrue, None, false, map, sum_by};
 ghost use Rattle.std.specs.List.{IsDistinct};
 ghost use Rattle.std.specs.Ordering.{is_lt};
 ghost use Rattle.tree_tables.specs.States.{state};
 ghost use Rattle.book_model.specs.Words.{IsDay, AreLines, by_line, adjustments_outcome, Naming};
 ghost use Rattle.book_model.specs.Words.{by_bytes, same_bytes, members, set_of};
-ghost use Rattle.tree_tables.specs.Steps.{Looks};
-ghost use Rattle.table_ledger.specs.LineReads.{line_stored, lines_stored};
-ghost use Rattle.table_ledger.specs.Tries.{Tries};
+ghost use Rattle.tree_tables.specs.Steps.{FailsByStore, Looks};
+ghost use Rattle.table_ledger.specs.LineReads.{NamesRise, line_stored, lines_stored};
+ghost use Rattle.table_ledger.specs.RecordReads.{CanBeRead, HasWideNames};
+ghost use Rattle.table_ledger.specs.Tries.{Tries, TriesItsOwn};
 
 use crate::days::is_day;
 use crate::stored_usage::usage_bytes;
@@ -32,6 +33,8 @@ fn read_line<S: Store>(
 ) -> Result<Option<Line>, StoreError>
     ensures looks { Looks result (state S.Store tables.old.store) (state S.Store tables.new.store)
         (λ tables line. line ≡ line_stored period tables.records stored.now) }
+    ensures cause { FailsByStore result (state S.Store tables.old.store)
+        (state S.Store tables.new.store) CanBeRead }
 {
     let Some(held) = tables.find_record(alloc, &stored.name)? else {
         return Ok(None);
@@ -55,6 +58,8 @@ fn read_lines<S: Store>(
 ) -> Result<Vec<Line>, StoreError>
     ensures looks { Looks result (state S.Store tables.old.store) (state S.Store tables.new.store)
         (λ tables lines. lines.items ≡ lines_stored period tables.records found.now) }
+    ensures cause { FailsByStore result (state S.Store tables.old.store)
+        (state S.Store tables.new.store) CanBeRead }
 {
     let mut lines = Vec::new(alloc);
     for stored in found {
@@ -74,7 +79,8 @@ fn is_before(line: &Line, next: &Line) -> bool
 
 /// No two of the lines are of one record: their names rise.
 fn are_apart(lines: &[Line]) -> bool
-    ensures { IsTrue result → IsDistinct same_bytes (map (λ line. line.name) lines.now) }
+    ensures apart { IsTrue result → IsDistinct same_bytes (map (λ line. line.name) lines.now) }
+    ensures refused { result ≡ false → ¬ NamesRise lines.now }
 {
     let mut at: usize = 1;
     while at < lines.len() {
@@ -88,7 +94,8 @@ fn are_apart(lines: &[Line]) -> bool
 
 /// What the lines amount to, where 64 bits hold it.
 fn total(lines: &[Line]) -> Option<u64>
-    ensures { IfSome result (λ total. total ≡ sum_by (λ line. line.priced.amount) lines.now) }
+    ensures total { IfSome result (λ total. total ≡ sum_by (λ line. line.priced.amount) lines.now) }
+    ensures full { result ≡ None → 2 ^ 64 ≤ sum_by (λ line. line.priced.amount) lines.now }
 {
     let mut total: u64 = 0;
     for line in lines {
@@ -99,14 +106,16 @@ fn total(lines: &[Line]) -> Option<u64>
 
 /// The line is dated on a day.
 fn is_dated(line: &Line) -> bool
-    ensures { IsTrue result → IsDay line.now.priced.day }
+    ensures day { IsTrue result → IsDay line.now.priced.day }
+    ensures other { result ≡ false → ¬ IsDay line.now.priced.day }
 {
     is_day(line.priced.day)
 }
 
 /// The lines are dated on days, and a signed number of 64 bits holds their total.
 fn can_show(lines: &[Line]) -> bool
-    ensures { IsTrue result → AreLines lines.now }
+    ensures shown { IsTrue result → AreLines lines.now }
+    ensures refused { result ≡ false → ¬ AreLines lines.now }
 {
     let Some(total) = total(lines) else {
         return false;
@@ -118,6 +127,8 @@ fn can_show(lines: &[Line]) -> bool
 fn sorted(lines: Vec<Line>) -> Option<Vec<Line>>
     ensures sorted { IfSome result (λ sorted. sorted.items ≡ members (set_of by_line lines.items)) }
     ensures shown { IfSome result (λ sorted. AreLines sorted.items) }
+    ensures refused { result ≡ None → NamesRise lines.items
+        → ¬ AreLines (members (set_of by_line lines.items)) }
 {
     let mut lines = lines;
     if !are_apart(&lines) {
@@ -138,6 +149,9 @@ pub(crate) fn try_adjustments<S: Store>(
         (state S.Store tables.old.store) (state S.Store tables.new.store) (adjustments_outcome naming period)
         result }
     ensures shown { IfOk result (λ answer. IfOk answer (λ lines. AreLines lines.items)) }
+    ensures own { (naming : Naming) → HasWideNames naming
+        → TriesItsOwn naming summary.now (state S.Store tables.old.store)
+        (state S.Store tables.new.store) result }
 {
     if !summary.has_period(period) {
         return Ok(Err(LedgerFault::NoSuchPeriod));

@@ -1,9 +1,9 @@
 //! The charge rows of a period.
 
-ghost use Rattle.std.specs.Prelude.{◌≡◌, ◌+◌, IfOk, IfSome, IsTrue, false};
+ghost use Rattle.std.specs.Prelude.{◌≡◌, ◌+◌, IfOk, IfSome, IsTrue, None, false};
 ghost use Rattle.tree_tables.specs.States.{state};
 ghost use Rattle.book_model.specs.Words.{IsDay, charges_outcome, Naming, AreRows};
-ghost use Rattle.table_ledger.specs.Tries.{Tries};
+ghost use Rattle.table_ledger.specs.Tries.{Tries, TriesItsOwn};
 
 use crate::days::is_day;
 use crate::summary::Summary;
@@ -23,8 +23,8 @@ struct Totals {
 }
 
 impl Totals {
-    ghost use Rattle.std.specs.Prelude.{◌≡◌, ◌+◌, IfSome};
-    ghost use Rattle.table_ledger.specs.TotalsFit.{TotalsFit};
+    ghost use Rattle.std.specs.Prelude.{◌≡◌, ◌+◌, IfSome, None};
+    ghost use Rattle.table_ledger.specs.TotalsFit.{FitsMore, TotalsFit};
 
     /// The sums with a row more, where 64 bits hold them.
     fn with(&self, row: &ChargeRow) -> Option<Totals>
@@ -33,6 +33,7 @@ impl Totals {
         ensures blocks { IfSome result (λ more. more.blocks ≡ self.now.blocks + row.now.blocks) }
         ensures amount { IfSome result (λ more. more.amount ≡ self.now.amount + row.now.amount) }
         ensures fits { IfSome result TotalsFit }
+        ensures full { result ≡ None → ¬ FitsMore self.now row.now }
     {
         Some(Totals {
             count: self.count.checked_add(row.count)?,
@@ -45,14 +46,16 @@ impl Totals {
 
 /// The row is dated on a day.
 fn is_dated(row: &ChargeRow) -> bool
-    ensures { IsTrue result → IsDay row.now.day }
+    ensures day { IsTrue result → IsDay row.now.day }
+    ensures other { result ≡ false → ¬ IsDay row.now.day }
 {
     is_day(row.day)
 }
 
 /// The rows are dated on days, and 64 bits hold their totals.
 fn can_show(rows: &[ChargeRow]) -> bool
-    ensures { IsTrue result → AreRows rows.now }
+    ensures shown { IsTrue result → AreRows rows.now }
+    ensures refused { result ≡ false → ¬ AreRows rows.now }
 {
     let mut totals = Totals {
         count: 0,
@@ -82,6 +85,8 @@ pub(crate) fn try_charges<S: Store>(
     ensures tries { (naming : Naming) → Tries (λ rows. rows.items) naming summary.now summary.now
         (state S.Store tables.old.store) (state S.Store tables.new.store) (charges_outcome period) result }
     ensures shown { IfOk result (λ answer. IfOk answer (λ rows. AreRows rows.items)) }
+    ensures own { (naming : Naming) → TriesItsOwn naming summary.now (state S.Store tables.old.store)
+        (state S.Store tables.new.store) result }
 {
     if !summary.has_period(period) {
         return Ok(Err(LedgerFault::NoSuchPeriod));

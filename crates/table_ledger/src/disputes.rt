@@ -1,13 +1,14 @@
 //! Identities that two or more records have.
 
-ghost use Rattle.std.specs.Prelude.{◌≡◌, All, IfOk, IsTrue, false, map};
+ghost use Rattle.std.specs.Prelude.{◌≡◌, All, IfErr, IfOk, IsTrue, false, map};
 ghost use Rattle.tree_tables.specs.States.{state};
 ghost use Rattle.book_model.specs.Words.{AreDisputes, dispute_shown, disputes_outcome, Naming};
 ghost use Rattle.tree_tables.specs.Stored.{stored_entry};
 ghost use Rattle.table_readings.specs.DisputesRead as reading;
 ghost use Rattle.table_readings.specs.DisputesRead.{join_last, of_one, variant_read};
 ghost use Rattle.table_ledger.specs.DisputeReads.{IsShownRow};
-ghost use Rattle.table_ledger.specs.Tries.{Tries};
+ghost use Rattle.table_ledger.specs.RecordReads.{HasWideNames, IsUsageData};
+ghost use Rattle.table_ledger.specs.Tries.{Tries, TriesItsOwn};
 
 use crate::days::is_day;
 use crate::stored_usage::usage_bytes;
@@ -25,21 +26,25 @@ const IDENTITY_LENGTH: usize = 24;
 /// The record can be shown: its identity has the length that its parts need, and it is dated on a
 /// day.
 fn is_shown(row: &StoredRecord) -> bool
-    ensures { IsTrue result → IsShownRow (stored_entry row.now) }
+    ensures shown { IsTrue result → IsShownRow (stored_entry row.now) }
+    ensures refused { result ≡ false → ¬ IsShownRow (stored_entry row.now) }
 {
     row.identity.len() == IDENTITY_LENGTH && is_day(row.priced.day)
 }
 
 /// All of the records can be shown.
 fn can_show(rows: &[StoredRecord]) -> bool
-    ensures { IsTrue result → All (λ row. IsShownRow (stored_entry row)) rows.now }
+    ensures shown { IsTrue result → All (λ row. IsShownRow (stored_entry row)) rows.now }
+    ensures refused { result ≡ false → ¬ All (λ row. IsShownRow (stored_entry row)) rows.now }
 {
     rows.iter().all(|row| is_shown(row))
 }
 
 /// A record as the list of disputes shows it.
 fn variant(alloc: Global, stored: &StoredRecord) -> Result<Variant, StoreError>
-    ensures { IfOk result (λ variant. variant ≡ variant_read (stored_entry stored.now)) }
+    ensures read { IfOk result (λ variant. variant ≡ variant_read (stored_entry stored.now)) }
+    ensures taken { IfErr result (λ error. IsUsageData stored.now.data_bytes.items
+        → error ≡ StoreError.OutOfMemory) }
 {
     let bytes = usage_bytes(alloc, &stored.data_bytes)?;
     let usage = Type30::of_usage(&bytes);
@@ -54,7 +59,9 @@ fn variant(alloc: Global, stored: &StoredRecord) -> Result<Variant, StoreError>
 
 /// A dispute of one record.
 fn alone(alloc: Global, stored: &StoredRecord) -> Result<Dispute, StoreError>
-    ensures { IfOk result (λ made. dispute_shown made ≡ of_one (stored_entry stored.now)) }
+    ensures made { IfOk result (λ made. dispute_shown made ≡ of_one (stored_entry stored.now)) }
+    ensures taken { IfErr result (λ error. IsUsageData stored.now.data_bytes.items
+        → error ≡ StoreError.OutOfMemory) }
 {
     let member = variant(alloc, stored)?;
     let identity = Vec::from_slice(alloc, &stored.identity)?;
@@ -65,8 +72,10 @@ fn alone(alloc: Global, stored: &StoredRecord) -> Result<Dispute, StoreError>
 
 /// A record joins the last dispute where that has its identity; else it begins one.
 fn join(alloc: Global, found: &mut Vec<Dispute>, stored: &StoredRecord) -> Result<(), StoreError>
-    ensures { IfOk result (λ joined. map dispute_shown found.new.items
+    ensures joined { IfOk result (λ joined. map dispute_shown found.new.items
         ≡ join_last (map dispute_shown found.old.items) (stored_entry stored.now)) }
+    ensures taken { IfErr result (λ error. IsUsageData stored.now.data_bytes.items
+        → error ≡ StoreError.OutOfMemory) }
 {
     let Some(mut last) = found.pop() else {
         found.push(alone(alloc, stored)?)?;
@@ -84,8 +93,10 @@ fn join(alloc: Global, found: &mut Vec<Dispute>, stored: &StoredRecord) -> Resul
 
 /// Records that are in order, in groups: neighbours of one identity are one dispute.
 fn grouped(alloc: Global, rows: &[StoredRecord]) -> Result<Vec<Dispute>, StoreError>
-    ensures { IfOk result (λ found. map dispute_shown found.items
+    ensures grouped { IfOk result (λ found. map dispute_shown found.items
         ≡ reading.grouped (map stored_entry rows.now)) }
+    ensures taken { IfErr result (λ error. All (λ row. IsUsageData row.data_bytes.items) rows.now
+        → error ≡ StoreError.OutOfMemory) }
 {
     let mut found = Vec::new(alloc);
     for stored in rows {
@@ -105,6 +116,9 @@ pub(crate) fn try_disputes<S: Store>(
         (disputes_outcome naming) result }
     ensures shown { IfOk result (λ answer.
         IfOk answer (λ found. AreDisputes (map dispute_shown found.items))) }
+    ensures own { (naming : Naming) → HasWideNames naming
+        → TriesItsOwn naming summary.now (state S.Store tables.old.store)
+        (state S.Store tables.new.store) result }
 {
     let rows = tables.list_uncharged(alloc)?;
     if !can_show(&rows) {

@@ -29,16 +29,16 @@ pub struct TableLedger<S: Store, N: Naming + Drop> {
 }
 
 impl<S: Store, N: Naming + Drop> Ledger for TableLedger<S, N> {
-    ghost use Rattle.tree_tables.specs.States.{state};
-    ghost use Rattle.table_ledger.specs.Shelf.{seen_on};
+    ghost use Rattle.std.specs.Prelude.{All, IfOk, map};
+    ghost use Rattle.book_model.specs.Words.{AreDisputes, AreLines, AreRows, IsDay};
+    ghost use Rattle.book_model.specs.Words.{adjustments_outcome, charges_outcome, dispute_shown};
+    ghost use Rattle.book_model.specs.Words.{disputes_outcome, periods_outcome};
+    ghost use Rattle.book_core.specs.Calls.{IsCall};
+    ghost use Rattle.table_ledger.specs.Recalled.{FailsAsItsOwn};
+    ghost use Rattle.table_ledger.specs.Shelf.{seen_in, shelf_of};
     ghost use Rattle.table_ledger.specs.Told.{settled_on};
 
-    ghost seen = { λ ledger. seen_on (record {
-      naming = N.name_of ledger.naming;
-      state = state S.Store ledger.tables.store;
-      must_reopen = ledger.must_reopen;
-      summary = ledger.summary;
-    }) };
+    ghost seen = { seen_in S.Store N.name_of };
 
     fn tariff(&mut self, text: &str) -> Result<Ruled, LedgerFault> {
         if self.must_reopen {
@@ -74,7 +74,15 @@ impl<S: Store, N: Naming + Drop> Ledger for TableLedger<S, N> {
         settle(&mut self.tables, &mut self.must_reopen, tried)
     }
 
-    fn charges(&mut self, period: u16) -> Result<Vec<ChargeRow>, LedgerFault> {
+    fn charges(&mut self, period: u16) -> Result<Vec<ChargeRow>, LedgerFault>
+        ensures rows { IsCall (λ rows. rows.items) (seen_in S.Store N.name_of self.old)
+            (seen_in S.Store N.name_of self.new) result (charges_outcome period) }
+        ensures shown { IfOk result (λ rows. AreRows rows.items) }
+
+        // What fails of books that calls made is the store's own.
+        ensures own { FailsAsItsOwn result (shelf_of S.Store N.name_of self.old)
+            (shelf_of S.Store N.name_of self.new) }
+    {
         if self.must_reopen {
             return Err(LedgerFault::Reopen);
         }
@@ -82,7 +90,14 @@ impl<S: Store, N: Naming + Drop> Ledger for TableLedger<S, N> {
         settle(&mut self.tables, &mut self.must_reopen, tried)
     }
 
-    fn adjustments(&mut self, period: u16) -> Result<Vec<Line>, LedgerFault> {
+    fn adjustments(&mut self, period: u16) -> Result<Vec<Line>, LedgerFault>
+        ensures lines { IsCall (λ lines. lines.items) (seen_in S.Store N.name_of self.old)
+            (seen_in S.Store N.name_of self.new) result
+            (adjustments_outcome (N.name_of self.old.naming) period) }
+        ensures shown { IfOk result (λ lines. AreLines lines.items) }
+        ensures own { FailsAsItsOwn result (shelf_of S.Store N.name_of self.old)
+            (shelf_of S.Store N.name_of self.new) }
+    {
         if self.must_reopen {
             return Err(LedgerFault::Reopen);
         }
@@ -90,7 +105,14 @@ impl<S: Store, N: Naming + Drop> Ledger for TableLedger<S, N> {
         settle(&mut self.tables, &mut self.must_reopen, tried)
     }
 
-    fn disputes(&mut self) -> Result<Vec<Dispute>, LedgerFault> {
+    fn disputes(&mut self) -> Result<Vec<Dispute>, LedgerFault>
+        ensures disputes { IsCall (λ found. map dispute_shown found.items)
+            (seen_in S.Store N.name_of self.old) (seen_in S.Store N.name_of self.new) result
+            (disputes_outcome (N.name_of self.old.naming)) }
+        ensures shown { IfOk result (λ found. AreDisputes (map dispute_shown found.items)) }
+        ensures own { FailsAsItsOwn result (shelf_of S.Store N.name_of self.old)
+            (shelf_of S.Store N.name_of self.new) }
+    {
         if self.must_reopen {
             return Err(LedgerFault::Reopen);
         }
@@ -98,7 +120,13 @@ impl<S: Store, N: Naming + Drop> Ledger for TableLedger<S, N> {
         settle(&mut self.tables, &mut self.must_reopen, tried)
     }
 
-    fn periods(&mut self) -> Result<Vec<i32>, LedgerFault> {
+    fn periods(&mut self) -> Result<Vec<i32>, LedgerFault>
+        ensures days { IsCall (λ days. days.items) (seen_in S.Store N.name_of self.old)
+            (seen_in S.Store N.name_of self.new) result periods_outcome }
+        ensures shown { IfOk result (λ days. All IsDay days.items) }
+        ensures own { FailsAsItsOwn result (shelf_of S.Store N.name_of self.old)
+            (shelf_of S.Store N.name_of self.new) }
+    {
         if self.must_reopen {
             return Err(LedgerFault::Reopen);
         }

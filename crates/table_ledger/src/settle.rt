@@ -1,6 +1,6 @@
 //! What becomes of a call that the store refused.
 
-ghost use Rattle.std.specs.Prelude.{◌≡◌, ◌⊎◌, IsTrue, false};
+ghost use Rattle.std.specs.Prelude.{◌≡◌, ◌⊎◌, IfErr, IsErrOf, IsTrue, false};
 ghost use Rattle.sqlite_trees.specs.View.{IsClean};
 ghost use Rattle.tree_tables.specs.States.{Survives, state};
 ghost use Rattle.table_ledger.specs.Tries.{IsBack, Settles};
@@ -42,6 +42,12 @@ pub(crate) fn settle<S: Store, V: Drop>(
     requires { must_reopen.old ≡ false }
     ensures settles { Settles S.Store tables.old.store tables.new.store must_reopen.old
         must_reopen.new tried result }
+    ensures served { IfErr tried (λ error. IsClean (S.Store.view tables.new.store)
+        → error ≡ StoreError.OutOfMemory → (S.Store.view tables.new.store).is_broken ≡ false
+        → IsErrOf result LedgerFault.Memory) }
+    ensures mended { IfErr tried (λ error. IsClean (S.Store.view tables.new.store)
+        → IsTrue (S.Store.view tables.new.store).is_open
+        → (S.Store.view tables.new.store).is_broken ≡ false) }
 {
     match tried {
         Ok(answer) => answer,

@@ -1,8 +1,9 @@
 //! The bytes of records that are stored.
 
-ghost use Rattle.std.specs.Prelude.{◌≡◌, ◌≤◌, IfOk, length};
+ghost use Rattle.std.specs.Prelude.{◌≡◌, ◌≤◌, IfErr, IfOk, length};
 ghost use Rattle.smf_frames.specs.Framed as framed;
 ghost use Rattle.book_model.specs.Words.{IsUsage};
+ghost use Rattle.table_ledger.specs.RecordReads.{IsUsageData};
 
 use smf_frames::MAX_DATA;
 use smf_type30::{Class, class};
@@ -28,6 +29,8 @@ fn record_with(alloc: Global, data_bytes: &[u8]) -> Result<Vec<u8>, AllocError>
 pub(crate) fn usage_bytes(alloc: Global, data_bytes: &[u8]) -> Result<Vec<u8>, StoreError>
     ensures bytes { IfOk result (λ made. made.items ≡ framed.record_with data_bytes.now) }
     ensures usage { IfOk result (λ made. IsUsage made.items) }
+    ensures taken { IfErr result (λ error. IsUsageData data_bytes.now
+        → error ≡ StoreError.OutOfMemory) }
 {
     if data_bytes.len() > MAX_DATA {
         return Err(StoreError::Corrupt);

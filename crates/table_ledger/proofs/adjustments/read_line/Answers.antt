@@ -1,47 +1,78 @@
-use Rattle.std.proofs.Common.{◌≡◌, ◌∙◌, Some, None, ap, rules}
+use Rattle.std.proofs.Common.{◌≡◌, ◌∙◌, Some, None, ap, rules, subst, sym}
 use Rattle.std.proofs.lemmas.Result.{err_from_is_err_and}
 use Rattle.book_model.specs.Words.{record_with, job_of}
-use Rattle.table_ledger.proofs.LineReadings.{line_found, look_refused}
+use Rattle.table_ledger.proofs.LineReadings.{found_there, line_found, look_refused}
 use Rattle.table_ledger.proofs.TryLemmas.{looks_known, looks_stopped}
 use Rattle.table_ledger.proofs.TryLemmas.{saw_found, saw_none}
+use Rattle.kept_tables.specs.Tables.{Tables}
+use Rattle.tree_tables.specs.Answers.{FindsRecord}
+use Rattle.tree_tables.specs.Holds.{Holds}
+use Rattle.tree_tables.specs.States.{HasCleanDisk, state}
+use Rattle.tree_tables.specs.Steps.{IsCaused}
+use Rattle.tree_tables.specs.Stored.{stored_entry}
+use Rattle.tree_tables.proofs.Looking.{caused_memory}
+use Rattle.table_ledger.specs.RecordReads.{CanBeRead, IsUsageData}
 use Rattle.table_ledger.proofs.adjustments.read_line.Goals as goal
 
-pub returns-in_err-held : goal.returns-in_err-held
-returns-in_err-held g c = record {
-  looks =
-      let refused = err_from_is_err_and c.from_residual.result c.from_residual.ensures.1 in
-      rw refused.1 (look_refused saw_none
-      c.in_err-held.ensures.looks);
-}
+pub returns-in_err-held-clause-looks : goal.returns-in_err-held-clause-looks
+returns-in_err-held-clause-looks g c =
+    let refused = err_from_is_err_and c.from_residual.result c.from_residual.ensures.1 in
+    rw refused.1 (look_refused saw_none
+    c.in_err-held.ensures.looks)
 
-pub returns-in_default : goal.returns-in_default
-returns-in_default g c = record {
-  looks =
-      looks_known (saw_found c.in_ok-held.ensures.looks) (λ tables finds.
-      line_found c.args.period c.args.stored.now tables c.in_ok-held.field-0 None
-      c.in_default.is finds);
-}
+pub returns-in_default-clause-looks : goal.returns-in_default-clause-looks
+returns-in_default-clause-looks g c =
+    looks_known (saw_found c.in_ok-held.ensures.looks) (λ tables finds.
+    line_found c.args.period c.args.stored.now tables c.in_ok-held.field-0 None
+    c.in_default.is finds)
 
-pub returns-in_err-bytes : goal.returns-in_err-bytes
-returns-in_err-bytes g c = record {
-  looks =
-      let refused = err_from_is_err_and c.from_residual-in_err-bytes.result
-      c.from_residual-in_err-bytes.ensures.1 in
-      rw refused.1 (looks_stopped (saw_found c.in_ok-held.ensures.looks));
-}
+pub returns-in_err-bytes-clause-looks : goal.returns-in_err-bytes-clause-looks
+returns-in_err-bytes-clause-looks g c =
+    let refused = err_from_is_err_and c.from_residual-in_err-bytes.result
+    c.from_residual-in_err-bytes.ensures.1 in
+    rw refused.1 (looks_stopped (saw_found c.in_ok-held.ensures.looks))
 
-pub returns : goal.returns
-returns g c = record {
-  looks =
-      looks_known (saw_found c.in_ok-held.ensures.looks) (λ tables finds.
-      let job : c.copied.result ≡ job_of (record_with c.in-Some.held.data_bytes.items) =
-      search rules in
-      ap (λ (said : _). Some (record {
-        plus = c.args.stored.now.plus;
-        name = c.args.stored.now.name;
-        job = said;
-        priced = c.in-Some.held.priced;
-      })) job
-      ∙ line_found c.args.period c.args.stored.now tables c.in_ok-held.field-0 (Some c.in-Some.held)
-      c.in-Some.is finds);
-}
+pub returns-clause-looks : goal.returns-clause-looks
+returns-clause-looks g c =
+    looks_known (saw_found c.in_ok-held.ensures.looks) (λ tables finds.
+    let job : c.copied.result ≡ job_of (record_with c.in-Some.held.data_bytes.items) =
+    search rules in
+    ap (λ (said : _). Some (record {
+      plus = c.args.stored.now.plus;
+      name = c.args.stored.now.name;
+      job = said;
+      priced = c.in-Some.held.priced;
+    })) job
+    ∙ line_found c.args.period c.args.stored.now tables c.in_ok-held.field-0 (Some c.in-Some.held)
+    c.in-Some.is finds)
+
+-- the record's row fits
+pub returns-in_err-held-clause-cause : goal.returns-in_err-held-clause-cause
+returns-in_err-held-clause-cause g c =
+    let start = state g.S.Store c.args.tables.now.store in
+    let end = state g.S.Store c.find_record.new.self.store in
+    let cause : HasCleanDisk end → (tables : Tables) → Holds start.view.trees tables
+    → CanBeRead tables → IsCaused start end c.in_err-held.field-0.0 =
+    λ clean tables holds read. c.in_err-held.ensures.cause clean tables holds
+    (read.fit.each c.args.stored.now.name) in
+    let p = err_from_is_err_and c.from_residual.result c.from_residual.ensures.1 in
+    rw (p.1, p.2) cause
+
+-- and its data are those of a usage record
+pub returns-in_err-bytes-clause-cause : goal.returns-in_err-bytes-clause-cause
+returns-in_err-bytes-clause-cause g c =
+    let start = state g.S.Store c.args.tables.now.store in
+    let end = state g.S.Store c.find_record.new.self.store in
+    let name = c.args.stored.now.name in
+    let held = c.in-Some.held in
+    let cause : HasCleanDisk end → (tables : Tables) → Holds start.view.trees tables
+    → CanBeRead tables → IsCaused start end c.in_err-bytes.field-0.0 =
+    λ clean tables holds read.
+    let finds = subst (FindsRecord name tables) c.in-Some.is
+    ((c.in_ok-held.ensures.looks.found clean).known tables holds) in
+    caused_memory start end _ (c.in_err-bytes.ensures.taken
+    (subst IsUsageData (sym c.deref.ensures.value)
+    (read.usage name (stored_entry held).1 (found_there name tables held finds)))) in
+    let p = err_from_is_err_and c.from_residual-in_err-bytes.result
+    c.from_residual-in_err-bytes.ensures.1 in
+    rw (p.1, p.2) cause

@@ -9,24 +9,26 @@ use Rattle.tree_tables.specs.declared.line_rows.StoredLine.{StoredLine}
 use Rattle.table_ledger.specs.LineReads.{lines_stored}
 use Rattle.table_ledger.proofs.LineReadings.{line_more, look_refused}
 use Rattle.table_ledger.proofs.TryLemmas.{looks_known, looks_stopped, saw_found, saw_so, saw_then}
+use Rattle.kept_tables.specs.Tables.{Tables}
+use Rattle.tree_tables.specs.Holds.{Holds}
+use Rattle.tree_tables.specs.States.{HasCleanDisk, state}
+use Rattle.tree_tables.specs.Steps.{IsCaused}
+use Rattle.table_ledger.specs.RecordReads.{CanBeRead}
+use Rattle.table_ledger.proofs.OwnBooks.{fails_behind}
 use Rattle.table_ledger.proofs.adjustments.read_lines.Goals as goal
 use Rattle.table_ledger.proofs.adjustments.read_lines.Goals.{in-Some+in_ok-push, in_default}
 
-pub returns-in_err-line : goal.returns-in_err-line
-returns-in_err-line g c = record {
-  looks =
-      let refused = err_from_is_err_and c.from_residual.result c.from_residual.ensures.1 in
-      rw refused.1 (look_refused c.loop-stored.invariant.saw c.in_err-line.ensures.looks);
-}
+pub returns-in_err-line-clause-looks : goal.returns-in_err-line-clause-looks
+returns-in_err-line-clause-looks g c =
+    let refused = err_from_is_err_and c.from_residual.result c.from_residual.ensures.1 in
+    rw refused.1 (look_refused c.loop-stored.invariant.saw c.in_err-line.ensures.looks)
 
-pub returns-in_err-push : goal.returns-in_err-push
-returns-in_err-push g c = record {
-  looks =
-      let refused = err_from_is_err_and c.from_residual-in_err-push.result
-      c.from_residual-in_err-push.ensures.1 in
-      rw refused.1 (looks_stopped (saw_then c.loop-stored.invariant.saw
-      (saw_found c.in_ok-line.ensures.looks)));
-}
+pub returns-in_err-push-clause-looks : goal.returns-in_err-push-clause-looks
+returns-in_err-push-clause-looks g c =
+    let refused = err_from_is_err_and c.from_residual-in_err-push.result
+    c.from_residual-in_err-push.ensures.1 in
+    rw refused.1 (looks_stopped (saw_then c.loop-stored.invariant.saw
+    (saw_found c.in_ok-line.ensures.looks)))
 
 pub loop-stored-preserved : goal.loop-stored-preserved
 loop-stored-preserved g c =
@@ -52,11 +54,28 @@ loop-stored-preserved g c =
           refl more known.0 known.1);
     }
 
-pub returns : goal.returns
-returns g c = record {
-  looks =
-      looks_known c.loop-stored.invariant.saw (λ tables known.
-      known
-      ∙ ap (λ (some : List StoredLine). lines_stored c.args.period tables.records some)
-      (take_all c.loop-stored.stored-index c.args.found.now c.loop-stored-test.false));
-}
+pub returns-clause-looks : goal.returns-clause-looks
+returns-clause-looks g c =
+    looks_known c.loop-stored.invariant.saw (λ tables known.
+    known
+    ∙ ap (λ (some : List StoredLine). lines_stored c.args.period tables.records some)
+    (take_all c.loop-stored.stored-index c.args.found.now c.loop-stored-test.false))
+
+-- why a line was not read, behind the others
+pub returns-in_err-line-clause-cause : goal.returns-in_err-line-clause-cause
+returns-in_err-line-clause-cause g c =
+    let start = state g.S.Store c.args.tables.now.store in
+    let end = state g.S.Store c.read_line.new.tables.store in
+    let cause : HasCleanDisk end → (tables : Tables) → Holds start.view.trees tables
+    → CanBeRead tables → IsCaused start end c.in_err-line.field-0.0 =
+    fails_behind _ c.loop-stored.invariant.saw c.in_err-line.ensures.looks.survives
+    c.in_err-line.ensures.cause in
+    let p = err_from_is_err_and c.from_residual.result c.from_residual.ensures.1 in
+    rw (p.1, p.2) cause
+
+-- for the list memory alone may be wanting
+pub returns-in_err-push-clause-cause : goal.returns-in_err-push-clause-cause
+returns-in_err-push-clause-cause g c =
+    let p = err_from_is_err_and c.from_residual-in_err-push.result
+    c.from_residual-in_err-push.ensures.1 in
+    rw (p.1, p.2) (λ clean tables holds read. tt)

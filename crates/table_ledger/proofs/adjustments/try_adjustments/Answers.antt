@@ -10,6 +10,13 @@ use Rattle.table_ledger.specs.Summaries.{ruled_in}
 use Rattle.table_ledger.proofs.LineReadings.{lines_listed}
 use Rattle.table_ledger.proofs.ListReadings.{first_refused, later_refused, no_period, period_read}
 use Rattle.table_ledger.proofs.TryLemmas.{saw_found, saw_then, try_stopped}
+use Rattle.book_model.specs.Words.{Book}
+use Rattle.kept_tables.specs.TablesOf.{tables_of}
+use Rattle.tree_tables.specs.States.{HasCleanDisk, state}
+use Rattle.tree_tables.specs.Steps.{IsCaused}
+use Rattle.table_ledger.specs.Ready.{IsReadyAt}
+use Rattle.table_ledger.proofs.OwnBooks.{fails_behind}
+use Rattle.table_ledger.proofs.BookLists.{own_lines, own_records, own_rise, own_shown}
 use Rattle.table_ledger.proofs.adjustments.try_adjustments.Goals as goal
 
 pub returns-then-not-has_period-clause-tries : goal.returns-then-not-has_period-clause-tries
@@ -50,3 +57,49 @@ returns-clause-tries g c = λ naming.
     (known.1 ∙ ap (λ (some : List StoredLine). lines_stored number tables.records some)
     c.deref.ensures.value)
     c.in-Some.ensures.sorted)
+
+-- the lines of the period fit
+pub returns-in_err-found-clause-own : goal.returns-in_err-found-clause-own
+returns-in_err-found-clause-own g c = λ naming wide.
+    let start = state g.S.Store c.args.tables.now.store in
+    let end = state g.S.Store c.list_lines.new.self.store in
+    let number = c.args.period in
+    let there : is_period number (ruled_in c.args.summary.now) ≡ true = search rules in
+    let cause : HasCleanDisk end → (book : Book)
+    → IsReadyAt naming c.args.summary.now start.view book
+    → IsCaused start end c.in_err-found.field-0.0 =
+    λ clean book ready. c.in_err-found.ensures.cause clean (tables_of naming book)
+    ready.kept.holds (own_lines ready wide number there) in
+    let p = err_from_is_err_and c.from_residual.result c.from_residual.ensures.1 in
+    rw (p.1, p.2) cause
+
+-- their records can be read
+pub returns-in_err-lines-clause-own : goal.returns-in_err-lines-clause-own
+returns-in_err-lines-clause-own g c = λ naming wide.
+    let start = state g.S.Store c.args.tables.now.store in
+    let end = state g.S.Store c.read_lines.new.tables.store in
+    let cause : HasCleanDisk end → (book : Book)
+    → IsReadyAt naming c.args.summary.now start.view book
+    → IsCaused start end c.in_err-lines.field-0.0 =
+    λ clean book ready. fails_behind _ (saw_found c.in_ok-found.ensures.looks)
+    c.in_err-lines.ensures.looks.survives c.in_err-lines.ensures.cause clean
+    (tables_of naming book) ready.kept.holds (own_records ready wide) in
+    let p = err_from_is_err_and c.from_residual-in_err-lines.result
+    c.from_residual-in_err-lines.ensures.1 in
+    rw (p.1, p.2) cause
+
+-- and they can be shown
+pub returns-in_default-clause-own : goal.returns-in_default-clause-own
+returns-in_default-clause-own g c = λ naming wide clean book ready.
+    let number = c.args.period in
+    let there : is_period number (ruled_in c.args.summary.now) ≡ true = search rules in
+    let saw = saw_then (saw_found c.in_ok-found.ensures.looks)
+    (saw_found c.in_ok-lines.ensures.looks) in
+    let known = (saw.seen clean).known (tables_of naming book) ready.kept.holds in
+    let read = known.1 ∙ ap (λ (some : List StoredLine). lines_stored number
+    (tables_of naming book).records some) c.deref.ensures.value in
+    let rise = own_rise ready number there c.in_ok-found.found.items c.in_ok-lines.lines.items
+    known.0 read in
+    let shown = own_shown ready number there c.in_ok-found.found.items
+    c.in_ok-lines.lines.items known.0 read in
+    absurd (c.sorted.ensures.refused c.in_default.is rise shown)

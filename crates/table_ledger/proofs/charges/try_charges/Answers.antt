@@ -1,10 +1,16 @@
-use Rattle.std.proofs.Common.{◌≡◌, sym, rules, true, false}
+use Rattle.std.proofs.Common.{◌≡◌, sym, rules, subst, true, false}
 use Rattle.std.proofs.lemmas.Result.{err_from_is_err_and}
+use Rattle.book_model.specs.Words.{AreRows, Book}
 use Rattle.kept_tables.specs.Reading.{rows_read}
+use Rattle.kept_tables.specs.TablesOf.{tables_of}
+use Rattle.tree_tables.specs.States.{HasCleanDisk, state}
+use Rattle.tree_tables.specs.Steps.{IsCaused}
 use Rattle.table_readings.specs.ListsRead.{is_period}
 use Rattle.table_readings.proofs.ListLemmas.{lists_follow}
+use Rattle.table_ledger.specs.Ready.{IsReadyAt}
 use Rattle.table_ledger.specs.Summaries.{ruled_in}
 use Rattle.table_ledger.proofs.ListReadings.{first_refused, no_period, period_read}
+use Rattle.table_ledger.proofs.BookLists.{own_days, own_rows}
 use Rattle.table_ledger.proofs.TryLemmas.{saw_found, try_stopped}
 use Rattle.table_ledger.proofs.charges.try_charges.Goals as goal
 
@@ -31,3 +37,29 @@ returns-clause-tries g c = λ naming.
     period_read number (λ tables. rows_read number tables.days)
     (λ book whole. lists_follow.charges naming book number whole) c.in_ok-rows.rows there
     (saw_found c.in_ok-rows.ensures.looks) (λ tables is. sym is)
+
+-- the rows of the period fit
+pub returns-in_err-rows-clause-own : goal.returns-in_err-rows-clause-own
+returns-in_err-rows-clause-own g c = λ naming.
+    let start = state g.S.Store c.args.tables.now.store in
+    let end = state g.S.Store c.list_days.new.self.store in
+    let number = c.args.period in
+    let there : is_period number (ruled_in c.args.summary.now) ≡ true = search rules in
+    let cause : HasCleanDisk end → (book : Book)
+    → IsReadyAt naming c.args.summary.now start.view book
+    → IsCaused start end c.in_err-rows.field-0.0 =
+    λ clean book ready. c.in_err-rows.ensures.cause clean (tables_of naming book)
+    ready.kept.holds (own_days ready number there) in
+    let p = err_from_is_err_and c.from_residual.result c.from_residual.ensures.1 in
+    rw (p.1, p.2) cause
+
+-- and can be shown
+pub returns-then-not-can_show-clause-own : goal.returns-then-not-can_show-clause-own
+returns-then-not-can_show-clause-own g c = λ naming clean book ready.
+    let number = c.args.period in
+    let there : is_period number (ruled_in c.args.summary.now) ≡ true = search rules in
+    let lists = (c.in_ok-rows.ensures.looks.found clean).known (tables_of naming book)
+    ready.kept.holds in
+    absurd (c.can_show.ensures.refused c.if-not-can_show.true
+    (subst AreRows (sym c.deref.ensures.value)
+    (own_rows ready number c.in_ok-rows.rows.items there lists)))

@@ -13,7 +13,7 @@ loop-stored-preserved c =
     let at = c.loop-stored.stored-index in
     let row = c.stored-item.result in
     let done = take at rows in
-    c.in_ok-join.ensures
+    c.in_ok-join.ensures.joined
     ∙ ap (λ (all : List Disputed). join_last all (stored_entry row)) c.loop-stored.invariant
     ∙ sym (grouped-push (map stored_entry done) (stored_entry row))
     ∙ ap grouped (sym (map-append stored_entry done (row ∷ [])))

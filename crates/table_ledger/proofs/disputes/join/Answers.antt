@@ -6,20 +6,20 @@ use Rattle.tree_tables.specs.Stored.{stored_entry}
 use Rattle.table_ledger.proofs.JoinLemmas.{joined_same, joined_other}
 use Rattle.table_ledger.proofs.disputes.join.Goals as goal
 
-pub returns-in_ok-push-3 : goal.returns-in_ok-push-3
-returns-in_ok-push-3 c =
+pub returns-in_ok-push-3-clause-joined : goal.returns-in_ok-push-3-clause-joined
+returns-in_ok-push-3-clause-joined c =
     let last = c.in-Some.last in
     let same : same_bytes last.identity.items c.args.stored.now.identity.items ≡ true =
     search rules in
     let members = c.in_ok-push-2.ensures.items
-    ∙ ap (λ (one : Variant). last.members.items ++ one ∷ []) c.in_ok-variant.ensures in
+    ∙ ap (λ (one : Variant). last.members.items ++ one ∷ []) c.in_ok-variant.ensures.read in
     ap (λ (all : List Dispute). map dispute_shown all) c.in_ok-push-3.ensures.items
     ∙ joined_same c.args.found.now.items c.pop.new.self.items last _
     (stored_entry c.args.stored.now) c.in-Some.ensures.items same
     (λ i. record { identity = last.identity.items; members = members i })
 
-pub returns-in_ok-push-5 : goal.returns-in_ok-push-5
-returns-in_ok-push-5 c =
+pub returns-in_ok-push-5-clause-joined : goal.returns-in_ok-push-5-clause-joined
+returns-in_ok-push-5-clause-joined c =
     let last = c.in-Some.last in
     let differ : same_bytes last.identity.items c.args.stored.now.identity.items ≡ false =
     search rules in
@@ -27,4 +27,4 @@ returns-in_ok-push-5 c =
     ∙ ap (λ (front : List Dispute). front ++ c.in_ok-alone-2.field-0 ∷ [])
     c.in_ok-push-4.ensures.items)
     ∙ joined_other c.args.found.now.items c.pop.new.self.items last c.in_ok-alone-2.field-0
-    (stored_entry c.args.stored.now) c.in-Some.ensures.items differ c.in_ok-alone-2.ensures
+    (stored_entry c.args.stored.now) c.in-Some.ensures.items differ c.in_ok-alone-2.ensures.made

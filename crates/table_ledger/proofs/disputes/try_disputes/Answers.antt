@@ -11,6 +11,14 @@ use Rattle.table_ledger.specs.DisputeReads.{IsShownRow}
 use Rattle.table_ledger.proofs.JoinLemmas.{disputes_show}
 use Rattle.table_ledger.proofs.ListReadings.{first_refused, list_read}
 use Rattle.table_ledger.proofs.TryLemmas.{saw_found, try_stopped}
+use Rattle.book_model.specs.Words.{Book}
+use Rattle.kept_tables.specs.TablesOf.{tables_of}
+use Rattle.tree_tables.specs.States.{HasCleanDisk, state}
+use Rattle.tree_tables.specs.Steps.{IsCaused}
+use Rattle.tree_tables.proofs.Looking.{caused_memory}
+use Rattle.table_ledger.specs.Ready.{IsReadyAt}
+use Rattle.table_ledger.specs.RecordReads.{IsUsageData}
+use Rattle.table_ledger.proofs.BookLists.{own_records, own_shown_rows, own_usage}
 use Rattle.table_ledger.proofs.disputes.try_disputes.Goals as goal
 
 pub returns-in_err-rows-clause-tries : goal.returns-in_err-rows-clause-tries
@@ -28,7 +36,7 @@ returns-clause-tries g c = λ naming.
     (saw_found c.in_ok-rows.ensures.looks)
     (λ book whole listed.
     ap grouped (sym (disputes_follow.in_order naming book _ whole listed.same listed.sorted))
-    ∙ sym (c.in_ok-grouped.ensures
+    ∙ sym (c.in_ok-grouped.ensures.grouped
     ∙ ap (λ (rows : List StoredRecord). grouped (map stored_entry rows)) c.deref-2.ensures.value))
 
 pub returns-in_err-grouped-clause-tries : goal.returns-in_err-grouped-clause-tries
@@ -41,9 +49,51 @@ pub returns-clause-shown : goal.returns-clause-shown
 returns-clause-shown g c =
     let rows = c.deref.result.now in
     let shown : All IsShownRow (map stored_entry rows) =
-    All-map IsShownRow stored_entry rows (c.can_show.ensures (search rules)) in
+    All-map IsShownRow stored_entry rows (c.can_show.ensures.shown (search rules)) in
     subst AreDisputes
     (ap (λ (some : List StoredRecord). grouped (map stored_entry some))
     (c.deref.ensures.value ∙ sym c.deref-2.ensures.value)
-    ∙ sym c.in_ok-grouped.ensures)
+    ∙ sym c.in_ok-grouped.ensures.grouped)
     (disputes_show (map stored_entry rows) shown)
+
+-- the rows of records fit
+pub returns-in_err-rows-clause-own : goal.returns-in_err-rows-clause-own
+returns-in_err-rows-clause-own g c = λ naming wide.
+    let start = state g.S.Store c.args.tables.now.store in
+    let end = state g.S.Store c.list_uncharged.new.self.store in
+    let cause : HasCleanDisk end → (book : Book)
+    → IsReadyAt naming c.args.summary.now start.view book
+    → IsCaused start end c.in_err-rows.field-0.0 =
+    λ clean book ready. c.in_err-rows.ensures.cause clean (tables_of naming book)
+    ready.kept.holds (own_records ready wide).fit in
+    let p = err_from_is_err_and c.from_residual.result c.from_residual.ensures.1 in
+    rw (p.1, p.2) cause
+
+-- and can be shown
+pub returns-then-not-can_show-clause-own : goal.returns-then-not-can_show-clause-own
+returns-then-not-can_show-clause-own g c = λ naming wide clean book ready.
+    let lists = (c.in_ok-rows.ensures.looks.found clean).known (tables_of naming book)
+    ready.kept.holds in
+    let Shown : StoredRecord → Type 0 = λ row. IsShownRow (stored_entry row) in
+    absurd (c.can_show.ensures.refused c.if-not-can_show.true
+    (subst (All Shown) (sym c.deref.ensures.value)
+    (own_shown_rows ready wide c.in_ok-rows.rows.items lists)))
+
+-- for the groups memory alone may be wanting
+pub returns-in_err-grouped-clause-own : goal.returns-in_err-grouped-clause-own
+returns-in_err-grouped-clause-own g c = λ naming wide.
+    let start = state g.S.Store c.args.tables.now.store in
+    let end = state g.S.Store c.list_uncharged.new.self.store in
+    let Usage : StoredRecord → Type 0 = λ row. IsUsageData row.data_bytes.items in
+    let cause : HasCleanDisk end → (book : Book)
+    → IsReadyAt naming c.args.summary.now start.view book
+    → IsCaused start end c.in_err-grouped.field-0.0 =
+    λ clean book ready.
+    let lists = (c.in_ok-rows.ensures.looks.found clean).known (tables_of naming book)
+    ready.kept.holds in
+    caused_memory start end _ (c.in_err-grouped.ensures.taken
+    (subst (All Usage) (sym c.deref-2.ensures.value)
+    (own_usage ready wide c.in_ok-rows.rows.items lists))) in
+    let p = err_from_is_err_and c.from_residual-in_err-grouped.result
+    c.from_residual-in_err-grouped.ensures.1 in
+    rw (p.1, p.2) cause

@@ -1,10 +1,11 @@
 use Rattle.sqlite_trees.specs.Tree.{Trees}
-use Rattle.std.proofs.Common.{Vec}
+use Rattle.std.proofs.Common.{Vec, ◌∙◌, sym, true≢false}
 use Rattle.std.specs.Global.{Global}
 use Rattle.book_model.specs.declared.row.ChargeRow.{ChargeRow}
 use Rattle.book_model.specs.Words.{charges_outcome}
 use Rattle.tree_tables.specs.States.{state}
 use Rattle.table_ledger.proofs.OneCall.{call_reopen}
+use Rattle.table_ledger.proofs.SettledLists.{own_settled}
 use Rattle.table_ledger.proofs.SettleLemmas.{call_settled}
 use Rattle.table_ledger.proofs.ledger.TableLedgerLedger.charges.Goals as goal
 
@@ -27,3 +28,19 @@ returns-clause-rows g c =
     old.must_reopen c.settle.new.must_reopen c.try_charges-tried.result c.settle.result c.if-self.false
     (λ (trees : Trees). g.met.S.Store.settled old.tables.store trees)
     (c.try_charges-tried.ensures.tries names) c.settle.ensures.settles
+
+-- a ledger that is to be reopened lists nothing
+pub returns-then-self-clause-own : goal.returns-then-self-clause-own
+returns-then-self-clause-own g c = λ other clean books open_now.
+    absurd (true≢false (sym c.if-self.true ∙ open_now))
+
+-- what fails is the store's own
+pub returns-clause-own : goal.returns-clause-own
+returns-clause-own g c =
+    let old = c.args.self.now in
+    let names = g.N.Naming.name_of old.naming in
+    own_settled g.S.Store (λ (rows : Vec ChargeRow Global). rows.items) names old.summary
+    old.tables.store c.try_charges-tried.new.tables.store c.settle.new.tables.store (charges_outcome c.args.period)
+    old.must_reopen c.settle.new.must_reopen c.try_charges-tried.result c.settle.result
+    (c.try_charges-tried.ensures.tries names) (c.try_charges-tried.ensures.own names) c.settle.ensures.settles
+    c.settle.ensures.served c.settle.ensures.mended

@@ -1,10 +1,11 @@
 use Rattle.sqlite_trees.specs.Tree.{Trees}
-use Rattle.std.proofs.Common.{Vec, map}
+use Rattle.std.proofs.Common.{Vec, map, ◌∙◌, sym, true≢false}
 use Rattle.std.specs.Global.{Global}
 use Rattle.book_model.specs.declared.dispute.Dispute.{Dispute}
 use Rattle.book_model.specs.Words.{dispute_shown, disputes_outcome}
 use Rattle.tree_tables.specs.States.{state}
 use Rattle.table_ledger.proofs.OneCall.{call_reopen}
+use Rattle.table_ledger.proofs.SettledLists.{own_settled}
 use Rattle.table_ledger.proofs.SettleLemmas.{call_settled}
 use Rattle.table_ledger.proofs.ledger.TableLedgerLedger.disputes.Goals as goal
 
@@ -28,3 +29,20 @@ returns-clause-disputes g c =
     old.must_reopen c.settle.new.must_reopen c.try_disputes-tried.result c.settle.result c.if-self.false
     (λ (trees : Trees). g.met.S.Store.settled old.tables.store trees)
     (c.try_disputes-tried.ensures.tries names) c.settle.ensures.settles
+
+-- a ledger that is to be reopened lists nothing
+pub returns-then-self-clause-own : goal.returns-then-self-clause-own
+returns-then-self-clause-own g c = λ other clean books open_now.
+    absurd (true≢false (sym c.if-self.true ∙ open_now))
+
+-- what fails is the store's own
+pub returns-clause-own : goal.returns-clause-own
+returns-clause-own g c =
+    let old = c.args.self.now in
+    let names = g.N.Naming.name_of old.naming in
+    let wide = g.met.N.Naming.wide old.naming in
+    own_settled g.S.Store (λ (found : Vec Dispute Global). map dispute_shown found.items) names old.summary
+    old.tables.store c.try_disputes-tried.new.tables.store c.settle.new.tables.store (disputes_outcome names)
+    old.must_reopen c.settle.new.must_reopen c.try_disputes-tried.result c.settle.result
+    (c.try_disputes-tried.ensures.tries names) (c.try_disputes-tried.ensures.own names wide) c.settle.ensures.settles
+    c.settle.ensures.served c.settle.ensures.mended

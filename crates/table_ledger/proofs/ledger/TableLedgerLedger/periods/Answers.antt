@@ -1,9 +1,10 @@
 use Rattle.sqlite_trees.specs.Tree.{Trees}
-use Rattle.std.proofs.Common.{Vec, ℤ}
+use Rattle.std.proofs.Common.{Vec, ℤ, ◌∙◌, sym, true≢false}
 use Rattle.std.specs.Global.{Global}
 use Rattle.book_model.specs.Words.{periods_outcome}
 use Rattle.tree_tables.specs.States.{state}
 use Rattle.table_ledger.proofs.OneCall.{call_reopen}
+use Rattle.table_ledger.proofs.SettledLists.{own_settled}
 use Rattle.table_ledger.proofs.SettleLemmas.{call_settled}
 use Rattle.table_ledger.proofs.ledger.TableLedgerLedger.periods.Goals as goal
 
@@ -26,3 +27,19 @@ returns-clause-days g c =
     old.must_reopen c.settle.new.must_reopen c.try_periods-tried.result c.settle.result c.if-self.false
     (λ (trees : Trees). g.met.S.Store.settled old.tables.store trees)
     (c.try_periods-tried.ensures.tries names) c.settle.ensures.settles
+
+-- a ledger that is to be reopened lists nothing
+pub returns-then-self-clause-own : goal.returns-then-self-clause-own
+returns-then-self-clause-own g c = λ other clean books open_now.
+    absurd (true≢false (sym c.if-self.true ∙ open_now))
+
+-- what fails is the store's own
+pub returns-clause-own : goal.returns-clause-own
+returns-clause-own g c =
+    let old = c.args.self.now in
+    let names = g.N.Naming.name_of old.naming in
+    own_settled g.S.Store (λ (days : Vec ℤ Global). days.items) names old.summary
+    old.tables.store old.tables.store c.settle.new.tables.store periods_outcome
+    old.must_reopen c.settle.new.must_reopen c.try_periods-tried.result c.settle.result
+    (c.try_periods-tried.ensures.tries names) (c.try_periods-tried.ensures.own names) c.settle.ensures.settles
+    c.settle.ensures.served c.settle.ensures.mended

@@ -1,0 +1,156 @@
+-- Lists of books that calls made: what is read of their tables can be shown.
+use Rattle.std.proofs.Common.{◌≡◌, ◌∙◌, ℕ, Bool, List, [], ◌∷◌, Option, None, Some, map, sym, ap, subst}
+use Rattle.std.proofs.Common.{refl, true}
+use Rattle.std.specs.Prelude.{All}
+use Rattle.std.specs.FinMap.{get}
+use Rattle.std.specs.List.{AllByRecursion, cons_option}
+use Rattle.std.specs.Option.{option_map}
+use Rattle.std.specs.List.Sorted.{IsStrictlySortedBy}
+use Rattle.std.specs.declared.cmp.Ordering.TheVariants.{Less}
+use Rattle.std.proofs.lemmas.List.Elements.{All-from_recursion}
+use Rattle.sqlite_trees.specs.View.{View}
+use Rattle.sqlite_trees.proofs.ListLemmas.{map-map}
+use Rattle.book_model.specs.Words.{AreLines, AreRows, Book, Naming, by_bytes, by_line, members, set_of}
+use Rattle.book_model.specs.declared.line.Line.{Line}
+use Rattle.book_model.specs.declared.row.ChargeRow.{ChargeRow}
+use Rattle.kept_tables.specs.Numbered.{rows_under}
+use Rattle.kept_tables.specs.Tables.{RecordRow, RecordTable}
+use Rattle.kept_tables.specs.TablesOf.{tables_of}
+use Rattle.table_readings.specs.ListsRead.{is_period}
+use Rattle.table_readings.specs.Readable.{IsReadable}
+use Rattle.table_readings.proofs.ListOrder.{all_so}
+use Rattle.table_readings.proofs.ReadableLemmas.{calls_read}
+use Rattle.table_readings.proofs.ShownDisputes.{lists_show}
+use Rattle.tree_tables.specs.Answers.{ListsDays, ListsLines, ListsUncharged}
+use Rattle.tree_tables.specs.Fits.{DaysFit, LinesFit}
+use Rattle.tree_tables.specs.Stored.{signed_name, stored_entry}
+use Rattle.tree_tables.specs.declared.line_rows.StoredLine.{StoredLine}
+use Rattle.tree_tables.specs.declared.stored_record.StoredRecord.{StoredRecord}
+use Rattle.table_ledger.specs.DisputeReads.{IsShownRow}
+use Rattle.table_ledger.specs.LineReads.{NamesRise, lines_stored}
+use Rattle.table_ledger.specs.Ready.{IsReadyAt}
+use Rattle.table_ledger.specs.RecordReads.{CanBeRead, HasWideNames, IsUsageData}
+use Rattle.table_ledger.specs.Summaries.{ruled_in}
+use Rattle.table_ledger.specs.declared.summary.Summary.{Summary}
+use Rattle.table_ledger.proofs.LineReadings.{line_with, lines_listed}
+use Rattle.table_ledger.proofs.ListReadings.{rulings_are}
+use Rattle.table_ledger.proofs.BookRows.{IsTaken, can_be_read, days_fit, lines_fit, lines_rise}
+use Rattle.table_ledger.proofs.BookRows.{uncharged_taken}
+
+-- ---- the names of lines that are read rise where those of the stored lines do
+
+-- a stored line that is read, in front of others, where its record is there
+abbrev read_one : StoredLine → Option RecordRow → List Line → List Line
+read_one one found lines =
+    cons_option (option_map (λ (row : RecordRow). line_with one (one.name, row)) found) lines
+
+module _ (period : ℕ) (records : RecordTable) where
+  -- a name is before those of the lines that are read, where it is before those of all
+  read_below : (name : List ℕ) (stored : List StoredLine)
+      → AllByRecursion (λ other. by_bytes name other ≡ Less)
+      (map (λ (one : StoredLine). one.name) stored)
+      → AllByRecursion (λ other. by_bytes name other ≡ Less)
+      (map (λ (line : Line). line.name) (lines_stored period records stored))
+  read_below name [] below = tt
+  read_below name (one ∷ stored) below =
+      let rest = read_below name stored below.1 in
+      elim (get records one.name) as (λ found. AllByRecursion (λ other. by_bytes name other ≡ Less)
+      (map (λ (line : Line). line.name)
+      (read_one one found (lines_stored period records stored)))) [
+        | None ↦ rest
+        | Some row ↦ (below.0, rest)
+      ]
+
+  -- so they rise
+  read_rise : (stored : List StoredLine)
+      → IsStrictlySortedBy by_bytes (map (λ (one : StoredLine). one.name) stored)
+      → NamesRise (lines_stored period records stored)
+  unfolding IsStrictlySortedBy
+  read_rise [] rise = tt
+  read_rise (one ∷ stored) rise =
+      let rest = read_rise stored rise.1 in
+      elim (get records one.name) as (λ found. NamesRise
+      (read_one one found (lines_stored period records stored))) [
+        | None ↦ rest
+        | Some row ↦ (read_below one.name stored rise.0, rest)
+      ]
+
+-- ---- what is read
+
+module _ {naming : Naming} {summary : Summary} {view : View} {book : Book}
+    (ready : IsReadyAt naming summary view book) where
+  -- the book can be read back
+  whole : IsReadable naming book
+  whole = calls_read naming book ready.kept.calls
+
+  -- a period that there is by what is remembered, there is
+  there_is : (number : ℕ) → is_period number (ruled_in summary) ≡ true
+      → is_period number book.rulings ≡ true
+  there_is number is = ap (is_period number) (rulings_are ready.remembers) ∙ is
+
+  -- its charge rows fit
+  pub own_days : (number : ℕ) → is_period number (ruled_in summary) ≡ true
+      → DaysFit number (tables_of naming book)
+  own_days number is = days_fit naming book whole number (there_is number is)
+
+  -- and those that are listed can be shown
+  pub own_rows : (number : ℕ) (rows : List ChargeRow)
+      → is_period number (ruled_in summary) ≡ true
+      → ListsDays number (tables_of naming book) rows → AreRows rows
+  own_rows number rows is lists =
+      subst AreRows (sym lists) (lists_show.rows naming book number whole (there_is number is))
+
+  -- its lines fit
+  pub own_lines : HasWideNames naming → (number : ℕ) → is_period number (ruled_in summary) ≡ true
+      → LinesFit number (tables_of naming book)
+  own_lines wide number is = lines_fit naming book whole number (there_is number is) wide
+
+  -- records can be read
+  pub own_records : HasWideNames naming → CanBeRead (tables_of naming book)
+  own_records wide = can_be_read naming book whole wide
+
+  module _ (number : ℕ) (is : is_period number (ruled_in summary) ≡ true)
+      (stored : List StoredLine) (lines : List Line)
+      (lists : ListsLines number (tables_of naming book) stored)
+      (read : lines ≡ lines_stored number (tables_of naming book).records stored) where
+    -- the names of the lines that are read rise
+    pub own_rise : NamesRise lines
+    own_rise =
+        let rows = rows_under number (tables_of naming book).lines in
+        let names : map (λ (one : StoredLine). one.name) stored
+        ≡ map (λ (row : (ℕ × List ℕ) × Bool). row.0.1) rows =
+        sym (map-map (λ (named : List ℕ × Bool). named.0) signed_name stored)
+        ∙ ap (map (λ (named : List ℕ × Bool). named.0)) lists
+        ∙ map-map (λ (named : List ℕ × Bool). named.0)
+        (λ (row : (ℕ × List ℕ) × Bool). (row.0.1, row.1)) rows in
+        subst NamesRise (sym read)
+        (read_rise number (tables_of naming book).records stored
+        (subst (IsStrictlySortedBy by_bytes) (sym names)
+        (lines_rise naming book whole number (there_is number is))))
+
+    -- and they can be shown
+    pub own_shown : AreLines (members (set_of by_line lines))
+    own_shown =
+        subst AreLines
+        (lines_listed number (tables_of naming book) stored lines (members (set_of by_line lines))
+        lists read refl)
+        (lists_show.lines naming book number whole (there_is number is))
+
+  module _ (wide : HasWideNames naming) (rows : List StoredRecord)
+      (lists : ListsUncharged (tables_of naming book) rows) where
+    taken : AllByRecursion (λ (row : StoredRecord). IsTaken (stored_entry row)) rows
+    taken = uncharged_taken naming book whole wide rows lists
+
+    -- rows of records that are not charged can be shown
+    pub own_shown_rows : All (λ (row : StoredRecord). IsShownRow (stored_entry row)) rows
+    own_shown_rows =
+        All-from_recursion (λ (row : StoredRecord). IsShownRow (stored_entry row)) rows
+        (all_so (λ (row : StoredRecord). IsTaken (stored_entry row))
+        (λ row. IsShownRow (stored_entry row)) (λ row its. its.shown) rows taken)
+
+    -- and their data are those of usage records
+    pub own_usage : All (λ (row : StoredRecord). IsUsageData row.data_bytes.items) rows
+    own_usage =
+        All-from_recursion (λ (row : StoredRecord). IsUsageData row.data_bytes.items) rows
+        (all_so (λ (row : StoredRecord). IsTaken (stored_entry row))
+        (λ row. IsUsageData row.data_bytes.items) (λ row its. its.data_bytes) rows taken)

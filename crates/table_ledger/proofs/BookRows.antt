@@ -1,0 +1,391 @@
+-- The rows of books that calls made: they fit, they can be shown, and they are no more than are
+-- listed at once.
+use Rattle.std.proofs.Common.{◌≡◌, ◌∙◌, ◌+◌, ◌*◌, ◌≤◌, ◌^◌, ℕ, List, [], ◌∷◌, ◌++◌, length, map}
+use Rattle.std.proofs.Common.{Bool, true, false, cond, ◌&&◌, Option, None, Some, refl, sym, ap, subst}
+use Rattle.std.proofs.Common.{arith}
+use Rattle.std.specs.Prelude.{◌==◌, filter, sum_by}
+use Rattle.std.specs.Cmp.{IsTotalOrder}
+use Rattle.std.specs.FinMap.{FinMap, contains_key, entries, entries_sorted, from_entries, get}
+use Rattle.std.specs.FinMap.{get-from_entries, insert, len, len-empty, len-entries, len-insert}
+use Rattle.std.specs.FinMap as fin
+use Rattle.std.specs.List.{AllByRecursion, cons_option, filter_map}
+use Rattle.std.specs.List.Sorted.{IsPermutation, IsStrictlySortedBy}
+use Rattle.std.specs.declared.cmp.Ordering.{Ordering}
+use Rattle.std.proofs.lemmas.Cmp.{nat_list_cmp_total}
+use Rattle.std.proofs.lemmas.List.{length-append, length-map}
+use Rattle.std.proofs.lemmas.List.Sorted.{IsPermutation-sym, length_permutation}
+use Rattle.std.proofs.lemmas.List.Sums.{count_by-le-length, length-filter}
+use Rattle.std.proofs.lemmas.Map.Lookups.{exact_bytes}
+use Rattle.sqlite_trees.proofs.ListLemmas.{all-filter, all-map, all-permutation, all_from_map}
+use Rattle.smf_frames.specs.Framed.{data_of}
+use Rattle.tariff_rules.specs.declared.priced.Priced.{Priced}
+use Rattle.book_model.specs.Words.{AreAmong, AreHeld, AreRows, AreLines, Book, IsUsage, IsUsageRecord}
+use Rattle.book_model.specs.Words.{Naming, Period, Records, all_periods, by_bytes, by_key, has, key_of}
+use Rattle.book_model.specs.Words.{keys_of, members, most_held, name_of, price_in, row_at, rows_of}
+use Rattle.book_model.specs.Words.{set_of, those, IsPriced}
+use Rattle.book_model.specs.Sets.{Set}
+use Rattle.book_model.specs.declared.row.ChargeRow.{ChargeRow}
+use Rattle.book_model.specs.declared.row.RowKey.{RowKey}
+use Rattle.book_model.proofs.RecordSets.{has_those, same_records}
+use Rattle.book_model.proofs.RowLemmas.{by_key_total}
+use Rattle.book_model.proofs.SetLemmas.{members-those}
+use Rattle.book_model.proofs.SumsAlike.{length-sum_by}
+use Rattle.kept_tables.specs.Numbered.{rows_under, under}
+use Rattle.kept_tables.specs.Reading.{rows_read}
+use Rattle.kept_tables.specs.Tables.{RecordRow}
+use Rattle.kept_tables.specs.TablesOf.{line_entries, signed_names, tables_of}
+use Rattle.kept_tables.proofs.HeldPeriods.{all_held, one_of}
+use Rattle.kept_tables.proofs.PeriodPlaces.{at_place, slice_get-map}
+use Rattle.kept_tables.proofs.PeriodReading.{read-period}
+use Rattle.kept_tables.proofs.RowReading.{rows_follow}
+use Rattle.table_readings.specs.Fits.{DayFits}
+use Rattle.table_readings.specs.ListsRead.{is_period}
+use Rattle.table_readings.specs.Readable.{IsReadable}
+use Rattle.table_readings.proofs.DisputedRows.{each_entry}
+use Rattle.table_readings.proofs.Finding.{find_one}
+use Rattle.table_readings.proofs.FitsLemmas.{numbers_fit}
+use Rattle.table_readings.proofs.IdentityLength.{identity-long}
+use Rattle.table_readings.proofs.ListLemmas.{period_there}
+use Rattle.table_readings.proofs.ListOrder.{all_joined}
+use Rattle.table_readings.proofs.PriceSums.{costs, some_within}
+use Rattle.table_readings.proofs.RecordReading.{all_entries, all_permuted, entry, entry_at}
+use Rattle.tree_tables.specs.Answers.{ListsUncharged, is_uncharged}
+use Rattle.tree_tables.specs.Columns.{day_columns, line_columns, record_columns}
+use Rattle.tree_tables.specs.Fits.{ChargeFits, DaysFit, LineFits, LinesFit, RecordFits, RowsFit}
+use Rattle.tree_tables.specs.Stored.{stored_entry}
+use Rattle.tree_tables.specs.declared.stored_record.StoredRecord.{StoredRecord}
+use Rattle.tree_tables.proofs.Layouts.{day_layout}
+use Rattle.tree_tables.proofs.RecordLists.{keys_rise}
+use Rattle.tree_tables.proofs.RowsRead.{all_entries as each_of, nothing_asked}
+use Rattle.table_ledger.specs.DisputeReads.{IsShownRow}
+use Rattle.table_ledger.specs.RecordReads.{CanBeRead, HasWideNames, IsUsageData}
+
+-- ---- how many there are
+
+module _ {K V : Type 0} {R : K → K → Ordering} (o : IsTotalOrder R) where
+  -- an entry that is put into a map is one more at most
+  put_few : (m : FinMap R V) (k : K) (v : V) → len (insert m k v) ≤ len m + 1
+  put_few m k v = subst (λ n. n ≤ len m + 1) (sym (len-insert o m k v)) (by (contains_key m k))
+    where
+      by : (there : Bool) → cond there (len m) (len m + 1) ≤ len m + 1
+      by true = omega arith
+      by false = omega arith
+
+  -- so a map has no more entries than it is made of
+  entries_few : (es : List (K × V)) → len (from_entries {R = R} es) ≤ length es
+  entries_few [] = subst (λ n. n ≤ 0) (sym (len-empty R V)) (omega arith)
+  entries_few (e ∷ es) =
+      let rest = entries_few es in
+      let one = put_few (from_entries es) e.0 e.1 in
+      omega (arith, rest, one)
+
+module _ {K : Type 0} {R : K → K → Ordering} (o : IsTotalOrder R) where
+  -- and a set no more members
+  set_few : (ks : List K) → len (set_of R ks) ≤ length ks
+  set_few [] = subst (λ n. n ≤ 0) (sym (len-empty R (Unit {0}))) (omega arith)
+  set_few (k ∷ ks) =
+      let rest = set_few ks in
+      let one = put_few o (set_of R ks) k tt in
+      omega (arith, rest, one)
+
+  members_len : (s : Set R) → length (members s) ≡ len s
+  members_len s = length-map (entries s) (λ (e : K × Unit {0}). e.0) ∙ sym (len-entries s)
+
+-- there are no more charge rows than prices
+rows_few : (priced : List Priced) → length (rows_of priced) ≤ length priced
+rows_few priced =
+    let rows = length-map (keys_of priced) (row_at priced) in
+    let keys = members_len by_key_total (set_of by_key (map key_of priced)) in
+    let few = set_few by_key_total (map key_of priced) in
+    let all = length-map priced key_of in
+    omega (arith, rows, keys, few, all)
+
+-- what one gives is one more at most
+one_given : {Y : Type 0} (given : Option Y) (others : List Y) (n : ℕ) → length others ≤ n
+    → length (cons_option given others) ≤ n + 1
+one_given None others n few = omega (arith, few)
+one_given (Some given) others n few = omega (arith, few)
+
+-- no more are given than there are
+given_few : {X Y : Type 0} (give : X → Option Y) (xs : List X)
+    → length (filter_map give xs) ≤ length xs
+given_few give [] = omega arith
+given_few give (x ∷ xs) =
+    let one = one_given (give x) (filter_map give xs) (length xs) (given_few give xs) in
+    omega (arith, one)
+
+-- ---- records
+
+-- what is asked of a record's row: it fits, its data are those of a usage record, and it can be
+-- shown
+pub record IsTaken (row : List ℕ × RecordRow) : Type 0 where
+  pub fits : RecordFits (record_columns row)
+  pub data_bytes : IsUsageData row.1.data_bytes
+  pub shown : IsShownRow row
+
+module _ (naming : Naming) (book : Book) (whole : IsReadable naming book) where
+  -- there are no more records among those that are held than these
+  few_among : (some : Records) → AreAmong some book.held
+      → length (members some) ≤ length (members book.held)
+  few_among some among =
+      let own : those (has some) book.held ≡ some =
+      same_records (those (has some) book.held) some (λ q.
+      has_those (has some) book.held q ∙ both (has some q) (has book.held q) (among q)) in
+      let same = ap (λ (s : Records). length (members s)) own in
+      let listed =
+      ap length (members-those nat_list_cmp_total exact_bytes (has some) book.held) in
+      let passed = length-filter (has some) (members book.held) in
+      let few = count_by-le-length (has some) (members book.held) in
+      omega (arith, same, listed, passed, few)
+    where
+      both : (a b : Bool) → (a ≡ true → b ≡ true) → (a && b) ≡ a
+      both true b there = there refl
+      both false b there = refl
+
+  -- and no more prices
+  few_prices : (some : Records) → AreAmong some book.held
+      → length (costs naming book whole some) ≤ most_held
+  few_prices some among =
+      let own = length-sum_by (costs naming book whole some) in
+      let all = length-sum_by (costs naming book whole book.held) in
+      let within = some_within naming book whole (λ _. 1) some among in
+      let given = given_few (price_in book.rulings) (members book.held) in
+      let held = whole.limits.held in
+      omega (arith, own, all, within, given, held)
+
+  -- the row of a record that is held is taken
+  held_taken : HasWideNames naming → (bytes : List ℕ) (priced : Priced) → has book.held bytes ≡ true
+      → price_in book.rulings bytes ≡ Some priced
+      → IsTaken (entry_at naming book whole.sound bytes priced)
+  held_taken wide bytes priced there price =
+      let usage = whole.usage bytes there in
+      let cost = whole.priced bytes priced there price in
+      let row = entry_at naming book whole.sound bytes priced in
+      record {
+        fits = record {
+          name = (row.0, wide (data_of bytes), refl);
+          identity = (row.1.identity, refl);
+          data_bytes = (row.1.data_bytes, refl);
+          price = record {
+            day = (priced.day, cost.day, refl);
+            shift = (priced.shift, cost.shift, refl);
+            centre = (priced.centre, cost.centre, refl);
+            cpu = (priced.cpu, refl);
+            excp = (priced.excp, refl);
+            amount = (priced.amount, refl);
+          };
+          charged = (row.1.charged, refl);
+          posted = (row.1.posted, refl);
+        };
+        data_bytes = record {
+          short = usage.framed.short;
+          usage = subst IsUsage usage.framed.is usage.usage;
+        };
+        shown = record { identity = identity-long bytes usage.usage; day = cost.day };
+      }
+
+  -- so are all rows of records
+  all_taken : HasWideNames naming → AllByRecursion IsTaken (all_entries naming book whole.sound)
+  all_taken wide =
+      each_entry naming book whole.sound IsTaken (λ bytes. Unit {0})
+      (λ bytes priced there price nothing. held_taken wide bytes priced there price)
+      (members book.held) (λ bytes there. fin.contains_key-keys book.held bytes ∙ there)
+      (nothing_asked (members book.held))
+
+  -- and each that the table has
+  row_taken : HasWideNames naming → (name : List ℕ) (row : RecordRow)
+      → get (tables_of naming book).records name ≡ Some row → IsTaken (name, row)
+  row_taken wide name row there =
+      find_one by_bytes exact_bytes (λ name row. IsTaken (name, row)) name row
+      (all_entries naming book whole.sound) (all_taken wide)
+      (sym (get-from_entries nat_list_cmp_total (all_entries naming book whole.sound) name)
+      ∙ there)
+
+  -- there are no more rows of records than may be held
+  few_records : length (entries (tables_of naming book).records) ≤ most_held
+  few_records =
+      let all = all_entries naming book whole.sound in
+      let same = length_permutation (entries (tables_of naming book).records) all
+      (all_permuted naming book whole.sound) in
+      let given = given_few (entry naming book whole.sound) (members book.held) in
+      let held = whole.limits.held in
+      omega (arith, same, given, held)
+
+  -- so records can be read
+  pub can_be_read : HasWideNames naming → CanBeRead (tables_of naming book)
+  can_be_read wide = record {
+    fit = record {
+      each = λ name row there. (row_taken wide name row there).fits;
+      few = (let few = few_records in omega (arith, few));
+    };
+    usage = λ name row there. (row_taken wide name row there).data_bytes;
+  }
+
+  -- and those that are not charged are taken
+  pub uncharged_taken : HasWideNames naming → (list : List StoredRecord)
+      → ListsUncharged (tables_of naming book) list
+      → AllByRecursion (λ (row : StoredRecord). IsTaken (stored_entry row)) list
+  uncharged_taken wide list lists =
+      let rows = entries (tables_of naming book).records in
+      let all = all-permutation IsTaken (all_entries naming book whole.sound) rows
+      (IsPermutation-sym rows (all_entries naming book whole.sound)
+      (all_permuted naming book whole.sound)) (all_taken wide) in
+      all_from_map IsTaken stored_entry list
+      (all-permutation IsTaken (filter is_uncharged rows) (map stored_entry list)
+      (IsPermutation-sym (map stored_entry list) (filter is_uncharged rows) lists.same)
+      (all-filter IsTaken is_uncharged rows all))
+
+-- ---- charge rows
+
+-- a charge row fits
+charge_fits : (place : ℕ × RowKey) (row : ChargeRow) → DayFits place row
+    → ChargeFits (day_columns (place, row))
+charge_fits place row fits = record {
+  day = (place.1.day, fits.day, refl);
+  centre = (place.1.centre, fits.centre, refl);
+  shift = (place.1.shift, fits.shift, refl);
+  count = (row.count, refl);
+  cpu = (row.cpu, refl);
+  blocks = (row.blocks, refl);
+  amount = (row.amount, refl);
+}
+
+-- ---- lines
+
+-- lines of wide names fit
+under_fit : (number : ℕ) (es : List (List ℕ × Bool))
+    → AllByRecursion (λ (e : List ℕ × Bool). length e.0 ≡ 32) es
+    → AllByRecursion LineFits (map line_columns (under number es))
+under_fit number [] wide = tt
+under_fit number (e ∷ es) wide =
+    (record { name = (e.0, wide.0, refl); plus = (e.1, refl) }, under_fit number es wide.1)
+
+-- they have the names
+under_names : (number : ℕ) (es : List (List ℕ × Bool))
+    → map (λ (row : (ℕ × List ℕ) × Bool). row.0.1) (under number es)
+    ≡ map (λ (e : List ℕ × Bool). e.0) es
+under_names number [] = refl
+under_names number (e ∷ es) = ap (λ rest. e.0 ∷ rest) (under_names number es)
+
+-- and are as many
+under_len : (number : ℕ) (es : List (List ℕ × Bool))
+    → length (map line_columns (under number es)) ≡ length es
+under_len number es =
+    length-map (under number es) line_columns
+    ∙ length-map es (λ (e : List ℕ × Bool). ((number, e.0), e.1))
+
+-- the names of lines are wide
+signed_wide : (naming : Naming) → HasWideNames naming → (plus : Bool) (ks : List (List ℕ))
+    → AllByRecursion (λ (e : List ℕ × Bool). length e.0 ≡ 32)
+    (map {B = List ℕ × Bool} (λ bytes. (name_of naming bytes, plus)) ks)
+signed_wide naming wide plus [] = tt
+signed_wide naming wide plus (k ∷ ks) = (wide (data_of k), signed_wide naming wide plus ks)
+
+module _ (naming : Naming) (book : Book) (whole : IsReadable naming book) (number : ℕ)
+    (is : is_period number book.rulings ≡ true) where
+  -- the period of this number speaks of records that are held
+  period_held : (period : Period) × AreHeld book.held period
+  period_held =
+      let period = period_there book whole.sound.closed number is in
+      let place = at_place naming book whole.sound number period.0 period.1 in (
+        period.0,
+        one_of (AreHeld book.held) (all_periods book) place.0 period.0
+            (all_held naming book whole.sound) place.2,
+      )
+
+  -- its charge rows are no more than records may be held
+  few_days : length (rows_under number (tables_of naming book).days) ≤ most_held
+  unfolding period_held
+  few_days =
+      let days = (tables_of naming book).days in
+      let period = period_there book whole.sound.closed number is in
+      let held = period_held.1 in
+      let same = ap length (rows_follow naming book number period.0 whole.sound period.1) in
+      let read = length-map (rows_under number days)
+      (λ (row : (ℕ × RowKey) × ChargeRow). row.1) in
+      let few = rows_few (costs naming book whole period.0.counted) in
+      let most = few_prices naming book whole period.0.counted held.counted in
+      omega (arith, same, read, few, most)
+
+  -- so they fit
+  pub days_fit : DaysFit number (tables_of naming book)
+  days_fit =
+      let days = (tables_of naming book).days in
+      let fits = numbers_fit naming book whole in
+      let Good : (ℕ × RowKey) × ChargeRow → Type 0 = λ e. ChargeFits (day_columns e) in
+      let all = each_of day_layout.total day_layout.exact Good days
+      (λ place row there. charge_fits place row (fits.days place row there)) in
+      let few = few_days in
+      let mapped = length-map (rows_under number days) day_columns in
+      record {
+        fit = all-map ChargeFits day_columns (rows_under number days)
+            (all-filter Good (λ (row : (ℕ × RowKey) × ChargeRow). row.0.0 == number) (entries days)
+            all);
+        few = omega (arith, few, mapped);
+      }
+
+  -- the entries of its lines
+  abbrev its_lines : List (List ℕ × Bool)
+  its_lines = line_entries naming period_held.0
+
+  -- its lines stand under its number
+  lines_under : rows_under number (tables_of naming book).lines
+      ≡ under number (entries (from_entries {R = by_bytes} its_lines))
+  unfolding period_held
+  lines_under =
+      let period = period_there book whole.sound.closed number is in
+      let place = at_place naming book whole.sound number period.0 period.1 in
+      read-period by_bytes nat_list_cmp_total exact_bytes 1 place.0 number
+      (map (line_entries naming) (all_periods book)) its_lines
+      (slice_get-map (line_entries naming) (all_periods book) place.0 period.0 place.2) place.1
+
+  -- they are no more than twice as many as records may be held
+  few_lines : length (entries (from_entries {R = by_bytes} its_lines)) ≤ 2 * most_held
+  few_lines =
+      let period = period_held.0 in
+      let held = period_held.1 in
+      let made = entries_few {V = Bool} nat_list_cmp_total its_lines in
+      let same = len-entries (from_entries {R = by_bytes} its_lines) in
+      let both = length-append (signed_names naming true period.added)
+      (signed_names naming false period.taken) in
+      let plus = length-map (members period.added)
+      (λ bytes. let e : List ℕ × Bool = (name_of naming bytes, true) in e) in
+      let minus = length-map (members period.taken)
+      (λ bytes. let e : List ℕ × Bool = (name_of naming bytes, false) in e) in
+      let added = few_among naming book whole period.added held.added in
+      let taken = few_among naming book whole period.taken held.taken in
+      let most = whole.limits.held in
+      omega (arith, made, same, both, plus, minus, added, taken, most)
+
+  -- so they fit
+  pub lines_fit : HasWideNames naming → LinesFit number (tables_of naming book)
+  lines_fit wide =
+      let period = period_held.0 in
+      let Wide : List ℕ × Bool → Type 0 = λ e. length e.0 ≡ 32 in
+      let made : AllByRecursion Wide its_lines =
+      all_joined Wide (signed_names naming true period.added)
+      (signed_names naming false period.taken)
+      (signed_wide naming wide true (members period.added))
+      (signed_wide naming wide false (members period.taken)) in
+      let alone = from_entries {R = by_bytes} its_lines in
+      let all = each_of nat_list_cmp_total exact_bytes Wide alone (λ name plus there.
+      find_one by_bytes exact_bytes (λ name plus. Wide (name, plus)) name plus its_lines made
+      (sym (get-from_entries nat_list_cmp_total its_lines name) ∙ there)) in
+      let few = few_lines in
+      let many = under_len number (entries alone) in
+      subst (λ (rows : List ((ℕ × List ℕ) × Bool)). RowsFit LineFits (map line_columns rows))
+      (sym lines_under) (record {
+        fit = under_fit number (entries alone) all;
+        few = omega (arith, few, many);
+      })
+
+  -- and their names rise
+  pub lines_rise : IsStrictlySortedBy by_bytes
+      (map (λ (row : (ℕ × List ℕ) × Bool). row.0.1)
+      (rows_under number (tables_of naming book).lines))
+  lines_rise =
+      let alone = from_entries {R = by_bytes} its_lines in
+      subst (λ (rows : List ((ℕ × List ℕ) × Bool)). IsStrictlySortedBy by_bytes
+      (map (λ (row : (ℕ × List ℕ) × Bool). row.0.1) rows)) (sym lines_under)
+      (subst (IsStrictlySortedBy by_bytes) (sym (under_names number (entries alone)))
+      (keys_rise by_bytes (entries alone) (entries_sorted alone)))
