@@ -1,15 +1,15 @@
 -- The rows of books that calls made: they fit, they can be shown, and they are no more than are
 -- listed at once.
-use Rattle.std.proofs.Common.{◌≡◌, ◌∙◌, ◌+◌, ◌*◌, ◌≤◌, ◌^◌, ℕ, List, [], ◌∷◌, ◌++◌, length, map}
+use Rattle.std.proofs.Common.{◌≡◌, ◌∙◌, ◌+◌, ◌*◌, ◌≤◌, ℕ, List, [], ◌∷◌, length, map}
 use Rattle.std.proofs.Common.{Bool, true, false, cond, ◌&&◌, Option, None, Some, refl, sym, ap, subst}
 use Rattle.std.proofs.Common.{arith}
-use Rattle.std.specs.Prelude.{◌==◌, filter, sum_by}
+use Rattle.std.specs.Prelude.{◌==◌, filter}
 use Rattle.std.specs.Cmp.{IsTotalOrder}
 use Rattle.std.specs.FinMap.{FinMap, contains_key, entries, entries_sorted, from_entries, get}
 use Rattle.std.specs.FinMap.{get-from_entries, insert, len, len-empty, len-entries, len-insert}
 use Rattle.std.specs.FinMap as fin
 use Rattle.std.specs.List.{AllByRecursion, cons_option, filter_map}
-use Rattle.std.specs.List.Sorted.{IsPermutation, IsStrictlySortedBy}
+use Rattle.std.specs.List.Sorted.{IsStrictlySortedBy}
 use Rattle.std.specs.declared.cmp.Ordering.{Ordering}
 use Rattle.std.proofs.lemmas.Cmp.{nat_list_cmp_total}
 use Rattle.std.proofs.lemmas.List.{length-append, length-map}
@@ -19,10 +19,10 @@ use Rattle.std.proofs.lemmas.Map.Lookups.{exact_bytes}
 use Rattle.sqlite_trees.proofs.ListLemmas.{all-filter, all-map, all-permutation, all_from_map}
 use Rattle.smf_frames.specs.Framed.{data_of}
 use Rattle.tariff_rules.specs.declared.priced.Priced.{Priced}
-use Rattle.book_model.specs.Words.{AreAmong, AreHeld, AreRows, AreLines, Book, IsUsage, IsUsageRecord}
+use Rattle.book_model.specs.Words.{AreAmong, AreHeld, Book, IsUsage}
 use Rattle.book_model.specs.Words.{Naming, Period, Records, all_periods, by_bytes, by_key, has, key_of}
 use Rattle.book_model.specs.Words.{keys_of, members, most_held, name_of, price_in, row_at, rows_of}
-use Rattle.book_model.specs.Words.{set_of, those, IsPriced}
+use Rattle.book_model.specs.Words.{set_of, those}
 use Rattle.book_model.specs.Sets.{Set}
 use Rattle.book_model.specs.declared.row.ChargeRow.{ChargeRow}
 use Rattle.book_model.specs.declared.row.RowKey.{RowKey}
@@ -31,7 +31,6 @@ use Rattle.book_model.proofs.RowLemmas.{by_key_total}
 use Rattle.book_model.proofs.SetLemmas.{members-those}
 use Rattle.book_model.proofs.SumsAlike.{length-sum_by}
 use Rattle.kept_tables.specs.Numbered.{rows_under, under}
-use Rattle.kept_tables.specs.Reading.{rows_read}
 use Rattle.kept_tables.specs.Tables.{RecordRow}
 use Rattle.kept_tables.specs.TablesOf.{line_entries, signed_names, tables_of}
 use Rattle.kept_tables.proofs.HeldPeriods.{all_held, one_of}

@@ -11,7 +11,7 @@ use Rattle.book_model.specs.declared.fault.LedgerFault.TheVariants.{Memory, NoSu
 use Rattle.tree_tables.specs.States.{HasCleanDisk, state}
 use Rattle.table_ledger.specs.Recalled.{FailsAsItsOwn}
 use Rattle.table_ledger.specs.Shelf.{Shelf}
-use Rattle.table_ledger.specs.Tries.{Ends, Settles, Tries, TriesItsOwn}
+use Rattle.table_ledger.specs.Tries.{Settles, Tries, TriesItsOwn}
 use Rattle.table_ledger.specs.declared.summary.Summary.{Summary}
 use Rattle.table_ledger.proofs.OwnBooks.{cause_told}
 use Rattle.table_ledger.proofs.SurvivalLemmas.{clean_before}
