@@ -53,8 +53,8 @@ NEEDED = ["import " + kind for kind in (
     "repeated", "unpriced", "in time", "late", "variant", "variant of a late record", "variant of a posted record",
     "later variant of a posted record", "third variant", "other")]
 NEEDED += ["tariff " + answer for answer in (
-    "DONE", "ALREADY", "ledger 6", "ledger 7", "ledger 8", "tariff 1", "tariff 2 step_record", "tariff 3 job_cpu",
-    "tariff 4", "tariff 5")]
+    "DONE", "ALREADY", "ledger 6", "ledger 7", "that changed prices", "that changed prices in dispute", "tariff 1",
+    "tariff 2 step_record", "tariff 3 job_cpu", "tariff 4", "tariff 5")]
 NEEDED += ["close " + answer for answer in ("DONE", "ALREADY", "ledger 9", "ledger 10", "that moved rows")]
 
 
@@ -155,7 +155,7 @@ class History:
         """A tariff from a day on whose number ends in 0, or one that came before; now and then a file that is none."""
         if self.fronts and self.numbers.below(5) == 0:
             return self.earlier(self.fronts)
-        first = (today + self.numbers.below(30)) // 10 * 10
+        first = (today + self.numbers.below(15)) // 10 * 10
         rules = RULES[self.numbers.below(2) if self.numbers.below(3) else 2 + self.numbers.below(5)]
         front = "t%d" % len(self.fronts)
         self.name_text(front, 'effective = "%s"\n[rates]\nstep_cpu = %d\n'
@@ -213,6 +213,14 @@ class History:
             self.came["close that moved rows"] += 1
         return answer
 
+    def tariff(self, text):
+        before, charged = dict(self.books.held), self.books.undisputed()
+        answer = self.books.tariff(text.encode())
+        changed = {name for name, record in before.items() if self.books.held[name] != record}
+        self.came["tariff that changed prices"] += bool(changed)
+        self.came["tariff that changed prices in dispute"] += bool(changed - charged)
+        return answer
+
     def answer(self, words):
         """The answer to a command."""
         verb, *rest = words.split()
@@ -222,7 +230,7 @@ class History:
         if verb == "close":
             answer = self.close(*rest)
         else:
-            answer = self.books.tariff("".join(self.texts[name] for name in rest).encode())
+            answer = self.tariff("".join(self.texts[name] for name in rest))
         self.came["%s %s" % (verb, re.sub("chargectl: |(?<=ledger 9) .*", "", answer[0]))] += 1
         return answer
 

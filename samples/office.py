@@ -1,6 +1,7 @@
 """The office's rules once more, apart from the program: what its commands print of a dump, of a tariff file, of a
 close, and as each report. `samples/make` writes by it what a month of commands has to print, and history.py the answers
-to a long history. Only what these need is here: no dump is torn, and five faults of a tariff file are known."""
+to a long history. Only what these need is here: no dump is torn, no books are full, and five faults of a tariff file
+are known."""
 import collections
 import datetime
 import hashlib
@@ -12,7 +13,7 @@ Record = collections.namedtuple(
     "Record", "name identity day minute job centre shift cpu blocks amount code job_id program")
 EPOCH = datetime.date(1970, 1, 1)
 RATES = ["%s_%s" % (kind, unit) for kind in ("step", "job") for unit in ("cpu", "excp", "record")]
-TARIFF_DATE, TARIFF_EXISTS, RECORDS_DATED, WRONG_PERIOD, NOT_LATER, NO_SUCH_PERIOD = range(6, 12)
+TARIFF_DATE, TARIFF_EXISTS, _, WRONG_PERIOD, NOT_LATER, NO_SUCH_PERIOD = range(6, 12)
 
 
 def refused(fault, *more):
@@ -134,7 +135,7 @@ def decimals(number, places):
 
 class Books:
     def __init__(self):
-        self.tariffs, self.held, self.charged_at, self.closes = [], {}, [], []
+        self.tariffs, self.held, self.data, self.charged_at, self.closes = [], {}, {}, [], []
 
     @property
     def open(self):
@@ -152,9 +153,10 @@ class Books:
             return refused(TARIFF_EXISTS)
         if any(new.effective <= day for day in [old.effective for old in self.tariffs] + self.closes):
             return refused(TARIFF_DATE)
-        if any(new.effective <= record.day for record in self.held.values()):
-            return refused(RECORDS_DATED)
         self.tariffs.append(new)
+        for name, record in self.held.items():
+            if new.effective <= record.day:
+                self.held[name] = new.record(self.data[name])
         return ["DONE"]
 
     def priced(self, data):
@@ -170,7 +172,10 @@ class Books:
         record = self.priced(data)
         if record is None:
             return "UNPRICED"
-        return "KNOWN" if self.held.setdefault(record.name, record) is not record else "KEPT"
+        if record.name in self.held:
+            return "KNOWN"
+        self.held[record.name], self.data[record.name] = record, data
+        return "KEPT"
 
     def take(self, dump):
         return [receipt(self.take_one(data) for data in joined(dump))]

@@ -16,7 +16,7 @@ use Rattle.book_model.specs.declared.fault.LedgerFault.TheVariants.{NoSuchPeriod
 use Rattle.book_model.specs.Words.{Book, open_number, open_period, period_of, IsBookCall}
 use Rattle.book_model.specs.Words.{close_event, close_outcome, last_period, close_answer, is_closed}
 use Rattle.book_model.specs.Words.{after_any, keep, close, Period, Naming, by_bytes, Tariffed}
-use Rattle.book_model.specs.Words.{last_close}
+use Rattle.book_model.specs.Words.{last_close, no_rulings}
 use Rattle.book_model.specs.declared.answer.Ruled.{Ruled}
 use Rattle.book_model.proofs.CallLemmas.{close_by}
 use Rattle.book_model.proofs.AnswerLemmas.{answers_itself, calls}
@@ -184,7 +184,7 @@ module _ {naming : Naming} (tariffs : List Tariffed) (closed : List ClosedPeriod
       ∙ ap (λ period. map read closed ++ period ∷ []) ended in
       ap (book_with tariffs entries after) is_all
       ∙ (λ i. record {
-        rulings = record { tariffs = tariffs; closes = closes i };
+        rulings = record no_rulings { tariffs = tariffs; closes = closes i };
         held = held_in entries;
         posted = now i;
         past = past i;
@@ -244,6 +244,8 @@ kept-closed closed after kept = record {
   small = kept.small;
   few = kept.few;
   in_order = kept.in_order;
+  unchosen = refl;
+  first_rule = refl;
 }
 
 -- the book with one entry more, under a name that none has

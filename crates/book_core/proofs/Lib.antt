@@ -13,6 +13,7 @@ pub mod KeyedRowLemmas
 pub mod ShownLemmas
 pub mod RepeatLemmas
 pub mod IdentityLemmas
+pub mod RepricingLemmas
 pub mod TariffLemmas
 pub mod NameLemmas
 pub mod ShareLemmas

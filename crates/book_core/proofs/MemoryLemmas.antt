@@ -6,7 +6,8 @@ use Rattle.std.specs.List.{list_any}
 use Rattle.book_model.specs.Words.{Terms, is_full, clashes, accept_priced, accept_answer, Answers}
 use Rattle.book_model.specs.Words.{event_of, Book, open_number, Event, after_any, after_all}
 use Rattle.book_model.specs.Words.{last_period, Outcome, Naming, price_in, has_text, is_effective}
-use Rattle.book_model.specs.Words.{is_later, has_dated, tariff_answer, is_closed, is_early}
+use Rattle.book_model.specs.Words.{is_later, is_too_dear, with_tariff, tariff_answer, is_closed}
+use Rattle.book_model.specs.Words.{is_early}
 use Rattle.book_model.specs.Words.{close_answer, has}
 use Rattle.tariff_rules.specs.declared.priced.Priced.{Priced}
 use Rattle.tariff_rules.specs.declared.fault.TariffFault.{TariffFault}
@@ -202,10 +203,10 @@ accept-of_books naming book bytes =
 
 -- tariff
 
-by_terms : (told there later dated : Bool) → IsOfBooks (by_tests told there later dated)
-by_terms true there later dated = record { store = refl; reopen = refl }
-by_terms false true later dated = record { store = refl; reopen = refl }
-by_terms false false false dated = record { store = refl; reopen = refl }
+by_terms : (told there later dear : Bool) → IsOfBooks (by_tests told there later dear)
+by_terms true there later dear = record { store = refl; reopen = refl }
+by_terms false true later dear = record { store = refl; reopen = refl }
+by_terms false false false dear = record { store = refl; reopen = refl }
 by_terms false false true true = record { store = refl; reopen = refl }
 by_terms false false true false = record { store = refl; reopen = refl }
 
@@ -215,7 +216,8 @@ tariff-of_books book text (Err fault) = record { store = refl; reopen = refl }
 tariff-of_books book text (Ok terms) =
     by_terms (list_any (has_text text) book.rulings.tariffs)
     (list_any (is_effective terms.effective) book.rulings.tariffs)
-    (is_later terms.effective book.rulings) (has_dated terms.effective book.held)
+    (is_later terms.effective book.rulings)
+    (is_too_dear (with_tariff (Some text) terms book.rulings) book.held)
 
 -- close
 

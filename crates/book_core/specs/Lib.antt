@@ -6,6 +6,7 @@ pub mod Calls
 pub mod Follow
 pub mod Recalling
 pub mod Plain
+pub mod Repricing
 pub mod Shares
 pub mod PlainBook
 pub mod Effects

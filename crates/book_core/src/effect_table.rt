@@ -1,8 +1,9 @@
-//! What a new record changes in kept rows, beside its own row and the row of the book. It follows
-//! from how many records that are held have its identity, and from the last close.
+//! What a new record, or a choice, changes in kept rows, beside its own row and the row of the
+//! book. It follows from the records that are held of one identity, and from the last close.
 
 ghost use Rattle.std.specs.Prelude.{◌≡◌};
-ghost use Rattle.book_core.specs.Effects.{HasOnly, charge, effects_of, is_after, withdraw};
+ghost use Rattle.book_core.specs.Effects.{HasOnly, charge, charge_held, choice_effects, effects_of};
+ghost use Rattle.book_core.specs.Effects.{is_after, withdraw};
 
 use tariff_rules::Priced;
 
@@ -58,6 +59,8 @@ pub enum LineChange {
     DropPlus([u8; 32]),
     /// The period takes back what an earlier one charged.
     AddMinus([u8; 32]),
+    /// It does not after all.
+    DropMinus([u8; 32]),
 }
 
 /// What a new record changes, by its name and its price.
@@ -79,6 +82,46 @@ pub fn plan(view: &View, name: [u8; 32], priced: &Priced) -> Effects
                 }
             }
         }
+    }
+}
+
+/// What the choice of a record changes.
+#[derive(Clone, Copy, Debug, PartialEq, Eq)]
+pub struct ChoiceEffects {
+    /// The record that was charged until now is charged no more, where there was one.
+    pub withdrawn: Option<Effects>,
+    /// The chosen record is charged.
+    pub chosen: Effects,
+}
+
+/// What a choice changes, by the record of the identity that is charged until now, and by the
+/// chosen one.
+pub fn plan_choice(through: Option<i32>, current: Option<Member>, chosen: &Member) -> ChoiceEffects
+    ensures effects { result ≡ choice_effects through current chosen.now }
+{
+    let withdrawn = match &current {
+        Some(member) => Some(withdrawn(through, member)),
+        None => None,
+    };
+    ChoiceEffects {
+        withdrawn,
+        chosen: recharged(through, chosen),
+    }
+}
+
+/// A record that is held is charged from now on.
+fn recharged(through: Option<i32>, member: &Member) -> Effects
+    ensures { result ≡ charge_held through member.now }
+{
+    if member.posted {
+        Effects {
+            charged: true,
+            unmark: None,
+            day: None,
+            line: Some(LineChange::DropMinus(member.name)),
+        }
+    } else {
+        charged(through, member.name, &member.priced)
     }
 }
 

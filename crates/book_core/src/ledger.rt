@@ -15,9 +15,9 @@ pub trait Ledger {
     /// What is seen of the books, and what a stop leaves of them.
     ghost seen: { Self → Seen };
 
-    /// Hands in a tariff file. Its tariff is in force from its first day on, where that day is later
-    /// than the last close and every other tariff's, and no record that is held is dated on it or
-    /// after it.
+    /// Hands in a tariff file. Its tariff is in force from its first day on, where that day is
+    /// later than the last close and every other tariff's; the records that are held and dated on
+    /// it or after it are priced anew, where the books have room for what all of them cost then.
     fn tariff(&mut self, text: &str) -> Result<Ruled, LedgerFault>
         ensures { IsCall (λ ruled. ruled) (seen self.old) (seen self.new) result
             (tariff_outcome text.now) };

@@ -15,6 +15,7 @@ mod period;
 mod plain;
 mod pricing;
 mod recalled;
+mod repricing;
 mod room;
 mod share;
 mod variant;
@@ -24,7 +25,9 @@ pub use book_model::{
 };
 // What a ledger of another crate needs to keep the same books.
 pub use accepted_tariff::{AcceptedTariff, are_before, has_day_of, has_text};
-pub use effect_table::{DayChange, Effects, LineChange, Member, View, plan};
+pub use effect_table::{
+    ChoiceEffects, DayChange, Effects, LineChange, Member, View, plan, plan_choice,
+};
 pub use ending::is_after;
 pub use ledger::Ledger;
 pub use limits::{LAST_PERIOD, MAX_COST, MAX_HELD};

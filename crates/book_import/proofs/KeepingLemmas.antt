@@ -4,7 +4,8 @@ use Rattle.std.proofs.Common.{Result, Ok, Err}
 use Rattle.smf_type30.specs.declared.classes.Class.{Class}
 use Rattle.smf_type30.specs.declared.classes.Class.TheVariants.{Usage}
 use Rattle.book_model.specs.Words.{class_of, Naming, Book, accept_answer, Event, RecordKept}
-use Rattle.book_model.specs.Words.{TariffAccepted, PeriodClosed, after_all, accept_event}
+use Rattle.book_model.specs.Words.{TariffAccepted, PeriodClosed, RecordChosen, SecondRuleAdopted}
+use Rattle.book_model.specs.Words.{after_all, accept_event}
 use Rattle.book_model.specs.declared.answer.Accepted.{Accepted}
 use Rattle.book_model.specs.declared.answer.Accepted.TheVariants.{Kept}
 use Rattle.book_model.specs.declared.fault.LedgerFault.{LedgerFault}
@@ -30,6 +31,8 @@ rulings_stay [] kept book = refl
 rulings_stay (RecordKept bytes ∷ older) kept book = rulings_stay older kept book
 rulings_stay (TariffAccepted text terms ∷ older) kept book = absurd kept
 rulings_stay (PeriodClosed day ∷ older) kept book = absurd kept
+rulings_stay (RecordChosen bytes ∷ older) kept book = absurd kept
+rulings_stay (SecondRuleAdopted ∷ older) kept book = absurd kept
 
 -- the event of the answer to a record, if it is one, is that it was kept
 event_kept : (bytes : List ℕ) (answer : Result Accepted LedgerFault) (older : List Event)

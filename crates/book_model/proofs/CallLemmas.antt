@@ -1,40 +1,51 @@
--- The calls let rulings go forward only.
+-- The calls let rulings go forward only, so what is settled keeps its price.
 use Rattle.std.proofs.Common.{◌≡◌, ℕ, List, refl, sym, arith, not, ◌&&◌, Bool, true, false}
 use Rattle.std.proofs.Common.{true≢false, Option, Some, None, Ok, Err, Result}
 use Rattle.std.specs.Prelude.{if◌then◌else◌, int_lt, ℤ, ◌<ℤ◌, MatchOption, ◌==◌}
 use Rattle.std.specs.List.{list_any}
 use Rattle.std.specs.Option.{option_map_or}
 use Rattle.std.proofs.lemmas.Int.{ints}
+use Rattle.smf_type30.specs.Usage.{day_of}
 use Rattle.tariff_rules.specs.Terms.{Terms}
 use Rattle.book_model.specs.declared.answer.Ruled.{Ruled}
 use Rattle.book_model.specs.declared.answer.Ruled.TheVariants.{Done, Already}
 use Rattle.book_model.specs.declared.fault.LedgerFault.{LedgerFault}
 use Rattle.book_model.specs.declared.fault.LedgerFault.TheVariants.{TariffDate, TariffExists}
-use Rattle.book_model.specs.declared.fault.LedgerFault.TheVariants.{RecordsDated, WrongPeriod}
-use Rattle.book_model.specs.declared.fault.LedgerFault.TheVariants.{NotLater, Full}
+use Rattle.book_model.specs.declared.fault.LedgerFault.TheVariants.{WrongPeriod, NotLater, Full}
 use Rattle.book_model.specs.Limits.{last_period}
 use Rattle.book_model.specs.Books.{Book, open_number}
-use Rattle.book_model.specs.Laws.{IsAfterLastClose, CallsGoForward}
-use Rattle.book_model.specs.Rulings.{last_close}
-use Rattle.book_model.specs.RulingAnswers.{has_text, is_effective, is_later, has_dated}
+use Rattle.book_model.specs.Charged.{is_dated_after}
+use Rattle.book_model.specs.Laws.{IsAfterLastClose, CallsGoForward, SettledPricesStay}
+use Rattle.book_model.specs.Rulings.{last_close, with_tariff}
+use Rattle.book_model.specs.RulingAnswers.{has_text, is_effective, is_later, is_too_dear}
 use Rattle.book_model.specs.RulingAnswers.{terms_answer, is_closed, is_early, close_answer}
+use Rattle.book_model.proofs.PricingLemmas.{earlier_prices_stay}
 
 -- the answer by what each test gives, in their order
 abbrev pub by_tests : Bool → Bool → Bool → Bool → Result Ruled LedgerFault
-by_tests told there before dated =
+by_tests told there before dear =
     if told then Ok Already
     else if there then Err TariffExists
     else if not before then Err TariffDate
-    else if dated then Err RecordsDated
+    else if dear then Err Full
     else Ok Done
 
 -- a tariff that is put in force passed the test of its day
-pub passes : (told there later dated : Bool) → by_tests told there later dated ≡ Ok Done
+pub passes : (told there later dear : Bool) → by_tests told there later dear ≡ Ok Done
     → later ≡ true
-passes true there later dated is = cc
-passes false true later dated is = cc
-passes false false true dated is = refl
-passes false false false dated is = cc
+passes true there later dear is = cc
+passes false true later dear is = cc
+passes false false true dear is = refl
+passes false false false dear is = cc
+
+-- and leaves room
+pub leaves_room : (told there later dear : Bool) → by_tests told there later dear ≡ Ok Done
+    → dear ≡ false
+leaves_room true there later dear is = cc
+leaves_room false true later dear is = cc
+leaves_room false false false dear is = cc
+leaves_room false false true true is = cc
+leaves_room false false true false is = refl
 
 -- that test
 later_than : (alone : Bool) (last : Option ℤ) (day : ℤ)
@@ -54,7 +65,21 @@ tariff_done book text terms is =
     later_than alone (last_close book.rulings) day
     (passes (list_any (has_text text) book.rulings.tariffs)
     (list_any (is_effective day) book.rulings.tariffs)
-    (is_later day book.rulings) (has_dated day book.held) is)
+    (is_later day book.rulings)
+    (is_too_dear (with_tariff (Some text) terms book.rulings) book.held) is)
+
+-- a day that is not after the last close is before a day that is
+before_it : (last : Option ℤ) (bytes : List ℕ) (day : ℤ) → is_dated_after last bytes ≡ false
+    → MatchOption last (Unit {0}) (λ close. close <ℤ day) → day_of bytes <ℤ day
+before_it None bytes day early after = absurd (true≢false early)
+before_it (Some close) bytes day early after = grind (arith, ints)
+
+-- so a tariff that is put in force changes no price of a record that is settled
+pub settled_prices_stay : SettledPricesStay
+settled_prices_stay book text terms bytes is early =
+    earlier_prices_stay book.rulings (Some text) terms bytes
+    (before_it (last_close book.rulings) bytes terms.effective early
+    (tariff_done book text terms is))
 
 -- the answer to a close, by the tests in their order
 abbrev pub close_by : ℕ → Bool → Bool → Bool → Bool → Result Ruled LedgerFault

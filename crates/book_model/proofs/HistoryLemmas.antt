@@ -1,25 +1,29 @@
--- The closes of a history: their days, the history before each of them, and what each of them
--- charged.
+-- The closes of a history: their days, the history and the rulings before each of them, and what
+-- each of them charged.
 use Rattle.std.proofs.Common.{◌≡◌, ℕ, zero, suc, ◌≤◌, ◌<◌, List, [], ◌∷◌, length, Option, Some}
 use Rattle.std.proofs.Common.{None, refl, ap, sym, ◌∙◌, arith, get_or, Bool, true, false}
-use Rattle.std.proofs.Common.{true≢false, not, ◌&&◌, is_some}
-use Rattle.std.specs.Prelude.{ℤ, pos, slice_get, int_lt}
+use Rattle.std.proofs.Common.{true≢false, not, ◌&&◌, ◌++◌, is_some, cond}
+use Rattle.std.specs.Prelude.{ℤ, pos, slice_get, int_lt, filter, nat_le, unwrap_or}
 use Rattle.std.specs.FinMap as map
 use Rattle.std.specs.List.{last_or}
-use Rattle.std.proofs.lemmas.Bool.{lt-ltb, le-ltb}
+use Rattle.std.specs.Option.{option_and_then}
+use Rattle.std.proofs.lemmas.Bool.{lt-ltb, le-ltb, le-leb, lt-leb}
 use Rattle.std.proofs.lemmas.Cmp.{nat_list_cmp_total}
-use Rattle.std.proofs.lemmas.List.{length-append, take-append-le}
+use Rattle.std.proofs.lemmas.List.{length-append, take-append-le, append-nil}
+use Rattle.std.proofs.lemmas.List.Elements.{filter-append}
 use Rattle.std.proofs.Math.Seq.{take-length, take-append_seam}
 use Rattle.std.proofs.lemmas.Map.Lookups.{exact_bytes}
 use Rattle.std.proofs.lemmas.Option.{slice_get_past, slice_get-get_or}
 use Rattle.smf_type30.specs.Usage.{day_of}
 use Rattle.book_model.specs.Charged.{is_undisputed, is_dated_by, is_dated_after, charged_now}
 use Rattle.book_model.specs.Charged.{charged_by}
-use Rattle.book_model.specs.Events.{Event, RecordKept, TariffAccepted, PeriodClosed}
+use Rattle.book_model.specs.Events.{Event, RecordKept, TariffAccepted, PeriodClosed, RecordChosen}
+use Rattle.book_model.specs.Events.{SecondRuleAdopted}
 use Rattle.book_model.specs.History.{rulings, closes, kept, tariffs, before_close, day_of_close}
-use Rattle.book_model.specs.History.{held_before, charged_in}
+use Rattle.book_model.specs.History.{open_after, choices, adopted, held_before, charged_in}
 use Rattle.book_model.specs.Records.{Records, by_bytes}
-use Rattle.book_model.specs.Rulings.{Rulings, Tariffed, rulings_before, last_close}
+use Rattle.book_model.specs.Rulings.{Rulings, Tariffed, Choice, rulings_before, if_before}
+use Rattle.book_model.specs.Rulings.{last_close}
 use Rattle.book_model.specs.Sets.{set_of, has}
 use Rattle.book_model.proofs.ListLemmas.{slice_get-front, slice_get-behind, last_or-is}
 use Rattle.book_model.proofs.SetLemmas.{has-those}
@@ -52,11 +56,91 @@ pub held_all : (k : ℕ) (history : List Event) → length (closes history) < k
     → held_before k history ≡ held_after history
 held_all k history after = ap (λ before. set_of by_bytes (kept before)) (before_all k history after)
 
+-- a choice that was made before the close that came after so many others
+abbrev pub made_before : ℕ → Choice → Bool
+made_before others choice = nat_le choice.period (suc others)
+
+-- a choice that is made then stands behind the others before a close to come
+chosen_last : (others : ℕ) (bytes : List ℕ) (older : List Event) → length (closes older) ≤ others
+    → filter (made_before others) (choices (RecordChosen bytes ∷ older))
+    ≡ filter (made_before others) (choices older)
+    ++ record { chosen = bytes; period = open_after older } ∷ []
+chosen_last others bytes older to_come =
+    let choice : Choice = record { chosen = bytes; period = open_after older } in
+    filter-append (made_before others) (choices older) (choice ∷ [])
+    ∙ ap (λ b. filter (made_before others) (choices older) ++ cond b (choice ∷ []) [])
+    (le-leb (open_after older) (suc others) (omega arith))
+
+-- and is not among those before a close that came
+chosen_late : (others : ℕ) (bytes : List ℕ) (older : List Event) → others < length (closes older)
+    → filter (made_before others) (choices (RecordChosen bytes ∷ older))
+    ≡ filter (made_before others) (choices older)
+chosen_late others bytes older came =
+    let choice : Choice = record { chosen = bytes; period = open_after older } in
+    filter-append (made_before others) (choices older) (choice ∷ [])
+    ∙ ap (λ b. filter (made_before others) (choices older) ++ cond b (choice ∷ []) [])
+    (lt-leb (open_after older) (suc others) (omega arith))
+    ∙ append-nil (filter (made_before others) (choices older))
+
+-- all choices were made before a close to come
+pub choices_all : (others : ℕ) (history : List Event) → length (closes history) ≤ others
+    → filter (made_before others) (choices history) ≡ choices history
+choices_all others [] to_come = refl
+choices_all others (RecordKept bytes ∷ older) to_come = choices_all others older to_come
+choices_all others (TariffAccepted text terms ∷ older) to_come = choices_all others older to_come
+choices_all others (PeriodClosed day ∷ older) to_come =
+    let more = length-append (closes older) (day ∷ []) in
+    choices_all others older (omega arith)
+choices_all others (RecordChosen bytes ∷ older) to_come =
+    chosen_last others bytes older to_come
+    ∙ ap (λ earlier. earlier ++ record { chosen = bytes; period = open_after older } ∷ [])
+    (choices_all others older to_come)
+choices_all others (SecondRuleAdopted ∷ older) to_come = choices_all others older to_come
+
+-- a period that was open by then, or is open now
+adopted_then : (others period : ℕ) (was : Option ℕ) → period ≤ suc others
+    → option_and_then (if_before others) was ≡ was
+    → option_and_then (if_before others) (Some (unwrap_or was period)) ≡ Some (unwrap_or was period)
+adopted_then others period None early stays =
+    ap (λ b. cond b (Some period) None) (le-leb period (suc others) early)
+adopted_then others period (Some first) early stays = stays
+
+-- so was the second rule of identity adopted, if it was
+adopted_all : (others : ℕ) (history : List Event) → length (closes history) ≤ others
+    → option_and_then (if_before others) (adopted history) ≡ adopted history
+adopted_all others [] to_come = refl
+adopted_all others (RecordKept bytes ∷ older) to_come = adopted_all others older to_come
+adopted_all others (TariffAccepted text terms ∷ older) to_come = adopted_all others older to_come
+adopted_all others (PeriodClosed day ∷ older) to_come =
+    let more = length-append (closes older) (day ∷ []) in
+    adopted_all others older (omega arith)
+adopted_all others (RecordChosen bytes ∷ older) to_come = adopted_all others older to_come
+adopted_all others (SecondRuleAdopted ∷ older) to_come =
+    adopted_then others (open_after older) (adopted older) (omega arith)
+    (adopted_all others older to_come)
+
+-- and an adoption does not stand before a close that came
+adopted_late : (others period : ℕ) (was : Option ℕ) → suc others < period
+    → option_and_then (if_before others) (Some (unwrap_or was period))
+    ≡ option_and_then (if_before others) was
+adopted_late others period None late =
+    ap (λ b. cond b (Some period) None) (lt-leb period (suc others) late)
+adopted_late others period (Some first) late = refl
+
 -- all rulings stood before a close that comes next
 pub rulings_all : (history : List Event)
     → rulings_before (length (closes history)) (rulings history) ≡ rulings history
 rulings_all history =
-    ap (λ days. record (rulings history) { closes = days }) (take-length (closes history))
+    let all : ℕ = length (closes history) in
+    let days = take-length (closes history) in
+    let chosen = choices_all all history (omega arith) in
+    let rule = adopted_all all history (omega arith) in
+    λ i. record {
+      tariffs = tariffs history;
+      closes = days i;
+      choices = chosen i;
+      adopted = rule i;
+    }
 
 -- what is charged at the end of the open period is what is charged now
 pub charged_open : (history : List Event)
@@ -116,6 +200,8 @@ closes_stay : (event : Event) (older : List Event)
 closes_stay (RecordKept bytes) older = omega arith
 closes_stay (TariffAccepted text terms) older = omega arith
 closes_stay (PeriodClosed day) older = omega (arith, closed_once_more day older)
+closes_stay (RecordChosen bytes) older = omega arith
+closes_stay SecondRuleAdopted older = omega arith
 
 -- right after a close, its day is that of its number
 pub day_closed : (day : ℤ) (older : List Event)
@@ -151,6 +237,8 @@ day_stays zero event older came = refl
 day_stays (suc k) (RecordKept bytes) older came = refl
 day_stays (suc k) (TariffAccepted text terms) older came = refl
 day_stays (suc k) (PeriodClosed day) older came = slice_get-front (closes older) day k (omega arith)
+day_stays (suc k) (RecordChosen bytes) older came = refl
+day_stays (suc k) SecondRuleAdopted older came = refl
 
 -- nor the history before a close that came, or comes with it
 before_stays : (k : ℕ) (event : Event) (older : List Event) → k ≤ length (closes (event ∷ older))
@@ -170,14 +258,20 @@ charged_by-tariffs ruled other None held = refl
 charged_by-tariffs ruled other (Some day) held = refl
 
 -- an event changes of the rulings before a close that came the tariffs alone
-ruled_stays : (k : ℕ) (event : Event) (older : List Event) → k ≤ length (closes older)
+pub ruled_stays : (k : ℕ) (event : Event) (older : List Event) → k < length (closes older)
     → rulings_before k (rulings (event ∷ older))
     ≡ record (rulings_before k (rulings older)) { tariffs = tariffs (event ∷ older) }
 ruled_stays k (RecordKept bytes) older came = refl
 ruled_stays k (TariffAccepted text terms) older came = refl
 ruled_stays k (PeriodClosed day) older came =
-    ap (λ days. record (rulings older) { closes = days })
-    (take-append-le k (closes older) (day ∷ []) came)
+    ap (λ days. record (rulings_before k (rulings older)) { closes = days })
+    (take-append-le k (closes older) (day ∷ []) (omega arith))
+ruled_stays k (RecordChosen bytes) older came =
+    ap (λ chosen. record (rulings_before k (rulings older)) { choices = chosen })
+    (chosen_late k bytes older came)
+ruled_stays k SecondRuleAdopted older came =
+    ap (λ rule. record (rulings_before k (rulings older)) { adopted = rule })
+    (adopted_late k (open_after older) (adopted older) (omega arith))
 
 -- so an event does not change who was charged at the end of a period before it
 pub charged_stays : (k : ℕ) (event : Event) (older : List Event) → k ≤ length (closes older)
@@ -196,5 +290,13 @@ charged_stays (suc k) event older came =
 pub rulings_closed : (day : ℤ) (older : List Event)
     → rulings_before (length (closes older)) (rulings (PeriodClosed day ∷ older)) ≡ rulings older
 rulings_closed day older =
-    ap (λ days. record (rulings older) { closes = days })
-    (take-append_seam (closes older) (day ∷ []))
+    let all : ℕ = length (closes older) in
+    let days = take-append_seam (closes older) (day ∷ []) in
+    let chosen = choices_all all older (omega arith) in
+    let rule = adopted_all all older (omega arith) in
+    λ i. record {
+      tariffs = tariffs older;
+      closes = days i;
+      choices = chosen i;
+      adopted = rule i;
+    }

@@ -1,6 +1,6 @@
 -- Tariffs that stand in the order of their first days: the latest that has begun is the last.
 use Rattle.std.proofs.Common.{◌≡◌, ℕ, List, [], ◌∷◌, ◌++◌, refl, sym, ap, ◌∙◌, cond, true, false}
-use Rattle.std.proofs.Common.{Bool, ◌&&◌, Option, Some, None}
+use Rattle.std.proofs.Common.{Bool, not, ◌&&◌, Option, Some, None}
 use Rattle.std.specs.Prelude.{ℤ, int_lt, filter, find, reverse}
 use Rattle.std.specs.Option.{option_map, option_map_or, option_or}
 use Rattle.std.specs.List.{list_all}
@@ -9,9 +9,27 @@ use Rattle.std.proofs.lemmas.List.Folds.{find-append}
 use Rattle.smf_type30.specs.Usage.{day_of}
 use Rattle.tariff_rules.specs.Price.{price_by}
 use Rattle.tariff_rules.specs.declared.priced.Priced.{Priced}
-use Rattle.book_model.specs.Rulings.{Tariffed, later_of, latest, are_rising, has_begun, in_force}
-use Rattle.book_model.specs.Rulings.{price_under}
+use Rattle.tariff_rules.specs.Terms.{Terms}
+use Rattle.book_model.specs.Rulings.{Rulings, Tariffed, later_of, latest, are_rising, has_begun}
+use Rattle.book_model.specs.Rulings.{in_force, last_close, price_in, price_under, with_tariff}
+use Rattle.book_model.specs.RulingAnswers.{is_later}
+use Rattle.book_model.proofs.ListLemmas.{list_all-not_any}
 use Rattle.book_model.proofs.RecordSets.{first_of, second_of}
+
+-- a day is later where the day of each tariff is before it, and so is the last close, if there was
+-- one
+pub is_later-by : (day : ℤ) (rulings : Rulings)
+    → is_later day rulings
+    ≡ (list_all (λ tariff. int_lt tariff.terms.effective day) rulings.tariffs
+    && option_map_or (λ close. int_lt close day) (last_close rulings) true)
+is_later-by day rulings =
+    ap (λ b. b && option_map_or (λ close. int_lt close day) (last_close rulings) true)
+    (sym (list_all-not_any (λ tariff. int_lt tariff.terms.effective day) rulings.tariffs))
+
+-- then the day of each tariff is before it
+pub later-before : (day : ℤ) (rulings : Rulings) → is_later day rulings ≡ true
+    → list_all (λ tariff. int_lt tariff.terms.effective day) rulings.tariffs ≡ true
+later-before day rulings later = first_of _ _ (sym (is_later-by day rulings) ∙ later)
 
 -- the first tariff begins before the other
 abbrev pub precedes : Tariffed → Tariffed → Bool
@@ -135,3 +153,32 @@ price_under-found tariffs bytes day found rise is at =
     ap (λ d. option_map (λ terms. price_by terms bytes) (in_force d tariffs)) (sym is)
     ∙ ap (priced_by bytes) (begun-last tariffs day rise ∙ sym at)
     ∙ priced_by-found bytes found
+
+-- behind tariffs that begin before it, a tariff that has begun is the latest that has
+latest_new : (begun : Tariffed → Bool) (tariffs : List Tariffed) (new : Tariffed)
+    → list_all (λ tariff. precedes tariff new) tariffs ≡ true → begun new ≡ true
+    → latest (filter begun (tariffs ++ new ∷ [])) ≡ Some new
+latest_new begun [] new before has = ap (λ b. latest (cond b (new ∷ []) [])) has
+latest_new begun (tariff ∷ tariffs) new before has =
+    let own = first_of (precedes tariff new) (list_all (λ tariff. precedes tariff new) tariffs)
+    before in
+    let others = second_of (precedes tariff new) (list_all (λ tariff. precedes tariff new) tariffs)
+    before in
+    let rest : List Tariffed = filter begun (tariffs ++ new ∷ []) in
+    let last = latest_new begun tariffs new others has in
+    elim (begun tariff) as (λ b. latest (cond b (tariff ∷ rest) rest) ≡ Some new) [
+      | true ↦ ap (λ found. Some (option_map_or (later_of tariff) found tariff)) last
+          ∙ ap (λ b. Some (cond b new tariff)) own
+      | false ↦ last
+    ]
+
+-- so a record that is dated on its first day or later costs what it says
+pub later_price : (rulings : Rulings) (text : Option (List ℕ)) (terms : Terms)
+    → list_all (λ tariff. int_lt tariff.terms.effective terms.effective) rulings.tariffs ≡ true
+    → (bytes : List ℕ) → int_lt (day_of bytes) terms.effective ≡ false
+    → price_in (with_tariff text terms rulings) bytes ≡ Some (price_by terms bytes)
+later_price rulings text terms before bytes late =
+    ap (λ found. option_map (λ terms. price_by terms bytes)
+    (option_map (λ (tariff : Tariffed). tariff.terms) found))
+    (latest_new (has_begun (day_of bytes)) rulings.tariffs
+    (record { text = text; terms = terms }) before (ap not late))

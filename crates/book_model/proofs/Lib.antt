@@ -14,6 +14,8 @@ pub mod InsertLemmas
 pub mod EntryReading
 pub mod SetChanges
 pub mod ChargedChanges
+pub mod ChosenLemmas
+pub mod UnchosenLemmas
 pub mod PermutedSets
 pub mod LineOrder
 pub mod RowLemmas
@@ -27,4 +29,7 @@ pub mod AnsweredLemmas
 pub mod HistoryLemmas
 pub mod PastLemmas
 pub mod StepLemmas
+pub mod ChosenHeld
+pub mod AdoptedLemmas
+pub mod DisputeLemmas
 pub mod OrderLemmas

@@ -1,22 +1,29 @@
 -- Laws of the books, which follow from the definitions alone.
-use Rattle.std.specs.Prelude.{◌≡◌, ℕ, true, List, Option, Some, MatchOption, Ok, find, reverse, ℤ}
-use Rattle.std.specs.Prelude.{◌<ℤ◌}
+use Rattle.std.specs.Prelude.{◌≡◌, ℕ, suc, true, false, List, All, Option, Some, MatchOption, Ok}
+use Rattle.std.specs.Prelude.{find}
+use Rattle.std.specs.Prelude.{reverse, ℤ, ◌<ℤ◌}
+use Rattle.std.specs.Prelude.{not, ◌&&◌}
+use Rattle.std.specs.List.{list_any}
 use Rattle.std.specs.Option.{option_map}
 use Rattle.tariff_rules.specs.Terms.{Terms}
 use Rattle.smf_type30.specs.Usage.{day_of}
 use Rattle.book_model.specs.declared.answer.Accepted.TheVariants.{Kept}
 use Rattle.book_model.specs.declared.answer.Ruled.TheVariants.{Done}
-use Rattle.book_model.specs.Records.{Naming}
+use Rattle.book_model.specs.Records.{Naming, IsUsageRecord}
 use Rattle.book_model.specs.Rulings.{Rulings, Tariffed, price_in, with_tariff, are_rising}
-use Rattle.book_model.specs.Rulings.{has_begun, in_force, last_close}
-use Rattle.book_model.specs.Books.{Book, new_book, flat_book}
-use Rattle.book_model.specs.Events.{Event, keep, put_in_force, close, after_all}
+use Rattle.book_model.specs.Rulings.{has_begun, in_force, last_close, rulings_before, identity_by}
+use Rattle.book_model.specs.Charged.{is_dated_after, is_unrivalled, share_identity}
+use Rattle.book_model.specs.Disputes.{is_settled}
+use Rattle.book_model.specs.Books.{Book, new_book, flat_book, charged_of}
+use Rattle.book_model.specs.Events.{Event, keep, put_in_force, close, choose, adopt, after_all}
 use Rattle.book_model.specs.Accept.{accept_answer}
-use Rattle.book_model.specs.RulingAnswers.{terms_answer, close_answer}
-use Rattle.book_model.specs.History.{tariffs, book_after, book_of}
+use Rattle.book_model.specs.RulingAnswers.{terms_answer, close_answer, record_named, adopt_answer}
+use Rattle.book_model.specs.RulingAnswers.{second_rule}
+use Rattle.book_model.specs.History.{tariffs, rulings, held_before, book_after, book_of}
 use Rattle.book_model.specs.Answered.{IsAnswered}
 use Rattle.book_model.specs.Stretches.{rulings_in, stretches}
-use Rattle.book_model.specs.Sound.{IsSound}
+use Rattle.book_model.specs.Sets.{members, has}
+use Rattle.book_model.specs.Sound.{IsSound, IsChoiceOf, AreAmong}
 
 -- a tariff that comes into force changes no price of a record that is dated before its first day
 abbrev pub EarlierPricesStay : Type 0
@@ -38,6 +45,15 @@ pub record CallsGoForward : Type 0 where
   pub close :
       (book : Book) (number : ℕ) (day : ℤ) → close_answer book number day ≡ Ok Done
       → IsAfterLastClose book.rulings day
+
+-- so no tariff that is Done changes the price of a record that is dated no later than the last
+-- close
+abbrev pub SettledPricesStay : Type 0
+SettledPricesStay =
+    (book : Book) (text : List ℕ) (terms : Terms) (bytes : List ℕ)
+    → terms_answer book text terms ≡ Ok Done
+    → is_dated_after (last_close book.rulings) bytes ≡ false
+    → price_in (with_tariff (Some text) terms book.rulings) bytes ≡ price_in book.rulings bytes
 
 -- Of tariffs of which each begins later than those before it, the one in force on a day is the last
 -- that has begun; and so are the tariffs of a history that calls made.
@@ -62,11 +78,41 @@ pub record StepsStaySound : Type 0 where
   pub close :
       (naming : Naming) (book : Book) (number : ℕ) (day : ℤ) → IsSound naming book
       → close_answer book number day ≡ Ok Done → IsSound naming (close day book)
+  pub choose :
+      (naming : Naming) (book : Book) (name bytes : List ℕ) → IsSound naming book
+      → record_named naming book.held name ≡ Some bytes → IsSound naming (choose bytes book)
+  pub adopt : (naming : Naming) (book : Book) → IsSound naming book → IsSound naming (adopt book)
 
 -- The book that a history leaves, step by step, is the one that the history defines, looked at as a
 -- whole: no later event changes a period that is closed.
 abbrev pub BooksFollowHistory : Type 0
 BooksFollowHistory = (history : List Event) → book_after history ≡ book_of history
+
+-- Whatever was chosen before a close was held before it: so of the choices it is enough to ask
+-- which of those in a record's identity came last.
+abbrev pub ChosenWereHeld : Type 0
+ChosenWereHeld =
+    (naming : Naming) (history : List Event) (k : ℕ) → IsAnswered naming history
+    → All (IsChoiceOf (held_before (suc k) history)) (rulings_before k (rulings history)).choices
+
+-- A record that is held is of an identity in dispute, which two or more have and none of them was
+-- chosen, exactly where nothing of that identity is charged.
+abbrev pub DisputedIsUncharged : Type 0
+DisputedIsUncharged =
+    (naming : Naming) (book : Book) (one : List ℕ) → IsSound naming book
+    → has book.held one ≡ true
+    → (not (is_unrivalled book.rulings book.held one)
+    && not (is_settled book.rulings (identity_by book.rulings one)))
+    ≡ not (list_any (share_identity book.rulings one) (members (charged_of book)))
+
+-- Under the second rule of identity what was charged stays charged: identities only split, so no
+-- line takes a record back.
+abbrev pub AdoptionTakesNothing : Type 0
+AdoptionTakesNothing =
+    (naming : Naming) (book : Book) → IsSound naming book
+    → ((bytes : List ℕ) → has book.held bytes ≡ true → IsUsageRecord bytes)
+    → adopt_answer book second_rule ≡ Ok Done
+    → AreAmong (charged_of book) (charged_of (adopt book))
 
 -- It makes no difference in which order, and how often, records came between two rulings: events
 -- with the same rulings in the same order, and the same sets of records between neighbouring

@@ -1,12 +1,14 @@
--- What the office ruled: its tariffs and its closes; and what a record costs by them.
-use Rattle.std.specs.Prelude.{ℕ, Bool, true, not, ◌&&◌, if◌then◌else◌, List, [], ◌∷◌, ◌++◌, filter}
-use Rattle.std.specs.Prelude.{take, Option, Some, None, ℤ, int_lt}
-use Rattle.std.specs.Option.{option_map, option_map_or}
+-- What the office ruled: its tariffs, its closes, its choices among disputed records and its rule
+-- of identity; what a record costs by them, and whose work it measures.
+use Rattle.std.specs.Prelude.{ℕ, suc, ◌+◌, nat_le, Bool, true, not, ◌&&◌, if◌then◌else◌, List, []}
+use Rattle.std.specs.Prelude.{◌∷◌, ◌++◌, filter, length, take, Option, Some, None, unwrap_or, ℤ}
+use Rattle.std.specs.Prelude.{int_lt}
+use Rattle.std.specs.Option.{option_map, option_map_or, option_and_then}
 use Rattle.std.specs.List.{filter_map, last_or, list_all}
 use Rattle.tariff_rules.specs.Terms.{Terms}
 use Rattle.tariff_rules.specs.Price.{price_by}
 use Rattle.tariff_rules.specs.declared.priced.Priced.{Priced}
-use Rattle.smf_type30.specs.Usage.{identity_of, day_of}
+use Rattle.smf_type30.specs.Usage.{identity_of, identity2_of, day_of}
 use Rattle.book_model.specs.Sets.{members}
 use Rattle.book_model.specs.Records.{Records}
 
@@ -15,13 +17,25 @@ pub record Tariffed : Type 0 where
   pub text : Option (List ℕ)
   pub terms : Terms
 
--- the tariffs and the days of the closes, each in the order in which they came
+-- A record that an operator chose among those of its identity, and the period that was open then.
+pub record Choice : Type 0 where
+  pub chosen : List ℕ
+  pub period : ℕ
+
+-- The tariffs, the days of the closes and the choices, each in the order in which they came; and
+-- the period that was open when the second rule of identity was adopted, if it was.
 pub record Rulings : Type 0 where
   pub tariffs : List Tariffed
   pub closes : List ℤ
+  pub choices : List Choice
+  pub adopted : Option ℕ
 
 abbrev pub no_rulings : Rulings
-no_rulings = record { tariffs = []; closes = [] }
+no_rulings = record { tariffs = []; closes = []; choices = []; adopted = None }
+
+-- the number of the period that is open by them
+abbrev pub open_by : Rulings → ℕ
+open_by rulings = length rulings.closes + 1
 
 -- the rulings with one tariff more
 abbrev pub with_tariff : Option (List ℕ) → Terms → Rulings → Rulings
@@ -32,10 +46,31 @@ with_tariff text terms rulings =
 abbrev pub with_close : ℤ → Rulings → Rulings
 with_close day rulings = record rulings { closes = rulings.closes ++ day ∷ [] }
 
--- The rulings before the close that came after so many others. A tariff that came later stays among
--- them: it changes no price of a record that was held by then.
+-- the rulings with one choice more
+abbrev pub with_choice : List ℕ → Rulings → Rulings
+with_choice bytes rulings = record rulings {
+  choices = rulings.choices ++ record { chosen = bytes; period = open_by rulings } ∷ [];
+}
+
+-- The rulings with the second rule of identity. It is adopted once: a period in which it was
+-- adopted stays.
+abbrev pub with_second_rule : Rulings → Rulings
+with_second_rule rulings =
+    record rulings { adopted = Some (unwrap_or rulings.adopted (open_by rulings)) }
+
+-- a period, where it was open before the close that came after so many others
+abbrev pub if_before : ℕ → ℕ → Option ℕ
+if_before others period = if nat_le period (suc others) then Some period else None
+
+-- The rulings before the close that came after so many others: what was ruled while a period was
+-- open is before the close of that period. A tariff that came later stays among them: it changes no
+-- price of a record that is dated no later than that close.
 abbrev pub rulings_before : ℕ → Rulings → Rulings
-rulings_before others rulings = record rulings { closes = take others rulings.closes }
+rulings_before others rulings = record rulings {
+  closes = take others rulings.closes;
+  choices = filter (λ choice. nat_le choice.period (suc others)) rulings.choices;
+  adopted = option_and_then (if_before others) rulings.adopted;
+}
 
 -- of two tariffs, the one with the later first day
 abbrev pub later_of : Tariffed → Tariffed → Tariffed
@@ -76,7 +111,8 @@ prices rulings records = filter_map (price_in rulings) (members records)
 
 -- whose work a record measures, by the rule in force
 abbrev pub identity_by : Rulings → List ℕ → List ℕ
-identity_by rulings bytes = identity_of bytes
+identity_by rulings bytes =
+    option_map_or (λ period. identity2_of bytes) rulings.adopted (identity_of bytes)
 
 -- the day of the last close, if there was one
 abbrev pub last_close : Rulings → Option ℤ

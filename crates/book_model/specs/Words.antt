@@ -13,8 +13,9 @@ pub use Rattle.smf_frames.specs.Feeding.{Feeds}
 pub use Rattle.smf_frames.specs.Texts.{texts}
 pub use Rattle.smf_type30.specs.Layout.{identification, job_end, step_number}
 pub use Rattle.smf_type30.specs.Section.{offset_of, part_in}
-pub use Rattle.smf_type30.specs.Usage.{completion_of, day_of, identity_length, identity_of}
-pub use Rattle.smf_type30.specs.Usage.{job_id_of, job_of, program_of, step_of, subtype_of}
+pub use Rattle.smf_type30.specs.Usage.{completion_of, day_of, identity2_length, identity2_of}
+pub use Rattle.smf_type30.specs.Usage.{identity_length, identity_of, job_id_of, job_of, program_of}
+pub use Rattle.smf_type30.specs.Usage.{step_of, subtype_of}
 pub use Rattle.smf_type30.specs.Class.{IsUsage, class_of, type_of}
 pub use Rattle.smf_type30.specs.Damage.{damage_number}
 pub use Rattle.tariff_rules.specs.Terms.{Terms}
@@ -23,36 +24,43 @@ pub use Rattle.tariff_rules.specs.TariffFile.{terms_in}
 pub use Rattle.book_model.specs.Sets.{Set, has, members, set_of, those, with, without}
 pub use Rattle.book_model.specs.Records.{IsUsageRecord, Naming, Records, by_bytes, name_of}
 pub use Rattle.book_model.specs.Records.{same_bytes}
-pub use Rattle.book_model.specs.Limits.{last_period, most_cost, most_held}
-pub use Rattle.book_model.specs.Rulings.{Rulings, Tariffed, are_rising, has_begun, identity_by}
-pub use Rattle.book_model.specs.Rulings.{in_force, last_close, no_rulings, price_in, price_under}
-pub use Rattle.book_model.specs.Rulings.{prices, with_close, with_tariff}
+pub use Rattle.book_model.specs.Limits.{last_period, most_choices, most_cost, most_held}
+pub use Rattle.book_model.specs.Rulings.{Choice, Rulings, Tariffed, are_rising, has_begun}
+pub use Rattle.book_model.specs.Rulings.{identity_by, in_force, last_close, no_rulings, open_by}
+pub use Rattle.book_model.specs.Rulings.{price_in, price_under, prices, with_choice, with_close}
+pub use Rattle.book_model.specs.Rulings.{with_second_rule, with_tariff}
 pub use Rattle.book_model.specs.Charged.{charged_by, charged_now, charged_through, conflict}
-pub use Rattle.book_model.specs.Charged.{is_dated_after, is_dated_by, is_undisputed, share_identity}
+pub use Rattle.book_model.specs.Charged.{is_chosen, is_dated_after, is_dated_by, is_undisputed}
+pub use Rattle.book_model.specs.Charged.{is_unrivalled, last_chosen, share_identity}
 pub use Rattle.book_model.specs.Periods.{Period, period_by}
 pub use Rattle.book_model.specs.Rows.{AreRows, FitSums, by_key, charged_at, key_of, keys_of, row_at}
 pub use Rattle.book_model.specs.Rows.{rows_for, rows_of, same_key}
 pub use Rattle.book_model.specs.Lines.{AreLines, by_line, lines_for, lines_of, plus_first}
 pub use Rattle.book_model.specs.Disputes.{AreDisputes, Disputed, IsDispute, by_name, dispute_at}
-pub use Rattle.book_model.specs.Disputes.{dispute_shown, disputes_in, identities, records_of}
-pub use Rattle.book_model.specs.Disputes.{variant_of}
+pub use Rattle.book_model.specs.Disputes.{dispute_shown, disputes_in, identities, is_in_dispute}
+pub use Rattle.book_model.specs.Disputes.{is_settled, records_of, variant_of}
 pub use Rattle.book_model.specs.Books.{Book, all_periods, charged_of, flat_book, new_book}
 pub use Rattle.book_model.specs.Books.{open_number, open_period, period_of}
-pub use Rattle.book_model.specs.Events.{Event, PeriodClosed, RecordKept, TariffAccepted, after}
-pub use Rattle.book_model.specs.Events.{after_all, after_any, close, keep, put_in_force}
+pub use Rattle.book_model.specs.Events.{Event, PeriodClosed, RecordChosen, RecordKept}
+pub use Rattle.book_model.specs.Events.{SecondRuleAdopted, TariffAccepted, adopt, after, after_all}
+pub use Rattle.book_model.specs.Events.{after_any, choose, close, keep, put_in_force}
 pub use Rattle.book_model.specs.Accept.{accept_answer, accept_priced, clashes, is_full, total_of}
-pub use Rattle.book_model.specs.RulingAnswers.{close_answer, has_dated, has_text, is_closed}
-pub use Rattle.book_model.specs.RulingAnswers.{is_early, is_effective, is_later, tariff_answer}
+pub use Rattle.book_model.specs.RulingAnswers.{adopt_answer, choose_answer, chosen_answer}
+pub use Rattle.book_model.specs.RulingAnswers.{close_answer, first_rule, has_text, is_closed}
+pub use Rattle.book_model.specs.RulingAnswers.{is_early, is_effective, is_later, is_too_dear}
+pub use Rattle.book_model.specs.RulingAnswers.{record_named, rule_by, second_rule, tariff_answer}
 pub use Rattle.book_model.specs.RulingAnswers.{terms_answer}
 pub use Rattle.book_model.specs.Outcomes.{Outcome, accept_event, accept_outcome}
-pub use Rattle.book_model.specs.Outcomes.{adjustments_outcome, charges_outcome, close_event}
-pub use Rattle.book_model.specs.Outcomes.{close_outcome, disputes_outcome, periods_outcome, reading}
-pub use Rattle.book_model.specs.Outcomes.{tariff_event, tariff_outcome}
+pub use Rattle.book_model.specs.Outcomes.{adjustments_outcome, adopt_event, adopt_outcome}
+pub use Rattle.book_model.specs.Outcomes.{charges_outcome, choose_event, choose_outcome}
+pub use Rattle.book_model.specs.Outcomes.{close_event, close_outcome, disputes_outcome}
+pub use Rattle.book_model.specs.Outcomes.{periods_outcome, reading, tariff_event, tariff_outcome}
 pub use Rattle.book_model.specs.History.{book_after, book_of, charged_in, closes, day_of_close}
 pub use Rattle.book_model.specs.History.{held_before, period_after, periods, rulings}
 pub use Rattle.book_model.specs.Answered.{IsAnswered}
 pub use Rattle.book_model.specs.Stretches.{rulings_in, stretches}
-pub use Rattle.book_model.specs.Sound.{AreAmong, AreDatedBy, AreHeld, IsSound}
+pub use Rattle.book_model.specs.Sound.{AreAllDatedBy, AreAmong, AreDatedBy, AreHeld, IsChoiceOf}
+pub use Rattle.book_model.specs.Sound.{IsSound}
 pub use Rattle.book_model.specs.Laws.{IsAfterLastClose}
 pub use Rattle.book_model.specs.Answers.{Answers, IsBookCall, event_of}
 pub use Rattle.book_model.specs.Faults.{ledger_number}

@@ -17,7 +17,8 @@ pub enum LedgerFault {
     /// An earlier call was answered `Store`: the books are to be opened again.
     #[error("the books are to be opened again")]
     Reopen,
-    /// The books have no room: for a record, its amount, or a period.
+    /// The books have no room: for a record, its amount, a period, or what records would cost under
+    /// a tariff.
     #[error("the books are full")]
     Full,
     /// A record that is held has the name of this one, and other bytes.
@@ -29,7 +30,8 @@ pub enum LedgerFault {
     /// Another tariff comes into force on that day.
     #[error("another tariff comes into force on that day")]
     TariffExists,
-    /// A record that is held is dated on the tariff's effective day or after it.
+    /// Records that are held are dated on the tariff's effective day or after it. It is not answered
+    /// any more: they are priced anew.
     #[error("records are dated after the tariff")]
     RecordsDated,
     /// Another period is open: this one.

@@ -97,6 +97,7 @@ fn push_effects(out: &mut Vec<u8>, effects: &Effects) -> Answered {
         Some(LineChange::AddPlus(name)) => push_named(out, b" PLUS ", name)?,
         Some(LineChange::DropPlus(name)) => push_named(out, b" NO PLUS ", name)?,
         Some(LineChange::AddMinus(name)) => push_named(out, b" MINUS ", name)?,
+        Some(LineChange::DropMinus(name)) => push_named(out, b" NO MINUS ", name)?,
         None => {}
     }
     push_line(out, "")?;

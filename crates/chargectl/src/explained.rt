@@ -28,16 +28,16 @@ Give the command again with more memory; nothing is counted twice.",
 Look at the disk and at the file's rights, then give the command again; nothing is counted twice.",
     "The books have to be opened again after a fault of their file.
 Give the command again; nothing is counted twice.",
-    "A limit is reached: 50,000,000 records, their sum, or 9,999 periods.
-Begin new books.",
+    "A limit is reached: 50,000,000 records, what all of them cost together, or 9,999 periods.
+Begin new books; where it is a tariff that was refused, hand in one of lower prices.",
     "Another record has the same SHA-256 name as a record that is held. The first one is kept.
 Keep the dump: this is not known to have happened anywhere.",
     "The tariff begins no later than the last close or the last tariff.
-Date it later: what was charged or priced already is not changed by a tariff.",
+Date it later than both; held records that are dated on its first day or later are priced anew.",
     "Another tariff begins on the same day.
 Date this one later.",
-    "Records are held that are dated on the tariff's first day or later.
-Date it later, or hand in the tariff before the records that it is to price.",
+    "An old number, not answered any more: records are dated on a tariff's first day or later.
+Nothing is to be done: such records are priced anew.",
     "Another period is open; its number stands behind this one.
 Close that period first, or name it.",
     "The day is not later than that of the close before.

@@ -1,24 +1,23 @@
 -- A closed period is read alike from then on.
 use Rattle.std.proofs.Common.{◌≡◌, ℕ, ◌-◌, ◌<◌, List, [], ◌∷◌, ◌++◌, length, refl, sym, ap}
-use Rattle.std.proofs.Common.{◌∙◌, subst, get_or, arith, Option, Some, None, Ok}
+use Rattle.std.proofs.Common.{◌∙◌, subst, get_or, arith, false, Option, Some, None, Ok}
 use Rattle.std.specs.Prelude.{ℤ, slice_get, if◌then◌else◌}
-use Rattle.std.specs.List.{list_any}
 use Rattle.std.specs.Option.{ok_or, option_map}
 use Rattle.std.proofs.lemmas.Bool.{ne_eqb}
 use Rattle.std.proofs.lemmas.List.{length-append}
 use Rattle.std.proofs.lemmas.Option.{slice_get-get_or}
 use Rattle.book_model.specs.Words.{Terms, IsAnswered, Book, open_number, open_period, period_of}
-use Rattle.book_model.specs.Words.{charged_through, Event, RecordKept, TariffAccepted, PeriodClosed}
-use Rattle.book_model.specs.Words.{keep, close, put_in_force, book_after, lines_of, reading, Period}
-use Rattle.book_model.specs.Words.{period_by, Naming, has_text, is_effective, is_later, has_dated}
-use Rattle.book_model.specs.Words.{terms_answer, rows_for, Rulings, last_close, IsSound, AreHeld}
+use Rattle.book_model.specs.Words.{charged_through, is_dated_after, Event, RecordKept}
+use Rattle.book_model.specs.Words.{TariffAccepted, PeriodClosed, RecordChosen, SecondRuleAdopted}
+use Rattle.book_model.specs.Words.{keep, close, put_in_force, choose, adopt, book_after, lines_of}
+use Rattle.book_model.specs.Words.{reading, Period, period_by, Naming, terms_answer, rows_for}
+use Rattle.book_model.specs.Words.{Rulings, last_close, IsSound, AreAllDatedBy}
 use Rattle.book_model.specs.declared.answer.Ruled.TheVariants.{Done}
 use Rattle.book_model.specs.declared.fault.LedgerFault.TheVariants.{NoSuchPeriod}
 use Rattle.book_model.proofs.AnsweredLemmas.{sound_after}
 use Rattle.book_model.proofs.ListLemmas.{slice_get-front}
-use Rattle.book_model.proofs.PricingLemmas.{held_prices_stay}
+use Rattle.book_model.proofs.CallLemmas.{settled_prices_stay}
 use Rattle.book_model.proofs.ReadingLemmas.{same_rows, same_lines}
-use Rattle.book_model.proofs.SoundLemmas.{undated}
 use Rattle.history_laws.specs.Closed.{IsClosed, IsReadAlike}
 use Rattle.history_laws.specs.Laws.{ClosedStays}
 
@@ -38,7 +37,7 @@ found_past number book closed =
 past_period : (naming : Naming) (number : ℕ) (book : Book) → IsSound naming book
     → IsClosed number book
     → (period : Period) × (slice_get book.past (number - 1) ≡ Some period)
-    × AreHeld book.held period
+    × AreAllDatedBy (last_close book.rulings) period
 past_period naming number book sound closed =
     let some = closed.is_numbered in
     let past = closed.is_past in
@@ -47,7 +46,7 @@ past_period naming number book sound closed =
     let period : Period = get_or book.past (number - 1) (open_period book) in (
       period,
       slice_get-get_or book.past (number - 1) (open_period book) within,
-      sound.past (number - 1) (open_period book) within,
+      sound.settled (number - 1) (open_period book) within,
     )
 
 -- books that have a period alike, and read it alike by their rulings
@@ -104,24 +103,46 @@ module _ (naming : Naming) (number : ℕ) (old : Book) (sound : IsSound naming o
       (found_past number new still ∙ there.1)
       refl refl
 
-  -- what is held costs what it cost before a tariff that is Done
+  -- what is settled costs what it cost before a tariff that is Done
   after_tariff : (text : List ℕ) (terms : Terms) → terms_answer old text terms ≡ Ok Done
       → IsReadAlike naming number old (put_in_force (Some text) terms old)
   after_tariff text terms done =
       let new : Book = put_in_force (Some text) terms old in
-      let tariffs = old.rulings.tariffs in
-      let early = undated (list_any (has_text text) tariffs)
-      (list_any (is_effective terms.effective) tariffs)
-      (is_later terms.effective old.rulings) (has_dated terms.effective old.held) done in
-      let prices = held_prices_stay old.rulings old.held (Some text) terms early in
+      let last : Option ℤ = last_close old.rulings in
+      let prices = λ (bytes : List ℕ) (early : is_dated_after last bytes ≡ false).
+      settled_prices_stay old text terms bytes done early in
       let still : IsClosed number new =
       record { is_numbered = closed.is_numbered; is_past = closed.is_past } in
       let there = past_period naming number old sound closed in
       alike naming number old new there.0 refl
       (found_past number old closed ∙ there.1)
       (found_past number new still ∙ there.1)
-      (same_rows new.rulings old.rulings old.held prices there.0.counted there.2.counted)
-      (same_lines new.rulings old.rulings old.held prices naming there.0 there.2)
+      (same_rows new.rulings old.rulings last prices there.0.counted there.2.counted)
+      (same_lines new.rulings old.rulings last prices naming there.0 there.2)
+
+  -- no choice changes a price
+  after_choice : (bytes : List ℕ) → IsReadAlike naming number old (choose bytes old)
+  after_choice bytes =
+      let new : Book = choose bytes old in
+      let still : IsClosed number new =
+      record { is_numbered = closed.is_numbered; is_past = closed.is_past } in
+      let there = past_period naming number old sound closed in
+      alike naming number old new there.0 refl
+      (found_past number old closed ∙ there.1)
+      (found_past number new still ∙ there.1)
+      refl refl
+
+  -- nor does a rule of identity
+  after_rule : IsReadAlike naming number old (adopt old)
+  after_rule =
+      let new : Book = adopt old in
+      let still : IsClosed number new =
+      record { is_numbered = closed.is_numbered; is_past = closed.is_past } in
+      let there = past_period naming number old sound closed in
+      alike naming number old new there.0 refl
+      (found_past number old closed ∙ there.1)
+      (found_past number new still ∙ there.1)
+      refl refl
 
   -- one close more leaves the closed periods before it
   closed_more : (day : ℤ) → IsClosed number (close day old)
@@ -202,6 +223,30 @@ stays naming (PeriodClosed day ∷ later) earlier number answered closed =
       closed = closed_more naming number old sound before.closed day;
       alike = through naming number (book_after earlier) old (close day old) before.alike
           (after_close naming number old sound before.closed day);
+    }
+stays naming (RecordChosen bytes ∷ later) earlier number answered closed =
+    let old : Book = book_after (later ++ earlier) in
+    let before = stays naming later earlier number answered.1 closed in
+    let sound = sound_after naming (later ++ earlier) answered.1 in
+    record {
+      closed = record {
+        is_numbered = before.closed.is_numbered;
+        is_past = before.closed.is_past;
+      };
+      alike = through naming number (book_after earlier) old (choose bytes old) before.alike
+          (after_choice naming number old sound before.closed bytes);
+    }
+stays naming (SecondRuleAdopted ∷ later) earlier number answered closed =
+    let old : Book = book_after (later ++ earlier) in
+    let before = stays naming later earlier number answered.1 closed in
+    let sound = sound_after naming (later ++ earlier) answered.1 in
+    record {
+      closed = record {
+        is_numbered = before.closed.is_numbered;
+        is_past = before.closed.is_past;
+      };
+      alike = through naming number (book_after earlier) old (adopt old) before.alike
+          (after_rule naming number old sound before.closed);
     }
 
 -- the law of it

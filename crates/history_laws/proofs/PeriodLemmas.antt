@@ -8,7 +8,8 @@ use Rattle.std.proofs.lemmas.List.Elements.{All-nil, All-cons, All-append}
 use Rattle.std.proofs.lemmas.List.Sums.{sum_by_push}
 use Rattle.book_model.specs.Words.{Period, period_by, Book, all_periods, charged_of, is_dated_after}
 use Rattle.book_model.specs.Words.{charged_through, Event, RecordKept, TariffAccepted, PeriodClosed}
-use Rattle.book_model.specs.Words.{book_after, Records, by_bytes, last_close, AreDatedBy}
+use Rattle.book_model.specs.Words.{RecordChosen, SecondRuleAdopted, book_after, Records, by_bytes}
+use Rattle.book_model.specs.Words.{last_close, AreDatedBy}
 use Rattle.book_model.proofs.ListLemmas.{last_or-behind}
 use Rattle.book_model.proofs.SoundLemmas.{through_dated}
 
@@ -23,6 +24,8 @@ posted_dated [] bytes there =
     absurd (true≢false (sym there ∙ ap is_some (map.get-empty by_bytes bytes)))
 posted_dated (RecordKept new ∷ older) bytes there = posted_dated older bytes there
 posted_dated (TariffAccepted text terms ∷ older) bytes there = posted_dated older bytes there
+posted_dated (RecordChosen chosen ∷ older) bytes there = posted_dated older bytes there
+posted_dated (SecondRuleAdopted ∷ older) bytes there = posted_dated older bytes there
 posted_dated (PeriodClosed day ∷ older) bytes there =
     let book : Book = book_after older in
     ap (λ close. is_dated_after close bytes) (last_or-behind None book.rulings.closes day)
@@ -52,6 +55,8 @@ module _ (given taken : Period → ℕ) (standing : Records → ℕ) (none : sta
   past_nets [] = omega arith
   past_nets (RecordKept new ∷ older) = past_nets older
   past_nets (TariffAccepted text terms ∷ older) = past_nets older
+  past_nets (RecordChosen chosen ∷ older) = past_nets older
+  past_nets (SecondRuleAdopted ∷ older) = past_nets older
   past_nets (PeriodClosed day ∷ older) =
       let book : Book = book_after older in
       nets_with book.past (last_close book.rulings) book.posted
@@ -82,6 +87,8 @@ module _ (P : Period → Type 0)
   past_hold [] = All-nil P
   past_hold (RecordKept new ∷ older) = past_hold older
   past_hold (TariffAccepted text terms ∷ older) = past_hold older
+  past_hold (RecordChosen chosen ∷ older) = past_hold older
+  past_hold (SecondRuleAdopted ∷ older) = past_hold older
   past_hold (PeriodClosed day ∷ older) =
       let book : Book = book_after older in
       one_more book.past (last_close book.rulings) book.posted

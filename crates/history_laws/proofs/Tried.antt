@@ -11,8 +11,9 @@ use Rattle.smf_text.specs.PackedDate as packed
 use Rattle.smf_type30.specs.Usage as usage
 use Rattle.book_model.specs.Words.{day_of, Period, period_by, Book, conflict, is_undisputed}
 use Rattle.book_model.specs.Words.{is_dated_by, is_dated_after, charged_now, charged_through, Event}
-use Rattle.book_model.specs.Words.{RecordKept, TariffAccepted, PeriodClosed, book_after, Records}
-use Rattle.book_model.specs.Words.{by_bytes, Rulings, last_close, set_of, has, without}
+use Rattle.book_model.specs.Words.{RecordKept, TariffAccepted, PeriodClosed, RecordChosen}
+use Rattle.book_model.specs.Words.{SecondRuleAdopted, book_after, Records, by_bytes, Rulings}
+use Rattle.book_model.specs.Words.{no_rulings, last_close, set_of, has, without}
 use Rattle.book_model.proofs.SetLemmas.{has-set_of, any-members}
 use Rattle.book_model.proofs.RecordSets.{is, has_those}
 use Rattle.history_laws.specs.Net.{one_if, net_count}
@@ -25,6 +26,8 @@ past_is : (history : List Event) → past_by as_defined history ≡ (book_after 
 past_is [] = refl
 past_is (RecordKept bytes ∷ older) = past_is older
 past_is (TariffAccepted text terms ∷ older) = past_is older
+past_is (RecordChosen bytes ∷ older) = past_is older
+past_is (SecondRuleAdopted ∷ older) = past_is older
 past_is (PeriodClosed day ∷ older) =
     let book : Book = book_after older in
     ap (λ past. past ++ as_defined (last_close book.rulings) book.posted
@@ -49,12 +52,16 @@ other = replicate 201 0
 abbrev last : ℤ
 last = day_of one
 
-they_conflict : (rulings : Rulings) → conflict rulings one other ≡ true
-unfolding usage.identity_of usage.job_of usage.subtype_of
-they_conflict rulings = refl
+-- rulings that are closes alone
+abbrev ruled : List ℤ → Rulings
+ruled closes = record no_rulings { closes = closes }
 
-alone : (rulings : Rulings) → conflict rulings one one ≡ false
-alone rulings = refl
+they_conflict : (closes : List ℤ) → conflict (ruled closes) one other ≡ true
+unfolding usage.identity_of usage.job_of usage.subtype_of
+they_conflict closes = refl
+
+alone : (closes : List ℤ) → conflict (ruled closes) one one ≡ false
+alone closes = refl
 
 apart : is one other ≡ false
 apart = refl
@@ -64,44 +71,45 @@ unfolding usage.day_of packed.packed_day_of
 dated = refl
 
 -- who is charged now, of the records of a list
-charged_is : (rulings : Rulings) (ks : List (List ℕ)) (q : List ℕ)
-    → has (charged_now rulings (set_of by_bytes ks)) q
-    ≡ (not (list_any (conflict rulings q) ks) && list_any (is q) ks)
-charged_is rulings ks q =
-    has_those (is_undisputed rulings (set_of by_bytes ks)) (set_of by_bytes ks) q
-    ∙ (λ i. not (any-members nat_list_cmp_total exact_bytes (conflict rulings q) ks i)
-    && has-set_of nat_list_cmp_total ks q i)
+charged_is : (closes : List ℤ) (ks : List (List ℕ)) (q : List ℕ)
+    → has (charged_now (ruled closes) (set_of by_bytes ks)) q
+    ≡ ((not (list_any (conflict (ruled closes) q) ks) || false) && list_any (is q) ks)
+charged_is closes ks q =
+    has_those (is_undisputed (ruled closes) (set_of by_bytes ks)) (set_of by_bytes ks) q
+    ∙ (λ i. (not (any-members nat_list_cmp_total exact_bytes (conflict (ruled closes) q) ks i)
+    || false) && has-set_of nat_list_cmp_total ks q i)
 
 -- who was charged by a close
-posted_is : (rulings : Rulings) (day : ℤ) (ks : List (List ℕ)) (q : List ℕ)
-    → has (charged_through rulings day (set_of by_bytes ks)) q
-    ≡ ((not (list_any (conflict rulings q) ks) && is_dated_by day q) && list_any (is q) ks)
-posted_is rulings day ks q =
-    has_those (λ bytes. is_undisputed rulings (set_of by_bytes ks) bytes && is_dated_by day bytes)
-    (set_of by_bytes ks) q
-    ∙ (λ i. (not (any-members nat_list_cmp_total exact_bytes (conflict rulings q) ks i)
-    && is_dated_by day q) && has-set_of nat_list_cmp_total ks q i)
+posted_is : (closes : List ℤ) (day : ℤ) (ks : List (List ℕ)) (q : List ℕ)
+    → has (charged_through (ruled closes) day (set_of by_bytes ks)) q
+    ≡ (((not (list_any (conflict (ruled closes) q) ks) || false) && is_dated_by day q)
+    && list_any (is q) ks)
+posted_is closes day ks q =
+    has_those (λ bytes. is_undisputed (ruled closes) (set_of by_bytes ks) bytes
+    && is_dated_by day bytes) (set_of by_bytes ks) q
+    ∙ (λ i. ((not (any-members nat_list_cmp_total exact_bytes (conflict (ruled closes) q) ks i)
+    || false) && is_dated_by day q) && has-set_of nat_list_cmp_total ks q i)
 
 -- nobody is in the empty set
 nobody : (q : List ℕ) → has (set_of by_bytes []) q ≡ false
 nobody q = has-set_of nat_list_cmp_total [] q
 
 -- the first record alone is charged, and posted by the close
-now_charged : (rulings : Rulings) → has (charged_now rulings (set_of by_bytes (one ∷ []))) one
-    ≡ true
-now_charged rulings = charged_is rulings (one ∷ []) one
+now_charged : (closes : List ℤ)
+    → has (charged_now (ruled closes) (set_of by_bytes (one ∷ []))) one ≡ true
+now_charged closes = charged_is closes (one ∷ []) one
 
-now_posted : (rulings : Rulings)
-    → has (charged_through rulings last (set_of by_bytes (one ∷ []))) one ≡ true
-now_posted rulings = posted_is rulings last (one ∷ []) one ∙ ap (λ b. b && true) dated
+now_posted : (closes : List ℤ)
+    → has (charged_through (ruled closes) last (set_of by_bytes (one ∷ []))) one ≡ true
+now_posted closes = posted_is closes last (one ∷ []) one ∙ ap (λ b. b && true) dated
 
 -- with the other it is disputed
-now_disputed : (rulings : Rulings)
-    → has (charged_now rulings (set_of by_bytes (other ∷ one ∷ []))) one ≡ false
-now_disputed rulings =
-    charged_is rulings (other ∷ one ∷ []) one
-    ∙ ap (λ b. not (b || list_any (conflict rulings one) (one ∷ [])) && list_any (is one)
-    (other ∷ one ∷ [])) (they_conflict rulings)
+now_disputed : (closes : List ℤ)
+    → has (charged_now (ruled closes) (set_of by_bytes (other ∷ one ∷ []))) one ≡ false
+now_disputed closes =
+    charged_is closes (other ∷ one ∷ []) one
+    ∙ ap (λ b. (not (b || list_any (conflict (ruled closes) one) (one ∷ [])) || false)
+    && list_any (is one) (other ∷ one ∷ [])) (they_conflict closes)
 
 -- who is counted, added and taken back
 one_counted : (close : Option ℤ) (before charged : Records) (now : Bool) → has charged one ≡ now
@@ -150,7 +158,7 @@ added_fails law =
     let book : Book = book_after (RecordKept one ∷ []) in
     let charged : Records = charged_now book.rulings book.held in
     let before : Records = book.posted in
-    let now = now_charged book.rulings in
+    let now = now_charged [] in
     let twice =
     of_one (adds_late None before charged) true true false (has charged one) true
     (one_counted None before charged true now)
@@ -166,8 +174,8 @@ counted_fails law =
     let second : Book = book_after (PeriodClosed last ∷ RecordKept one ∷ []) in
     let charged : Records = charged_now second.rulings second.held in
     let posted : Records = second.posted in
-    let was = now_posted first.rulings in
-    let now = now_charged second.rulings in
+    let was = now_posted [] in
+    let now = now_charged second.rulings.closes in
     let twice =
     of_two (counts_early None first.posted posted) (counts_early (Some last) posted charged)
     true true false false false false (has charged one) true
@@ -188,8 +196,8 @@ minus_fails law =
     let third : Book = book_after (RecordKept other ∷ PeriodClosed last ∷ RecordKept one ∷ []) in
     let charged : Records = charged_now third.rulings third.held in
     let posted : Records = third.posted in
-    let was = now_posted first.rulings in
-    let now = now_disputed third.rulings in
+    let was = now_posted [] in
+    let now = now_disputed third.rulings.closes in
     let early : Bool = is_dated_after (Some last) one in
     let stays =
     of_two (no_minus None first.posted posted) (no_minus (Some last) posted charged)

@@ -2,8 +2,9 @@
 -- false.
 use Rattle.std.specs.Prelude.{◌≡◌, ℕ, List, [], ◌∷◌, ◌++◌, Option, ℤ, pos}
 use Rattle.book_model.specs.Words.{Period, period_by, Book, charged_now, charged_through, Event}
-use Rattle.book_model.specs.Words.{RecordKept, TariffAccepted, PeriodClosed, book_after, Records}
-use Rattle.book_model.specs.Words.{by_bytes, last_close, set_of, has, without}
+use Rattle.book_model.specs.Words.{RecordKept, TariffAccepted, PeriodClosed, RecordChosen}
+use Rattle.book_model.specs.Words.{SecondRuleAdopted, book_after, Records, by_bytes, last_close}
+use Rattle.book_model.specs.Words.{set_of, has, without}
 use Rattle.history_laws.specs.Net.{net_count, one_if}
 
 -- how a period is made: of the close before it, what that close charged, and what is charged at its
@@ -16,6 +17,8 @@ abbrev pub past_by : Making → List Event → List Period
 past_by make [] = []
 past_by make (RecordKept bytes ∷ older) = past_by make older
 past_by make (TariffAccepted text terms ∷ older) = past_by make older
+past_by make (RecordChosen bytes ∷ older) = past_by make older
+past_by make (SecondRuleAdopted ∷ older) = past_by make older
 past_by make (PeriodClosed day ∷ older) =
     let book : Book = book_after older in
     past_by make older

@@ -91,7 +91,7 @@ module _ (naming : Naming) (book : Book) (sound : IsSound naming book) (day : â„
   -- the tables after the close
   pub close-tables : tables_of naming (close day book)
       â‰¡ close_tables (open_number book) day (tables_of naming book)
-  close-tables = same_tables refl refl closes_closed records_posted
+  close-tables = same_tables refl refl closes_closed refl records_posted
       (days_closed naming book sound day forward) (lines_closed naming book sound day forward)
 
 -- the law of it

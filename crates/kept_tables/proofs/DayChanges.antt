@@ -16,8 +16,7 @@ use Rattle.tariff_rules.specs.declared.priced.Priced.{Priced}
 use Rattle.book_model.specs.declared.row.ChargeRow.{ChargeRow}
 use Rattle.book_model.specs.declared.row.RowKey.{RowKey}
 use Rattle.book_model.specs.Words.{is_dated_after, Records, key_of, by_key, same_key, charged_at}
-use Rattle.book_model.specs.Words.{row_at, keys_of, rows_of, Rulings, price_in, prices, has, with}
-use Rattle.book_model.specs.Words.{those, set_of}
+use Rattle.book_model.specs.Words.{row_at, keys_of, rows_of, has, with, those, set_of}
 use Rattle.book_model.proofs.ListLemmas.{list_any-map}
 use Rattle.book_model.proofs.MapLemmas.{remove-insert, insert-insert, insert-same, get-inserted}
 use Rattle.book_model.proofs.MapLemmas.{by_tie}
@@ -30,7 +29,7 @@ use Rattle.book_model.proofs.SetLemmas.{any_tied-members}
 use Rattle.book_model.proofs.SumsAlike.{SumsAlike, filter_map-alike, list_any-count_by}
 use Rattle.kept_tables.specs.RowChanges.{with_price, less_price, add_price, take_at, take_price}
 use Rattle.kept_tables.specs.Tables.{DayTable}
-use Rattle.kept_tables.specs.TablesOf.{place_of}
+use Rattle.kept_tables.specs.TablesOf.{place_of, prices_by}
 use Rattle.kept_tables.proofs.NumberedLemmas.{by_period_total, by_period_exact}
 
 -- the rows of some prices, each under its place
@@ -207,14 +206,15 @@ take-add days period one some =
     ] refl
 
 -- what a record more costs more
-pub prices-with : (rulings : Rulings) (records : Records) (bytes : List ℕ) (priced : Priced)
-    → has records bytes ≡ false → price_in rulings bytes ≡ Some priced
-    → SumsAlike (prices rulings (with records bytes)) (priced ∷ prices rulings records)
-prices-with rulings records bytes priced new price =
-    let alike = filter_map-alike (price_in rulings) (members_with records bytes new) in
+pub prices-with : (price : List ℕ → Option Priced) (records : Records) (bytes : List ℕ)
+    (priced : Priced)
+    → has records bytes ≡ false → price bytes ≡ Some priced
+    → SumsAlike (prices_by price (with records bytes)) (priced ∷ prices_by price records)
+prices-with price records bytes priced new costs =
+    let alike = filter_map-alike price (members_with records bytes new) in
     record {
       sums = λ f. alike.sums f
-          ∙ ap (λ given. sum_by f (cons_option given (prices rulings records))) price;
+          ∙ ap (λ given. sum_by f (cons_option given (prices_by price records))) costs;
     }
 
 module _ (last : Option ℤ) (charged : Records) where

@@ -19,13 +19,13 @@ use Rattle.book_core.specs.declared.effect_table.DayChange.TheVariants.{Add, Tak
 use Rattle.book_core.specs.declared.effect_table.Effects.{Effects}
 use Rattle.book_core.specs.declared.effect_table.LineChange.{LineChange}
 use Rattle.book_core.specs.declared.effect_table.LineChange.TheVariants.{AddPlus, DropPlus}
-use Rattle.book_core.specs.declared.effect_table.LineChange.TheVariants.{AddMinus}
+use Rattle.book_core.specs.declared.effect_table.LineChange.TheVariants.{AddMinus, DropMinus}
 use Rattle.book_core.specs.declared.effect_table.Member.{Member}
 use Rattle.book_core.specs.declared.effect_table.View.{View}
 use Rattle.book_core.specs.Effects.{charges, unmarks, charge, withdraw, is_after, effects_by}
 use Rattle.book_core.specs.Effects.{effects_of}
 use Rattle.kept_tables.specs.Differing.{RowPlace, OfBook, OfTariff, OfClose, OfRecord, OfDay}
-use Rattle.kept_tables.specs.Differing.{OfLine, DifferAt}
+use Rattle.kept_tables.specs.Differing.{OfChoice, OfLine, DifferAt}
 use Rattle.kept_tables.specs.Laws.{AtMostFourDiffer}
 use Rattle.kept_tables.specs.RowChanges.{less_price, take_at, change_day, change_line, unmark_at}
 use Rattle.kept_tables.specs.RowChanges.{change_mark}
@@ -38,18 +38,18 @@ use Rattle.kept_tables.proofs.KeptPrice.{kept_cost}
 use Rattle.kept_tables.proofs.NumberedLemmas.{by_period_total, by_period_exact}
 
 -- the place is none of these
-abbrev IsNone : RowPlace → List RowPlace → Type 0
+abbrev pub IsNone : RowPlace → List RowPlace → Type 0
 IsNone place places = AllByRecursion (λ changed. place ≢ changed) places
 
 -- who is none of two lists together is none of either
-none_first : (place : RowPlace) (some others : List RowPlace) → IsNone place (some ++ others)
+pub none_first : (place : RowPlace) (some others : List RowPlace) → IsNone place (some ++ others)
     → IsNone place some
 none_first place [] others apart = tt
 none_first place (one ∷ some) others apart =
     (apart.0, none_first place some others apart.1)
 
 -- nor of the second
-none_second : (place : RowPlace) (some others : List RowPlace) → IsNone place (some ++ others)
+pub none_second : (place : RowPlace) (some others : List RowPlace) → IsNone place (some ++ others)
     → IsNone place others
 none_second place [] others apart = apart
 none_second place (one ∷ some) others apart = none_second place some others apart.1
@@ -68,25 +68,26 @@ module _ {K V : Type 0} {R : K → K → Ordering} (o : IsTotalOrder R)
       sym (get-remove o m k q ∙ ap (λ b. cond b None (get m q)) (not_tied o exact q k apart))
 
 -- where a mark changes
-abbrev mark_places : Option (List ℕ) → List RowPlace
+abbrev pub mark_places : Option (List ℕ) → List RowPlace
 mark_places None = []
 mark_places (Some name) = OfRecord name ∷ []
 
 -- where the charge rows change
-abbrev day_places : ℕ → Option DayChange → List RowPlace
+abbrev pub day_places : ℕ → Option DayChange → List RowPlace
 day_places period None = []
 day_places period (Some (Add priced)) = OfDay (period, key_of priced) ∷ []
 day_places period (Some (Take priced)) = OfDay (period, key_of priced) ∷ []
 
 -- where the lines change
-abbrev line_places : ℕ → Option LineChange → List RowPlace
+abbrev pub line_places : ℕ → Option LineChange → List RowPlace
 line_places period None = []
 line_places period (Some (AddPlus name)) = OfLine (period, name) ∷ []
 line_places period (Some (DropPlus name)) = OfLine (period, name) ∷ []
 line_places period (Some (AddMinus name)) = OfLine (period, name) ∷ []
+line_places period (Some (DropMinus name)) = OfLine (period, name) ∷ []
 
 -- where effects change something, beside the record's row and the row of the book
-abbrev effect_places : ℕ → Effects → List RowPlace
+abbrev pub effect_places : ℕ → Effects → List RowPlace
 effect_places period effects =
     mark_places effects.unmark
     ++ (day_places period effects.day ++ line_places period effects.line)
@@ -152,6 +153,34 @@ module _ (period : ℕ) where
       get-beside (by_period_total by_bytes nat_list_cmp_total)
       (by_period_exact by_bytes exact_bytes) lines (period, name) false place
       (λ same. apart.0 (ap OfLine same))
+  lines_beside (Some (DropMinus name)) lines place apart =
+      get-beside_removed (by_period_total by_bytes nat_list_cmp_total)
+      (by_period_exact by_bytes exact_bytes) lines (period, name) place
+      (λ same. apart.0 (ap OfLine same))
+
+  -- tables with effects differ at those places alone
+  pub apply_beside : (tables : Tables) (effects : Effects)
+      → DifferAt (effect_places period effects) tables (apply period effects tables)
+  apply_beside tables effects OfBook apart = refl
+  apply_beside tables effects (OfTariff day) apart = refl
+  apply_beside tables effects (OfClose number) apart = refl
+  apply_beside tables effects (OfChoice number) apart = refl
+  apply_beside tables effects (OfRecord other) apart =
+      marks_beside effects.unmark tables.records other
+      (none_first (OfRecord other) (mark_places effects.unmark)
+      (day_places period effects.day ++ line_places period effects.line) apart)
+  apply_beside tables effects (OfDay place) apart =
+      days_beside effects.day tables.days place
+      (none_first (OfDay place) (day_places period effects.day)
+      (line_places period effects.line)
+      (none_second (OfDay place) (mark_places effects.unmark)
+      (day_places period effects.day ++ line_places period effects.line) apart))
+  apply_beside tables effects (OfLine place) apart =
+      lines_beside effects.line tables.lines place
+      (none_second (OfLine place) (day_places period effects.day)
+      (line_places period effects.line)
+      (none_second (OfLine place) (mark_places effects.unmark)
+      (day_places period effects.day ++ line_places period effects.line) apart))
 
   -- so the tables differ at those places alone, at the record's row and at the row of the book
   put_beside : (tables : Tables) (name : List ℕ) (row : RecordRow) (effects : Effects)
@@ -160,6 +189,7 @@ module _ (period : ℕ) where
   put_beside tables name row effects OfBook apart = absurd (apart.0 refl)
   put_beside tables name row effects (OfTariff day) apart = refl
   put_beside tables name row effects (OfClose number) apart = refl
+  put_beside tables name row effects (OfChoice number) apart = refl
   put_beside tables name row effects (OfRecord other) apart =
       marks_beside effects.unmark tables.records other
       (none_first (OfRecord other) (mark_places effects.unmark)
@@ -191,7 +221,7 @@ module _ (period : ℕ) where
       ]
 
   -- one that is withdrawn loses its mark too
-  few_withdrawn : (through : Option ℤ) (member : Member)
+  pub few_withdrawn : (through : Option ℤ) (member : Member)
       → length (effect_places period (withdraw through member)) ≤ 2
   few_withdrawn through member =
       elim member.posted

@@ -56,11 +56,13 @@ module _ (naming : Naming) (book : Book) (sound : IsSound naming book) where
 
   -- the table of the records, by what is charged
   abbrev table_of : Records → RecordTable
-  table_of charged = record_table naming book.rulings book.posted book.held charged
+  table_of charged =
+      record_table naming (price_in book.rulings) (identity_by book.rulings) book.posted book.held
+      charged
 
   -- the table of the charge rows, by what is charged
   abbrev days_by : Records → DayTable
-  days_by charged = open_days book (those current charged)
+  days_by charged = open_days book (price_in book.rulings) (those current charged)
 
   -- and that of the lines
   abbrev lines_by : Records → LineTable
@@ -106,11 +108,12 @@ module _ (naming : Naming) (book : Book) (sound : IsSound naming book) where
         } in
         same_tables
         (book_row-with book.rulings book.held bytes priced new price)
-        refl refl
-        (records-with naming book.rulings book.posted book.held now bytes priced unnamed price
+        refl refl refl
+        (records-with naming (price_in book.rulings) (identity_by book.rulings) book.posted book.held
+        now bytes priced unnamed price
         ∙ (λ i. insert (marks i) (name_of naming bytes) (row (mark i) (new_posted i))))
-        (days_is book now ∙ days
-        ∙ ap (change_day (open_number book) effects.day) (sym (days_is book before)))
+        (days_is book (price_in book.rulings) now ∙ days
+        ∙ ap (change_day (open_number book) effects.day) (sym (days_is book (price_in book.rulings) before)))
         (lines_is naming book now ∙ lines
         ∙ ap (change_line (open_number book) effects.line) (sym (lines_is naming book before)))
 
@@ -122,7 +125,8 @@ module _ (naming : Naming) (book : Book) (sound : IsSound naming book) where
     -- and the others keep their marks
     same_marks : now ≡ with before bytes → table_of now ≡ table_of before
     same_marks charged =
-        records-agree naming book.rulings book.posted book.held now before (λ other there.
+        records-agree naming (price_in book.rulings) (identity_by book.rulings) book.posted book.held
+        now before (λ other there.
         ap (λ now. has now other) charged ∙ has_with before bytes other
         ∙ ap (λ b. b || has before other) (not_new book.held other bytes there new))
 
@@ -135,8 +139,9 @@ module _ (naming : Naming) (book : Book) (sound : IsSound naming book) where
         (marked charged)
         (same_marks charged)
         (ap days_by charged
-        ∙ ap (open_days book) (counted-current last before bytes is_current)
-        ∙ days-add naming book sound.closed (those current before) bytes priced
+        ∙ ap (open_days book (price_in book.rulings)) (counted-current last before bytes is_current)
+        ∙ days-add naming book sound.closed (price_in book.rulings) (those current before) bytes
+        priced
         (not_those current before bytes new_before) price)
         (ap lines_by charged
         ∙ (λ i. open_lines naming book
@@ -153,14 +158,14 @@ module _ (naming : Naming) (book : Book) (sound : IsSound naming book) where
         (marked charged)
         (same_marks charged)
         (ap days_by charged
-        ∙ ap (open_days book) (counted-late last before bytes is_late))
+        ∙ ap (open_days book (price_in book.rulings)) (counted-late last before bytes is_late))
         (ap lines_by charged
         ∙ (λ i. open_lines naming book
         (added-late last book.posted before bytes new_posted is_late i)
         (taken-new last book.posted before bytes new_posted i))
         ∙ lines-plus naming book sound.closed (plus_of book) (minus_of book) bytes
         (λ other in_it. unnamed other
-        (before_held naming book sound other (added_before naming book sound other in_it))))
+        (before_held naming book sound other (added_before naming book sound before other in_it))))
 
     -- an identity that two records had
     pub kept-disputed : now ≡ before
@@ -187,7 +192,8 @@ module _ (naming : Naming) (book : Book) (sound : IsSound naming book) where
           ≡ change_mark (Some (name_of naming one)) (table_of before)
       unmarked =
           ap (table_of) charged
-          ∙ records-unmark naming book.rulings book.posted book.held before one cost there
+          ∙ records-unmark naming (price_in book.rulings) (identity_by book.rulings) book.posted
+          book.held before one cost there
           (unnamed_in naming book sound one (except one book.held) there
           (λ other in_it. in_those (λ b. not (is b one)) book.held other in_it)
           (λ other in_it. not_true (is other one)
@@ -202,20 +208,20 @@ module _ (naming : Naming) (book : Book) (sound : IsSound naming book) where
           tables-kept (unmarks (name_of naming one) None (Some (AddMinus (name_of naming one))))
           not_marked unmarked
           (ap days_by charged
-          ∙ ap (open_days book) (counted-gone_late last before one (sound.dated one posted)))
+          ∙ ap (open_days book (price_in book.rulings)) (counted-gone_late last before one (sound.dated one posted)))
           (ap lines_by charged
           ∙ (λ i. open_lines naming book (added-posted last book.posted before one posted i)
           (taken-posted last book.posted before one posted i))
           ∙ lines-minus naming book sound.closed (plus_of book) (minus_of book) one
           (unnamed_in naming book sound one (plus_of book) there
           (λ other in_it. before_held naming book sound other
-          (added_before naming book sound other in_it))
+          (added_before naming book sound before other in_it))
           (λ other in_it. differ_back other
-          (not_new book.posted one other posted (added_fresh naming book sound other in_it))))
+          (not_new book.posted one other posted (added_fresh naming book sound before other in_it))))
           (unnamed_in naming book sound one (minus_of book) there
-          (λ other in_it. sound.posted other (taken_posted naming book sound other in_it))
+          (λ other in_it. sound.posted other (taken_posted naming book sound before other in_it))
           (λ other in_it. differ_back other
-          (not_new before one other was (taken_gone naming book sound other in_it)))))
+          (not_new before one other was (taken_gone naming book sound before other in_it)))))
         where
           differ_back : (other : List ℕ) → is one other ≡ false → is other one ≡ false
           differ_back other apart = is_back other one ∙ apart
@@ -229,8 +235,8 @@ module _ (naming : Naming) (book : Book) (sound : IsSound naming book) where
           tables-kept (unmarks (name_of naming one) (Some (Take cost)) None)
           not_marked unmarked
           (ap days_by charged
-          ∙ ap (open_days book) (counted-gone last before one)
-          ∙ days-take naming book sound.closed (those current before) one cost
+          ∙ ap (open_days book (price_in book.rulings)) (counted-gone last before one)
+          ∙ days-take naming book sound.closed (price_in book.rulings) (those current before) one cost
           (has_those current before one ∙ (λ i. is_current i && was i)) its_price)
           (ap lines_by charged
           ∙ (λ i. open_lines naming book
@@ -247,7 +253,7 @@ module _ (naming : Naming) (book : Book) (sound : IsSound naming book) where
           tables-kept (unmarks (name_of naming one) None (Some (DropPlus (name_of naming one))))
           not_marked unmarked
           (ap days_by charged
-          ∙ ap (open_days book) (counted-gone_late last before one is_late))
+          ∙ ap (open_days book (price_in book.rulings)) (counted-gone_late last before one is_late))
           (ap lines_by charged
           ∙ (λ i. open_lines naming book (added-gone last book.posted before one i)
           (taken-gone last book.posted before one fresh i))
@@ -257,10 +263,10 @@ module _ (naming : Naming) (book : Book) (sound : IsSound naming book) where
           ∙ (λ i. not (fresh i) && was i))
           (unnamed_in naming book sound one (except one plus) there
           (λ other in_it. before_held naming book sound other
-          (added_before naming book sound other (in_those (λ b. not (is b one)) plus other in_it)))
+          (added_before naming book sound before other (in_those (λ b. not (is b one)) plus other in_it)))
           (λ other in_it. not_true (is other one)
           (passes_those (λ b. not (is b one)) plus other in_it)))
           (unnamed_in naming book sound one (minus_of book) there
-          (λ other in_it. sound.posted other (taken_posted naming book sound other in_it))
-          (λ other in_it. not_new book.posted other one (taken_posted naming book sound other in_it)
+          (λ other in_it. sound.posted other (taken_posted naming book sound before other in_it))
+          (λ other in_it. not_new book.posted other one (taken_posted naming book sound before other in_it)
           fresh)))

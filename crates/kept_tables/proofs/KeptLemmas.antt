@@ -1,12 +1,9 @@
 -- The tables of a book with a record more are those without it, changed by its effects.
-use Rattle.std.proofs.Common.{◌≡◌, ℕ, List, [], ◌∷◌, length, refl, sym, ap, ◌∙◌, true, false}
-use Rattle.std.proofs.Common.{true≢false, Bool, ◌&&◌, ◌||◌, Option, Some, None, Ok, Err, Result}
-use Rattle.std.proofs.Common.{subst}
+use Rattle.std.proofs.Common.{◌≡◌, ℕ, List, [], ◌∷◌, refl, sym, ap, ◌∙◌, true, false, true≢false}
+use Rattle.std.proofs.Common.{Bool, ◌&&◌, ◌||◌, Option, Some, None, Ok, Err, Result, subst}
 use Rattle.std.specs.Prelude.{ℤ, if◌then◌else◌}
-use Rattle.std.specs.FinMap as fin
 use Rattle.std.specs.List.{list_any}
 use Rattle.std.specs.List.Sorted.{IsStrictlySortedBy}
-use Rattle.std.specs.Option.{option_map_or}
 use Rattle.std.specs.Ordering.{is_eq}
 use Rattle.std.proofs.Math.Bool.{or-true, or-false}
 use Rattle.std.proofs.lemmas.Cmp.{nat_list_cmp_total}
@@ -18,10 +15,11 @@ use Rattle.book_model.specs.declared.answer.Accepted.TheVariants.{Kept, Known}
 use Rattle.book_model.specs.declared.fault.LedgerFault.{LedgerFault}
 use Rattle.book_model.specs.declared.fault.LedgerFault.TheVariants.{DigestClash}
 use Rattle.book_model.specs.Words.{clashes, accept_priced, Book, charged_of, share_identity}
-use Rattle.book_model.specs.Words.{charged_now, keep, Records, Naming, name_of, by_bytes}
+use Rattle.book_model.specs.Words.{charged_now, is_chosen, keep, Records, Naming, name_of, by_bytes}
 use Rattle.book_model.specs.Words.{same_bytes, price_in, last_close, has, with, those, IsSound}
 use Rattle.book_model.proofs.ChargedChanges.{charged-new, charged-alone, charged-only}
-use Rattle.book_model.proofs.ChargedChanges.{charged-stays}
+use Rattle.book_model.proofs.ChargedChanges.{charged-stays, charged-chosen}
+use Rattle.book_model.proofs.ChosenLemmas.{new_unchosen}
 use Rattle.book_model.proofs.RecordSets.{is, has_those, is_itself, first_of, second_of}
 use Rattle.book_model.proofs.SetChanges.{except, IsUnnamed, is_back}
 use Rattle.book_model.proofs.SetLemmas.{fails_too, members_rise, same_bytes-by_cmp}
@@ -32,11 +30,13 @@ use Rattle.book_core.specs.Effects.{is_after, charge, withdraw, effects_by, char
 use Rattle.kept_tables.specs.Laws.{KeptFollows}
 use Rattle.kept_tables.specs.Tables.{Tables}
 use Rattle.kept_tables.specs.TablesOf.{tables_of}
-use Rattle.kept_tables.specs.Views.{only_of, member_by, member_of, sharing}
+use Rattle.kept_tables.specs.Views.{member_by, member_of, sharing, members_of, only_by}
+use Rattle.kept_tables.specs.Views.{lone_members}
 use Rattle.kept_tables.proofs.CostLemmas.{day-price, dated-after}
 use Rattle.kept_tables.proofs.KeptCases.{put_with, kept-current, kept-late, kept-disputed}
 use Rattle.kept_tables.proofs.KeptCases.{kept-posted, kept-taken, kept-dropped}
 use Rattle.kept_tables.proofs.TableParts.{what_is}
+use Rattle.std.specs.FinMap as fin
 
 -- a record that is kept was not held, and had no name of one that is
 pub kept_tests : (known clash : Bool) (rest : Result Accepted LedgerFault)
@@ -152,11 +152,15 @@ module _ (naming : Naming) (book : Book) (sound : IsSound naming book) (bytes : 
             (share_identity book.rulings bytes q) (has book.held q) both,
       )
 
+  -- no choice names the new record
+  plain : is_chosen book.rulings bytes ≡ false
+  plain = new_unchosen book.rulings book.held bytes sound.chosen new
+
   -- by how many records have the identity
   pub kept-as : (shared : List (List ℕ)) → sharing book bytes ≡ shared
       → tables_now
       ≡ put_with naming book bytes priced
-      (effects_by last (length shared) (option_map_or (member_of naming book) (only_of shared) None)
+      (effects_by last (members_of book.rulings shared) (only_by naming book shared)
       (name_of naming bytes) priced)
       tables_before
   kept-as [] listed =
@@ -170,12 +174,19 @@ module _ (naming : Naming) (book : Book) (sound : IsSound naming book) (bytes : 
       held_too (share_identity book.rulings bytes q) (has book.held q) (is q one) there
       (among (one ∷ []) listed q ∙ or-false (is q one)) in
       let cost = what_is (price_in book.rulings one) (sound.priced one its.1) in
-      kept-withdrawn one its.1 cost.0 cost.1
-      (charged-alone book.rulings book.held bytes new one its.1 its.0 only)
-      (charged-only book.rulings book.held bytes new one its.1 its.0 only)
-      ∙ ap (λ member. put_with naming book bytes priced
-      (effects_by last 1 member (name_of naming bytes) priced) tables_before)
-      (ap (member_by naming book one) (sym cost.1))
+      elim (is_chosen book.rulings one) as (λ c. is_chosen book.rulings one ≡ c → tables_now
+      ≡ put_with naming book bytes priced
+      (effects_by last (lone_members c) (if c then None else member_of naming book one)
+      (name_of naming bytes) priced) tables_before) [
+        | true ↦ λ it. kept-disputed naming book sound bytes priced new unnamed price
+            (charged-chosen book.rulings book.held bytes new one its.1 its.0 only plain it)
+        | false ↦ λ not_it. kept-withdrawn one its.1 cost.0 cost.1
+            (charged-alone book.rulings book.held bytes new one its.1 its.0 only)
+            (charged-only book.rulings book.held bytes new one its.1 its.0 only plain not_it)
+            ∙ ap (λ member. put_with naming book bytes priced
+            (effects_by last 1 member (name_of naming bytes) priced) tables_before)
+            (ap (member_by naming book one) (sym cost.1))
+      ] refl
   kept-as (a ∷ b ∷ rest) listed =
       let on_a : list_any (is a) (a ∷ b ∷ rest) ≡ true =
       ap (λ t. t || list_any (is a) (b ∷ rest)) (is_itself a) in
@@ -189,7 +200,7 @@ module _ (naming : Naming) (book : Book) (sound : IsSound naming book) (bytes : 
       let less = sorted_head by_bytes a (b ∷ rest) rising in
       kept-disputed naming book sound bytes priced new unnamed price
       (charged-stays book.rulings book.held bytes new a b its_a.1 its_b.1 its_a.0 its_b.0
-      (ap is_eq less.0))
+      (ap is_eq less.0) plain)
 
 -- the law of it
 pub kept_follows : KeptFollows

@@ -3,7 +3,6 @@ use Rattle.std.proofs.Common.{◌≡◌, ℕ, List, [], ◌∷◌, map, refl, sy
 use Rattle.std.proofs.Common.{cond, not, ◌&&◌, ◌||◌, Option, Some, None}
 use Rattle.std.specs.Prelude.{ℤ}
 use Rattle.std.specs.FinMap.{find}
-use Rattle.std.specs.FinMap as fin
 use Rattle.std.specs.List.{filter_map}
 use Rattle.std.proofs.lemmas.Cmp.{nat_list_cmp_total}
 use Rattle.std.proofs.lemmas.Map.Lookups.{exact_bytes}
@@ -15,6 +14,7 @@ use Rattle.book_model.proofs.SetChanges.{except, by_record, not_new, those-with,
 use Rattle.book_model.proofs.SetChanges.{those-agree, those-except_out, with-except, IsUnnamed}
 use Rattle.book_model.proofs.SetLemmas.{members-with}
 use Rattle.kept_tables.specs.TablesOf.{signed_names}
+use Rattle.std.specs.FinMap as fin
 
 -- the records that a plus line adds
 abbrev pub added : Option ℤ → Records → Records → Records
@@ -106,6 +106,29 @@ module _ (last : Option ℤ) (posted charged : Records) where
       (λ b there.
       ap not (has_those (λ b. not (is b one)) charged b
       ∙ ap (λ t. not t && has charged b) (not_new posted b one there new)))
+
+  -- a record that was posted, and is charged again, is not added
+  pub added-again : (one : List ℕ) → has posted one ≡ true
+      → added last posted (with charged one) ≡ added last posted charged
+  added-again one there =
+      let late : List ℕ → Bool = λ b. not (is_dated_after last b) in
+      let fresh : List ℕ → Bool = λ b. not (has posted b) in
+      ap (those late) (those-with_out fresh charged one (ap not there))
+
+  -- and is taken back no more
+  pub taken-again : (one : List ℕ) → taken posted (with charged one)
+      ≡ except one (taken posted charged)
+  taken-again one =
+      same_records (taken posted (with charged one)) (except one (taken posted charged)) (λ q.
+      has_those (λ b. not (has (with charged one) b)) posted q
+      ∙ ap (λ c. not c && has posted q) (has_with charged one q)
+      ∙ turn (is q one) (has charged q) (has posted q)
+      ∙ sym (has_those (λ b. not (is b one)) (taken posted charged) q
+      ∙ ap (λ b. not (is q one) && b) (has_those (λ b. not (has charged b)) posted q)))
+    where
+      turn : (t c p : Bool) → (not (t || c) && p) ≡ (not t && (not c && p))
+      turn true c p = refl
+      turn false c p = refl
 
 module _ (naming : Naming) (plus : Bool) where
   -- each record of a list gives its line

@@ -1,5 +1,5 @@
 -- The adjustment lines of a period are read back from the tables.
-use Rattle.std.proofs.Common.{◌≡◌, ℕ, List, ◌++◌, map, sym, ap, ◌∙◌, true, false, Bool, not, Option}
+use Rattle.std.proofs.Common.{◌≡◌, ℕ, List, ◌++◌, map, sym, ap, ◌∙◌, true, false, Bool, Option}
 use Rattle.std.proofs.Common.{Some, None}
 use Rattle.std.specs.FinMap.{get, entries, from_entries}
 use Rattle.std.specs.List.{filter_map}
@@ -11,13 +11,13 @@ use Rattle.std.proofs.lemmas.Map.Lookups.{exact_bytes}
 use Rattle.book_model.specs.Words.{record_with, job_of, Book, all_periods, charged_of, lines_for}
 use Rattle.book_model.specs.Words.{by_line, plus_first, Period, Records, Naming, name_of, by_bytes}
 use Rattle.book_model.specs.Words.{price_in, set_of, members, has, IsSound, AreHeld, AreAmong}
+use Rattle.book_model.specs.Words.{identity_by}
 use Rattle.tariff_rules.specs.declared.priced.Priced.{Priced}
 use Rattle.book_model.specs.declared.line.Line.{Line}
 use Rattle.book_model.proofs.EntryReading.{read-entries}
 use Rattle.book_model.proofs.ListLemmas.{filter_map-map}
-use Rattle.book_model.proofs.MapLemmas.{get-inserted}
-use Rattle.book_model.proofs.RecordSets.{is, in_those, passes_those, not_true}
-use Rattle.book_model.proofs.SetChanges.{pick-agree, except, with-except}
+use Rattle.book_model.proofs.RecordSets.{is}
+use Rattle.book_model.proofs.SetChanges.{pick-agree}
 use Rattle.kept_tables.specs.Reading.{line_read, AreFramed, IsApart}
 use Rattle.kept_tables.specs.ReadingLaws.{LinesFollow}
 use Rattle.kept_tables.specs.Tables.{RecordRow, RecordTable}
@@ -25,10 +25,10 @@ use Rattle.kept_tables.specs.TablesOf.{record_row, signed_names, line_entries, t
 use Rattle.kept_tables.proofs.HeldPeriods.{one_of, all_held, all_apart}
 use Rattle.kept_tables.proofs.LineNames.{lines_apart}
 use Rattle.book_model.proofs.LineOrder.{by_line_total, name_ties}
-use Rattle.kept_tables.proofs.OpenNames.{unnamed_in}
 use Rattle.kept_tables.proofs.PeriodPlaces.{at_place, slice_get-map}
 use Rattle.kept_tables.proofs.PeriodReading.{read-period}
-use Rattle.kept_tables.proofs.RecordChanges.{record_table, records-with}
+use Rattle.kept_tables.proofs.RecordChanges.{record_table}
+use Rattle.kept_tables.proofs.StandingSteps.{row-found}
 use Rattle.kept_tables.proofs.TableParts.{what_is}
 
 -- a line as it is read, by the row of its record
@@ -66,7 +66,9 @@ module _ (naming : Naming) (book : Book) (sound : IsSound naming book)
     (framed : AreFramed book.held) where
   -- the records' rows
   abbrev records : RecordTable
-  records = record_table naming book.rulings book.posted book.held (charged_of book)
+  records =
+      record_table naming (price_in book.rulings) (identity_by book.rulings) book.posted book.held
+      (charged_of book)
 
   -- the row of a record that is held stands under its name
   pub found_row : (bytes : List ℕ) (cost : Priced) → has book.held bytes ≡ true
@@ -74,21 +76,8 @@ module _ (naming : Naming) (book : Book) (sound : IsSound naming book)
       → get records (name_of naming bytes)
       ≡ Some (record_row book.rulings (charged_of book) book.posted bytes cost)
   found_row bytes cost there price =
-      let others : Records = except bytes book.held in
-      let charged : Records = charged_of book in
-      let name : List ℕ = name_of naming bytes in
-      let table : Records → RecordTable = λ held.
-      record_table naming book.rulings book.posted held charged in
-      let within = λ (other : List ℕ) (in_it : has others other ≡ true).
-      in_those (λ b. not (is b bytes)) book.held other in_it in
-      let differ = λ (other : List ℕ) (in_it : has others other ≡ true).
-      not_true (is other bytes) (passes_those (λ b. not (is b bytes)) book.held other in_it) in
-      ap (λ held. get (table held) name) (sym (with-except book.held bytes there))
-      ∙ ap (λ rows. get rows name)
-      (records-with naming book.rulings book.posted others charged bytes cost
-      (unnamed_in naming book sound bytes others there within differ) price)
-      ∙ get-inserted nat_list_cmp_total exact_bytes (table others) name
-      (record_row book.rulings charged book.posted bytes cost)
+      row-found naming book sound (price_in book.rulings) (identity_by book.rulings)
+      (charged_of book) bytes there cost price
 
   -- so its line is read back
   one_line : (plus : Bool) (bytes : List ℕ) → has book.held bytes ≡ true

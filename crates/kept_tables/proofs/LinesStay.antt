@@ -56,4 +56,6 @@ lines_stay = record {
   keep = keep_lines;
   tariff = λ book text terms lines. record { framed = lines.framed; apart = lines.apart };
   close = close_lines;
+  choose = λ book bytes lines. record { framed = lines.framed; apart = lines.apart };
+  adopt = λ book lines. record { framed = lines.framed; apart = lines.apart };
 }

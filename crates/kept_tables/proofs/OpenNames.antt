@@ -45,29 +45,32 @@ module _ (naming : Naming) (book : Book) (sound : IsSound naming book) where
       → has book.held other ≡ true
   before_held other in_it = in_those _ book.held other in_it
 
-  -- what is added was charged
-  pub added_before : (other : List ℕ) → has (plus_of book) other ≡ true
-      → has (charged_of book) other ≡ true
-  added_before other in_it =
-      let before : Records = charged_of book in
-      in_those _ before other (in_those _ (those (λ b. not (has book.posted b)) before) other in_it)
+  module _ (charged : Records) where
+    -- what is added, and what is taken back, by what is charged
+    abbrev plus : Records
+    plus = added (last_close book.rulings) book.posted charged
 
-  -- and was not posted
-  pub added_fresh : (other : List ℕ) → has (plus_of book) other ≡ true
-      → has book.posted other ≡ false
-  added_fresh other in_it =
-      let before : Records = charged_of book in
-      not_true (has book.posted other) (passes_those (λ b. not (has book.posted b)) before other
-      (in_those _ (those (λ b. not (has book.posted b)) before) other in_it))
+    abbrev minus : Records
+    minus = taken book.posted charged
 
-  -- what is taken back was posted
-  pub taken_posted : (other : List ℕ) → has (minus_of book) other ≡ true
-      → has book.posted other ≡ true
-  taken_posted other in_it = in_those _ book.posted other in_it
+    -- what is added is charged
+    pub added_before : (other : List ℕ) → has plus other ≡ true → has charged other ≡ true
+    added_before other in_it =
+        in_those _ charged other
+        (in_those _ (those (λ b. not (has book.posted b)) charged) other in_it)
 
-  -- and is charged no more
-  pub taken_gone : (other : List ℕ) → has (minus_of book) other ≡ true
-      → has (charged_of book) other ≡ false
-  taken_gone other in_it =
-      let before : Records = charged_of book in
-      not_true (has before other) (passes_those (λ b. not (has before b)) book.posted other in_it)
+    -- and was not posted
+    pub added_fresh : (other : List ℕ) → has plus other ≡ true → has book.posted other ≡ false
+    added_fresh other in_it =
+        not_true (has book.posted other) (passes_those (λ b. not (has book.posted b)) charged other
+        (in_those _ (those (λ b. not (has book.posted b)) charged) other in_it))
+
+    -- what is taken back was posted
+    pub taken_posted : (other : List ℕ) → has minus other ≡ true → has book.posted other ≡ true
+    taken_posted other in_it = in_those _ book.posted other in_it
+
+    -- and is charged no more
+    pub taken_gone : (other : List ℕ) → has minus other ≡ true → has charged other ≡ false
+    taken_gone other in_it =
+        not_true (has charged other)
+        (passes_those (λ b. not (has charged b)) book.posted other in_it)

@@ -1,22 +1,28 @@
 -- A view that is read from tables has a member alone where it counts one.
-use Rattle.std.proofs.Common.{◌≡◌, ℕ, suc, List, [], ◌∷◌, length, refl, sym, false, is_some, arith}
-use Rattle.std.specs.Prelude.{◌==◌}
-use Rattle.std.specs.Option.{option_map}
+use Rattle.std.proofs.Common.{◌≡◌, ℕ, suc, List, [], ◌∷◌, length, refl, true, false}
+use Rattle.std.proofs.Common.{Some, None, is_some, arith}
+use Rattle.std.specs.Prelude.{◌==◌, if◌then◌else◌}
 use Rattle.std.proofs.lemmas.Bool.Decides.{nat_tests}
 use Rattle.kept_tables.specs.Laws.{ViewFits}
-use Rattle.kept_tables.specs.Views.{only_of, rows_with, member_at}
+use Rattle.kept_tables.specs.Tables.{ChoiceTable, RecordRow}
+use Rattle.kept_tables.specs.Views.{rows_with, rows_count, only_row, member_at, is_named}
+use Rattle.kept_tables.specs.Views.{lone_members}
 
--- two more than any number are not one
-not_one : (n : ℕ) → (suc (suc n) == 1) ≡ false
-not_one n = grind (arith, nat_tests)
-
--- a list has an only element where its length is one
-only_fits : {X Y : Type 0} (f : X → Y) (xs : List X)
-    → is_some (option_map f (only_of xs)) ≡ (length xs == 1)
-only_fits f [] = refl
-only_fits f (x ∷ []) = refl
-only_fits f (x ∷ y ∷ xs) = sym (not_one (length xs))
+-- by the rows of the identity
+fits : (choices : ChoiceTable) (rows : List (List ℕ × RecordRow))
+    → is_some (only_row choices rows) ≡ (rows_count choices rows == 1)
+fits choices [] = refl
+fits choices (one ∷ []) =
+    elim (is_named choices one.0) as (λ c.
+    is_some (if c then None else Some (member_at one)) ≡ (lone_members c == 1)) [
+      | true ↦ refl
+      | false ↦ refl
+    ]
+fits choices (one ∷ other ∷ more) = not_one (length more)
+  where
+    not_one : (n : ℕ) → false ≡ (suc (suc n) == 1)
+    not_one n = grind (arith, nat_tests)
 
 -- the law of it
 pub view_fits : ViewFits
-view_fits tables identity = only_fits member_at (rows_with identity tables.records)
+view_fits tables identity = fits tables.choices (rows_with identity tables.records)

@@ -1,18 +1,26 @@
 -- The laws of the kept tables: after each event they are the tables of the book.
-use Rattle.std.specs.Prelude.{◌≡◌, ℕ, List, Some, Ok, ℤ}
-use Rattle.book_model.specs.Words.{Terms, accept_answer, IsAnswered, Book, open_number, Event, keep}
-use Rattle.book_model.specs.Words.{put_in_force, close, book_after, Naming, name_of, terms_answer}
-use Rattle.book_model.specs.Words.{close_answer, price_in, identity_by, IsSound}
+use Rattle.std.specs.Prelude.{◌≡◌, ℕ, ◌+◌, true, List, length, sum_by, Some, Ok, ℤ}
+use Rattle.std.specs.FinMap.{get, values}
+use Rattle.book_model.specs.Words.{Terms, accept_answer, total_of, IsAnswered, Book, open_number}
+use Rattle.book_model.specs.Words.{Event, keep, put_in_force, close, choose, adopt, book_after}
+use Rattle.book_model.specs.Words.{Naming, name_of, terms_answer, close_answer, chosen_answer}
+use Rattle.book_model.specs.Words.{record_named, adopt_answer, second_rule, is_later, price_in}
+use Rattle.book_model.specs.Words.{identity_by, last_close, with_tariff, IsSound, has}
 use Rattle.tariff_rules.specs.declared.priced.Priced.{Priced}
 use Rattle.book_model.specs.declared.answer.Accepted.TheVariants.{Kept}
 use Rattle.book_model.specs.declared.answer.Ruled.TheVariants.{Done}
-use Rattle.book_core.specs.Effects.{HasOnly, effects_of}
+use Rattle.book_core.specs.Effects.{HasOnly, effects_of, choice_effects}
+use Rattle.book_core.specs.declared.effect_table.Member.{Member}
 use Rattle.kept_tables.specs.Differing.{DifferInAtMost}
 use Rattle.kept_tables.specs.Keeping.{tables_after}
-use Rattle.kept_tables.specs.TableChanges.{put_new, close_tables, put_tariff}
-use Rattle.kept_tables.specs.Tables.{Tables}
+use Rattle.kept_tables.specs.Reading.{AreFramed, AreUsage}
+use Rattle.kept_tables.specs.TableChanges.{put_new, close_tables, put_tariff, put_choice}
+use Rattle.kept_tables.specs.Steps.{reprice_by_steps, tariff_by_steps}
+use Rattle.kept_tables.specs.TableChanges.{adopt_tables, amount_under, reprice}
+use Rattle.kept_tables.specs.Tables.{RecordRow, Tables}
 use Rattle.kept_tables.specs.TablesOf.{tables_of}
-use Rattle.kept_tables.specs.Views.{view_of, view_in}
+use Rattle.kept_tables.specs.Views.{view_of, view_in, member_of, member_in, current_of, current_in}
+use Rattle.kept_tables.specs.Views.{is_due_in}
 
 -- The tables of a book with one record more are those without it, with the record's row, counted in
 -- the row of the book, and with its effects.
@@ -35,14 +43,64 @@ CloseFollows =
     → close_answer book number day ≡ Ok Done
     → tables_of naming (close day book) ≡ close_tables number day (tables_of naming book)
 
--- the tables after a tariff are those before it, with its row
+-- The tables after a tariff are those before it, walked over: each record that is dated on its
+-- first day or later has its new price, the charge rows of the open period have it too, and the
+-- tariff has its row.
 abbrev pub TariffFollows : Type 0
 TariffFollows =
     (naming : Naming) (book : Book) (text : List ℕ) (terms : Terms)
-    → IsSound naming book
+    → IsSound naming book → AreFramed book.held
     → terms_answer book text terms ≡ Ok Done
     → tables_of naming (put_in_force (Some text) terms book)
-    ≡ put_tariff (Some text) terms (tables_of naming book)
+    ≡ put_tariff (open_number book) (Some text) terms (tables_of naming book)
+
+-- What a tariff does to one record is done by steps of one table each.
+abbrev pub RepriceIsSteps : Type 0
+RepriceIsSteps =
+    (period : ℕ) (name : List ℕ) (row : RecordRow) (priced : Priced) (tables : Tables)
+    → get tables.records name ≡ Some row
+    → reprice period name row priced tables ≡ reprice_by_steps period name row priced tables
+
+-- A tariff by steps is the tariff, where the sum is what the records cost together then.
+abbrev pub TariffIsSteps : Type 0
+TariffIsSteps =
+    (period : ℕ) (text : List ℕ) (terms : Terms) (amount : ℕ) (tables : Tables)
+    → amount ≡ (put_tariff period (Some text) terms tables).book.amount
+    → tariff_by_steps period text terms amount tables ≡ put_tariff period (Some text) terms tables
+
+-- What the records will cost together under a tariff that begins later than all that was ruled is
+-- read of their rows: the amount of a row that is dated before the first day, and else what the
+-- terms say.
+abbrev pub SumIsRead : Type 0
+SumIsRead =
+    (naming : Naming) (book : Book) (text : List ℕ) (terms : Terms)
+    → IsSound naming book → AreFramed book.held
+    → is_later terms.effective book.rulings ≡ true
+    → sum_by (amount_under terms) (values (tables_of naming book).records)
+    ≡ total_of (with_tariff (Some text) terms book.rulings) book.held
+
+-- The tables after a choice are those before it, with its row, and with its effects.
+abbrev pub ChoiceFollows : Type 0
+ChoiceFollows =
+    (naming : Naming) (book : Book) (name bytes : List ℕ) (chosen : Member)
+    → IsSound naming book
+    → record_named naming book.held name ≡ Some bytes
+    → chosen_answer book (Some bytes) ≡ Ok Done
+    → member_of naming book bytes ≡ Some chosen
+    → tables_of naming (choose bytes book)
+    ≡ put_choice (length book.rulings.choices + 1) (open_number book) name
+    (choice_effects (last_close book.rulings) (current_of naming book bytes) chosen)
+    (tables_of naming book)
+
+-- The tables under the second rule of identity are those before it, walked over: each record has
+-- its new identity, and each that is undisputed now is charged.
+abbrev pub AdoptionFollows : Type 0
+AdoptionFollows =
+    (naming : Naming) (book : Book)
+    → IsSound naming book → AreUsage book.held
+    → adopt_answer book second_rule ≡ Ok Done
+    → tables_of naming (adopt book)
+    ≡ adopt_tables (open_number book) (last_close book.rulings) is_due_in (tables_of naming book)
 
 -- what a ledger looks at for a new record stands in the tables alone
 abbrev pub ViewFollows : Type 0
@@ -55,11 +113,35 @@ ViewFollows =
 abbrev pub ViewFits : Type 0
 ViewFits = (tables : Tables) (identity : List ℕ) → HasOnly (view_in tables identity)
 
--- tables that are kept over a history, each step from what they held, are those of the book
+-- The record that a choice withdraws stands in the tables alone, and so does the chosen one.
+pub record ChoiceIsRead (naming : Naming) (book : Book) (bytes : List ℕ) : Type 0 where
+  pub current : current_in (tables_of naming book) (identity_by book.rulings bytes)
+      ≡ current_of naming book bytes
+  pub chosen : member_in (tables_of naming book) (name_of naming bytes)
+      ≡ member_of naming book bytes
+
+abbrev pub ChoiceReads : Type 0
+ChoiceReads =
+    (naming : Naming) (book : Book) (bytes : List ℕ)
+    → IsSound naming book → has book.held bytes ≡ true
+    → ChoiceIsRead naming book bytes
+
+-- tables that are kept over a history of records that measure work, each step from what they held,
+-- are those of the book
 abbrev pub TablesFollow : Type 0
 TablesFollow =
     (naming : Naming) (history : List Event) → IsAnswered naming history
+    → AreUsage (book_after history).held
     → tables_after naming history ≡ tables_of naming (book_after history)
+
+-- a choice changes five rows at most
+abbrev pub AtMostFiveDiffer : Type 0
+AtMostFiveDiffer =
+    (naming : Naming) (book : Book) (name bytes : List ℕ)
+    → IsSound naming book
+    → record_named naming book.held name ≡ Some bytes
+    → chosen_answer book (Some bytes) ≡ Ok Done
+    → DifferInAtMost 5 (tables_of naming book) (tables_of naming (choose bytes book))
 
 -- a record that is kept changes four rows at most
 abbrev pub AtMostFourDiffer : Type 0

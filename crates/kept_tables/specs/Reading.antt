@@ -4,7 +4,7 @@ use Rattle.std.specs.FinMap.{get}
 use Rattle.std.specs.List.{filter_map}
 use Rattle.std.specs.Option.{option_map}
 use Rattle.book_model.specs.Words.{record_with, IsFramed, job_of, Book, by_line, Period, Records}
-use Rattle.book_model.specs.Words.{set_of, members, has}
+use Rattle.book_model.specs.Words.{set_of, members, has, IsUsageRecord}
 use Rattle.book_model.specs.declared.line.Line.{Line}
 use Rattle.book_model.specs.declared.row.ChargeRow.{ChargeRow}
 use Rattle.kept_tables.specs.Numbered.{rows_under}
@@ -32,6 +32,10 @@ lines_read number tables =
 -- records that are known by their data: each has the descriptor of its data
 abbrev pub AreFramed : Records → Type 0
 AreFramed records = (bytes : List ℕ) → has records bytes ≡ true → IsFramed bytes
+
+-- records that measure work
+abbrev pub AreUsage : Records → Type 0
+AreUsage records = (bytes : List ℕ) → has records bytes ≡ true → IsUsageRecord bytes
 
 -- the period takes back no record that it adds
 abbrev pub IsApart : Period → Type 0

@@ -1,6 +1,6 @@
--- How rows change by the effects of a new record.
-use Rattle.std.specs.Prelude.{ℕ, ◌+◌, ◌-◌, ◌==◌, true, false, if◌then◌else◌, List, [], Option, Some}
-use Rattle.std.specs.Prelude.{None, unwrap_or}
+-- How rows change by the effects of a new record, and of a choice.
+use Rattle.std.specs.Prelude.{ℕ, ◌+◌, ◌-◌, ◌==◌, Bool, true, false, if◌then◌else◌, List, [], Option}
+use Rattle.std.specs.Prelude.{Some, None, unwrap_or}
 use Rattle.std.specs.FinMap.{get, insert, remove}
 use Rattle.tariff_rules.specs.declared.priced.Priced.{Priced}
 use Rattle.book_model.specs.declared.row.ChargeRow.{ChargeRow}
@@ -10,7 +10,7 @@ use Rattle.book_core.specs.declared.effect_table.DayChange.{DayChange}
 use Rattle.book_core.specs.declared.effect_table.DayChange.TheVariants.{Add, Take}
 use Rattle.book_core.specs.declared.effect_table.LineChange.{LineChange}
 use Rattle.book_core.specs.declared.effect_table.LineChange.TheVariants.{AddPlus, DropPlus}
-use Rattle.book_core.specs.declared.effect_table.LineChange.TheVariants.{AddMinus}
+use Rattle.book_core.specs.declared.effect_table.LineChange.TheVariants.{AddMinus, DropMinus}
 use Rattle.kept_tables.specs.Tables.{RecordRow, RecordTable, DayTable, LineTable}
 
 -- the row with one more price
@@ -61,13 +61,26 @@ change_line period None lines = lines
 change_line period (Some (AddPlus name)) lines = insert lines (period, name) true
 change_line period (Some (DropPlus name)) lines = remove lines (period, name)
 change_line period (Some (AddMinus name)) lines = insert lines (period, name) false
+change_line period (Some (DropMinus name)) lines = remove lines (period, name)
 
--- a record's row loses its mark
+-- a record's row is marked as charged, or loses its mark
+abbrev pub mark_at : Bool → List ℕ → Option RecordRow → RecordTable → RecordTable
+mark_at mark name None records = records
+mark_at mark name (Some row) records = insert records name (record row { charged = mark })
+
 abbrev pub unmark_at : List ℕ → Option RecordRow → RecordTable → RecordTable
-unmark_at name None records = records
-unmark_at name (Some row) records = insert records name (record row { charged = false })
+unmark_at = mark_at false
+
+-- a record's row has another price
+abbrev pub price_at : Priced → List ℕ → Option RecordRow → RecordTable → RecordTable
+price_at priced name None records = records
+price_at priced name (Some row) records = insert records name (record row { priced = priced })
 
 -- the records after one of them, if any, is charged no more
 abbrev pub change_mark : Option (List ℕ) → RecordTable → RecordTable
 change_mark None records = records
 change_mark (Some name) records = unmark_at name (get records name) records
+
+-- the records after one of them is charged
+abbrev pub put_mark : List ℕ → RecordTable → RecordTable
+put_mark name records = mark_at true name (get records name) records

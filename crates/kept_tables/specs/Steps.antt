@@ -1,11 +1,15 @@
 -- The steps of which every change of the tables is made: each changes rows of one table.
-use Rattle.std.specs.Prelude.{ℕ, ℤ, Bool, int_lt, if◌then◌else◌, List, Some}
-use Rattle.std.specs.FinMap.{insert, remove}
+use Rattle.std.specs.Prelude.{ℕ, ℤ, Bool, int_lt, if◌then◌else◌, List, Option, Some}
+use Rattle.std.specs.FinMap.{get, insert, keys, remove}
+use Rattle.tariff_rules.specs.declared.priced.Priced.{Priced}
 use Rattle.book_model.specs.declared.row.ChargeRow.{ChargeRow}
 use Rattle.book_model.specs.declared.row.RowKey.{RowKey}
 use Rattle.kept_tables.specs.MapChanges.{updated, moved}
-use Rattle.kept_tables.specs.RowChanges.{change_mark}
-use Rattle.kept_tables.specs.TableChanges.{move_on}
+use Rattle.book_core.specs.declared.effect_table.DayChange.{DayChange}
+use Rattle.book_core.specs.declared.effect_table.DayChange.TheVariants.{Add, Take}
+use Rattle.kept_tables.specs.RowChanges.{change_day, change_mark, price_at}
+use Rattle.book_model.specs.Words.{Terms}
+use Rattle.kept_tables.specs.TableChanges.{move_on, reprice_step, walk}
 use Rattle.kept_tables.specs.Tables.{RecordRow, Tables}
 use Rattle.kept_tables.specs.TablesOf.{place_of}
 
@@ -30,6 +34,11 @@ put_record_row name row tables = record tables { records = insert tables.records
 abbrev pub unmark_row : List ℕ → Tables → Tables
 unmark_row name tables = record tables { records = change_mark (Some name) tables.records }
 
+-- a record costs something else; its row stays otherwise
+abbrev pub put_price_row : List ℕ → Priced → Tables → Tables
+put_price_row name priced tables =
+    record tables { records = price_at priced name (get tables.records name) tables.records }
+
 -- a record that is dated by the day is posted as it is charged; the others stay as they are
 abbrev pub post_by : ℤ → RecordRow → RecordRow
 post_by day row =
@@ -45,6 +54,29 @@ put_day_row period row tables =
 
 abbrev pub drop_day_row : ℕ → RowKey → Tables → Tables
 drop_day_row period place tables = record tables { days = remove tables.days (period, place) }
+
+-- a price joins the charge rows of a period, or leaves them: one row is put or dropped
+abbrev pub change_day_row : ℕ → Option DayChange → Tables → Tables
+change_day_row period change tables =
+    record tables { days = change_day period change tables.days }
+
+-- A record gets another price in three steps: its row has it; where it is charged, the old price
+-- leaves its charge row in the open period, and then the new one joins its own.
+abbrev pub reprice_by_steps : ℕ → List ℕ → RecordRow → Priced → Tables → Tables
+reprice_by_steps period name row priced tables =
+    let priced_row : Tables = put_price_row name priced tables in
+    if row.charged
+    then change_day_row period (Some (Add priced))
+    (change_day_row period (Some (Take row.priced)) priced_row)
+    else priced_row
+
+-- A tariff by steps: each record that it is for gets its new price, in a walk by name; then the
+-- tariff's row, and what all of them cost together now.
+abbrev pub tariff_by_steps : ℕ → List ℕ → Terms → ℕ → Tables → Tables
+tariff_by_steps period text terms amount tables =
+    set_sums tables.book.held amount
+    (put_tariff_row terms.effective text
+    (walk (reprice_step period terms) (keys tables.records) tables))
 
 -- the rows of a period that are dated after a day go to the next one
 abbrev pub move_day_rows : ℕ → ℤ → Tables → Tables

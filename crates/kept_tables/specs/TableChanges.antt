@@ -1,14 +1,21 @@
--- How the tables change by a new record, by a close and by a tariff.
-use Rattle.std.specs.Prelude.{ℕ, suc, ◌+◌, ◌==◌, not, ◌&&◌, false, if◌then◌else◌, List, Option, ℤ}
-use Rattle.std.specs.Prelude.{int_lt}
-use Rattle.std.specs.FinMap.{insert}
-use Rattle.book_model.specs.Words.{data_of, Terms, Naming, name_of, Rulings, identity_by}
+-- How the tables change by a new record, by a close, and by a choice; and, a row at a time, by a
+-- tariff and by the second rule of identity.
+use Rattle.std.specs.Prelude.{ℕ, suc, ◌+◌, ◌==◌, Bool, not, ◌&&◌, false, if◌then◌else◌, List, []}
+use Rattle.std.specs.Prelude.{◌∷◌, Option, Some, None, ℤ, int_lt, sum_by}
+use Rattle.std.specs.FinMap.{get, insert, keys, values}
+use Rattle.std.specs.Option.{option_map_or}
+use Rattle.book_model.specs.Words.{data_of, record_with, identity2_of, price_by, Terms, Naming}
+use Rattle.book_model.specs.Words.{name_of, Rulings, identity_by, second_rule}
 use Rattle.tariff_rules.specs.declared.priced.Priced.{Priced}
 use Rattle.book_model.specs.declared.row.RowKey.{RowKey}
+use Rattle.book_core.specs.Effects.{charge_held}
+use Rattle.book_core.specs.declared.effect_table.ChoiceEffects.{ChoiceEffects}
 use Rattle.book_core.specs.declared.effect_table.Effects.{Effects}
 use Rattle.kept_tables.specs.MapChanges.{updated, moved}
-use Rattle.kept_tables.specs.RowChanges.{change_day, change_line, change_mark}
+use Rattle.kept_tables.specs.RowChanges.{change_day, change_line, change_mark, put_mark, add_price}
+use Rattle.kept_tables.specs.RowChanges.{take_price}
 use Rattle.kept_tables.specs.Tables.{RecordRow, Tables}
+use Rattle.kept_tables.specs.Views.{member_at}
 
 -- the tables with the effects of a new record in the open period
 abbrev pub apply : ℕ → Effects → Tables → Tables
@@ -61,7 +68,87 @@ close_tables number day tables = record tables {
   days = moved (move_on number day) tables.days;
 }
 
--- the tables with one tariff more
-abbrev pub put_tariff : Option (List ℕ) → Terms → Tables → Tables
-put_tariff text terms tables =
-    record tables { tariffs = insert tables.tariffs terms.effective text }
+-- the tables with a record that is held charged in the open period
+abbrev pub charge_in : ℕ → List ℕ → Effects → Tables → Tables
+charge_in period name effects tables =
+    let applied : Tables = apply period effects tables in
+    record applied { records = put_mark name applied.records }
+
+-- the tables with one choice more, under its number, and with its effects
+abbrev pub put_choice : ℕ → ℕ → List ℕ → ChoiceEffects → Tables → Tables
+put_choice number period name effects tables =
+    let withdrawn : Tables =
+    option_map_or (λ gone. apply period gone tables) effects.withdrawn tables in
+    let charged : Tables = charge_in period name effects.chosen withdrawn in
+    record charged {
+      choices = insert tables.choices number (record { name = name; period = period });
+    }
+
+-- A walk over some rows, by their names: one step for each.
+abbrev pub walk : (List ℕ → Tables → Tables) → List (List ℕ) → Tables → Tables
+walk step [] tables = tables
+walk step (name ∷ names) tables = walk step names (step name tables)
+
+-- A record's row with another price. What a charged one cost leaves the charge rows of the open
+-- period, and the new price joins them.
+abbrev pub reprice : ℕ → List ℕ → RecordRow → Priced → Tables → Tables
+reprice period name row priced tables = record tables {
+  records = insert tables.records name (record row { priced = priced });
+  days = if row.charged then add_price period priced (take_price period row.priced tables.days)
+      else tables.days;
+}
+
+-- what a row's record will cost under a tariff: as it does, where it is dated before the first day
+abbrev pub amount_under : Terms → RecordRow → ℕ
+amount_under terms row =
+    if int_lt row.priced.day terms.effective then row.priced.amount
+    else (price_by terms (record_with row.data_bytes)).amount
+
+-- a step of a tariff's walk: a record that is dated on the first day or later gets its new price
+abbrev pub reprice_row : ℕ → Terms → List ℕ → Option RecordRow → Tables → Tables
+reprice_row period terms name None tables = tables
+reprice_row period terms name (Some row) tables =
+    if int_lt row.priced.day terms.effective then tables
+    else reprice period name row (price_by terms (record_with row.data_bytes)) tables
+
+abbrev pub reprice_step : ℕ → Terms → List ℕ → Tables → Tables
+reprice_step period terms name tables =
+    reprice_row period terms name (get tables.records name) tables
+
+-- the tables with one tariff more: the walk, then its row, and the sum in the row of the book
+abbrev pub put_tariff : ℕ → Option (List ℕ) → Terms → Tables → Tables
+put_tariff period text terms tables =
+    let walked : Tables = walk (reprice_step period terms) (keys tables.records) tables in
+    record walked {
+      tariffs = insert tables.tariffs terms.effective text;
+      book = record tables.book {
+        amount = sum_by (λ row. row.priced.amount) (values walked.records);
+      };
+    }
+
+-- a record's row with its identity by the second rule
+abbrev pub by_second_rule : RecordRow → RecordRow
+by_second_rule row = record row { identity = identity2_of (record_with row.data_bytes) }
+
+-- A step of the walk after it: a record that is not charged is charged where it is to be.
+abbrev pub settle_row : ℕ → Option ℤ → Bool → List ℕ → Option RecordRow → Tables → Tables
+settle_row period last is_due name None tables = tables
+settle_row period last is_due name (Some row) tables =
+    if is_due && not row.charged
+    then charge_in period name (charge_held last (member_at (name, row))) tables
+    else tables
+
+abbrev pub settle_step : ℕ → Option ℤ → (List ℕ → Bool) → List ℕ → Tables → Tables
+settle_step period last is_due name tables =
+    settle_row period last (is_due name) name (get tables.records name) tables
+
+-- The tables under the second rule of identity: each row has its new identity; then each record
+-- that is due by a test is charged; and the row of the book has the rule, and the open period.
+abbrev pub adopt_tables : ℕ → Option ℤ → (Tables → List ℕ → Bool) → Tables → Tables
+adopt_tables period last is_due tables =
+    let named : Tables = record tables { records = updated by_second_rule tables.records } in
+    let walked : Tables =
+    walk (settle_step period last (is_due named)) (keys named.records) named in
+    record walked {
+      book = record tables.book { rule = second_rule; adopted = period };
+    }

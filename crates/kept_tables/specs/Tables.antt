@@ -6,18 +6,15 @@ use Rattle.tariff_rules.specs.declared.priced.Priced.{Priced}
 use Rattle.book_model.specs.declared.row.ChargeRow.{ChargeRow}
 use Rattle.book_model.specs.Words.{by_bytes, by_key}
 use Rattle.kept_tables.specs.Numbered.{by_period}
+pub use Rattle.book_model.specs.RulingAnswers.{first_rule}
 
--- The one row of the book: the rule of identity in force and the period in which it was adopted,
--- how many records are held, and what they cost together.
+-- The one row of the book: the rule of identity in force and the period that was open when it was
+-- adopted, how many records are held, and what they cost together.
 pub record BookRow : Type 0 where
   pub rule : ℕ
   pub adopted : ℕ
   pub held : ℕ
   pub amount : ℕ
-
--- the rule of identity that books begin with
-abbrev pub first_rule : ℕ
-first_rule = 1
 
 -- the period of adoption where no rule was adopted
 abbrev pub never_adopted : ℕ
@@ -31,6 +28,11 @@ pub record RecordRow : Type 0 where
   pub priced : Priced
   pub charged : Bool
   pub posted : Bool
+
+-- A choice: the name of the record that was chosen, and the period that was open then.
+pub record ChoiceRow : Type 0 where
+  pub name : List ℕ
+  pub period : ℕ
 
 -- the text of a tariff, if it came with one, by its first day
 abbrev pub TariffTable : Type 0
@@ -52,11 +54,16 @@ DayTable = FinMap (by_period by_key) ChargeRow
 abbrev pub LineTable : Type 0
 LineTable = FinMap (by_period by_bytes) Bool
 
+-- choices by their number, from 1
+abbrev pub ChoiceTable : Type 0
+ChoiceTable = FinMap nat_cmp ChoiceRow
+
 -- all of them
 pub record Tables : Type 0 where
   pub book : BookRow
   pub tariffs : TariffTable
   pub closes : ClosedTable
+  pub choices : ChoiceTable
   pub records : RecordTable
   pub days : DayTable
   pub lines : LineTable

@@ -1,8 +1,10 @@
 //! Laws of the kept tables, which hold over their definitions alone. Each stands on a function that
 //! does nothing.
 
-ghost use Rattle.kept_tables.specs.Laws.{AtMostFourDiffer, CloseFollows, KeptFollows};
-ghost use Rattle.kept_tables.specs.Laws.{TablesFollow, TariffFollows, ViewFits, ViewFollows};
+ghost use Rattle.kept_tables.specs.Laws.{AdoptionFollows, AtMostFiveDiffer, AtMostFourDiffer};
+ghost use Rattle.kept_tables.specs.Laws.{ChoiceFollows, ChoiceReads, CloseFollows, KeptFollows};
+ghost use Rattle.kept_tables.specs.Laws.{RepriceIsSteps, SumIsRead, TablesFollow, TariffFollows};
+ghost use Rattle.kept_tables.specs.Laws.{TariffIsSteps, ViewFits, ViewFollows};
 ghost use Rattle.kept_tables.specs.ReadingLaws.{LinesFollow, LinesStay, PastStays, RowsFollow};
 
 /// The tables of a book with one record more are those without it, with the record's row, counted
@@ -17,9 +19,46 @@ pub fn close_follows()
     ensures { CloseFollows }
 {}
 
-/// The tables after a tariff are those before it, with its row.
+/// The tables after a tariff are those before it, walked over: each record that is dated on its
+/// first day or later has its new price.
 pub fn tariff_follows()
     ensures { TariffFollows }
+{}
+
+/// What a tariff does to one record is done by steps of one table each.
+pub fn reprice_is_steps()
+    ensures { RepriceIsSteps }
+{}
+
+/// A tariff by steps is the tariff, where the sum is what the records cost together then.
+pub fn tariff_is_steps()
+    ensures { TariffIsSteps }
+{}
+
+/// What the records will cost together under a tariff is read of their rows.
+pub fn sum_is_read()
+    ensures { SumIsRead }
+{}
+
+/// The tables after a choice are those before it, with its row, and with its effects.
+pub fn choice_follows()
+    ensures { ChoiceFollows }
+{}
+
+/// The tables under the second rule of identity are those before it, walked over: each record has
+/// its new identity, and each that is undisputed now is charged.
+pub fn adoption_follows()
+    ensures { AdoptionFollows }
+{}
+
+/// The record that a choice withdraws stands in the tables alone, and so does the chosen one.
+pub fn choice_reads()
+    ensures { ChoiceReads }
+{}
+
+/// A choice changes five rows at most.
+pub fn at_most_five_differ()
+    ensures { AtMostFiveDiffer }
 {}
 
 /// What a ledger looks at for a new record stands in the tables alone.

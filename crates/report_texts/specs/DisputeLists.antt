@@ -1,8 +1,10 @@
 -- Lists of disputes: the identities that two or more held records have, each with these records.
-use Rattle.std.specs.Prelude.{ℕ, List, ◌++◌, length, flat_map, codes, Option, Some, None}
+use Rattle.std.specs.Prelude.{ℕ, ◌==◌, if◌then◌else◌, List, [], ◌++◌, length, flat_map, codes}
+use Rattle.std.specs.Prelude.{Option, Some, None}
 use Rattle.std.specs.Fmt.{decimal}
 use Rattle.hex.specs.Hex.{encode_lower, encode_upper}
-use Rattle.book_model.specs.Words.{show_text, day_text_of, number, part, Disputed}
+use Rattle.book_model.specs.Words.{show_text, day_text_of, number, part, identity2_length}
+use Rattle.book_model.specs.Words.{Disputed}
 use Rattle.book_model.specs.declared.dispute.Variant.{Variant}
 use Rattle.report_texts.specs.Columns.{line_end, right, amount_text}
 
@@ -22,9 +24,17 @@ step_text identity =
     codes " SUBTYPE " ++ decimal (number identity 20 2)
     ++ codes " STEP " ++ decimal (number identity 22 2)
 
--- the line of an identity
+-- by the second rule also the time and the date at which the work was initiated, 4 bytes each
+unfoldable pub start_text : List ℕ → List ℕ
+start_text identity =
+    codes " START " ++ encode_upper (part identity 24 4)
+    ++ codes " " ++ encode_upper (part identity 28 4)
+
+-- the line of an identity, by its length of the first or of the second rule
 unfoldable pub identity_line : List ℕ → List ℕ
-identity_line identity = job_text identity ++ reader_text identity ++ step_text identity ++ line_end
+identity_line identity =
+    job_text identity ++ reader_text identity ++ step_text identity
+    ++ (if length identity == identity2_length then start_text identity else []) ++ line_end
 
 -- completion code and termination indicator, 2 bytes each, where the record has them
 abbrev pub completion_text : Option (List ℕ) → List ℕ

@@ -1,8 +1,9 @@
 //! Lists of disputes: the identities that two or more held records have, each with these records.
 
-ghost use Rattle.std.specs.Prelude.{◌≡◌, ◌+◌, ◌≤◌, ◌++◌, All, IfOk, OnOk};
+ghost use Rattle.std.specs.Prelude.{◌≡◌, ◌⊎◌, ◌+◌, ◌≤◌, ◌++◌, All, IfOk, OnOk};
 ghost use Rattle.std.specs.Prelude.{flat_map, length, map, string_bytes};
 ghost use Rattle.book_model.specs.Words.{IsDay, AreDisputes, IsDispute, dispute_shown};
+ghost use Rattle.book_model.specs.Words.{identity2_length, identity_length};
 ghost use Rattle.smf_frames.specs.Number as numbers;
 ghost use Rattle.report_texts.specs.DisputeLists as spec;
 
@@ -11,6 +12,9 @@ use book_model::{Dispute, Variant};
 use byteorder::{BigEndian, ByteOrder};
 use smf_text::{day_text, show};
 use std::alloc::{AllocError, Global};
+
+/// The bytes of an identity by the second rule.
+const SECOND_RULE: usize = 32;
 
 /// So many bytes at an offset.
 fn part(bytes: &[u8], at: usize, count: usize) -> &[u8]
@@ -23,7 +27,7 @@ fn part(bytes: &[u8], at: usize, count: usize) -> &[u8]
 /// Appends the system and the job of an identity.
 #[tactic(auto, unfolding(crate::specs::DisputeLists::job_text))]
 fn push_job(alloc: Global, out: &mut String, identity: &[u8]) -> Result<(), AllocError>
-    requires { length identity.now ≡ 24 }
+    requires { identity_length ≤ length identity.now }
     ensures { OnOk result (string_bytes out.new
         ≡ string_bytes out.old ++ spec.job_text identity.now) }
 {
@@ -35,7 +39,7 @@ fn push_job(alloc: Global, out: &mut String, identity: &[u8]) -> Result<(), Allo
 /// Appends the reader's time and date of an identity.
 #[tactic(auto, unfolding(crate::specs::DisputeLists::reader_text))]
 fn push_reader(alloc: Global, out: &mut String, identity: &[u8]) -> Result<(), AllocError>
-    requires { length identity.now ≡ 24 }
+    requires { identity_length ≤ length identity.now }
     ensures { OnOk result (string_bytes out.new
         ≡ string_bytes out.old ++ spec.reader_text identity.now) }
 {
@@ -48,7 +52,7 @@ fn push_reader(alloc: Global, out: &mut String, identity: &[u8]) -> Result<(), A
 /// Appends the subtype and the step number of an identity.
 #[tactic(auto, unfolding(crate::specs::DisputeLists::step_text))]
 fn push_step(out: &mut String, identity: &[u8]) -> Result<(), AllocError>
-    requires { length identity.now ≡ 24 }
+    requires { identity_length ≤ length identity.now }
     ensures { OnOk result (string_bytes out.new
         ≡ string_bytes out.old ++ spec.step_text identity.now) }
 {
@@ -58,16 +62,32 @@ fn push_step(out: &mut String, identity: &[u8]) -> Result<(), AllocError>
     push_number(out, u64::from(BigEndian::read_u16(&identity[22..])))
 }
 
+/// Appends the initiation's time and date of an identity that has them.
+#[tactic(auto, unfolding(crate::specs::DisputeLists::start_text))]
+fn push_start(alloc: Global, out: &mut String, identity: &[u8]) -> Result<(), AllocError>
+    requires { identity2_length ≤ length identity.now }
+    ensures { OnOk result (string_bytes out.new
+        ≡ string_bytes out.old ++ spec.start_text identity.now) }
+{
+    out.push_str(" START ")?;
+    out.push_str(hex::encode_upper(alloc, part(identity, 24, 4))?.as_str())?;
+    out.push(' ')?;
+    out.push_str(hex::encode_upper(alloc, part(identity, 28, 4))?.as_str())
+}
+
 /// Appends the line of an identity.
 #[tactic(auto, unfolding(crate::specs::DisputeLists::identity_line))]
 fn push_identity(alloc: Global, out: &mut String, identity: &[u8]) -> Result<(), AllocError>
-    requires { length identity.now ≡ 24 }
+    requires { (length identity.now ≡ identity_length) ⊎ (length identity.now ≡ identity2_length) }
     ensures { OnOk result (string_bytes out.new
         ≡ string_bytes out.old ++ spec.identity_line identity.now) }
 {
     push_job(alloc, out, identity)?;
     push_reader(alloc, out, identity)?;
     push_step(out, identity)?;
+    if identity.len() == SECOND_RULE {
+        push_start(alloc, out, identity)?;
+    }
     out.push('\n')
 }
 

@@ -10,8 +10,8 @@ use crate::accounts;
 use crate::class_of::undamaged;
 use crate::damage::Damage;
 use crate::layout::{
-    BLOCKS, COMPLETION, Field, IDENTIFICATION, IO_ACTIVITY, JOB_END, JOB_ID, JOB_NAME, PROCESSOR,
-    PROGRAM_NAME, READER_START, SRB_TIME, STEP_NUMBER, SUBTYPE, TCB_TIME, TRIPLETS_END,
+    BLOCKS, COMPLETION, Field, IDENTIFICATION, INITIATION, IO_ACTIVITY, JOB_END, JOB_ID, JOB_NAME,
+    PROCESSOR, PROGRAM_NAME, READER_START, SRB_TIME, STEP_NUMBER, SUBTYPE, TCB_TIME, TRIPLETS_END,
 };
 use crate::moment::{Moment, moment_in};
 use crate::number::{number2, number4, part};
@@ -99,6 +99,19 @@ impl<'a> Type30<'a> {
         put(&mut identity, 12..20, self.identified(READER_START));
         put(&mut identity, 20..22, part(self.bytes, SUBTYPE));
         put(&mut identity, 22..24, self.step());
+        identity
+    }
+
+    /// The identity by the second rule: that by the first, and the time and date of the initiation.
+    #[tactic(auto, using(crate::proofs::UsageFacts::usage))]
+    pub fn identity2(&self) -> [u8; 32]
+        ensures value { result ≡ spec.identity2_of self.now }
+        ensures len { length (spec.identity2_of self.now) ≡ spec.identity2_length }
+    {
+        let first = self.identity();
+        let mut identity = [0; 32];
+        put(&mut identity, 0..24, &first);
+        put(&mut identity, 24..32, self.identified(INITIATION));
         identity
     }
 

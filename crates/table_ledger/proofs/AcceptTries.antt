@@ -1,5 +1,5 @@
 -- A record that is tried: what it answers, and what it makes of the book.
-use Rattle.std.proofs.Common.{◌≡◌, ◌≢◌, ◌∙◌, ℕ, ◌+◌, List, [], length, refl, sym, ap, subst, Bool}
+use Rattle.std.proofs.Common.{◌≡◌, ◌≢◌, ◌∙◌, ℕ, ◌+◌, List, [], refl, sym, ap, subst, Bool}
 use Rattle.std.proofs.Common.{true, false, true≢false, ◌||◌, Option, Some, None, Result, Ok, Err}
 use Rattle.std.specs.Prelude.{nat_le, nat_lt, if◌then◌else◌, IfSome, IsErr}
 use Rattle.std.specs.FinMap.{get}
@@ -10,7 +10,7 @@ use Rattle.sqlite_trees.specs.declared.error.StoreError.{StoreError}
 use Rattle.book_model.specs.Words.{data_of, IsPriced, accept_answer, Book, RecordKept, keep}
 use Rattle.book_model.specs.Words.{most_held, most_cost, accept_outcome, accept_event, Naming}
 use Rattle.book_model.specs.Words.{IsUsageRecord, name_of, same_bytes, price_in, price_under}
-use Rattle.book_model.specs.Words.{identity_of, Tariffed}
+use Rattle.book_model.specs.Words.{identity_of, Tariffed, Rulings, open_by}
 use Rattle.tariff_rules.specs.declared.priced.Priced.{Priced}
 use Rattle.book_model.specs.declared.answer.Accepted.{Accepted}
 use Rattle.book_model.specs.declared.answer.Accepted.TheVariants.{Kept, Known, Unpriced}
@@ -18,12 +18,12 @@ use Rattle.book_model.specs.declared.fault.LedgerFault.{LedgerFault}
 use Rattle.book_model.specs.declared.fault.LedgerFault.TheVariants.{Full, DigestClash}
 use Rattle.book_core.specs.Calls.{Makes}
 use Rattle.book_core.specs.Effects.{effects_of}
+use Rattle.book_core.specs.declared.effect_table.View.{View as Rivals}
 use Rattle.kept_tables.specs.TableChanges.{put_new}
 use Rattle.kept_tables.specs.Tables.{BookRow, RecordRow, Tables}
 use Rattle.kept_tables.specs.TablesOf.{tables_of}
-use Rattle.kept_tables.specs.Views.{view_in}
 use Rattle.table_readings.specs.AcceptRead.{row_answer, new_answer, keep_read}
-use Rattle.table_readings.proofs.AcceptLemmas.{accept_follows}
+use Rattle.table_readings.proofs.AcceptLemmas.{accept_follows, view_is_of_rows}
 use Rattle.table_readings.proofs.CallsLemmas.{calls_stay}
 use Rattle.table_readings.proofs.ReadableLemmas.{calls_read}
 use Rattle.table_readings.proofs.RulingsReading.{closes_back}
@@ -33,11 +33,13 @@ use Rattle.tree_tables.specs.Stored.{stored_entry}
 use Rattle.tree_tables.specs.declared.stored_record.StoredRecord.{StoredRecord}
 use Rattle.table_ledger.specs.Commits.{Saw, CommitsOne}
 use Rattle.table_ledger.specs.Entries.{AreRemembered, IsNew}
-use Rattle.table_ledger.specs.Keepings.{keep_as, keep_with}
+use Rattle.table_ledger.specs.Keepings.{keep_as}
 use Rattle.table_ledger.specs.Ready.{IsReadyAt, Remembers}
+use Rattle.table_ledger.specs.Summaries.{ruled_in}
 use Rattle.table_ledger.specs.Tries.{IsPlain, Tries}
 use Rattle.table_ledger.specs.declared.summary.Summary.{Summary}
 use Rattle.table_ledger.proofs.Answering.{makes_answer, makes_refused}
+use Rattle.table_ledger.proofs.Remembered.{rulings_are}
 use Rattle.table_ledger.proofs.Refusals.{looks_failed, commit_failed}
 use Rattle.table_ledger.proofs.TryLemmas.{IsEvent, saw_found, saw_none, saw_so}
 use Rattle.table_ledger.proofs.TryLemmas.{try_answered, try_done, try_refused, try_undone}
@@ -250,6 +252,7 @@ module _ (naming : Naming) (was : Summary) (bytes name : List ℕ) (usage : IsUs
         let kept = accept_kept book ready known in
         let cost = book_price book ready.remembers in
         let tables = tables_of naming book in
+        let whole = calls_read naming book ready.kept.calls in
         record {
           event = RecordKept bytes;
           is = ap (accept_event bytes) kept;
@@ -261,12 +264,12 @@ module _ (naming : Naming) (was : Summary) (bytes name : List ℕ) (usage : IsUs
                     subst (λ found. IfSome found IsPriced) (sym cost ∙ same) is_priced;
               }) kept;
           tables =
-              (λ i. keep_with was (named i) bytes priced
-              (effects_of (view_in tables (identity_of bytes)) (named i) priced) tables)
-              ∙ (λ i. put_new naming (record book.rulings { closes = ready.remembers.closes i })
-              (length (ready.remembers.closes i) + 1) bytes priced
-              (effects_of (view_in tables (identity_of bytes)) (name_of naming bytes) priced)
-              tables)
+              ap (λ name. keep_as was name bytes priced tables) named
+              ∙ ap (λ (view : Rivals). put_new naming (ruled_in was) (open_by (ruled_in was)) bytes
+              priced (effects_of view (name_of naming bytes) priced) tables)
+              (sym (view_is_of_rows naming book (identity_of bytes) whole))
+              ∙ ap (λ (rulings : Rulings). keep_read naming rulings bytes priced tables)
+              (sym (rulings_are whole ready.remembers))
               ∙ sym (tables_kept book ready known);
         }
 

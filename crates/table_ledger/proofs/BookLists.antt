@@ -33,7 +33,7 @@ use Rattle.table_ledger.specs.RecordReads.{CanBeRead, HasWideNames, IsUsageData}
 use Rattle.table_ledger.specs.Summaries.{ruled_in}
 use Rattle.table_ledger.specs.declared.summary.Summary.{Summary}
 use Rattle.table_ledger.proofs.LineReadings.{line_with, lines_listed}
-use Rattle.table_ledger.proofs.ListReadings.{rulings_are}
+use Rattle.table_ledger.proofs.Remembered.{rulings_are}
 use Rattle.table_ledger.proofs.BookRows.{IsTaken, can_be_read, days_fit, lines_fit, lines_rise}
 use Rattle.table_ledger.proofs.BookRows.{uncharged_taken}
 
@@ -86,7 +86,7 @@ module _ {naming : Naming} {summary : Summary} {view : View} {book : Book}
   -- a period that there is by what is remembered, there is
   there_is : (number : ℕ) → is_period number (ruled_in summary) ≡ true
       → is_period number book.rulings ≡ true
-  there_is number is = ap (is_period number) (rulings_are ready.remembers) ∙ is
+  there_is number is = ap (is_period number) (rulings_are whole ready.remembers) ∙ is
 
   -- its charge rows fit
   pub own_days : (number : ℕ) → is_period number (ruled_in summary) ≡ true

@@ -27,9 +27,11 @@ use Rattle.book_model.specs.Sets.{Set}
 use Rattle.book_model.specs.declared.row.ChargeRow.{ChargeRow}
 use Rattle.book_model.specs.declared.row.RowKey.{RowKey}
 use Rattle.book_model.proofs.RecordSets.{has_those, same_records}
+use Rattle.smf_type30.proofs.IdentityLength.{identity-long}
 use Rattle.book_model.proofs.RowLemmas.{by_key_total}
 use Rattle.book_model.proofs.SetLemmas.{members-those}
 use Rattle.book_model.proofs.SumsAlike.{length-sum_by}
+use Rattle.book_model.proofs.UnchosenLemmas.{identity_by-first}
 use Rattle.kept_tables.specs.Numbered.{rows_under, under}
 use Rattle.kept_tables.specs.Tables.{RecordRow}
 use Rattle.kept_tables.specs.TablesOf.{line_entries, signed_names, tables_of}
@@ -43,7 +45,6 @@ use Rattle.table_readings.specs.Readable.{IsReadable}
 use Rattle.table_readings.proofs.DisputedRows.{each_entry}
 use Rattle.table_readings.proofs.Finding.{find_one}
 use Rattle.table_readings.proofs.FitsLemmas.{numbers_fit}
-use Rattle.table_readings.proofs.IdentityLength.{identity-long}
 use Rattle.table_readings.proofs.ListLemmas.{period_there}
 use Rattle.table_readings.proofs.ListOrder.{all_joined}
 use Rattle.table_readings.proofs.PriceSums.{costs, some_within}
@@ -180,7 +181,11 @@ module _ (naming : Naming) (book : Book) (whole : IsReadable naming book) where
           short = usage.framed.short;
           usage = subst IsUsage usage.framed.is usage.usage;
         };
-        shown = record { identity = identity-long bytes usage.usage; day = cost.day };
+        shown = record {
+          identity = ap length (identity_by-first book.rulings whole.first_rule bytes)
+              ∙ identity-long bytes usage.usage;
+          day = cost.day;
+        };
       }
 
   -- so are all rows of records

@@ -1,5 +1,6 @@
 -- Rows that join disputes, and that such disputes can be shown.
 use Rattle.std.proofs.Common.{◌≡◌, ◌∙◌, Bool, true, false, List, [], ◌∷◌, ◌++◌, refl, sym, ap, map, append_assoc}
+use Rattle.std.proofs.Common.{inl}
 use Rattle.std.proofs.lemmas.List.{map-append}
 use Rattle.std.specs.Prelude.{All, if◌then◌else◌}
 use Rattle.std.specs.List.{AllByRecursion}
@@ -76,7 +77,7 @@ joined_other olds news last one row is differ made =
 -- a dispute of one row that can be shown
 one_shows : (row : NamedRow) → IsShownRow row → IsDispute (of_one row)
 one_shows row shown = record {
-  identity = shown.identity;
+  identity = inl shown.identity;
   days = All-from_recursion (λ (member : Variant). IsDay member.priced.day) (variant_read row ∷ [])
       (shown.day, tt);
 }

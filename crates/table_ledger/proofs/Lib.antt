@@ -5,6 +5,7 @@ mod Standing
 mod TryLemmas
 mod Answering
 mod Refusals
+mod Remembered
 mod OneCall
 mod SettleLemmas
 mod StepLemmas
@@ -14,6 +15,7 @@ mod CodeDays
 mod TariffTries
 mod CloseTries
 mod DayLooks
+mod Repriced
 mod NewEntries
 mod AcceptTries
 mod ListReadings

@@ -18,6 +18,7 @@ use Rattle.table_ledger.specs.Ready.{Remembers}
 use Rattle.table_ledger.specs.Summaries.{ruled_in}
 use Rattle.table_ledger.specs.Tries.{Tries}
 use Rattle.table_ledger.specs.declared.summary.Summary.{Summary}
+use Rattle.table_ledger.proofs.Remembered.{rulings_are}
 use Rattle.table_ledger.proofs.TryLemmas.{saw_none, try_answered, try_refused}
 
 -- a look that is refused is so with any error
@@ -49,14 +50,6 @@ later_refused {B = B} view naming summary outcome {Answers = Answers} saw looks 
     try_refused view naming summary outcome {B = B} {Answers = Answers} saw
     (looks_err {A = B} {B = B} {Answers = Answers} {Others = Answers} looks)
 
--- what is remembered are the book's rulings
-pub rulings_are : {summary : Summary} {book : Book} → Remembers summary book
-    → book.rulings ≡ ruled_in summary
-rulings_are remembers = λ i. record {
-  tariffs = sym remembers.tariffs i;
-  closes = sym remembers.closes i;
-}
-
 -- a list that was read makes no event
 read_makes : {V A : Type 0} (view : V → A) (outcome : Outcome A) (said : Result A LedgerFault)
     (value : V) → outcome ≡ reading said → said ≡ Ok (view value) → Makes view outcome (Ok value) []
@@ -80,11 +73,12 @@ list_read {view = view} {naming = naming} {summary = summary} {outcome = outcome
     read_makes view (outcome book) _ value (law book whole) (ap Ok (says book whole known)))
 
 -- whether there is a period, by what is remembered
-answer_is : {A : Type 0} {summary : Summary} (number : ℕ) (list : A) (found : Bool) (book : Book)
-    → is_period number (ruled_in summary) ≡ found → Remembers summary book
+answer_is : {A : Type 0} {naming : Naming} {summary : Summary} (number : ℕ) (list : A)
+    (found : Bool) (book : Book) → is_period number (ruled_in summary) ≡ found
+    → IsReadable naming book → Remembers summary book
     → of_period number book.rulings list ≡ (if found then Ok list else Err NoSuchPeriod)
-answer_is number list found book is remembers =
-    ap (λ (rulings : Rulings). of_period number rulings list) (rulings_are remembers)
+answer_is number list found book is whole remembers =
+    ap (λ (rulings : Rulings). of_period number rulings list) (rulings_are whole remembers)
     ∙ ap (λ (there : Bool). if there then Ok list else Err NoSuchPeriod) is
 
 module _ {V A : Type 0} {view : V → A} {naming : Naming} {summary : Summary}
@@ -98,7 +92,7 @@ module _ {V A : Type 0} {view : V → A} {naming : Naming} {summary : Summary}
       (λ book ready known. (
         ap (λ (of : Outcome A). of.answer) (law book (calls_read naming book ready.kept.calls))
             ∙ answer_is number (read (tables_of naming book)) false book absent
-            ready.remembers,
+            (calls_read naming book ready.kept.calls) ready.remembers,
         refl,
       ))
 
@@ -109,6 +103,7 @@ module _ {V A : Type 0} {view : V → A} {naming : Naming} {summary : Summary}
       → Tries view naming summary summary old new outcome (Ok (Ok value))
   period_read value there saw says =
       try_answered view naming summary outcome saw (record { stored = refl; served = refl }) (λ book ready known.
-      read_makes view (outcome book) _ value (law book (calls_read naming book ready.kept.calls))
-      (answer_is number (read (tables_of naming book)) true book there ready.remembers
+      let whole = calls_read naming book ready.kept.calls in
+      read_makes view (outcome book) _ value (law book whole)
+      (answer_is number (read (tables_of naming book)) true book there whole ready.remembers
       ∙ ap Ok (says (tables_of naming book) known)))

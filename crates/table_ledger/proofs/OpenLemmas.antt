@@ -1,7 +1,8 @@
 -- A store that keeps the tables of a book, with its summary, is an open ledger.
-use Rattle.std.proofs.Common.{◌≡◌, ◌∙◌, [], ap, false, refl, subst, sym}
+use Rattle.std.proofs.Common.{◌≡◌, ◌∙◌, [], ap, false, refl, subst, sym, true≢false}
 use Rattle.tree_tables.specs.States.{State, HasCleanDisk}
 use Rattle.book_model.specs.Words.{Book, new_book, Naming, no_rulings}
+use Rattle.book_model.proofs.SoundLemmas.{none_in}
 use Rattle.book_core.specs.Ledgers.{IsOpenAt}
 use Rattle.kept_tables.specs.Keeping.{new_tables}
 use Rattle.kept_tables.specs.Tables.{Tables}
@@ -52,7 +53,8 @@ opened naming state summary book last clean calls keeping remembers =
 
 -- the tables of new books are those of the new book
 pub new_follow : (naming : Naming) → new_tables ≡ tables_of naming new_book
-new_follow naming = tables_follow naming [] tt
+new_follow naming =
+    tables_follow naming [] tt (λ bytes there. absurd (true≢false (sym there ∙ none_in bytes)))
 
 -- new books are open, where nothing is remembered
 pub created : (naming : Naming) (state : State) (summary : Summary)

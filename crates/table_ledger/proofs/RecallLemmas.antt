@@ -10,7 +10,7 @@ use Rattle.std.proofs.lemmas.List.Elements.{All-cons}
 use Rattle.std.proofs.lemmas.Result.{err_from_is_err_and}
 use Rattle.tree_tables.specs.States.{State, HasCleanDisk, Survives}
 use Rattle.sqlite_trees.specs.declared.error.StoreError.{StoreError}
-use Rattle.book_model.specs.Words.{IsDay, Book, Naming, Rulings, Tariffed}
+use Rattle.book_model.specs.Words.{IsDay, Book, Naming, Rulings, Tariffed, no_rulings}
 use Rattle.book_model.specs.declared.fault.LedgerFault.{LedgerFault}
 use Rattle.book_model.specs.declared.fault.LedgerFault.TheVariants.{NotBooks, Store}
 use Rattle.book_core.specs.Ledgers.{IsOpenAt}
@@ -100,7 +100,7 @@ recalled summary tables row tariffs closes shows book texts days =
     let closed = sym (days_had closes summary.closes.items shows.closes)
     ∙ ap (map (λ (close : ℕ × ℤ). close.1)) days in
     record {
-      rulings = λ i. record { tariffs = ruled i; closes = closed i };
+      rulings = λ i. record no_rulings { tariffs = ruled i; closes = closed i };
       held = shows.held ∙ ap (λ (kept : BookRow). kept.held) book;
       total = shows.total ∙ ap (λ (kept : BookRow). kept.amount) book;
     }

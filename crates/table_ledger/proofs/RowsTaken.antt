@@ -2,7 +2,7 @@
 use Rattle.std.proofs.Common.{◌≡◌, ◌∙◌, ℕ, ℤ, zero, suc, List, [], ◌∷◌, ap, arith, map, refl}
 use Rattle.std.proofs.Common.{subst, sym, None, Option, Some, slice_index_or, take, ◌<◌, ◌+◌, true}
 use Rattle.std.proofs.Common.{length, Bool, ◌&&◌}
-use Rattle.std.specs.Prelude.{All, int_lt, ◌<ℤ◌, ◌≤◌}
+use Rattle.std.specs.Prelude.{All, int_lt, ◌<ℤ◌, ◌≤◌, if◌then◌else◌, is_some, unwrap_or}
 use Rattle.std.specs.FinMap.{entries}
 use Rattle.std.specs.Cmp.{int_ranked}
 use Rattle.std.specs.List.{AllByRecursion, AllZip, last_or, list_all}
@@ -13,9 +13,9 @@ use Rattle.std.specs.declared.cmp.Ordering.TheVariants.{Less}
 use Rattle.std.proofs.lemmas.Int.{ints}
 use Rattle.std.proofs.lemmas.List.Elements.{All-head, All-tail}
 use Rattle.book_model.specs.Words.{IsDay, Tariffed, are_rising, Book, Naming, members, total_of}
-use Rattle.book_model.specs.Words.{most_cost, most_held}
+use Rattle.book_model.specs.Words.{most_cost, most_held, first_rule, second_rule}
 use Rattle.book_model.proofs.RecordSets.{first_of, second_of}
-use Rattle.kept_tables.specs.Tables.{BookRow}
+use Rattle.kept_tables.specs.Tables.{BookRow, never_adopted}
 use Rattle.kept_tables.specs.TablesOf.{close_entries, tables_of, tariff_entries}
 use Rattle.table_readings.specs.BookIn.{tariff_read}
 use Rattle.table_readings.specs.FromCalls.{IsFromCalls}
@@ -221,8 +221,11 @@ rows_of naming book row texts days calls kept said had =
     let cost : row.amount ≡ total_of rulings book.held = ap (λ (it : BookRow). it.amount) kept in
     record {
       book = record {
-        rule = ap (λ (it : BookRow). it.rule) kept;
-        adopted = ap (λ (it : BookRow). it.adopted) kept;
+        rule = ap (λ (it : BookRow). it.rule) kept
+            ∙ ap (λ (adopted : Option ℕ). if is_some adopted then second_rule else first_rule)
+            whole.first_rule;
+        adopted = ap (λ (it : BookRow). it.adopted) kept
+            ∙ ap (λ (adopted : Option ℕ). unwrap_or adopted never_adopted) whole.first_rule;
         held = subst (λ n. n ≤ most_held) (sym held) whole.limits.held;
         amount = subst (λ n. n ≤ most_cost) (sym cost) whole.limits.cost;
       };

@@ -1,33 +1,42 @@
 -- A tariff that is tried: what it answers, and what it writes.
 use Rattle.std.proofs.Common.{◌≡◌, ◌≢◌, ◌∙◌, inl, inr, ℕ, List, [], ◌∷◌, ◌++◌, refl, sym, ap, subst}
-use Rattle.std.proofs.Common.{Bool, true, false, Result, Ok, Err, Some}
-use Rattle.std.specs.Prelude.{if◌then◌else◌}
+use Rattle.std.proofs.Common.{Bool, true, false, cond, Result, Ok, Err, Some, None, length, ◌+◌}
+use Rattle.std.specs.Prelude.{if◌then◌else◌, nat_lt, sum_by, ℤ}
 use Rattle.std.specs.List.{list_any}
 use Rattle.sqlite_trees.specs.View.{View}
 use Rattle.book_model.specs.Words.{IsDay, Terms, terms_in, Book, TariffAccepted, put_in_force}
+use Rattle.book_model.specs.Words.{most_cost, open_number, total_of, with_tariff}
 use Rattle.book_model.specs.Words.{tariff_outcome, tariff_event, Naming, has_text, is_effective}
 use Rattle.book_model.specs.Words.{is_later, terms_answer, tariff_answer, Rulings, are_rising}
 use Rattle.book_model.specs.declared.answer.Ruled.{Ruled}
 use Rattle.book_model.specs.declared.answer.Ruled.TheVariants.{Done, Already}
 use Rattle.book_model.specs.declared.fault.LedgerFault.{LedgerFault}
-use Rattle.book_model.specs.declared.fault.LedgerFault.TheVariants.{RecordsDated}
+use Rattle.book_model.specs.declared.fault.LedgerFault.TheVariants.{Full}
 use Rattle.book_model.proofs.CallLemmas.{by_tests}
-use Rattle.book_model.proofs.LatestLemmas.{rising-behind}
+use Rattle.book_model.proofs.LatestLemmas.{later-before, rising-behind}
+use Rattle.book_core.specs.Repricing.{if_room}
 use Rattle.book_core.specs.Calls.{Makes}
-use Rattle.book_core.proofs.TariffLemmas.{later-before}
 use Rattle.kept_tables.specs.Tables.{Tables}
 use Rattle.kept_tables.specs.TablesOf.{tables_of}
 use Rattle.table_readings.proofs.CallsLemmas.{calls_stay}
 use Rattle.table_readings.proofs.ReadableLemmas.{calls_read}
 use Rattle.table_readings.proofs.RulingLemmas.{terms_follow}
-use Rattle.table_readings.specs.RulingsRead.{has_row_from}
-use Rattle.kept_tables.specs.Steps.{put_tariff_row}
+use Rattle.table_readings.specs.Readable.{IsReadable}
+use Rattle.kept_tables.proofs.RepriceSteps.{tariff_is_steps}
+use Rattle.kept_tables.proofs.SumRead.{sum_is_read}
+use Rattle.kept_tables.specs.Steps.{tariff_by_steps}
+use Rattle.kept_tables.specs.TableChanges.{amount_under, put_tariff}
+use Rattle.std.specs.FinMap.{values}
+use Rattle.tree_rows.proofs.Maps.{not_none}
+use Rattle.tree_rows.proofs.Taking.{some_is}
+use Rattle.table_ledger.specs.Repricing.{CostUnder, Counts}
 use Rattle.table_ledger.specs.Ready.{IsReadyAt, Remembers}
 use Rattle.table_ledger.specs.Summaries.{ruled_in, terms_ruled}
 use Rattle.table_ledger.specs.Tries.{IsPlain}
 use Rattle.table_ledger.specs.Unread.{IsUnread}
 use Rattle.table_ledger.specs.declared.summary.Summary.{Summary}
 use Rattle.table_ledger.proofs.Answering.{makes_refused, ruled_makes}
+use Rattle.table_ledger.proofs.Remembered.{rulings_are}
 use Rattle.table_ledger.proofs.TryLemmas.{IsEvent}
 
 -- ---- a text that is no tariff
@@ -52,28 +61,28 @@ unread_makes text fault (inr refused) book =
 
 -- ---- the tests
 
-plain_by : (told there later dated : Bool) → IsPlain (by_tests told there later dated)
-plain_by true there later dated = record { stored = refl; served = refl }
-plain_by false true later dated = record { stored = refl; served = refl }
-plain_by false false false dated = record { stored = refl; served = refl }
+plain_by : (told there later much : Bool) → IsPlain (by_tests told there later much)
+plain_by true there later much = record { stored = refl; served = refl }
+plain_by false true later much = record { stored = refl; served = refl }
+plain_by false false false much = record { stored = refl; served = refl }
 plain_by false false true true = record { stored = refl; served = refl }
 plain_by false false true false = record { stored = refl; served = refl }
 
--- an answer that is not Done hangs on no record
-other_by : (told there later dated : Bool) → by_tests told there later false ≢ Ok Done
-    → by_tests told there later dated ≡ by_tests told there later false
-other_by true there later dated other = refl
-other_by false true later dated other = refl
-other_by false false false dated other = refl
-other_by false false true dated other = absurd (other refl)
+-- an answer that is not Done hangs on no cost
+other_by : (told there later much : Bool) → by_tests told there later false ≢ Ok Done
+    → by_tests told there later much ≡ by_tests told there later false
+other_by true there later much other = refl
+other_by false true later much other = refl
+other_by false false false much other = refl
+other_by false false true much other = absurd (other refl)
 
--- where all is Done but for the records, they decide
-done_by : (told there later dated : Bool) → by_tests told there later false ≡ Ok Done
-    → by_tests told there later dated ≡ (if dated then Err RecordsDated else Ok Done)
-done_by true there later dated done = cc
-done_by false true later dated done = cc
-done_by false false false dated done = cc
-done_by false false true dated done = refl
+-- where all is Done but for the cost, that decides
+done_by : (told there later much : Bool) → by_tests told there later false ≡ Ok Done
+    → by_tests told there later much ≡ (if much then Err Full else Ok Done)
+done_by true there later much done = cc
+done_by false true later much done = cc
+done_by false false false much done = cc
+done_by false false true much done = refl
 
 -- then the day is later
 later_by : (told there later : Bool) → by_tests told there later false ≡ Ok Done → later ≡ true
@@ -82,13 +91,30 @@ later_by false true later done = cc
 later_by false false true done = refl
 later_by false false false done = cc
 
+-- what a cost says of room
+no_room : (cost : ℕ) → None ≡ if_room cost → nat_lt most_cost cost ≡ true
+no_room cost is =
+    elim (nat_lt most_cost cost) as (λ much. None ≡ cond much None (Some cost) → much ≡ true) [
+      | true ↦ λ is. refl
+      | false ↦ λ is. absurd (not_none cost (sym is))
+    ] is
+
+room : (cost found : ℕ) → Some found ≡ if_room cost
+    → (nat_lt most_cost cost ≡ false) × (found ≡ cost)
+room cost found is =
+    elim (nat_lt most_cost cost) as (λ much. Some found ≡ cond much None (Some cost)
+    → (much ≡ false) × (found ≡ cost)) [
+      | true ↦ λ is. absurd (not_none found is)
+      | false ↦ λ is. (refl, some_is found cost is)
+    ] is
+
 module _ (summary : Summary) (text : List ℕ) (terms : Terms) where
-  -- the answer by some rulings, where a record is dated from the day on or not
+  -- the answer by some rulings, where the records cost too much or not
   abbrev answer_by : Rulings → Bool → Result Ruled LedgerFault
-  answer_by rulings dated =
+  answer_by rulings much =
       by_tests (list_any (has_text text) rulings.tariffs)
       (list_any (is_effective terms.effective) rulings.tariffs)
-      (is_later terms.effective rulings) dated
+      (is_later terms.effective rulings) much
 
   -- what is answered without a look at the records leaves the books open
   pub tariff_plain : IsPlain (terms_ruled (ruled_in summary) text terms)
@@ -97,7 +123,7 @@ module _ (summary : Summary) (text : List ℕ) (terms : Terms) where
       (list_any (is_effective terms.effective) summary.tariffs.items)
       (is_later terms.effective (ruled_in summary)) false
 
-  -- a tariff that is Done but for the records is behind the others
+  -- a tariff that is Done but for the cost is behind the others
   pub tariff_rising : terms_ruled (ruled_in summary) text terms ≡ Ok Done
       → are_rising (summary.tariffs.items ++ record { text = Some text; terms = terms } ∷ []) ≡ true
   tariff_rising done =
@@ -110,22 +136,27 @@ module _ (summary : Summary) (text : List ℕ) (terms : Terms) where
 
   module _ (said : terms_in text ≡ Ok terms) (naming : Naming) (view : View) (book : Book)
       (ready : IsReadyAt naming summary view book) where
-    -- a record is dated from the tariff's day on
-    abbrev dated : Bool
-    dated = has_row_from terms.effective (tables_of naming book).records
+    -- what the records cost under it
+    abbrev cost : ℕ
+    cost = sum_by (amount_under terms) (values (tables_of naming book).records)
+
+    -- that is too much
+    abbrev much : Bool
+    much = nat_lt most_cost cost
+
+    -- the book as it is read back
+    pub readable : IsReadable naming book
+    readable = calls_read naming book ready.kept.calls
 
     -- the rulings that are remembered
     pub same : ruled_in summary ≡ book.rulings
-    same = λ i. record {
-      tariffs = ready.remembers.tariffs i;
-      closes = ready.remembers.closes i;
-    }
+    same = sym (rulings_are readable ready.remembers)
 
     -- the answer to the text
-    pub told : (tariff_outcome text book).answer ≡ answer_by book.rulings dated
+    pub told : (tariff_outcome text book).answer ≡ answer_by book.rulings much
     told =
         ap (tariff_answer book text) said
-        ∙ terms_follow.answer naming book text terms (calls_read naming book ready.kept.calls)
+        ∙ terms_follow.answer naming book text terms readable
 
     -- an answer that is not Done, given without a look at the records
     pub tariff_other : (answer : Result Ruled LedgerFault)
@@ -136,26 +167,31 @@ module _ (summary : Summary) (text : List ℕ) (terms : Terms) where
         ap (λ rulings. answer_by rulings false) (sym same) ∙ is in
         told ∙ other_by (list_any (has_text text) book.rulings.tariffs)
         (list_any (is_effective terms.effective) book.rulings.tariffs)
-        (is_later terms.effective book.rulings) dated (λ done. other (sym without ∙ done))
+        (is_later terms.effective book.rulings) much (λ done. other (sym without ∙ done))
         ∙ without
 
-    -- else the records decide
-    pub tariff_decided : terms_ruled (ruled_in summary) text terms ≡ Ok Done
-        → (found : Bool) → found ≡ dated
-        → (tariff_outcome text book).answer ≡ (if found then Err RecordsDated else Ok Done)
-    tariff_decided done found is =
+    -- else the cost decides
+    decided : terms_ruled (ruled_in summary) text terms ≡ Ok Done → (found : Bool)
+        → much ≡ found
+        → (tariff_outcome text book).answer ≡ (if found then Err Full else Ok Done)
+    decided done found is =
         told ∙ done_by (list_any (has_text text) book.rulings.tariffs)
         (list_any (is_effective terms.effective) book.rulings.tariffs)
-        (is_later terms.effective book.rulings) dated
+        (is_later terms.effective book.rulings) much
         (ap (λ rulings. answer_by rulings false) (sym same) ∙ done)
-        ∙ ap (λ (found : Bool). if found then Err RecordsDated else Ok Done) (sym is)
+        ∙ ap (λ (found : Bool). if found then Err Full else Ok Done) is
 
-    -- so it is Done where no record is dated from that day on
-    pub tariff_done : terms_ruled (ruled_in summary) text terms ≡ Ok Done → (found : Bool)
-        → found ≡ dated → found ≡ false → (tariff_outcome text book).answer ≡ Ok Done
-    tariff_done done found is none =
-        tariff_decided done found is
-        ∙ ap (λ (found : Bool). if found then Err RecordsDated else Ok Done) none
+    -- so it is Full where there is no room
+    pub tariff_full : terms_ruled (ruled_in summary) text terms ≡ Ok Done
+        → CostUnder terms (tables_of naming book) None
+        → (tariff_outcome text book).answer ≡ Err Full
+    tariff_full done known = decided done true (no_room cost known.cost)
+
+    -- and Done where there is
+    pub tariff_done : terms_ruled (ruled_in summary) text terms ≡ Ok Done → (amount : ℕ)
+        → CostUnder terms (tables_of naming book) (Some amount)
+        → (tariff_outcome text book).answer ≡ Ok Done
+    tariff_done done amount known = decided done false (room cost amount known.cost).0
 
     -- the answer to the terms of the text
     pub terms_told : terms_answer book text terms ≡ (tariff_outcome text book).answer
@@ -164,39 +200,63 @@ module _ (summary : Summary) (text : List ℕ) (terms : Terms) where
     -- the tables behind a tariff that is Done
     pub tables_behind : terms_answer book text terms ≡ Ok Done
         → tables_of naming (put_in_force (Some text) terms book)
-        ≡ put_tariff_row terms.effective text (tables_of naming book)
-    tables_behind done =
-        terms_follow.done naming book text terms (calls_read naming book ready.kept.calls) done
+        ≡ put_tariff (open_number book) (Some text) terms (tables_of naming book)
+    tables_behind done = terms_follow.done naming book text terms readable done
 
-    -- A tariff that is answered Done is an event.
-    abbrev pub tariff_is_event : IsDay terms.effective → (tariff_outcome text book).answer ≡ Ok Done
-        → IsEvent (λ (ruled : Ruled). ruled) naming summary (tariff_outcome text)
-        (λ tables. Unit {0}) (put_tariff_row terms.effective text) book
-    tariff_is_event day answer = record {
-      event = TariffAccepted (Some text) terms;
-      is = ap (λ said. tariff_event text said (tariff_answer book text (terms_in text))) said
-          ∙ ap (tariff_event text (Ok terms)) answer;
-      when = tt;
-      calls = calls_stay.tariff naming book text terms ready.kept.calls
-          (record { said = said; day = day }) (terms_told ∙ answer);
-      tables = sym (tables_behind (terms_told ∙ answer));
-    }
+    module _ (done : terms_ruled (ruled_in summary) text terms ≡ Ok Done) (amount : ℕ)
+        (known : CostUnder terms (tables_of naming book) (Some amount)) where
+      pub answer : terms_answer book text terms ≡ Ok Done
+      answer = terms_told ∙ tariff_done done amount known
 
-    -- and it is remembered
-    pub tariff_remembered : (is : Summary) → (tariff_outcome text book).answer ≡ Ok Done
-        → is.tariffs.items
-        ≡ summary.tariffs.items ++ record { text = Some text; terms = terms } ∷ []
-        → is.closes.items ≡ summary.closes.items → is.held ≡ summary.held → is.total ≡ summary.total
-        → Remembers is (put_in_force (Some text) terms book)
-    tariff_remembered is answer tariffs closes held total = record {
-      tariffs = tariffs ∙ ap (λ own. own ++ record { text = Some text; terms = terms } ∷ [])
-          ready.remembers.tariffs;
-      closes = closes ∙ ready.remembers.closes;
-      held = held ∙ ready.remembers.held;
-      total = total ∙ ready.remembers.total
-          ∙ sym (ap (λ (tables : Tables). tables.book.amount)
-          (tables_behind (terms_told ∙ answer)));
-    }
+      -- the day is later than all that was ruled
+      later : is_later terms.effective book.rulings ≡ true
+      later =
+          ap (is_later terms.effective) (sym same)
+          ∙ later_by (list_any (has_text text) summary.tariffs.items)
+          (list_any (is_effective terms.effective) summary.tariffs.items)
+          (is_later terms.effective (ruled_in summary)) done
+
+      -- the sum is what all records cost then
+      pub sum_is : amount ≡ total_of (with_tariff (Some text) terms book.rulings) book.held
+      sum_is =
+          (room cost amount known.cost).1
+          ∙ sum_is_read naming book text terms readable.sound readable.lines.framed later
+
+      -- A tariff that is answered Done is an event.
+      abbrev pub tariff_is_event : IsDay terms.effective → (period held : ℕ)
+          → period ≡ length summary.closes.items + 1 → held ≡ summary.held
+          → IsEvent (λ (ruled : Ruled). ruled) naming summary (tariff_outcome text)
+          (Counts held) (tariff_by_steps period text terms amount) book
+      tariff_is_event day period held number_is same_held = record {
+        event = TariffAccepted (Some text) terms;
+        is = ap (λ said. tariff_event text said (tariff_answer book text (terms_in text))) said
+            ∙ ap (tariff_event text (Ok terms)) (tariff_done done amount known);
+        when = sym ready.remembers.held ∙ sym same_held;
+        calls = calls_stay.tariff naming book text terms ready.kept.calls
+            (record { said = said; day = day })
+            (terms_follow.priced naming book text terms readable answer
+            (known.can refl))
+            answer;
+        tables = ap (λ number. tariff_by_steps number text terms amount (tables_of naming book))
+            (number_is ∙ ap (λ (closes : List ℤ). length closes + 1) ready.remembers.closes)
+            ∙ tariff_is_steps (open_number book) text terms amount (tables_of naming book)
+            (sum_is ∙ ap (λ (tables : Tables). tables.book.amount) (tables_behind answer))
+            ∙ sym (tables_behind answer);
+      }
+
+      -- and it is remembered
+      pub tariff_remembered : (is : Summary)
+          → is.tariffs.items
+          ≡ summary.tariffs.items ++ record { text = Some text; terms = terms } ∷ []
+          → is.closes.items ≡ summary.closes.items → is.held ≡ summary.held → is.total ≡ amount
+          → Remembers is (put_in_force (Some text) terms book)
+      tariff_remembered is tariffs closes held total = record {
+        tariffs = tariffs ∙ ap (λ own. own ++ record { text = Some text; terms = terms } ∷ [])
+            ready.remembers.tariffs;
+        closes = closes ∙ ready.remembers.closes;
+        held = held ∙ ready.remembers.held;
+        total = total ∙ sum_is;
+      }
 
 -- an answer that is not Done makes no event
 pub tariff_makes : (answer : Result Ruled LedgerFault) (text : List ℕ) (terms : Terms) (book : Book)

@@ -19,3 +19,16 @@ taken_from row priced = if row.count == 1 then Drop (key_of priced) else Put (le
 abbrev pub IsTaken : Option ChargeRow → Priced → DayWrite → Type 0
 IsTaken None priced write = write ≡ Leave
 IsTaken (Some row) priced write = write ≡ taken_from row priced
+
+-- the row of a price that is alone at its place
+abbrev pub lone_row : Priced → ChargeRow
+lone_row priced = with_price (row_at [] (key_of priced)) priced
+
+-- one price leaves the row that was found, and another one joins what is left of it
+abbrev pub turned_row : ChargeRow → Priced → Priced → ChargeRow
+turned_row row old new =
+    if row.count == 1 then lone_row new else with_price (less_price row old) new
+
+abbrev pub IsTurned : Option ChargeRow → Priced → Priced → DayWrite → Type 0
+IsTurned None old new write = write ≡ Put (lone_row new)
+IsTurned (Some row) old new write = write ≡ Put (turned_row row old new)

@@ -2,7 +2,8 @@
 use Rattle.std.specs.Prelude.{◌≡◌, ℕ, Option}
 use Rattle.std.specs.FinMap.{insert, remove}
 use Rattle.book_core.specs.declared.effect_table.DayChange.{DayChange}
-use Rattle.kept_tables.specs.RowChanges.{change_day}
+use Rattle.tariff_rules.specs.declared.priced.Priced.{Priced}
+use Rattle.kept_tables.specs.RowChanges.{add_price, change_day, take_price}
 use Rattle.kept_tables.specs.Tables.{DayTable, Tables}
 use Rattle.kept_tables.specs.TablesOf.{place_of}
 use Rattle.tree_tables.specs.Days.{RowFits}
@@ -25,3 +26,8 @@ WriteFits (Drop place) = Unit {0}
 abbrev pub Writes : ℕ → Option DayChange → Tables → DayWrite → Type 0
 Writes period change tables write =
     day_written period write tables.days ≡ change_day period change tables.days
+
+-- what is written is one price in the place of another, in one row
+abbrev pub Turns : ℕ → Priced → Priced → Tables → DayWrite → Type 0
+Turns period old new tables write =
+    day_written period write tables.days ≡ add_price period new (take_price period old tables.days)

@@ -10,6 +10,7 @@ pub mod Told
 pub mod DayRows
 pub mod DayWrites
 pub mod Entries
+pub mod Repricing
 pub mod Keepings
 pub mod Closings
 pub mod Unread

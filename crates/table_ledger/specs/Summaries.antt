@@ -2,6 +2,7 @@
 use Rattle.std.specs.Prelude.{ℕ, not, if◌then◌else◌, List, Result, Ok, Err}
 use Rattle.std.specs.List.{list_any}
 use Rattle.book_model.specs.Words.{Terms, Book, new_book, has_text, is_effective, is_later, Rulings}
+use Rattle.book_model.specs.Words.{no_rulings}
 use Rattle.book_model.specs.declared.answer.Ruled.{Ruled}
 use Rattle.book_model.specs.declared.answer.Ruled.TheVariants.{Done, Already}
 use Rattle.book_model.specs.declared.fault.LedgerFault.{LedgerFault}
@@ -10,9 +11,10 @@ use Rattle.table_ledger.specs.declared.summary.Summary.{Summary}
 
 -- the tariffs and the closes that a ledger remembers
 abbrev pub ruled_in : Summary → Rulings
-ruled_in summary = record { tariffs = summary.tariffs.items; closes = summary.closes.items }
+ruled_in summary =
+    record no_rulings { tariffs = summary.tariffs.items; closes = summary.closes.items }
 
--- what is answered to a tariff by some rulings, where no record is dated from its first day on
+-- what is answered to a tariff by some rulings, where the books hold what the records cost under it
 abbrev pub terms_ruled : Rulings → List ℕ → Terms → Result Ruled LedgerFault
 terms_ruled rulings text terms =
     if list_any (has_text text) rulings.tariffs then Ok Already

@@ -1,7 +1,7 @@
 -- The tables that trees tell, whatever they hold.
 use Rattle.std.specs.Prelude.{ℕ, ℤ, pos, negsuc, Bool, List, [], ◌∷◌, map, ◌==◌, not, Option, Some}
 use Rattle.std.specs.Prelude.{None}
-use Rattle.std.specs.FinMap.{from_entries}
+use Rattle.std.specs.FinMap.{empty, from_entries}
 use Rattle.sqlite_trees.specs.Tree.{Trees}
 use Rattle.sqlite_value.specs.Order.{Row, column, bytes}
 use Rattle.sqlite_value.specs.declared.value.Value.{Value}
@@ -93,6 +93,7 @@ tables_in trees = record {
   book = book_row_in (trees 0);
   tariffs = from_entries (map tariff_in (trees 1));
   closes = from_entries (map closed_in (trees 2));
+  choices = empty;
   records = from_entries (map record_in (trees 3));
   days = from_entries (map day_in (trees 4));
   lines = from_entries (map line_in (trees 5));

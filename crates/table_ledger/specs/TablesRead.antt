@@ -135,6 +135,7 @@ tables_read trees tables holds =
       book = ap book_row_in holds.book i;
       tariffs = tariffs i;
       closes = closes i;
+      choices = sym holds.choices i;
       records = records i;
       days = days i;
       lines = lines i;

@@ -1,7 +1,6 @@
 //! What a new record writes, in one commit.
 
 ghost use Rattle.std.specs.Prelude.{◌≡◌, ◌<◌, ◌^◌, None};
-ghost use Rattle.std.specs.FinMap.{get};
 ghost use Rattle.book_model.specs.Words.{IsPriced};
 ghost use Rattle.tree_tables.specs.States.{state};
 ghost use Rattle.tree_tables.specs.Steps.{Always, Does};
@@ -27,7 +26,7 @@ pub(crate) struct Entry<'a> {
 }
 
 /// Writes a charge row, or deletes it.
-fn write_day<S: Store>(
+pub(crate) fn write_day<S: Store>(
     tables: &mut TreeTables<S>,
     period: u16,
     write: &DayWrite,
@@ -55,7 +54,9 @@ fn write_line<S: Store>(
     match change {
         None => Ok(()),
         Some(LineChange::AddPlus(name)) => tables.put_line(&LinePlace { period, name }, true),
-        Some(LineChange::DropPlus(name)) => tables.drop_line(&LinePlace { period, name }),
+        Some(LineChange::DropPlus(name) | LineChange::DropMinus(name)) => {
+            tables.drop_line(&LinePlace { period, name })
+        }
         Some(LineChange::AddMinus(name)) => tables.put_line(&LinePlace { period, name }, false),
     }
 }

@@ -8,8 +8,8 @@ ghost use Rattle.kept_tables.specs.RowChanges as changed;
 ghost use Rattle.kept_tables.specs.TablesOf.{place_of};
 ghost use Rattle.tree_tables.specs.Steps.{Looks};
 ghost use Rattle.tree_tables.specs.Days.{RowFits};
-ghost use Rattle.table_ledger.specs.DayWrites.{Writes, WriteFits};
-ghost use Rattle.table_ledger.specs.DayRows.{IsAdded, IsTaken};
+ghost use Rattle.table_ledger.specs.DayWrites.{Turns, Writes, WriteFits};
+ghost use Rattle.table_ledger.specs.DayRows.{IsAdded, IsTaken, IsTurned};
 ghost use Rattle.table_ledger.specs.declared.day_write.DayWrite.TheVariants.{Put};
 
 use book_core::{ChargeRow, DayChange, RowKey};
@@ -32,7 +32,7 @@ pub(crate) enum DayWrite {
 const SIGNED_END: u64 = 1 << 63;
 
 /// Where a price is charged.
-fn key_of(priced: &Priced) -> RowKey
+pub(crate) fn key_of(priced: &Priced) -> RowKey
     ensures { result ≡ rows.key_of priced.now }
 {
     RowKey {
@@ -132,6 +132,18 @@ fn taken(found: Option<ChargeRow>, priced: &Priced) -> Option<DayWrite>
     }
 }
 
+/// A price leaves the row of its place, and another one joins it.
+fn turned(found: Option<ChargeRow>, old: &Priced, new: &Priced) -> Option<DayWrite>
+    ensures turned { IfSome result (IsTurned found old.now new.now) }
+    ensures fits { IfSome result WriteFits }
+{
+    match &found {
+        None => fitting(first_row(new)),
+        Some(row) if row.count == 1 => fitting(first_row(new)),
+        Some(row) => fitting(with_price(&less_price(row, old), new)?),
+    }
+}
+
 /// The row of a place, where it stands there.
 fn find_row<S: Store>(
     tables: &mut TreeTables<S>,
@@ -177,5 +189,22 @@ pub(crate) fn look_for_day<S: Store>(
         Some(DayChange::Add(priced)) => added(find_row(tables, period, key_of(priced))?, priced),
         Some(DayChange::Take(priced)) => taken(find_row(tables, period, key_of(priced))?, priced),
     };
+    write.ok_or(StoreError::Corrupt)
+}
+
+/// What one price in the place of another writes, where both are charged in one row.
+pub(crate) fn look_for_turn<S: Store>(
+    tables: &mut TreeTables<S>,
+    period: u16,
+    old: &Priced,
+    new: &Priced,
+) -> Result<DayWrite, StoreError>
+    requires { rows.key_of old.now ≡ rows.key_of new.now }
+    ensures looks { Looks result (state S.Store tables.old.store) (state S.Store tables.new.store)
+        (Turns period old.now new.now) }
+    ensures fits { IfOk result WriteFits }
+{
+    let found = find_row(tables, period, key_of(new))?;
+    let write = turned(found, old, new);
     write.ok_or(StoreError::Corrupt)
 }

@@ -14,6 +14,7 @@ mod effects;
 mod ledger;
 mod periods;
 mod recall;
+mod repricing;
 mod settle;
 mod stored_usage;
 mod summary;

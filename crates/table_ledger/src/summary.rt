@@ -74,7 +74,7 @@ impl Summary {
         are_before(&self.tariffs, tariff) && is_after(self.last_close(), tariff.effective())
     }
 
-    /// What is answered to a tariff where no record is dated on its first day or after it.
+    /// What is answered to a tariff, where the books hold what the records cost under it.
     pub(crate) fn tariff_answer(&self, text: &str, tariff: &Tariff) -> Result<Ruled, LedgerFault>
         ensures { result ≡ terms_ruled (ruled_in self.now) text.now tariff.now }
     {

@@ -1,32 +1,63 @@
 //! Tariffs that are handed in.
 
-ghost use Rattle.std.specs.Prelude.{◌≡◌, IfErr, IfOk, Ok};
+ghost use Rattle.std.specs.Prelude.{◌≡◌, ◌<◌, ◌^◌, IfErr, IfOk, Ok};
 ghost use Rattle.tree_tables.specs.States.{state};
 ghost use Rattle.book_model.specs.Words.{terms_in, tariff_outcome, Naming};
-ghost use Rattle.kept_tables.specs.Steps.{put_tariff_row};
-ghost use Rattle.tree_tables.specs.Steps.{Always};
+ghost use Rattle.kept_tables.specs.Steps.{tariff_by_steps};
+ghost use Rattle.tree_tables.specs.Steps.{Does};
 ghost use Rattle.table_ledger.specs.Commits.{CommitsOne};
+ghost use Rattle.table_ledger.specs.Repricing.{Counts};
 ghost use Rattle.table_ledger.specs.Unread.{IsUnread};
 ghost use Rattle.table_ledger.specs.Tries.{Tries};
 
+use crate::repricing::{cost_under, reprice_all};
 use crate::summary::{Summary, is_done};
 use book_core::{AcceptedTariff, LedgerFault, Ruled};
 use sqlite_trees::error::StoreError;
 use sqlite_trees::store::Store;
 use std::alloc::Global;
 use tariff_rules::{Tariff, TariffFault};
-use tree_tables::{TariffText, TreeTables};
+use tree_tables::{Sums, TariffText, TreeTables};
 
-/// Keeps the text of a tariff, in one commit.
+/// Writes a tariff: the prices of the records that it is for, its text, and what the book counts then.
+fn write_tariff<S: Store>(
+    tables: &mut TreeTables<S>,
+    alloc: Global,
+    period: u16,
+    text: &str,
+    tariff: &Tariff,
+    sums: &Sums,
+) -> Result<(), StoreError>
+    requires held { sums.now.held < 2 ^ 63 }
+    requires amount { sums.now.amount < 2 ^ 63 }
+    ensures does { Does result (state S.Store tables.old.store) (state S.Store tables.new.store)
+        (Counts sums.now.held)
+        (tariff_by_steps period text.now tariff.now sums.now.amount) }
+{
+    reprice_all(tables, alloc, period, tariff)?;
+    tables.put_tariff(&TariffText {
+        day: tariff.effective(),
+        body: text,
+    })?;
+    tables.set_sums(sums)
+}
+
+/// Keeps a tariff, in one commit.
 fn keep_tariff<S: Store>(
     tables: &mut TreeTables<S>,
-    tariff: &TariffText<'_>,
+    alloc: Global,
+    period: u16,
+    text: &str,
+    tariff: &Tariff,
+    sums: &Sums,
 ) -> Result<(), StoreError>
+    requires held { sums.now.held < 2 ^ 63 }
+    requires amount { sums.now.amount < 2 ^ 63 }
     ensures commits { CommitsOne result (state S.Store tables.old.store)
-        (state S.Store tables.new.store) Always
-        (put_tariff_row tariff.now.day tariff.now.body.now) }
+        (state S.Store tables.new.store) (Counts sums.now.held)
+        (tariff_by_steps period text.now tariff.now sums.now.amount) }
 {
-    tables.put_tariff(tariff)?;
+    write_tariff(tables, alloc, period, text, tariff, sums)?;
     tables.commit()
 }
 
@@ -42,8 +73,8 @@ fn tariff_of(alloc: Global, text: &str) -> Result<Tariff, LedgerFault>
     }
 }
 
-/// Answers a tariff file, and puts the tariff in force where it is later than all that was ruled
-/// and recorded.
+/// Answers a tariff file, and puts the tariff in force where it is later than all that was ruled and
+/// the books hold what the records cost under it.
 pub(crate) fn try_tariff<S: Store>(
     tables: &mut TreeTables<S>,
     summary: &mut Summary,
@@ -61,17 +92,20 @@ pub(crate) fn try_tariff<S: Store>(
     if !is_done(&answer) {
         return Ok(answer);
     }
-    let day = tariff.effective();
-    let is_dated = tables.find_dated(day)?;
-    if is_dated {
-        return Ok(Err(LedgerFault::RecordsDated));
-    }
+    let Some(amount) = cost_under(tables, alloc, &tariff)? else {
+        return Ok(Err(LedgerFault::Full));
+    };
     // The memory is taken first: want of it then leaves the books as they were.
     let own = Some(String::from_str(alloc, text)?);
-    summary.tariffs.push(AcceptedTariff { text: own, tariff })?;
-    if let Err(error) = keep_tariff(tables, &TariffText { day, body: text }) {
-        summary.tariffs.pop();
-        return Err(error);
-    }
+    summary.tariffs.reserve(1)?;
+    let sums = Sums {
+        held: summary.held as u64,
+        amount,
+    };
+    keep_tariff(tables, alloc, summary.open_number(), text, &tariff, &sums)?;
+    summary
+        .tariffs
+        .push_reserved(AcceptedTariff { text: own, tariff });
+    summary.total = amount;
     Ok(Ok(Ruled::Done))
 }

@@ -1,33 +1,40 @@
 -- A record is answered by the rows of its name and of the book.
 use Rattle.std.proofs.Common.{◌≡◌, ℕ, List, [], ◌∷◌, refl, sym, ap, ◌∙◌, true, false, true≢false}
-use Rattle.std.proofs.Common.{Option, Some, None, Result, Ok, Err}
+use Rattle.std.proofs.Common.{Option, Some, None, Result, Ok, Err, length, map}
 use Rattle.std.specs.Prelude.{if◌then◌else◌}
-use Rattle.std.specs.FinMap.{get, get-from_entries}
+use Rattle.std.specs.Cmp.{nat_cmp_total}
+use Rattle.std.specs.FinMap.{get, get-from_entries, values, from_entries, nat_cmp-IsAntisymmetric}
+use Rattle.std.specs.List.{last_or, list_any}
+use Rattle.std.specs.Option.{option_map}
+use Rattle.std.specs.Ordering.{nat_cmp}
 use Rattle.std.proofs.lemmas.Cmp.{nat_list_cmp_total}
 use Rattle.std.proofs.lemmas.Map.Lookups.{exact_bytes}
 use Rattle.std.proofs.lemmas.Map.Views.{tells_apart}
 use Rattle.book_model.specs.Words.{data_of, record_with, IsFramed, accept_answer, accept_priced}
 use Rattle.book_model.specs.Words.{clashes, Book, open_number, charged_of, Naming, name_of}
-use Rattle.book_model.specs.Words.{same_bytes, price_in, has}
+use Rattle.book_model.specs.Words.{same_bytes, price_in, identity_by, has, Choice}
 use Rattle.tariff_rules.specs.declared.priced.Priced.{Priced}
 use Rattle.book_model.specs.declared.answer.Accepted.{Accepted}
 use Rattle.book_model.specs.declared.answer.Accepted.TheVariants.{Known}
 use Rattle.book_model.specs.declared.fault.LedgerFault.{LedgerFault}
 use Rattle.book_model.specs.declared.fault.LedgerFault.TheVariants.{DigestClash}
+use Rattle.book_model.proofs.FilterLemmas.{entries-sorted}
 use Rattle.book_model.proofs.RecordSets.{is, is_itself}
 use Rattle.book_model.proofs.SetChanges.{is_back, IsUnnamed}
 use Rattle.book_model.proofs.SetLemmas.{fails_too}
 use Rattle.book_core.specs.Effects.{effects_of}
 use Rattle.kept_tables.specs.TableChanges.{put_new}
-use Rattle.kept_tables.specs.Tables.{RecordRow, Tables}
-use Rattle.kept_tables.specs.TablesOf.{record_row, record_entries, tables_of}
+use Rattle.kept_tables.specs.Tables.{RecordRow, ChoiceRow, ChoiceTable, Tables}
+use Rattle.kept_tables.specs.TablesOf.{record_row, record_entries, choice_entries, tables_of}
+use Rattle.kept_tables.specs.Views.{lone_members, member_at, only_of, only_row, rows_count}
+use Rattle.kept_tables.specs.Views.{rows_with}
 use Rattle.kept_tables.proofs.KeptLemmas.{kept_follows}
 use Rattle.kept_tables.proofs.LineReading.{found_row}
 use Rattle.kept_tables.proofs.RecordChanges.{no_row}
 use Rattle.kept_tables.proofs.TableParts.{what_is}
 use Rattle.kept_tables.proofs.ViewLemmas.{view_follows}
 use Rattle.table_readings.specs.AcceptRead.{row_answer, new_answer, accept_read}
-use Rattle.table_readings.specs.AnswerLaws.{AcceptFollows, TwoAreEnough}
+use Rattle.table_readings.specs.AnswerLaws.{AcceptFollows, TwoAreEnough, ViewIsOfRows}
 use Rattle.table_readings.specs.Readable.{IsReadable}
 use Rattle.table_readings.proofs.SetReading.{one_passes}
 use Rattle.table_readings.proofs.Texts.{same_is}
@@ -118,7 +125,8 @@ module _ (naming : Naming) (book : Book) (whole : IsReadable naming book) (bytes
       by_price price
       ∙ ap by_row (sym (get-from_entries nat_list_cmp_total
       (record_entries naming book.rulings book.held (charged_of book) book.posted) name
-      ∙ no_row naming book.rulings book.posted bytes book.held (charged_of book) differs))
+      ∙ no_row naming (price_in book.rulings) (identity_by book.rulings) book.posted bytes book.held
+      (charged_of book) differs))
 
   -- the answer
   answered : accept_answer naming book bytes ≡ accept_read naming book.rulings tables bytes
@@ -153,3 +161,43 @@ pub two_are_enough : TwoAreEnough
 two_are_enough through [] name priced = refl
 two_are_enough through (one ∷ []) name priced = refl
 two_are_enough through (one ∷ other ∷ rows) name priced = refl
+
+-- where no record was chosen, each row of an identity is a member
+count_unchosen : (choices : ChoiceTable) → values choices ≡ [] → (rows : List (List ℕ × RecordRow))
+    → rows_count choices rows ≡ length rows
+count_unchosen choices none [] = refl
+count_unchosen choices none (one ∷ []) =
+    ap (λ (list : List ChoiceRow).
+    lone_members (list_any (λ choice. same_bytes choice.name one.0) list)) none
+count_unchosen choices none (one ∷ other ∷ rows) = refl
+
+-- and a lone one is the only one
+only_unchosen : (choices : ChoiceTable) → values choices ≡ [] → (rows : List (List ℕ × RecordRow))
+    → only_row choices rows ≡ option_map member_at (only_of rows)
+only_unchosen choices none [] = refl
+only_unchosen choices none (one ∷ []) =
+    ap (λ (list : List ChoiceRow).
+    if list_any (λ choice. same_bytes choice.name one.0) list then None
+    else Some (member_at one)) none
+only_unchosen choices none (one ∷ other ∷ rows) = refl
+
+-- a table without rows has no values
+no_choices : (naming : Naming)
+    → values (from_entries {R = nat_cmp} (choice_entries naming 1 [])) ≡ []
+no_choices naming =
+    ap (map (λ (e : ℕ × ChoiceRow). e.1))
+    (entries-sorted nat_cmp_total nat_cmp-IsAntisymmetric (choice_entries naming 1 []) tt)
+
+-- the law of it
+pub view_is_of_rows : ViewIsOfRows
+view_is_of_rows naming book identity whole =
+    let tables : Tables = tables_of naming book in
+    let rows : List (List ℕ × RecordRow) = rows_with identity tables.records in
+    let none : values tables.choices ≡ [] =
+    ap (λ (choices : List Choice). values (from_entries {R = nat_cmp}
+    (choice_entries naming 1 choices))) whole.unchosen ∙ no_choices naming in
+    λ i. record {
+      through = last_or None (values tables.closes);
+      members = count_unchosen tables.choices none rows i;
+      only = only_unchosen tables.choices none rows i;
+    }

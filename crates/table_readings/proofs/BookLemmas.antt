@@ -107,7 +107,12 @@ module _ (naming : Naming) (book : Book) (whole : IsReadable naming book) where
       let tariffs = tariffs_back book.rulings.tariffs whole.rising whole.texts in
       let posted = posted_back naming book whole.sound whole.lines.framed in
       same_book
-      (λ i. record { tariffs = tariffs i; closes = closes i })
+      (λ i. record {
+        tariffs = tariffs i;
+        closes = closes i;
+        choices = sym whole.unchosen i;
+        adopted = sym whole.first_rule i;
+      })
       (held_back naming book whole.sound whole.lines.framed)
       posted
       ((λ i. past_in (length (closes i)) (posted i) tables)

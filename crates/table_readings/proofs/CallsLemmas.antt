@@ -3,12 +3,12 @@ use Rattle.std.proofs.Common.{◌≡◌, ℕ, List, [], ◌∷◌, refl, ap, ◌
 use Rattle.std.specs.Prelude.{ℤ}
 use Rattle.book_model.specs.Words.{IsDay, Terms, accept_answer, Book, open_number, RecordKept}
 use Rattle.book_model.specs.Words.{TariffAccepted, PeriodClosed, keep, put_in_force, close, Naming}
-use Rattle.book_model.specs.Words.{terms_answer, close_answer, Rulings}
+use Rattle.book_model.specs.Words.{terms_answer, close_answer, Rulings, with_tariff}
 use Rattle.book_model.specs.declared.answer.Accepted.TheVariants.{Kept}
 use Rattle.book_model.specs.declared.answer.Ruled.TheVariants.{Done}
 use Rattle.book_model.proofs.AnsweredLemmas.{rulings_are}
 use Rattle.kept_tables.proofs.CloseDays.{closed_open}
-use Rattle.table_readings.specs.FromCalls.{IsFromCalls, IsHandedIn, IsReadFrom}
+use Rattle.table_readings.specs.FromCalls.{ArePriced, IsFromCalls, IsHandedIn, IsReadFrom}
 use Rattle.table_readings.specs.Laws.{CallsStay}
 
 -- a record that is kept
@@ -29,13 +29,20 @@ keep_made naming book bytes made handed kept = record {
 
 -- a tariff that is put in force
 tariff_made : (naming : Naming) (book : Book) (text : List ℕ) (terms : Terms)
-    → IsFromCalls naming book → IsReadFrom text terms → terms_answer book text terms ≡ Ok Done
+    → IsFromCalls naming book → IsReadFrom text terms
+    → ArePriced (with_tariff (Some text) terms book.rulings) book.held
+    → terms_answer book text terms ≡ Ok Done
     → IsFromCalls naming (put_in_force (Some text) terms book)
-tariff_made naming book text terms made said done = record {
+tariff_made naming book text terms made said priced done = record {
   history = TariffAccepted (Some text) terms ∷ made.history;
   answered =
       (subst (λ before. terms_answer before text terms ≡ Ok Done) made.left done, made.answered);
-  handed_in = (said, made.handed_in);
+  handed_in = (
+    said,
+    made.handed_in,
+    subst (λ (before : Book).
+        ArePriced (with_tariff (Some text) terms before.rulings) before.held) made.left priced,
+  );
   left = ap (put_in_force (Some text) terms) made.left;
 }
 

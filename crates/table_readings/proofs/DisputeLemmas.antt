@@ -1,16 +1,19 @@
 -- The disputes are answered from the tables.
 use Rattle.std.proofs.Common.{◌≡◌, ℕ, List, [], ◌∷◌, map, length, refl, sym, ap, ◌∙◌, true, Ok}
-use Rattle.std.proofs.Common.{arith, subst}
-use Rattle.std.specs.Prelude.{◌<◌}
+use Rattle.std.proofs.Common.{arith, subst, Bool, not, ◌&&◌}
+use Rattle.std.specs.Prelude.{◌<◌, filter}
+use Rattle.std.proofs.Math.Bool.{and-true}
 use Rattle.std.specs.List.{AllByRecursion}
 use Rattle.std.specs.List.Sorted.{IsStrictlySortedBy}
 use Rattle.std.specs.Ordering.{is_eq}
 use Rattle.std.specs.declared.cmp.Ordering.TheVariants.{Less}
 use Rattle.std.proofs.lemmas.Bool.Decides.{nat_tests}
 use Rattle.std.proofs.lemmas.List.Elements.{filter_map-append}
-use Rattle.book_model.specs.Words.{Book, Disputed, dispute_at, disputes_in, identities, reading}
-use Rattle.book_model.specs.Words.{Naming, by_bytes, same_bytes, identity_by, has}
+use Rattle.book_model.specs.Words.{Book, Disputed, dispute_at, disputes_in, identities}
+use Rattle.book_model.specs.Words.{is_in_dispute, reading, Naming, by_bytes, same_bytes}
+use Rattle.book_model.specs.Words.{identity_by, has}
 use Rattle.book_model.proofs.RecordSets.{second_of}
+use Rattle.book_model.proofs.UnchosenLemmas.{none_settled}
 use Rattle.kept_tables.specs.TablesOf.{tables_of}
 use Rattle.table_readings.specs.ListLaws.{DisputesFollow}
 use Rattle.table_readings.specs.DisputesRead.{NamedRow, grouped, disputes_read, disputed_among}
@@ -94,14 +97,28 @@ module _ (naming : Naming) (book : Book) (whole : IsReadable naming book) where
       ∙ ap (join_all (rows_of_records (works_of id))) (flat_grouped ids rising.1 two.1)
       ∙ block_grouped id (map dispute ids) two.0 (starts_other id ids rising.0)
 
-  -- so the disputes are read of the rows
+  -- identities in dispute are those that two or more have, as none was chosen
+  in_dispute : (id : List ℕ) → is_shared naming book.rulings book.held id
+      ≡ is_in_dispute naming book.rulings book.held id
+  in_dispute id =
+      let two : Bool = is_shared naming book.rulings book.held id in
+      sym ((λ i. two && not (none_settled book.rulings whole.unchosen id i)) ∙ and-true two)
+
+  -- so these have the disputes
+  pub shared_disputed : map dispute (shared naming book.rulings book.held)
+      ≡ disputes_in naming book.rulings book.held
+  shared_disputed = λ i.
+      map dispute (filter (λ id. in_dispute id i) (identities book.rulings book.held))
+
+  -- and the disputes are read of the rows
   pub disputes_are : disputes_read (tables_of naming book)
       ≡ disputes_in naming book.rulings book.held
   disputes_are =
-      ap grouped (disputed_are naming book whole.sound)
+      ap grouped (disputed_are naming book whole.sound whole.unchosen)
       ∙ flat_grouped (shared naming book.rulings book.held)
       (shared_rises naming book.rulings book.held)
       (all_passing (is_shared naming book.rulings book.held) (identities book.rulings book.held))
+      ∙ shared_disputed
 
 -- the law of it
 pub disputes_follow : DisputesFollow

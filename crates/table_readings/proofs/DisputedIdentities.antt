@@ -1,6 +1,7 @@
 -- The identities in dispute: those of the records that are held and not charged.
-use Rattle.std.proofs.Common.{◌≡◌, ℕ, ◌+◌, List, map, length, refl, sym, ap, ◌∙◌}
-use Rattle.std.proofs.Common.{subst, true, false, Bool, cond, not, ◌&&◌, arith}
+use Rattle.std.proofs.Common.{◌≡◌, ℕ, ◌+◌, List, [], map, length, refl, sym, ap, ◌∙◌}
+use Rattle.std.proofs.Common.{subst, true, false, Bool, cond, not, ◌&&◌, ◌||◌, arith}
+use Rattle.std.proofs.Math.Bool.{or-false}
 use Rattle.std.specs.Prelude.{filter, count_by, nat_le, nat_lt}
 use Rattle.std.specs.FinMap as fin
 use Rattle.std.specs.List.{list_any, IsDistinct}
@@ -20,6 +21,7 @@ use Rattle.book_model.proofs.RecordSets.{is, has_those}
 use Rattle.book_model.proofs.SetLemmas.{same_bytes-by_cmp, has-texts, members_rise}
 use Rattle.book_model.proofs.SetLemmas.{members-alike, members-set_of, set_of-same, same_ties}
 use Rattle.book_model.proofs.SumsAlike.{length-alike, list_any-count_by}
+use Rattle.book_model.proofs.UnchosenLemmas.{none_chosen}
 use Rattle.book_core.proofs.HeldLemmas.{by_name_total, by_name_exact}
 use Rattle.table_readings.proofs.DisputedRecords.{some_passes, among-filter, by_work, by_work_total}
 use Rattle.table_readings.proofs.DisputedRecords.{by_work_exact, work_ties, block, flat, in_flat}
@@ -113,17 +115,20 @@ module _ (naming : Naming) (rulings : Rulings) (held : Records) where
       ∙ among-filter is_shared all k
       ∙ ap (λ b. is_shared k && b) (has-texts (map identity (members held)) k)
 
-  -- a record that is held has its identity in dispute where it is not charged
-  disputed_where : (q : List ℕ) → has held q ≡ true
+  -- a record that is held has its identity in dispute where it is not charged, as none was chosen
+  disputed_where : rulings.choices ≡ [] → (q : List ℕ) → has held q ≡ true
       → list_any (same_bytes (identity q)) shared ≡ not (has charged q)
-  disputed_where q there =
+  disputed_where unchosen q there =
+      let rivalled : Bool = list_any (conflict rulings q) (members held) in
+      let alone : not rivalled ≡ is_undisputed rulings held q =
+      sym ((λ i. not rivalled || none_chosen rulings unchosen q i) ∙ or-false (not rivalled)) in
       let own = list_any-map (same_bytes (identity q)) identity (members held)
       ∙ some_passes (λ x. same_bytes (identity q) (identity x)) held q there
       (nat_list_eq_equiv.refl (identity q)) in
       in_shared (identity q)
       ∙ (λ i. shared_where q there i && own i)
       ∙ turn (list_any (conflict rulings q) (members held))
-      ∙ ap not ((λ i. is_undisputed rulings held q && sym there i)
+      ∙ ap not ((λ i. alone i && sym there i)
       ∙ sym (has_those (is_undisputed rulings held) held q))
     where
       turn : (c : Bool) → (c && true) ≡ not (not c && true)
@@ -131,12 +136,12 @@ module _ (naming : Naming) (rulings : Rulings) (held : Records) where
       turn false = refl
 
   -- so the records of those identities are the ones that are not charged
-  same_works : (q : List ℕ) → list_any (is q) (flat naming rulings held shared)
-      ≡ list_any (is q) works
-  same_works q =
+  same_works : rulings.choices ≡ [] → (q : List ℕ)
+      → list_any (is q) (flat naming rulings held shared) ≡ list_any (is q) works
+  same_works unchosen q =
       in_flat naming rulings held shared q
       ∙ under (list_any (same_bytes (identity q)) shared) (not (has charged q)) (has held q)
-      (disputed_where q)
+      (disputed_where unchosen q)
       ∙ sym (among-filter (λ bytes. not (has charged bytes)) held q)
     where
       under : (a b h : Bool) → (h ≡ true → a ≡ b) → (a && h) ≡ (b && h)
@@ -153,14 +158,14 @@ module _ (naming : Naming) (rulings : Rulings) (held : Records) where
       (members_rise nat_list_cmp_total (set_of by_bytes (map identity (members held))))
 
   -- so their records are those that are not charged, in order
-  pub flat_is : flat naming rulings held shared
+  pub flat_is : rulings.choices ≡ [] → flat naming rulings held shared
       ≡ members (set_of (by_work naming rulings held) works)
-  flat_is =
+  flat_is unchosen =
       let ties = work_ties naming rulings held in
       let all : List (List ℕ) = flat naming rulings held shared in
       sym (members-set_of (by_work_total naming rulings held) all
       (flat_rises naming rulings held shared shared_rises))
       ∙ ap members (set_of-same (by_work_total naming rulings held)
       (by_work_exact naming rulings held) all works (λ q.
-      (λ i. list_any (λ x. ties q x i) all) ∙ same_works q
+      (λ i. list_any (λ x. ties q x i) all) ∙ same_works unchosen q
       ∙ sym (λ i. list_any (λ x. ties q x i) works)))

@@ -137,9 +137,9 @@ module _ (naming : Naming) (book : Book) (sound : IsSound naming book) where
       (sym (in_flat naming book.rulings book.held ids bytes) ∙ among)
 
   -- the rows that are not charged, in order, are theirs
-  pub disputed_are : disputed_rows (tables_of naming book)
+  pub disputed_are : book.rulings.choices ≡ [] → disputed_rows (tables_of naming book)
       ≡ listed_entries (flat naming book.rulings book.held (shared naming book.rulings book.held))
-  disputed_are =
+  disputed_are unchosen =
       let ids : List (List ℕ) = shared naming book.rulings book.held in
       let order = by_work naming book.rulings book.held in
       let those_works : List (List ℕ) = works naming book.rulings book.held in
@@ -147,7 +147,7 @@ module _ (naming : Naming) (book : Book) (sound : IsSound naming book) where
       let in_order : List (List ℕ) = members (set_of order those_works) in
       let own : listed_entries (flat naming book.rulings book.held ids)
       ≡ listed_entries in_order =
-      ap listed_entries (flat_is naming book.rulings book.held) in
+      ap listed_entries (flat_is naming book.rulings book.held unchosen) in
       let given = given_permuted order (entry naming book sound)
       (by_work_total naming book.rulings book.held) those_works
       (apart_from_distinct (eq_by_cmp order) those_works

@@ -24,6 +24,5 @@ pub mod DisputedRows
 pub mod DisputeLemmas
 pub mod PriceSums
 pub mod FitsLemmas
-pub mod IdentityLength
 pub mod ShownLemmas
 pub mod ShownDisputes

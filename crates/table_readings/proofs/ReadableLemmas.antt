@@ -2,15 +2,18 @@
 use Rattle.std.proofs.Common.{◌≡◌, ℕ, ◌+◌, List, [], ◌∷◌, length, refl, sym, ap, ◌∙◌, subst, true}
 use Rattle.std.proofs.Common.{false, true≢false, Bool, ◌||◌, Some, None, Ok, Err, Result, arith}
 use Rattle.std.specs.Prelude.{◌≤◌, ◌==◌, nat_le, nat_lt, if◌then◌else◌, All, sum_by, ℤ}
-use Rattle.std.specs.List.{filter_map}
+use Rattle.std.specs.List.{filter_map, list_any}
 use Rattle.std.specs.List.Sorted.{IsStrictlySortedBy}
 use Rattle.std.specs.Ordering.{int_cmp}
+use Rattle.std.proofs.lemmas.Bool.{ltb-false}
 use Rattle.std.proofs.lemmas.Bool.Decides.{nat_tests}
 use Rattle.std.proofs.lemmas.List.{length-append}
 use Rattle.std.proofs.lemmas.List.Elements.{All-nil, All-push}
 use Rattle.book_model.specs.Words.{IsDay, IsPriced, Terms, accept_answer, accept_priced, clashes}
 use Rattle.book_model.specs.Words.{is_full, total_of, IsAnswered, Book, new_book, open_number}
-use Rattle.book_model.specs.Words.{Event, RecordKept, TariffAccepted, PeriodClosed, keep}
+use Rattle.book_model.specs.Words.{Event, RecordKept, TariffAccepted, PeriodClosed, RecordChosen}
+use Rattle.book_model.specs.Words.{SecondRuleAdopted, keep, has_text, is_effective, is_later}
+use Rattle.book_model.specs.Words.{is_too_dear, with_tariff}
 use Rattle.book_model.specs.Words.{put_in_force, close, book_after, most_held, most_cost}
 use Rattle.book_model.specs.Words.{last_period, Naming, IsUsageRecord, by_bytes, terms_answer}
 use Rattle.book_model.specs.Words.{close_answer, is_closed, is_early, Rulings, price_in, are_rising}
@@ -22,7 +25,7 @@ use Rattle.book_model.specs.declared.answer.Ruled.TheVariants.{Done}
 use Rattle.book_model.specs.declared.fault.LedgerFault.{LedgerFault}
 use Rattle.book_model.specs.declared.fault.LedgerFault.TheVariants.{DigestClash, Full}
 use Rattle.book_model.proofs.AnsweredLemmas.{rulings_are, sound_after, latest_is_last}
-use Rattle.book_model.proofs.CallLemmas.{calls_go_forward, close_by}
+use Rattle.book_model.proofs.CallLemmas.{calls_go_forward, close_by, leaves_room}
 use Rattle.book_model.proofs.RecordSets.{one_or}
 use Rattle.book_model.proofs.SetLemmas.{members-empty}
 use Rattle.book_model.proofs.SoundLemmas.{none_in}
@@ -33,8 +36,7 @@ use Rattle.kept_tables.proofs.CloseDays.{closed_open}
 use Rattle.kept_tables.proofs.KeptPrice.{kept_cost}
 use Rattle.kept_tables.proofs.LinesStay.{lines_stay}
 use Rattle.kept_tables.proofs.RecordChanges.{book_row-with}
-use Rattle.kept_tables.proofs.TariffPrices.{costs_the_same, same_prices}
-use Rattle.table_readings.specs.FromCalls.{IsHandedIn, IsReadFrom, AreHandedIn}
+use Rattle.table_readings.specs.FromCalls.{ArePriced, IsHandedIn, IsReadFrom, AreHandedIn}
 use Rattle.table_readings.specs.Laws.{CallsRead}
 use Rattle.table_readings.specs.Readable.{IsTexted, IsChain, IsWithinLimits, IsReadable}
 use Rattle.table_readings.proofs.ChainLemmas.{chain_of}
@@ -49,6 +51,8 @@ record IsGrown (book : Book) : Type 0 where
   texts : All IsTexted book.rulings.tariffs
   days : All IsDay book.rulings.closes
   in_order : IsStrictlySortedBy int_cmp book.rulings.closes
+  unchosen : book.rulings.choices ≡ []
+  first_rule : book.rulings.adopted ≡ None
   limits : IsWithinLimits book
 
 -- new books hold no record
@@ -71,6 +75,8 @@ start_grown = record {
   texts = All-nil IsTexted;
   days = All-nil IsDay;
   in_order = tt;
+  unchosen = refl;
+  first_rule = refl;
   limits = record {
     held = subst (λ n. n ≤ most_held) (sym no_records) (omega arith);
     cost = subst (λ n. n ≤ most_cost) (sym no_cost) (omega arith);
@@ -145,6 +151,8 @@ module _ (naming : Naming) (book : Book) (sound : IsSound naming book) (grown : 
         texts = grown.texts;
         days = grown.days;
         in_order = grown.in_order;
+        unchosen = grown.unchosen;
+        first_rule = grown.first_rule;
         limits = record {
           held = subst (λ n. n ≤ most_held) (sym count) room.0;
           cost = subst (λ n. n ≤ most_cost) (sym amount) room.1;
@@ -154,24 +162,27 @@ module _ (naming : Naming) (book : Book) (sound : IsSound naming book) (grown : 
 
   -- a tariff that is put in force
   tariff_grown : (text : List ℕ) (terms : Terms) → IsReadFrom text terms
+      → ArePriced (with_tariff (Some text) terms book.rulings) book.held
       → terms_answer book text terms ≡ Ok Done → IsGrown (put_in_force (Some text) terms book)
-  tariff_grown text terms said done =
-      let same = costs_the_same naming book sound text terms done in
-      let total = ap (sum_by (λ (one : Priced). one.amount))
-      (same_prices naming book sound text terms done book.held (λ bytes there. there)) in
+  tariff_grown text terms said priced done =
+      let ruled : Rulings = with_tariff (Some text) terms book.rulings in
+      let fits = leaves_room (list_any (has_text text) book.rulings.tariffs)
+      (list_any (is_effective terms.effective) book.rulings.tariffs)
+      (is_later terms.effective book.rulings) (is_too_dear ruled book.held) done in
       record {
         lines = lines_stay.tariff book text terms grown.lines;
         usage = grown.usage;
-        priced = λ bytes priced there price.
-            grown.priced bytes priced there (sym (same bytes there) ∙ price);
+        priced = λ bytes one there price. priced bytes one there price;
         texts =
             All-push IsTexted book.rulings.tariffs (record { text = Some text; terms = terms })
             grown.texts (record { text = text; is = refl; said = said.said; day = said.day });
         days = grown.days;
         in_order = grown.in_order;
+        unchosen = grown.unchosen;
+        first_rule = grown.first_rule;
         limits = record {
           held = grown.limits.held;
-          cost = subst (λ n. n ≤ most_cost) (sym total) grown.limits.cost;
+          cost = ltb-false most_cost (total_of ruled book.held) fits;
           closes = grown.limits.closes;
         };
       }
@@ -194,6 +205,8 @@ module _ (naming : Naming) (book : Book) (sound : IsSound naming book) (grown : 
         days = All-push IsDay book.rulings.closes day grown.days on;
         in_order = rise_behind book.rulings.closes day grown.in_order
             (calls_go_forward.close book number day done);
+        unchosen = grown.unchosen;
+        first_rule = grown.first_rule;
         limits = record {
           held = grown.limits.held;
           cost = grown.limits.cost;
@@ -220,12 +233,14 @@ grown_after naming (RecordKept bytes ∷ older) answered handed =
     answered.0
 grown_after naming (TariffAccepted (Some text) terms ∷ older) answered handed =
     tariff_grown naming (book_after older) (sound_after naming older answered.1)
-    (grown_after naming older answered.1 handed.1) text terms handed.0 answered.0
+    (grown_after naming older answered.1 handed.1) text terms handed.0 handed.2 answered.0
 grown_after naming (TariffAccepted None terms ∷ older) answered handed = absurd handed
 grown_after naming (PeriodClosed day ∷ older) answered handed =
     close_grown naming (book_after older) (sound_after naming older answered.1)
     (grown_after naming older answered.1 handed.1) (open_number (book_after older)) day handed.0
     answered.0
+grown_after naming (RecordChosen bytes ∷ older) answered handed = absurd handed
+grown_after naming (SecondRuleAdopted ∷ older) answered handed = absurd handed
 
 -- it can be read back
 readable_after : (naming : Naming) (history : List Event) → IsAnswered naming history
@@ -243,6 +258,8 @@ readable_after naming history answered handed =
           ∙ latest_is_last.rising naming history answered;
       days = grown.days;
       in_order = grown.in_order;
+      unchosen = grown.unchosen;
+      first_rule = grown.first_rule;
       past = subst IsChain (sym (books_follow_history history)) (chain_of history);
       limits = grown.limits;
     }

@@ -52,7 +52,7 @@ module _ (naming : Naming) (book : Book) (sound : IsSound naming book) where
   -- each stands under a name of its own
   pub all_apart : Apart by_bytes all_entries
   all_apart =
-      entries_apart naming book sound (members book.held)
+      entries_apart naming book sound (charged_of book) (members book.held)
       (members_rise nat_list_cmp_total book.held)
       (λ other among. fin.contains_key-keys book.held other ∙ among)
 

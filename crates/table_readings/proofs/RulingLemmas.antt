@@ -1,60 +1,63 @@
--- A tariff is answered by the days of the records' rows, and a close posts the rows that change.
+-- A tariff is answered by what the records' rows will cost, and a close posts the rows that change.
 use Rattle.std.proofs.Common.{◌≡◌, ℕ, List, map, refl, sym, ap, ◌∙◌, true, false, true≢false}
-use Rattle.std.proofs.Common.{Bool, not, ◌&&◌, ◌||◌, Option, Some, None, Ok, Err}
-use Rattle.std.specs.Prelude.{int_lt, if◌then◌else◌, ℤ}
-use Rattle.std.specs.FinMap.{entries, from_entries}
+use Rattle.std.proofs.Common.{Bool, not, ◌&&◌, ◌||◌, Option, Some, None, Ok, subst}
+use Rattle.std.specs.Prelude.{int_lt, nat_lt, if◌then◌else◌, ℤ}
+use Rattle.std.specs.FinMap.{from_entries, get}
 use Rattle.std.specs.List.{list_any}
 use Rattle.std.specs.Option.{option_map}
 use Rattle.std.proofs.lemmas.Cmp.{nat_list_cmp_total}
 use Rattle.std.proofs.lemmas.Map.Lookups.{exact_bytes}
-use Rattle.book_model.specs.Words.{day_of, Terms, Book, charged_of, Naming, name_of, has_dated}
-use Rattle.book_model.specs.Words.{has_text, is_effective, is_later, terms_answer, close_answer}
-use Rattle.book_model.specs.Words.{price_in, last_close, members, has, IsSound}
+use Rattle.book_model.specs.Words.{day_of, Terms, IsPriced, price_by, Book, charged_of, Naming}
+use Rattle.book_model.specs.Words.{name_of, has_text, Rulings}
+use Rattle.book_model.specs.Words.{is_effective, is_later, is_too_dear, terms_answer, close_answer}
+use Rattle.book_model.specs.Words.{most_cost, price_in, last_close, with_tariff, members, has}
+use Rattle.book_model.specs.Words.{IsSound}
 use Rattle.tariff_rules.specs.declared.priced.Priced.{Priced}
-use Rattle.book_model.specs.declared.answer.Ruled.TheVariants.{Done, Already}
-use Rattle.book_model.specs.declared.fault.LedgerFault.TheVariants.{TariffDate, TariffExists}
-use Rattle.book_model.specs.declared.fault.LedgerFault.TheVariants.{RecordsDated}
-use Rattle.book_model.proofs.CallLemmas.{calls_go_forward}
+use Rattle.book_model.specs.declared.answer.Ruled.TheVariants.{Done}
+use Rattle.book_model.proofs.CallLemmas.{by_tests, passes, calls_go_forward}
 use Rattle.book_model.proofs.GivenLemmas.{map-filter_map}
-use Rattle.book_model.proofs.ListLemmas.{list_any-map}
+use Rattle.book_model.proofs.LatestLemmas.{later-before, later_price}
+use Rattle.book_model.proofs.PricingLemmas.{price_in-behind}
 use Rattle.book_model.proofs.SetChanges.{pick-agree}
 use Rattle.book_core.specs.Effects.{is_after}
 use Rattle.kept_tables.specs.MapChanges.{updated}
+use Rattle.kept_tables.specs.Reading.{AreFramed}
 use Rattle.kept_tables.specs.TableChanges.{post}
 use Rattle.kept_tables.specs.Tables.{RecordRow}
 use Rattle.kept_tables.specs.TablesOf.{record_row, tables_of}
 use Rattle.kept_tables.proofs.CloseDays.{not_after_both}
 use Rattle.kept_tables.proofs.CloseLemmas.{close_follows}
 use Rattle.kept_tables.proofs.CostLemmas.{day-price, dated-after}
+use Rattle.kept_tables.proofs.LineReading.{found_row}
 use Rattle.kept_tables.proofs.MovedLemmas.{updated-from_entries}
+use Rattle.kept_tables.proofs.SumRead.{sum_is_read}
+use Rattle.kept_tables.proofs.TableParts.{what_is}
 use Rattle.kept_tables.proofs.TariffChanges.{tariff_follows}
 use Rattle.table_readings.specs.AnswerLaws.{TermsFollow, ClosingFollows}
-use Rattle.table_readings.specs.RulingsRead.{has_row_from, terms_read, post_changed}
-use Rattle.table_readings.proofs.RecordReading.{any_row, entry, entry_at, all_entries}
+use Rattle.table_readings.specs.BookIn.{record_of}
+use Rattle.table_readings.specs.FromCalls.{ArePriced}
+use Rattle.table_readings.specs.Readable.{IsReadable}
+use Rattle.table_readings.specs.RulingsRead.{cost_too_much, terms_read, post_changed}
+use Rattle.table_readings.proofs.RecordReading.{entry, entry_at, all_entries}
 
 module _ (naming : Naming) (book : Book) (sound : IsSound naming book) where
-  -- a row is dated on a day or after it where a record is
-  rows_dated : (day : ℤ) → has_row_from day (tables_of naming book).records
-      ≡ has_dated day book.held
-  rows_dated day =
-      list_any-map (λ (row : RecordRow). not (int_lt row.priced.day day))
-      (λ (e : List ℕ × RecordRow). e.1) (entries (tables_of naming book).records)
-      ∙ any_row naming book sound (λ e. not (int_lt e.1.priced.day day))
-      (λ bytes. not (int_lt (day_of bytes) day))
-      (λ bytes priced price. ap (λ its. not (int_lt its day))
-      (day-price book.rulings bytes priced price))
-
-  -- so a tariff is answered by the rows
-  terms_read_is : (text : List ℕ) (terms : Terms)
+  -- a tariff is answered by what the rows will cost
+  terms_read_is : AreFramed book.held → (text : List ℕ) (terms : Terms)
       → terms_answer book text terms
       ≡ terms_read book.rulings (tables_of naming book).records text terms
-  terms_read_is text terms =
-      let day : ℤ = terms.effective in
-      ap (λ dated. if list_any (has_text text) book.rulings.tariffs then Ok Already
-      else if list_any (is_effective day) book.rulings.tariffs then Err TariffExists
-      else if not (is_later day book.rulings) then Err TariffDate
-      else if dated then Err RecordsDated
-      else Ok Done) (sym (rows_dated day))
+  terms_read_is framed text terms =
+      let told : Bool = list_any (has_text text) book.rulings.tariffs in
+      let there : Bool = list_any (is_effective terms.effective) book.rulings.tariffs in
+      let dear : Bool = is_too_dear (with_tariff (Some text) terms book.rulings) book.held in
+      let much : Bool = cost_too_much terms (tables_of naming book).records in
+      elim (is_later terms.effective book.rulings) as
+      (λ later. is_later terms.effective book.rulings ≡ later
+      → by_tests told there later dear ≡ by_tests told there later much) [
+        | true ↦ λ later.
+            ap (by_tests told there true)
+            (ap (nat_lt most_cost) (sym (sum_is_read naming book text terms sound framed later)))
+        | false ↦ λ early. refl
+      ] refl
 
   module _ (number : ℕ) (day : ℤ) (done : close_answer book number day ≡ Ok Done) where
     -- a record that was posted is dated no later than the close
@@ -118,12 +121,61 @@ module _ (naming : Naming) (book : Book) (sound : IsSound naming book) where
         ∙ ap from_entries same_entries_posted
         ∙ sym (updated-from_entries nat_list_cmp_total exact_bytes (post day) es)
 
+module _ (naming : Naming) (book : Book) (whole : IsReadable naming book) (text : List ℕ)
+    (terms : Terms) (done : terms_answer book text terms ≡ Ok Done)
+    (rows : (name : List ℕ) (row : RecordRow) → get (tables_of naming book).records name ≡ Some row
+    → int_lt row.priced.day terms.effective ≡ false → IsPriced (price_by terms (record_of row)))
+  where
+    -- the rulings with the tariff, which begins later than the others
+    abbrev ruled : Rulings
+    ruled = with_tariff (Some text) terms book.rulings
+
+    is_late : is_later terms.effective book.rulings ≡ true
+    is_late =
+        passes (list_any (has_text text) book.rulings.tariffs)
+        (list_any (is_effective terms.effective) book.rulings.tariffs)
+        (is_later terms.effective book.rulings) (is_too_dear ruled book.held) done
+
+    -- what the tariff says of a record that it is for is a price that can be
+    late_priced : (bytes : List ℕ) → has book.held bytes ≡ true
+        → int_lt (day_of bytes) terms.effective ≡ false → IsPriced (price_by terms bytes)
+    late_priced bytes there late =
+        let cost = what_is (price_in book.rulings bytes) (whole.sound.priced bytes there) in
+        let row = found_row naming book whole.sound whole.lines.framed bytes cost.0 there cost.1 in
+        subst (λ its. IsPriced (price_by terms its)) (sym (whole.lines.framed bytes there).is)
+        (rows (name_of naming bytes)
+        (record_row book.rulings (charged_of book) book.posted bytes cost.0) row
+        (ap (λ day. int_lt day terms.effective) (day-price book.rulings bytes cost.0 cost.1)
+        ∙ late))
+
+    -- so it is with all records
+    tariff_priced : ArePriced ruled book.held
+    tariff_priced bytes priced there price =
+        elim (int_lt (day_of bytes) terms.effective) as
+        (λ b. int_lt (day_of bytes) terms.effective ≡ b → IsPriced priced) [
+          | true ↦ λ early.
+              whole.priced bytes priced there
+              (sym (price_in-behind book.rulings (Some text) terms bytes early) ∙ price)
+          | false ↦ λ late.
+              let its = later_price book.rulings (Some text) terms
+              (later-before terms.effective book.rulings is_late) bytes late in
+              subst IsPriced (one_price (price_by terms bytes) priced (sym its ∙ price))
+              (late_priced bytes there late)
+        ] refl
+      where
+        one_price : (one other : Priced) → ◌≡◌ {A = Option Priced} (Some one) (Some other)
+            → one ≡ other
+        one_price one other same = cc
+
 -- the law of tariffs
 pub terms_follow : TermsFollow
 terms_follow = record {
-  answer = λ naming book text terms whole. terms_read_is naming book whole.sound text terms;
+  answer = λ naming book text terms whole.
+      terms_read_is naming book whole.sound whole.lines.framed text terms;
   done = λ naming book text terms whole done.
-      tariff_follows naming book text terms whole.sound done;
+      tariff_follows naming book text terms whole.sound whole.lines.framed done;
+  priced = λ naming book text terms whole done rows.
+      tariff_priced naming book whole text terms done rows;
 }
 
 -- the law of closes

@@ -1,22 +1,23 @@
 -- The disputes that are answered from the tables can be shown.
-use Rattle.std.proofs.Common.{◌≡◌, ℕ, List, [], ◌∷◌, length, sym, ap, ◌∙◌, subst, true, arith}
+use Rattle.std.proofs.Common.{◌≡◌, ℕ, List, [], ◌∷◌, length, sym, ap, ◌∙◌, subst, true, arith, inl}
 use Rattle.std.specs.Prelude.{◌<◌, All}
 use Rattle.std.specs.List.{AllByRecursion}
 use Rattle.std.proofs.lemmas.Bool.Decides.{nat_tests}
 use Rattle.std.proofs.lemmas.List.Elements.{All-from_recursion, All-map}
 use Rattle.book_model.specs.Words.{IsDay, identity_length, Book, IsDispute, AreDisputes, dispute_at}
 use Rattle.book_model.specs.Words.{identities, Naming, identity_by}
+use Rattle.smf_type30.proofs.IdentityLength.{identity-long}
 use Rattle.book_model.specs.declared.dispute.Variant.{Variant}
+use Rattle.book_model.proofs.UnchosenLemmas.{identity_by-first}
 use Rattle.kept_tables.specs.TablesOf.{tables_of}
 use Rattle.table_readings.specs.DisputesRead.{NamedRow, disputes_read, variant_read}
 use Rattle.table_readings.specs.Readable.{IsReadable}
 use Rattle.table_readings.specs.ListLaws.{ListsShow}
-use Rattle.table_readings.proofs.DisputeLemmas.{disputes_are, works_held}
+use Rattle.table_readings.proofs.DisputeLemmas.{disputes_are, shared_disputed, works_held}
 use Rattle.table_readings.proofs.DisputedIdentities.{is_shared, shared}
 use Rattle.table_readings.proofs.DisputedRecords.{block, block_own}
 use Rattle.table_readings.proofs.DisputedRows.{AreListed, first_listed, listed_entries, each_entry}
 use Rattle.table_readings.proofs.DisputedRows.{all_shown}
-use Rattle.table_readings.proofs.IdentityLength.{identity-long}
 use Rattle.table_readings.proofs.ListOrder.{all_passing, all_so}
 use Rattle.table_readings.proofs.ShownLemmas.{rows_show, lines_show}
 
@@ -27,7 +28,7 @@ module _ (naming : Naming) (book : Book) (whole : IsReadable naming book) where
       → length id ≡ identity_length
   long_identity id [] held own some = absurd (omega arith)
   long_identity id (k ∷ ks) held own some =
-      ap length (sym own.0)
+      ap length (sym own.0 ∙ identity_by-first book.rulings whole.first_rule k)
       ∙ identity-long k (whole.usage k (first_listed naming book whole.sound k ks held)).usage
 
   -- so the dispute of one that two or more have can be shown
@@ -43,7 +44,7 @@ module _ (naming : Naming) (book : Book) (whole : IsReadable naming book) where
       (λ bytes priced there price its. (whole.priced bytes priced there price).day) ks held
       (block_own naming book.rulings book.held id) in
       record {
-        identity = long_identity id ks held (block_own naming book.rulings book.held id) some;
+        identity = inl (long_identity id ks held (block_own naming book.rulings book.held id) some);
         days =
             subst (All (λ (member : Variant). IsDay member.priced.day))
             (all_shown naming book whole.sound whole.lines.framed ks held)
@@ -56,7 +57,7 @@ module _ (naming : Naming) (book : Book) (whole : IsReadable naming book) where
   disputes_show =
       let ids : List (List ℕ) = shared naming book.rulings book.held in
       let dispute = dispute_at naming book.rulings book.held in
-      subst AreDisputes (sym (disputes_are naming book whole))
+      subst AreDisputes (shared_disputed naming book whole ∙ sym (disputes_are naming book whole))
       (All-map IsDispute dispute ids
       (All-from_recursion (λ id. IsDispute (dispute id)) ids
       (all_so (λ id. is_shared naming book.rulings book.held id ≡ true)

@@ -4,7 +4,7 @@ use Rattle.std.specs.Prelude.{Option, Some, None, Result, Ok, Err, ℤ}
 use Rattle.std.specs.FinMap.{get}
 use Rattle.std.specs.Option.{option_map}
 use Rattle.book_model.specs.Words.{data_of, most_held, most_cost, Naming, name_of, same_bytes}
-use Rattle.book_model.specs.Words.{Rulings, price_in, identity_by}
+use Rattle.book_model.specs.Words.{Rulings, open_by, price_in, identity_by}
 use Rattle.tariff_rules.specs.declared.priced.Priced.{Priced}
 use Rattle.book_model.specs.declared.answer.Accepted.{Accepted}
 use Rattle.book_model.specs.declared.answer.Accepted.TheVariants.{Kept, Known, Unpriced}
@@ -12,7 +12,6 @@ use Rattle.book_model.specs.declared.fault.LedgerFault.{LedgerFault}
 use Rattle.book_model.specs.declared.fault.LedgerFault.TheVariants.{Full, DigestClash}
 use Rattle.book_core.specs.Effects.{effects_of}
 use Rattle.book_core.specs.declared.effect_table.View.{View}
-use Rattle.kept_tables.specs.Keeping.{open_of}
 use Rattle.kept_tables.specs.TableChanges.{put_new}
 use Rattle.kept_tables.specs.Tables.{BookRow, RecordRow, Tables}
 use Rattle.kept_tables.specs.Views.{only_of, member_at, view_in}
@@ -42,7 +41,7 @@ accept_read naming rulings tables bytes =
 -- the tables with a record that is kept at a price, in their own words
 abbrev pub keep_read : Naming → Rulings → List ℕ → Priced → Tables → Tables
 keep_read naming rulings bytes priced tables =
-    put_new naming rulings (open_of rulings) bytes priced
+    put_new naming rulings (open_by rulings) bytes priced
     (effects_of (view_in tables (identity_by rulings bytes)) (name_of naming bytes) priced) tables
 
 -- the view by some rows of an identity: the first two are enough

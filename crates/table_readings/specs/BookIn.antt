@@ -5,8 +5,8 @@ use Rattle.std.specs.FinMap.{get, entries, values}
 use Rattle.std.specs.List.{filter_map}
 use Rattle.std.specs.Option.{option_map, option_and_then}
 use Rattle.book_model.specs.Words.{record_with, terms_in, Terms, Book, is_dated_after, Period}
-use Rattle.book_model.specs.Words.{Records, by_bytes, Rulings, Tariffed, set_of, members, those}
-use Rattle.book_model.specs.Words.{without}
+use Rattle.book_model.specs.Words.{Records, by_bytes, Rulings, Tariffed, no_rulings, set_of}
+use Rattle.book_model.specs.Words.{members, those, without}
 use Rattle.tariff_rules.specs.declared.fault.TariffFault.{TariffFault}
 use Rattle.kept_tables.specs.Numbered.{rows_under}
 use Rattle.kept_tables.specs.Tables.{RecordRow, RecordTable, Tables}
@@ -20,9 +20,10 @@ tariff_saying text (Err fault) = None
 abbrev pub tariff_read : ℤ × Option (List ℕ) → Option Tariffed
 tariff_read row = option_and_then (λ text. tariff_saying text (terms_in text)) row.1
 
--- the rulings: the tariffs in order of their first days, the closes in order of their periods
+-- The rulings: the tariffs in order of their first days, the closes in order of their periods. No
+-- call chooses a record, nor adopts a rule.
 abbrev pub rulings_in : Tables → Rulings
-rulings_in tables = record {
+rulings_in tables = record no_rulings {
   tariffs = filter_map tariff_read (entries tables.tariffs);
   closes = values tables.closes;
 }

@@ -1,8 +1,9 @@
 -- Books that calls made.
-use Rattle.std.specs.Prelude.{◌≡◌, ℕ, List, [], ◌∷◌, Some, None, Ok}
+use Rattle.std.specs.Prelude.{◌≡◌, ℕ, true, List, [], ◌∷◌, Some, None, Ok}
 use Rattle.book_model.specs.Words.{IsDay, IsPriced, terms_in, Terms, IsAnswered, Book, Event}
-use Rattle.book_model.specs.Words.{RecordKept, TariffAccepted, PeriodClosed, book_after, rulings}
-use Rattle.book_model.specs.Words.{Naming, IsUsageRecord, Rulings, price_in}
+use Rattle.book_model.specs.Words.{RecordKept, TariffAccepted, PeriodClosed, RecordChosen}
+use Rattle.book_model.specs.Words.{SecondRuleAdopted, book_after, rulings, Naming, IsUsageRecord}
+use Rattle.book_model.specs.Words.{Records, Rulings, has, price_in, with_tariff}
 use Rattle.tariff_rules.specs.declared.priced.Priced.{Priced}
 
 -- A record that a call hands in: it measures work, and its price is one that can be.
@@ -15,14 +16,25 @@ pub record IsReadFrom (text : List ℕ) (terms : Terms) : Type 0 where
   pub said : terms_in text ≡ Ok terms
   pub day : IsDay terms.effective
 
--- Each event is one of what calls hand in: no tariff comes without its text, and periods are closed
--- through days.
+-- what records that are held cost by some rulings are prices that can be
+abbrev pub ArePriced : Rulings → Records → Type 0
+ArePriced rulings held =
+    (bytes : List ℕ) (priced : Priced) → has held bytes ≡ true
+    → price_in rulings bytes ≡ Some priced → IsPriced priced
+
+-- Each event is one of what calls hand in: no tariff comes without its text, nor makes a price that
+-- can't be of a record that is held; periods are closed through days; and no record is chosen, nor
+-- a rule adopted.
 abbrev pub AreHandedIn : List Event → Type 0
 AreHandedIn [] = Unit {0}
 AreHandedIn (RecordKept bytes ∷ older) = IsHandedIn (rulings older) bytes × AreHandedIn older
-AreHandedIn (TariffAccepted (Some text) terms ∷ older) = IsReadFrom text terms × AreHandedIn older
+AreHandedIn (TariffAccepted (Some text) terms ∷ older) =
+    IsReadFrom text terms × AreHandedIn older
+    × ArePriced (with_tariff (Some text) terms (book_after older).rulings) (book_after older).held
 AreHandedIn (TariffAccepted None terms ∷ older) = ⊥
 AreHandedIn (PeriodClosed day ∷ older) = IsDay day × AreHandedIn older
+AreHandedIn (RecordChosen bytes ∷ older) = ⊥
+AreHandedIn (SecondRuleAdopted ∷ older) = ⊥
 
 -- The book is the one that a history of calls leaves, from new books on.
 pub record IsFromCalls (naming : Naming) (book : Book) : Type 0 where

@@ -2,12 +2,12 @@
 -- tables.
 use Rattle.std.specs.Prelude.{◌≡◌, ℕ, List, Some, Ok, ℤ}
 use Rattle.book_model.specs.Words.{IsDay, Terms, accept_answer, Book, new_book, keep, put_in_force}
-use Rattle.book_model.specs.Words.{close, Naming, terms_answer, close_answer}
+use Rattle.book_model.specs.Words.{close, Naming, terms_answer, close_answer, with_tariff}
 use Rattle.book_model.specs.declared.answer.Accepted.TheVariants.{Kept}
 use Rattle.book_model.specs.declared.answer.Ruled.TheVariants.{Done}
 use Rattle.kept_tables.specs.TablesOf.{tables_of}
 use Rattle.table_readings.specs.BookIn.{book_in}
-use Rattle.table_readings.specs.FromCalls.{IsFromCalls, IsHandedIn, IsReadFrom}
+use Rattle.table_readings.specs.FromCalls.{ArePriced, IsFromCalls, IsHandedIn, IsReadFrom}
 use Rattle.table_readings.specs.Readable.{IsReadable}
 
 -- New books are made by calls, by none; and each call that is an event leaves such books.
@@ -20,6 +20,7 @@ pub record CallsStay : Type 0 where
   pub tariff :
       (naming : Naming) (book : Book) (text : List ℕ) (terms : Terms) → IsFromCalls naming book
       → IsReadFrom text terms
+      → ArePriced (with_tariff (Some text) terms book.rulings) book.held
       → terms_answer book text terms ≡ Ok Done
       → IsFromCalls naming (put_in_force (Some text) terms book)
   pub close :

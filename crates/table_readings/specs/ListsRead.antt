@@ -5,14 +5,13 @@ use Rattle.book_model.specs.declared.fault.LedgerFault.{LedgerFault}
 use Rattle.book_model.specs.declared.fault.LedgerFault.TheVariants.{NoSuchPeriod}
 use Rattle.book_model.specs.declared.line.Line.{Line}
 use Rattle.book_model.specs.declared.row.ChargeRow.{ChargeRow}
-use Rattle.book_model.specs.Words.{Rulings}
-use Rattle.kept_tables.specs.Keeping.{open_of}
+use Rattle.book_model.specs.Words.{Rulings, open_by}
 use Rattle.kept_tables.specs.Reading.{rows_read, lines_read}
 use Rattle.kept_tables.specs.Tables.{Tables}
 
 -- there is a period of this number: the open one, or one before it
 abbrev pub is_period : ℕ → Rulings → Bool
-is_period number rulings = not (number == 0) && nat_le number (open_of rulings)
+is_period number rulings = not (number == 0) && nat_le number (open_by rulings)
 
 -- a list of a period that there is
 abbrev pub of_period : {A : Type 0} → ℕ → Rulings → A → Result A LedgerFault

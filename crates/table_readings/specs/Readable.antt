@@ -1,6 +1,6 @@
 -- What reading a book back from its tables rests on. Books that calls made have it.
 use Rattle.std.specs.Prelude.{◌≡◌, ℕ, zero, suc, ◌≤◌, ◌<◌, true, List, [], ◌∷◌, ◌++◌, length, All}
-use Rattle.std.specs.Prelude.{Some, Ok, ℤ}
+use Rattle.std.specs.Prelude.{Some, None, Ok, ℤ}
 use Rattle.std.specs.List.Sorted.{IsStrictlySortedBy}
 use Rattle.std.specs.Ordering.{int_cmp}
 use Rattle.book_model.specs.Words.{IsDay, IsPriced, terms_in, total_of, Book, most_held, most_cost}
@@ -41,8 +41,9 @@ pub record IsWithinLimits (book : Book) : Type 0 where
   pub closes : length book.rulings.closes < last_period
 
 -- The book is sound and its lines can be read; the records measure work and have prices that can
--- be; the tariffs are known by their texts and in order; the closes are days and in order; the
--- closed periods hang together; and the book is within the limits.
+-- be; the tariffs are known by their texts and in order; the closes are days and in order; no
+-- record was chosen, nor the second rule of identity adopted; the closed periods hang together; and
+-- the book is within the limits.
 pub record IsReadable (naming : Naming) (book : Book) : Type 0 where
   pub sound : IsSound naming book
   pub lines : HasLines book
@@ -53,5 +54,7 @@ pub record IsReadable (naming : Naming) (book : Book) : Type 0 where
   pub rising : are_rising book.rulings.tariffs ≡ true
   pub days : All IsDay book.rulings.closes
   pub in_order : IsStrictlySortedBy int_cmp book.rulings.closes
+  pub unchosen : book.rulings.choices ≡ []
+  pub first_rule : book.rulings.adopted ≡ None
   pub past : IsChain book
   pub limits : IsWithinLimits book

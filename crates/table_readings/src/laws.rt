@@ -2,7 +2,7 @@
 //! on a function that does nothing.
 
 ghost use Rattle.table_readings.specs.AnswerLaws.{AcceptFollows, ClosingFollows, NumbersFit};
-ghost use Rattle.table_readings.specs.AnswerLaws.{TermsFollow, TwoAreEnough};
+ghost use Rattle.table_readings.specs.AnswerLaws.{TermsFollow, TwoAreEnough, ViewIsOfRows};
 ghost use Rattle.table_readings.specs.Laws.{BookFollows, CallsRead, CallsStay, TablesTell};
 ghost use Rattle.table_readings.specs.ListLaws.{DisputesFollow, ListsFollow, ListsShow};
 
@@ -32,12 +32,17 @@ pub fn accept_follows()
     ensures { AcceptFollows }
 {}
 
+/// What a ledger looks at for a new record are the rows of its identity.
+pub fn view_is_of_rows()
+    ensures { ViewIsOfRows }
+{}
+
 /// The effects of a record hang on no more than two rows of its identity.
 pub fn two_are_enough()
     ensures { TwoAreEnough }
 {}
 
-/// A tariff is answered by the rulings and the days of the records' rows.
+/// A tariff is answered by the rulings and by what the records' rows will cost.
 pub fn terms_follow()
     ensures { TermsFollow }
 {}

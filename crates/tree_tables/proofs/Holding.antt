@@ -32,6 +32,7 @@ module _ {old new : Trees} {tables : Tables} (holds : Holds old tables) where
     book = now;
     tariffs = same 1 (apart 1 0 refl) ∙ holds.tariffs;
     closes = same 2 (apart 2 0 refl) ∙ holds.closes;
+    choices = holds.choices;
     records = same 3 (apart 3 0 refl) ∙ holds.records;
     days = same 4 (apart 4 0 refl) ∙ holds.days;
     placed = holds.placed;
@@ -46,6 +47,7 @@ module _ {old new : Trees} {tables : Tables} (holds : Holds old tables) where
     book = same 0 (apart 0 1 refl) ∙ holds.book;
     tariffs = now;
     closes = same 2 (apart 2 1 refl) ∙ holds.closes;
+    choices = holds.choices;
     records = same 3 (apart 3 1 refl) ∙ holds.records;
     days = same 4 (apart 4 1 refl) ∙ holds.days;
     placed = holds.placed;
@@ -60,6 +62,7 @@ module _ {old new : Trees} {tables : Tables} (holds : Holds old tables) where
     book = same 0 (apart 0 2 refl) ∙ holds.book;
     tariffs = same 1 (apart 1 2 refl) ∙ holds.tariffs;
     closes = now;
+    choices = holds.choices;
     records = same 3 (apart 3 2 refl) ∙ holds.records;
     days = same 4 (apart 4 2 refl) ∙ holds.days;
     placed = holds.placed;
@@ -74,6 +77,7 @@ module _ {old new : Trees} {tables : Tables} (holds : Holds old tables) where
     book = same 0 (apart 0 4 refl) ∙ holds.book;
     tariffs = same 1 (apart 1 4 refl) ∙ holds.tariffs;
     closes = same 2 (apart 2 4 refl) ∙ holds.closes;
+    choices = holds.choices;
     records = same 3 (apart 3 4 refl) ∙ holds.records;
     days = now;
     placed = placed;
@@ -88,6 +92,7 @@ module _ {old new : Trees} {tables : Tables} (holds : Holds old tables) where
     book = same 0 (apart 0 5 refl) ∙ holds.book;
     tariffs = same 1 (apart 1 5 refl) ∙ holds.tariffs;
     closes = same 2 (apart 2 5 refl) ∙ holds.closes;
+    choices = holds.choices;
     records = same 3 (apart 3 5 refl) ∙ holds.records;
     days = same 4 (apart 4 5 refl) ∙ holds.days;
     placed = holds.placed;
@@ -105,6 +110,7 @@ module _ {old new : Trees} {tables : Tables} (holds : Holds old tables) where
     book = same 0 (apart 0 3 refl) (apart 0 6 refl) (apart 0 7 refl) ∙ holds.book;
     tariffs = same 1 (apart 1 3 refl) (apart 1 6 refl) (apart 1 7 refl) ∙ holds.tariffs;
     closes = same 2 (apart 2 3 refl) (apart 2 6 refl) (apart 2 7 refl) ∙ holds.closes;
+    choices = holds.choices;
     records = now;
     days = same 4 (apart 4 3 refl) (apart 4 6 refl) (apart 4 7 refl) ∙ holds.days;
     placed = holds.placed;

@@ -13,8 +13,11 @@ pub mod Records
 pub mod FoundNames
 pub mod RecordLists
 pub mod Posting
-pub mod Dated
+pub mod Prices
+pub mod WalkNames
+pub mod Walked
 pub mod DayRows
+pub mod DaySteps
 pub mod LineRows
 pub mod MoveDays
 pub mod MemoryTrees

@@ -63,6 +63,7 @@ module _ {old new : Trees} (order : Order) (row : Row) (none : HasNoRows old)
         ∙ ap (insert_entry order row) (none.empty 0 (omega arith)) ∙ ap (λ row. row ∷ []) is;
     tariffs = still 1 (omega arith) refl ∙ sym (no_rows _ tariff_columns);
     closes = still 2 (omega arith) refl ∙ sym (no_rows _ closed_columns);
+    choices = refl;
     records = still 3 (omega arith) refl ∙ sym (no_rows _ record_columns);
     days = still 4 (omega arith) refl ∙ sym (no_rows _ day_columns);
     placed = λ key row there. absurd (no_value row (sym there ∙ get-empty _ key));

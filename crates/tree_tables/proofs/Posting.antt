@@ -58,6 +58,7 @@ with_indexed holds rows same now same_identities same_marks = record {
   book = same 0 (apart 0 3 refl) ∙ holds.book;
   tariffs = same 1 (apart 1 3 refl) ∙ holds.tariffs;
   closes = same 2 (apart 2 3 refl) ∙ holds.closes;
+  choices = holds.choices;
   records = now;
   days = same 4 (apart 4 3 refl) ∙ holds.days;
   placed = holds.placed;
@@ -69,7 +70,7 @@ with_indexed holds rows same now same_identities same_marks = record {
 }
 
 -- the first row behind a walk's key is that of the first entry that is still to come
-finds_next : (last : Option (List ℕ)) (m : RecordTable) (key : Row) (rows : List Row) (row : Row)
+pub finds_next : (last : Option (List ℕ)) (m : RecordTable) (key : Row) (rows : List Row) (row : Row)
     (there : Bool) → key ≡ place_key last → rows ≡ rows_of record_layout m
     → IsFirst (rows_behind key rows) row there → FindsAbove record_layout last m row there
 finds_next None m key rows row there place held begins =

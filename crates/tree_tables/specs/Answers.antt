@@ -1,7 +1,7 @@
 -- What each look answers of the tables.
-use Rattle.std.specs.Prelude.{◌≡◌, ℕ, ℤ, Bool, not, int_lt, List, map, filter, take, Option, Some}
-use Rattle.std.specs.FinMap.{entries, get, values}
-use Rattle.std.specs.List.{AllZip, list_any}
+use Rattle.std.specs.Prelude.{◌≡◌, ℕ, Bool, not, List, map, filter, take, Option, Some, slice_get}
+use Rattle.std.specs.FinMap.{entries, get}
+use Rattle.std.specs.List.{AllZip}
 use Rattle.std.specs.List.Sorted.{IsPermutation, IsStrictlySortedBy}
 use Rattle.std.specs.Option.{option_map}
 use Rattle.std.specs.Ordering.{ordering_then}
@@ -13,6 +13,7 @@ use Rattle.kept_tables.specs.Numbered.{rows_under}
 use Rattle.kept_tables.specs.Reading.{rows_read}
 use Rattle.kept_tables.specs.Tables.{RecordRow, Tables}
 use Rattle.kept_tables.specs.Views.{rows_with}
+use Rattle.tree_rows.specs.Changes.{above}
 use Rattle.tree_tables.specs.Stored.{book_of, tariff_of, close_of, stored_entry, signed_name}
 use Rattle.tree_tables.specs.declared.book_row.StoredBook.{StoredBook}
 use Rattle.tree_tables.specs.declared.closed_rows.Close.{Close}
@@ -49,13 +50,10 @@ abbrev pub FindsSharing : List ℕ → Tables → List StoredRecord → Type 0
 FindsSharing identity tables found =
     map stored_entry found ≡ take 2 (rows_with identity tables.records)
 
--- a record is dated on the day or after it
-abbrev pub is_from : ℤ → RecordRow → Bool
-is_from day row = not (int_lt row.priced.day day)
-
--- whether there is such a record
-abbrev pub FindsDated : ℤ → Tables → Bool → Type 0
-FindsDated day tables found = found ≡ list_any (is_from day) (values tables.records)
+-- the record with the least name behind one, or with the least of all, if there is such a record
+abbrev pub FindsNext : Option (List ℕ) → Tables → Option StoredRecord → Type 0
+FindsNext last tables found =
+    option_map stored_entry found ≡ slice_get (above last tables.records) 0
 
 -- by identity, then name
 abbrev pub by_identity : List ℕ × RecordRow → List ℕ × RecordRow → Ordering

@@ -116,6 +116,10 @@ abbrev pub NamedFits : List ℕ → Tables → Type 0
 NamedFits name tables =
     (row : RecordRow) → get tables.records name ≡ Some row → RecordFits (record_columns (name, row))
 
+-- each record fits
+abbrev pub EachFits : Tables → Type 0
+EachFits tables = (name : List ℕ) → NamedFits name tables
+
 -- each of some names is that of a record, which fits
 abbrev pub AllNamed : List FoundName → Tables → Type 0
 AllNamed names tables =
@@ -124,5 +128,5 @@ AllNamed names tables =
 
 -- all records fit, and they are no more than are listed at once
 pub record RecordsFit (tables : Tables) : Type 0 where
-  pub each : (name : List ℕ) → NamedFits name tables
+  pub each : EachFits tables
   pub few : length (entries tables.records) ≤ 2 ^ 32

@@ -1,7 +1,7 @@
 -- The trees that hold the tables: one a table, in the order of its key, and two more that find
 -- records, by their identities and by their marks.
 use Rattle.std.specs.Prelude.{◌≡◌, ℕ, List, [], ◌∷◌, map, Some}
-use Rattle.std.specs.FinMap.{FinMap, entries, get}
+use Rattle.std.specs.FinMap.{FinMap, empty, entries, get}
 use Rattle.sqlite_trees.specs.Tree.{Trees}
 use Rattle.sqlite_trees.specs.View.{View}
 use Rattle.sqlite_trees.specs.declared.store.Shape.TheVariants.{Index}
@@ -34,11 +34,12 @@ abbrev pub ArePlaced : DayTable → Type 0
 ArePlaced days =
     (key : ℕ × RowKey) (row : ChargeRow) → get days key ≡ Some row → place_of row ≡ key.1
 
--- the rows of the trees are those of the tables
+-- The rows of the trees are those of the tables. Choices have no tree, so there are none.
 pub record Holds (trees : Trees) (tables : Tables) : Type 0 where
   pub book : trees 0 ≡ book_columns tables.book ∷ []
   pub tariffs : trees 1 ≡ map tariff_columns (entries tables.tariffs)
   pub closes : trees 2 ≡ map closed_columns (entries tables.closes)
+  pub choices : tables.choices ≡ empty
   pub records : trees 3 ≡ map record_columns (entries tables.records)
   pub days : trees 4 ≡ map day_columns (entries tables.days)
   pub placed : ArePlaced tables.days

@@ -1,10 +1,12 @@
 -- Rows that code hands over and gets back, as rows of the tables under their keys.
 use Rattle.std.specs.Prelude.{◌≡◌, ℕ, ℤ, pos, List, Bool, Option, Some, string_bytes}
+use Rattle.std.specs.FinMap.{get}
 use Rattle.sqlite_value.specs.Order.{Row, column}
 use Rattle.sqlite_value.specs.declared.value.Value.TheVariants.{Blob, Int}
 use Rattle.book_model.specs.declared.row.ChargeRow.{ChargeRow}
 use Rattle.book_model.specs.declared.row.RowKey.{RowKey}
-use Rattle.kept_tables.specs.Tables.{BookRow, RecordRow}
+use Rattle.tariff_rules.specs.declared.priced.Priced.{Priced}
+use Rattle.kept_tables.specs.Tables.{BookRow, RecordRow, Tables}
 use Rattle.kept_tables.specs.TablesOf.{place_of}
 use Rattle.tree_tables.specs.Columns.{flag}
 use Rattle.tree_tables.specs.declared.book_row.StoredBook.{StoredBook}
@@ -56,6 +58,15 @@ stored_entry stored = (
     posted = stored.posted;
   },
 )
+
+-- it, where it costs this
+abbrev pub priced_entry : StoredRecord → Priced → List ℕ × RecordRow
+priced_entry stored priced =
+    (stored.name, record (stored_entry stored).1 { priced = priced })
+
+-- it stands in the tables as it was read
+abbrev pub IsAsRead : StoredRecord → Tables → Type 0
+IsAsRead stored tables = get tables.records stored.name ≡ Some (stored_entry stored).1
 
 -- a charge row of a period as an entry of its table
 abbrev pub day_entry : ℕ → ChargeRow → (ℕ × RowKey) × ChargeRow

@@ -9,7 +9,6 @@ use Rattle.kept_tables.specs.Steps.{post_by, post_rows}
 use Rattle.kept_tables.specs.Tables.{RecordRow, RecordTable, Tables}
 use Rattle.tree_rows.specs.Changes.{updated, DoneTo}
 use Rattle.tree_rows.specs.Rows.{past_key}
-use Rattle.tree_tables.specs.Answers.{is_from}
 use Rattle.tree_tables.specs.Columns.{record_columns}
 use Rattle.tree_tables.specs.Holds.{Holds}
 
@@ -59,8 +58,3 @@ pub record PostsNext (day : ℤ) (old new : View) (key next : Row) (more : Bool)
   pub only : OnlyWrites old new
   pub posts : (tables : Tables) → IsPosting day tables old.trees key
       → Posts day tables new.trees next more
-
--- whether the record of a row is dated on the day or after it
-abbrev pub IsDated : ℤ → Row → Bool → Type 0
-IsDated day row dated =
-    (entry : List ℕ × RecordRow) → row ≡ record_columns entry → is_from day entry.1 ≡ dated

@@ -1,11 +1,10 @@
 //! Records by name, and the two trees that find them by identity and by mark.
 
-ghost use Rattle.std.specs.Prelude.{◌≡◌, ◌∷◌, ◌++◌, [], IfOk, OnOk, pos};
-ghost use Rattle.book_model.specs.Words.{IsPriced};
+ghost use Rattle.std.specs.Prelude.{◌≡◌, ◌∷◌, ◌++◌, [], OnOk, pos};
 ghost use Rattle.sqlite_value.specs.Value.{owned};
 ghost use Rattle.sqlite_value.specs.declared.value.Value.TheVariants.{Blob, Int, Text};
 ghost use Rattle.tree_tables.specs.Columns.{flag, record_columns};
-ghost use Rattle.tree_tables.specs.Stored.{new_entry};
+ghost use Rattle.tree_tables.specs.Stored.{new_entry, priced_entry};
 
 use crate::cells::with_column;
 use crate::keys::{bytes_key, number_key};
@@ -49,9 +48,19 @@ pub struct NewRecord<'a> {
     pub posted: bool,
 }
 
+/// A number joins a row, where 64 bits with a sign hold it.
+fn push_number(row: &mut Row, number: u64) -> Result<(), StoreError>
+    ensures { OnOk result (row.new ≡ row.old ++ Int (pos number) ∷ []) }
+{
+    let Ok(number) = i64::try_from(number) else {
+        return Err(StoreError::Unstorable);
+    };
+    row.push(ValueRef::Int(number))?;
+    Ok(())
+}
+
 /// What a record costs joins its row.
 fn push_price(row: &mut Row, priced: &Priced) -> Result<(), StoreError>
-    requires { IsPriced priced.now }
     ensures { OnOk result (row.new ≡ row.old ++ Int priced.now.day ∷ Text priced.now.shift
         ∷ Text priced.now.centre ∷ Int (pos priced.now.cpu) ∷ Int (pos priced.now.excp)
         ∷ Int (pos priced.now.amount) ∷ []) }
@@ -59,10 +68,9 @@ fn push_price(row: &mut Row, priced: &Priced) -> Result<(), StoreError>
     row.push(ValueRef::Int(i64::from(priced.day)))?;
     row.push(ValueRef::Text(priced.shift.text().as_bytes()))?;
     row.push(ValueRef::Text(priced.centre.text().as_bytes()))?;
-    row.push(ValueRef::Int(priced.cpu as i64))?;
-    row.push(ValueRef::Int(priced.excp as i64))?;
-    row.push(ValueRef::Int(priced.amount as i64))?;
-    Ok(())
+    push_number(row, priced.cpu)?;
+    push_number(row, priced.excp)?;
+    push_number(row, priced.amount)
 }
 
 /// A mark as the value of a column.
@@ -74,7 +82,6 @@ fn mark_value<'a>(mark: bool) -> ValueRef<'a>
 
 /// Makes the row of a record.
 fn record_row(row: &mut Row, kept: &NewRecord<'_>) -> Result<(), StoreError>
-    requires { IsPriced kept.now.priced }
     ensures { OnOk result (row.new ≡ record_columns (new_entry kept.now)) }
 {
     row.clear();
@@ -85,6 +92,20 @@ fn record_row(row: &mut Row, kept: &NewRecord<'_>) -> Result<(), StoreError>
     row.push(mark_value(kept.charged))?;
     row.push(mark_value(kept.posted))?;
     Ok(())
+}
+
+/// A record that was read, as its row is written where it costs this.
+fn with_price<'a>(stored: &'a StoredRecord, priced: &Priced) -> NewRecord<'a>
+    ensures { new_entry result ≡ priced_entry stored.now priced.now }
+{
+    NewRecord {
+        name: &stored.name,
+        identity: &stored.identity,
+        data_bytes: &stored.data_bytes,
+        priced: *priced,
+        charged: stored.charged,
+        posted: stored.posted,
+    }
 }
 
 /// Makes the row that finds a record by its identity.
@@ -115,15 +136,14 @@ fn mark_row(
 }
 
 impl<S: Store> TreeTables<S> {
-    ghost use Rattle.std.specs.Prelude.{◌≡◌, ◌<◌, ◌^◌, None};
+    ghost use Rattle.std.specs.Prelude.{◌≡◌, None};
     ghost use Rattle.std.specs.FinMap.{get};
-    ghost use Rattle.book_model.specs.Words.{IsPriced};
     ghost use Rattle.kept_tables.specs.Steps as step;
     ghost use Rattle.tree_tables.specs.Answers.{FindsRecord, FindsSharing, ListsUncharged};
     ghost use Rattle.tree_tables.specs.States.{state};
     ghost use Rattle.tree_tables.specs.Fits.{NamedFits, RecordsFit};
     ghost use Rattle.tree_tables.specs.Steps.{Always, Does, FailsByStore, Looks};
-    ghost use Rattle.tree_tables.specs.Stored.{new_entry};
+    ghost use Rattle.tree_tables.specs.Stored.{IsAsRead, new_entry};
 
     /// The record of a name, if there is one.
     pub fn find_record(
@@ -180,7 +200,6 @@ impl<S: Store> TreeTables<S> {
     /// A new record's row joins the table, and is found by its identity and by its mark. What is
     /// under its name, if anything is, is not looked at.
     pub fn insert_record(&mut self, kept: &NewRecord<'_>) -> Result<(), StoreError>
-        requires priced { IsPriced kept.now.priced }
         ensures does { Does result (state S.Store self.old.store) (state S.Store self.new.store)
             (λ tables. get tables.records kept.now.name.now ≡ None)
             (step.put_record_row (new_entry kept.now).0 (new_entry kept.now).1) }
@@ -196,6 +215,17 @@ impl<S: Store> TreeTables<S> {
             ValueRef::Blob(kept.name),
         )?;
         add_row(&mut self.store, MARKS, &self.row)
+    }
+
+    /// A record, which stands as it was read, costs this from now on. Its identity and its marks
+    /// stay, and with them the rows that find it. The row is not looked for: it is what was read.
+    pub fn set_price(&mut self, stored: &StoredRecord, priced: &Priced) -> Result<(), StoreError>
+        ensures does { Does result (state S.Store self.old.store) (state S.Store self.new.store)
+            (IsAsRead stored.now) (step.put_price_row stored.now.name priced.now) }
+    {
+        record_row(&mut self.before, &with_price(stored, &stored.priced))?;
+        record_row(&mut self.row, &with_price(stored, priced))?;
+        change_row(&mut self.store, RECORDS, &self.before, &self.row)
     }
 
     /// The record of a name, if there is one, is charged no more.

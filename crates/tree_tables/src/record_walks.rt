@@ -1,14 +1,17 @@
 //! Walks over all records, by name.
 
-ghost use Rattle.std.specs.Prelude.{◌≡◌, ◌∷◌, [], IfOk, OnOk};
+ghost use Rattle.std.specs.Prelude.{◌≡◌, ◌∷◌, [], IfErr, IfOk, OnOk};
 ghost use Rattle.sqlite_value.specs.Order.{column};
-ghost use Rattle.tree_tables.specs.Walks.{IsDated, PostsRow, posted_columns};
+ghost use Rattle.tree_tables.specs.Walks.{PostsRow, place_key, posted_columns};
 
 use crate::cells::{day_at, mark_at};
+use crate::keys::bytes_key;
+use crate::stored_record::{StoredRecord, read_record};
 use crate::tables::TreeTables;
 use sqlite_trees::error::StoreError;
-use sqlite_trees::store::{Direction, Store};
+use sqlite_trees::store::Store;
 use sqlite_value::row::Row;
+use std::alloc::Global;
 use tree_rows::{change_row, first_after, first_from};
 
 /// The tree of the records.
@@ -23,9 +26,6 @@ const CHARGED: usize = 9;
 /// The column that says whether the last close charged it.
 const POSTED: usize = 10;
 
-/// The cursor of a walk that writes nothing.
-const DATES: u16 = 3;
-
 /// The most rows that are walked over: more than any tree of a sound store has.
 const MOST_STEPS: u64 = 1 << 32;
 
@@ -36,6 +36,20 @@ fn name_key(key: &mut Row, row: &Row) -> Result<(), StoreError>
     key.clear();
     key.push(row.get(0))?;
     Ok(())
+}
+
+/// The key of the name that a walk has come to, with no columns before the first.
+fn walk_key(key: &mut Row, last: Option<[u8; 32]>) -> Result<(), StoreError>
+    ensures made { OnOk result (key.new ≡ place_key last) }
+    ensures memory { IfErr result (λ error. error ≡ StoreError.OutOfMemory) }
+{
+    match last {
+        None => {
+            key.clear();
+            Ok(())
+        }
+        Some(name) => bytes_key(key, &name),
+    }
 }
 
 /// Makes the row of a record anew, posted as it is charged.
@@ -72,22 +86,16 @@ fn post_row(row: &mut Row, before: &Row, through: i32) -> Result<bool, StoreErro
     Ok(true)
 }
 
-/// Whether the record of a row is dated on a day or after it.
-fn is_dated(row: &Row, from: i32) -> Result<bool, StoreError>
-    ensures { IfOk result (IsDated from row.now) }
-{
-    let day = day_at(row, DAY)?;
-    Ok(day >= from)
-}
-
 impl<S: Store> TreeTables<S> {
-    ghost use Rattle.std.specs.Prelude.{◌≡◌, IfOk, OnErr, OnOk};
-    ghost use Rattle.sqlite_trees.specs.View.{IsClean, IsQuiet, KeepsCommitted};
+    ghost use Rattle.std.specs.Prelude.{◌≡◌, IfErr, IfOk, OnErr, OnOk};
+    ghost use Rattle.sqlite_disk.specs.Disk.{MoreFaults};
+    ghost use Rattle.sqlite_trees.specs.View.{HasCause, IsClean, IsQuiet, KeepsCommitted};
     ghost use Rattle.kept_tables.specs.Steps as step;
     ghost use Rattle.tree_rows.specs.Rows.{IsFirst, IsUnchanged};
-    ghost use Rattle.tree_tables.specs.Answers.{FindsDated};
+    ghost use Rattle.tree_tables.specs.Answers.{FindsNext};
+    ghost use Rattle.tree_tables.specs.Fits.{EachFits};
     ghost use Rattle.tree_tables.specs.States.{state};
-    ghost use Rattle.tree_tables.specs.Steps.{Always, Does, Looks};
+    ghost use Rattle.tree_tables.specs.Steps.{Always, Does, FailsByStore, Looks};
     ghost use Rattle.tree_tables.specs.Walks.{PostsNext, rows_behind};
 
     /// Reads the first record behind that of the key over `before`, or the very first where the
@@ -101,6 +109,9 @@ impl<S: Store> TreeTables<S> {
             → IsUnchanged (S.Store.view self.old.store) (S.Store.view self.new.store)) }
         ensures kept { OnErr result (IsClean (S.Store.view self.new.store)
             → KeepsCommitted (S.Store.view self.old.store) (S.Store.view self.new.store)) }
+        ensures cause { IfErr result (λ error. IsClean (S.Store.view self.new.store)
+            → HasCause (S.Store.view self.old.store)
+            (MoreFaults (S.Store.faults self.old.store) (S.Store.faults self.new.store)) ⊥ error) }
         ensures quiet { IsQuiet S.Store.view S.Store.faults S.Store.recovers S.Store.is_shielded
             self.old.store self.new.store }
     {
@@ -108,6 +119,25 @@ impl<S: Store> TreeTables<S> {
             return first_from(&mut self.store, RECORDS, &self.key, &mut self.before);
         }
         first_after(&mut self.store, RECORDS, &self.key, &mut self.before)
+    }
+
+    /// The record with the least name behind one, or with the least of all where there is none: a
+    /// step of a walk over all records, which holds no more than one of them at a time.
+    pub fn find_next(
+        &mut self,
+        alloc: Global,
+        last: Option<[u8; 32]>,
+    ) -> Result<Option<StoredRecord>, StoreError>
+        ensures looks { Looks result (state S.Store self.old.store) (state S.Store self.new.store)
+            (FindsNext last) }
+        ensures cause { FailsByStore result (state S.Store self.old.store)
+            (state S.Store self.new.store) EachFits }
+    {
+        walk_key(&mut self.key, last)?;
+        if !self.next_record()? {
+            return Ok(None);
+        }
+        Ok(Some(read_record(&self.before, alloc)?))
     }
 
     /// Posts the first record behind that of the key by a day, and makes its name the key; or
@@ -141,27 +171,6 @@ impl<S: Store> TreeTables<S> {
         'steps: for _ in 0..MOST_STEPS {
             if !self.post_next(through)? {
                 return Ok(());
-            }
-        }
-        // Only a disk that lies has more rows.
-        Err(StoreError::Corrupt)
-    }
-
-    /// Whether a record is dated on a day or after it. A walk that does not end is answered as a
-    /// damaged file.
-    pub fn find_dated(&mut self, from: i32) -> Result<bool, StoreError>
-        ensures looks { Looks result (state S.Store self.old.store) (state S.Store self.new.store)
-            (FindsDated from) }
-    {
-        self.key.clear();
-        self.store
-            .seek(DATES, RECORDS, &self.key, Direction::Forward)?;
-        'rows: for _ in 0..MOST_STEPS {
-            if !self.store.next(DATES, &mut self.row)? {
-                return Ok(false);
-            }
-            if is_dated(&self.row, from)? {
-                return Ok(true);
             }
         }
         // Only a disk that lies has more rows.

@@ -9,8 +9,8 @@ use super::lists::last_close;
 use crate::accepted_tariff::{AcceptedTariff, are_before, has_day_of, has_text};
 use crate::closed::ClosedPeriod;
 use crate::ending::is_after;
-use crate::held::has_dated;
 use crate::limits::LAST_PERIOD;
+use crate::repricing::{cost_under, reprice};
 use book_model::{LedgerFault, Naming, Ruled};
 use std::alloc::AllocError;
 use tariff_rules::Tariff;
@@ -36,10 +36,12 @@ fn is_closed(closed: &[ClosedPeriod], period: u16, through: i32) -> bool
 }
 
 impl<N: Naming + Drop> PlainLedger<N> {
-    ghost use Rattle.std.specs.Prelude.{◌≡◌, ◌+◌, ◌<◌, Ok, OnErr, OnOk, Some, length};
+    ghost use Rattle.std.specs.Prelude.{◌≡◌, ◌+◌, ◌<◌, IfOk, IfSome, Ok, OnErr, OnOk, Some, length};
+    ghost use Rattle.std.specs.BTreeMap.{values};
     ghost use Rattle.book_model.specs.Words.{IsDay, close, put_in_force, last_period};
     ghost use Rattle.book_model.specs.Words.{close_outcome, tariff_outcome};
     ghost use Rattle.book_core.specs.PlainBook.{IsPlainCall, book_in, naming_in};
+    ghost use Rattle.book_core.specs.Repricing.{cost_anew, ruled_by_cost};
 
     /// Puts the tariff of a file in force.
     pub(super) fn put_in_force(&mut self, text: &str) -> Result<Ruled, LedgerFault>
@@ -47,21 +49,24 @@ impl<N: Naming + Drop> PlainLedger<N> {
             (tariff_outcome text.now) }
     {
         let tariff = Tariff::parse(self.alloc, text)?;
-        match self.answer_to_tariff(text, &tariff)? {
-            Ruled::Already => Ok(Ruled::Already),
-            Ruled::Done => {
-                self.keep_tariff(text, tariff)?;
+        match self.cost_in_force(text, &tariff)? {
+            None => Ok(Ruled::Already),
+            Some(total) => {
+                self.keep_tariff(text, tariff, total)?;
                 Ok(Ruled::Done)
             }
         }
     }
 
-    /// What is answered to a tariff that was read from a text.
-    fn answer_to_tariff(&self, text: &str, tariff: &Tariff) -> Result<Ruled, LedgerFault>
-        ensures { result ≡ spec.terms_answer (book_in self.now) text.now tariff.now }
+    /// What all records cost under a tariff that can be put in force; none where it is already.
+    fn cost_in_force(&self, text: &str, tariff: &Tariff) -> Result<Option<u64>, LedgerFault>
+        ensures answer { ruled_by_cost result
+            ≡ spec.terms_answer (book_in self.now) text.now tariff.now }
+        ensures cost { IfOk result (λ found. IfSome found
+            (λ cost. cost ≡ cost_anew tariff.now (values self.now.held))) }
     {
         if has_text(&self.tariffs, text) {
-            return Ok(Ruled::Already);
+            return Ok(None);
         }
         if has_day_of(&self.tariffs, tariff) {
             return Err(LedgerFault::TariffExists);
@@ -69,21 +74,27 @@ impl<N: Naming + Drop> PlainLedger<N> {
         if !is_later(&self.tariffs, &self.closed, tariff) {
             return Err(LedgerFault::TariffDate);
         }
-        if has_dated(&self.held, tariff) {
-            return Err(LedgerFault::RecordsDated);
-        }
-        Ok(Ruled::Done)
+        let Some(cost) = cost_under(&self.held, tariff) else {
+            return Err(LedgerFault::Full);
+        };
+        Ok(Some(cost))
     }
 
-    /// Keeps a tariff, with its text. Want of memory leaves the books as they were.
-    fn keep_tariff(&mut self, text: &str, tariff: Tariff) -> Result<(), AllocError>
-        requires { spec.terms_answer (book_in self.old) text.now tariff ≡ Ok Ruled.Done }
+    /// Keeps a tariff, with its text, and prices the records anew. Want of memory leaves the books
+    /// as they were.
+    fn keep_tariff(&mut self, text: &str, tariff: Tariff, total: u64) -> Result<(), AllocError>
+        requires done { spec.terms_answer (book_in self.old) text.now tariff ≡ Ok Ruled.Done }
+        requires total { total ≡ cost_anew tariff (values self.old.held) }
         ensures book { OnOk result
             (book_in self.new ≡ put_in_force (Some text.now) tariff (book_in self.old)) }
         ensures refused { OnErr result (book_in self.new ≡ book_in self.old) }
         ensures naming { naming_in self.new ≡ naming_in self.old }
     {
         let text = Some(String::from_str(self.alloc, text)?);
+        // There is room before the first price is written: a refusal leaves each as it was.
+        self.tariffs.reserve(1)?;
+        reprice(&mut self.held, &tariff);
+        self.total = total;
         self.tariffs.push(AcceptedTariff { text, tariff })?;
         Ok(())
     }

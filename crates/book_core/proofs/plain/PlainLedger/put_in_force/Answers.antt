@@ -4,14 +4,15 @@ use Rattle.book_model.specs.Words.{IsBookCall}
 use Rattle.book_model.specs.declared.answer.Ruled.{Ruled}
 use Rattle.book_model.proofs.AnswerLemmas.{tariff_calls}
 use Rattle.book_core.specs.PlainBook.{book_in}
+use Rattle.book_core.specs.Repricing.{ruled_by_cost}
 use Rattle.book_core.proofs.TariffLemmas.{tariff_answer-of}
 use Rattle.book_core.proofs.plain.PlainLedger.put_in_force.Given.{Over}
 use Rattle.book_core.proofs.plain.PlainLedger.put_in_force.Goals as goal
-use Rattle.book_core.proofs.plain.PlainLedger.put_in_force.Goals.{After-answer_to_tariff}
+use Rattle.book_core.proofs.plain.PlainLedger.put_in_force.Goals.{After-cost_in_force}
 
 -- the call, where the text was read, by what the ledger answers to its terms
-call_is : (g : Over) (c : After-answer_to_tariff g) (answer : Ruled) (new : Book)
-    → c.answer_to_tariff.result ≡ Ok answer
+call_is : (g : Over) (c : After-cost_in_force g) (answer : Ruled) (new : Book)
+    → ruled_by_cost c.cost_in_force.result ≡ Ok answer
     → new ≡ after_any (tariff_event c.args.text.now (Ok c.in_ok-tariff.tariff) (Ok answer))
     (book_in c.args.self.now)
     → IsBookCall (λ (value : Ruled). value) (book_in c.args.self.now) new (Ok answer)
@@ -22,20 +23,20 @@ call_is g c answer new is changed =
     let read = c.in_ok-tariff.ensures.ok in
     tariff_calls text book new (Ok answer)
     (tariff_answer-of book text (terms_in text) c.in_ok-tariff.tariff
-    c.answer_to_tariff.result read c.answer_to_tariff.ensures ∙ is)
+    (ruled_by_cost c.cost_in_force.result) read c.cost_in_force.ensures.answer ∙ is)
     (changed ∙ ap (λ said. after_any (tariff_event text said (Ok answer)) book) (sym read))
 
-pub returns-in-Already : goal.returns-in-Already
-returns-in-Already g c = record {
-  call = call_is g (goal.at.returns-in-Already g c).After-answer_to_tariff _ _
-      (c.in_ok-answer_to_tariff.was ∙ ap Ok c.in-Already.is) refl;
+pub returns-in-None : goal.returns-in-None
+returns-in-None g c = record {
+  call = call_is g (goal.at.returns-in-None g c).After-cost_in_force _ _
+      (ap ruled_by_cost (c.in_ok-cost_in_force.was ∙ ap Ok c.in-None.is)) refl;
   naming = refl;
 }
 
-pub returns-in_ok-keep_tariff-in-Done : goal.returns-in_ok-keep_tariff-in-Done
-returns-in_ok-keep_tariff-in-Done g c = record {
-  call = call_is g (goal.at.returns-in_ok-keep_tariff-in-Done g c).After-answer_to_tariff _ _
-      (c.in_ok-answer_to_tariff.was ∙ ap Ok c.in-Done.is)
-      c.in_ok-keep_tariff-in-Done.ensures.book;
+pub returns-in_ok-keep_tariff-in-Some : goal.returns-in_ok-keep_tariff-in-Some
+returns-in_ok-keep_tariff-in-Some g c = record {
+  call = call_is g (goal.at.returns-in_ok-keep_tariff-in-Some g c).After-cost_in_force _ _
+      (ap ruled_by_cost (c.in_ok-cost_in_force.was ∙ ap Ok c.in-Some.is))
+      c.in_ok-keep_tariff-in-Some.ensures.book;
   naming = c.keep_tariff.ensures.naming;
 }

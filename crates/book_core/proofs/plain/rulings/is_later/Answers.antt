@@ -5,7 +5,7 @@ use Rattle.std.specs.Prelude.{int_lt, ℤ}
 use Rattle.book_model.specs.Words.{last_close}
 use Rattle.book_core.specs.Plain.{ruled_by}
 use Rattle.book_model.proofs.DayLemmas.{day_fits}
-use Rattle.book_core.proofs.TariffLemmas.{is_later-by}
+use Rattle.book_model.proofs.LatestLemmas.{is_later-by}
 use Rattle.book_core.proofs.plain.rulings.is_later.Goals as goal
 
 -- a day is later than a close, if there was one

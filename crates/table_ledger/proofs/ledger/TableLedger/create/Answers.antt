@@ -1,5 +1,6 @@
 use Rattle.std.proofs.Common.{refl, subst, sym}
 use Rattle.sqlite_trees.specs.Tree.{Trees}
+use Rattle.book_model.specs.Words.{no_rulings}
 use Rattle.tree_tables.specs.States.{state}
 use Rattle.tree_tables.specs.Steps.{HasNoRows}
 use Rattle.table_ledger.specs.Commits.{IsAtRest}
@@ -15,4 +16,4 @@ returns-in-Ok-clause-books g c = λ clean rest none.
     (λ (trees : Trees). g.met.S.Store.settled c.make_books.new.tables.store trees) clean
     (c.in-Ok.ensures.made clean (subst (λ store. IsAtRest (g.S.Store.view store)) given rest)
     (subst (λ store. HasNoRows (g.S.Store.view store).trees) given none))
-    (λ i. record { tariffs = tariffs i; closes = closes i }) refl refl
+    (λ i. record no_rulings { tariffs = tariffs i; closes = closes i }) refl refl

@@ -5,7 +5,7 @@ use Rattle.std.specs.Option.{option_map_or}
 use Rattle.std.specs.Prelude.{int_lt, ℤ}
 use Rattle.book_model.specs.Words.{Tariffed, last_close}
 use Rattle.book_model.proofs.DayLemmas.{day_fits}
-use Rattle.book_core.proofs.TariffLemmas.{is_later-by}
+use Rattle.book_model.proofs.LatestLemmas.{is_later-by}
 use Rattle.table_ledger.specs.Summaries.{ruled_in}
 use Rattle.table_ledger.proofs.summary.Summary.is_later.Goals as goal
 

@@ -1,0 +1,168 @@
+-- Under the second rule of identity what was charged stays charged: identities only split.
+use Rattle.std.proofs.Common.{◌≡◌, ℕ, List, [], ◌∷◌, ◌++◌, refl, sym, ap, ◌∙◌, true, false}
+use Rattle.std.proofs.Common.{true≢false, Bool, cond, not, ◌||◌, ◌&&◌, Option, Some, None, length}
+use Rattle.std.specs.Prelude.{All, filter, take, ◌==◌, if◌then◌else◌, Result, Ok, Err, is_some}
+use Rattle.std.specs.List.{list_any, last_or}
+use Rattle.std.specs.Option.{option_map_or}
+use Rattle.std.proofs.Math.Bool.{and-false, or-true}
+use Rattle.std.proofs.lemmas.Cmp.{nat_list_cmp_total, nat_list_eq_equiv}
+use Rattle.std.proofs.lemmas.Map.Lookups.{exact_bytes}
+use Rattle.std.proofs.lemmas.Map.Views.{tells_apart}
+use Rattle.std.proofs.Math.Seq.{take-append_seam}
+use Rattle.smf_type30.specs.Class.{IsUsage}
+use Rattle.smf_type30.specs.Layout.{identification, initiation}
+use Rattle.smf_type30.specs.Section.{part_in}
+use Rattle.smf_type30.specs.Usage.{identity_of, identity2_of}
+use Rattle.smf_type30.proofs.IdentityLength.{identity-long}
+use Rattle.book_model.specs.Charged.{share_identity, conflict, is_unrivalled, is_chosen}
+use Rattle.book_model.specs.Charged.{last_chosen, is_undisputed, charged_now}
+use Rattle.book_model.specs.declared.answer.Ruled.{Ruled}
+use Rattle.book_model.specs.declared.answer.Ruled.TheVariants.{Done, Already}
+use Rattle.book_model.specs.declared.fault.LedgerFault.{LedgerFault}
+use Rattle.book_model.specs.declared.fault.LedgerFault.TheVariants.{OldRule}
+use Rattle.book_model.specs.Books.{Book}
+use Rattle.book_model.specs.Laws.{AdoptionTakesNothing}
+use Rattle.book_model.specs.RulingAnswers.{adopt_answer, first_rule, second_rule}
+use Rattle.book_model.specs.Records.{Records, same_bytes}
+use Rattle.book_model.specs.Rulings.{Rulings, identity_by, with_second_rule}
+use Rattle.book_model.specs.Sets.{members, has}
+use Rattle.book_model.specs.Sound.{IsChoiceOf, AreAmong}
+use Rattle.book_model.proofs.ChosenLemmas.{all_chosen, chosen_held}
+use Rattle.book_model.proofs.RecordSets.{is, is_itself, has_those, first_of, in_those}
+use Rattle.book_model.proofs.SetChanges.{none_passes}
+use Rattle.book_model.proofs.SetLemmas.{fails_too, same_bytes-by_cmp}
+
+-- Of a list, the last that passes one test is the last that passes a narrower one, where it passes
+-- it.
+last_narrower : (wide narrow : List ℕ → Bool) (one : List ℕ) → narrow one ≡ true
+    → (list : List (List ℕ)) (was so : Option (List ℕ))
+    → ((q : List ℕ) → list_any (is q) list ≡ true → narrow q ≡ true → wide q ≡ true)
+    → (was ≡ Some one → so ≡ Some one)
+    → last_or was (filter wide list) ≡ Some one → last_or so (filter narrow list) ≡ Some one
+last_narrower wide narrow one passes [] was so narrower before found = before found
+last_narrower wide narrow one passes (first ∷ list) was so narrower before found =
+    let rest = λ (q : List ℕ) (among : list_any (is q) list ≡ true).
+    narrower q (ap (λ b. is q first || b) among ∙ or-true (is q first)) in
+    let own = narrower first (ap (λ b. b || list_any (is first) list) (is_itself first)) in
+    elim (narrow first) as (λ n. narrow first ≡ n
+    → last_or so (cond n (first ∷ filter narrow list) (filter narrow list)) ≡ Some one) [
+      | true ↦ λ in_narrow.
+          last_narrower wide narrow one passes list (Some first) (Some first) rest (λ same. same)
+          (sym (ap (λ w. last_or was (cond w (first ∷ filter wide list) (filter wide list)))
+          (own in_narrow)) ∙ found)
+      | false ↦ λ out. elim (wide first) as (λ w.
+          last_or was (cond w (first ∷ filter wide list) (filter wide list)) ≡ Some one
+          → last_or so (filter narrow list) ≡ Some one) [
+            | true ↦ λ found. last_narrower wide narrow one passes list (Some first) so rest
+                (λ same. let it : first ≡ one = cc in
+                absurd (true≢false (sym passes ∙ ap narrow (sym it) ∙ out))) found
+            | false ↦ λ found. last_narrower wide narrow one passes list was so rest before found
+          ] found
+    ] refl
+
+module _ (rulings : Rulings) (held : Records) (chosen : All (IsChoiceOf held) rulings.choices)
+    (splits : (a b : List ℕ) → has held a ≡ true → has held b ≡ true
+    → share_identity (with_second_rule rulings) a b ≡ true → share_identity rulings a b ≡ true)
+  where
+    -- the rulings with the second rule
+    abbrev ruled : Rulings
+    ruled = with_second_rule rulings
+
+    -- who had no rival has none
+    unrivalled_still : (one : List ℕ) → has held one ≡ true
+        → is_unrivalled rulings held one ≡ true → is_unrivalled ruled held one ≡ true
+    unrivalled_still one there alone =
+        ap not (none_passes (conflict ruled one) held (λ q in_it.
+        no_more (same_bytes one q) (share_identity ruled one q) (share_identity rulings one q)
+        (splits one q there in_it)
+        (fails_too nat_list_cmp_total exact_bytes (conflict rulings one) held q
+        (none_any (list_any (conflict rulings one) (members held)) alone) in_it)))
+      where
+        none_any : (b : Bool) → not b ≡ true → b ≡ false
+        none_any true is_not = sym is_not
+        none_any false is_not = refl
+
+        no_more : (same narrow wide : Bool) → (narrow ≡ true → wide ≡ true)
+            → (not same && wide) ≡ false → (not same && narrow) ≡ false
+        no_more same false wide splits apart = and-false (not same)
+        no_more same true wide splits apart =
+            sym (ap (λ w. not same && w) (splits refl)) ∙ apart
+
+    -- who was chosen is chosen
+    chosen_still : (one : List ℕ) → has held one ≡ true → is_chosen rulings one ≡ true
+        → is_chosen ruled one ≡ true
+    chosen_still one there it =
+        elim (last_chosen rulings one) as (λ last. last_chosen rulings one ≡ last
+        → option_map_or (same_bytes one) last false ≡ true → is_chosen ruled one ≡ true) [
+          | None ↦ λ e none. absurd (true≢false (sym none))
+          | Some other ↦ λ e same.
+              let it : other ≡ one =
+              sym (tells_apart exact_bytes one other
+              (sym (λ i. same_bytes-by_cmp i one other) ∙ same)) in
+              let last = last_narrower (share_identity rulings one) (share_identity ruled one) one
+              (nat_list_eq_equiv.refl (identity_by ruled one)) (all_chosen rulings) None None
+              (λ q among. splits one q there
+              (chosen_held held rulings.choices chosen q among))
+              (λ same. same) (e ∙ ap Some it) in
+              ap (λ last. option_map_or (same_bytes one) last false) last
+              ∙ nat_list_eq_equiv.refl one
+        ] refl it
+
+    -- so what was charged is charged
+    pub charged_still : AreAmong (charged_now rulings held) (charged_now ruled held)
+    charged_still one was =
+        let there = in_those (is_undisputed rulings held) held one was in
+        let undisputed = first_of (is_undisputed rulings held one) (has held one)
+        (sym (has_those (is_undisputed rulings held) held one) ∙ was) in
+        has_those (is_undisputed ruled held) held one
+        ∙ (λ i. either (is_unrivalled rulings held one) (is_chosen rulings one)
+        (is_unrivalled ruled held one) (is_chosen ruled one)
+        (unrivalled_still one there) (chosen_still one there) undisputed i && there i)
+      where
+        either : (u x u' x' : Bool) → (u ≡ true → u' ≡ true) → (x ≡ true → x' ≡ true)
+            → (u || x) ≡ true → (u' || x') ≡ true
+        either true x u' x' first second both = ap (λ u. u || x') (first refl)
+        either false x u' x' first second both =
+            ap (λ x. u' || x) (second both) ∙ or-true u'
+
+-- Records that measure work and have one identity by the second rule have one by the first: its
+-- bytes stand in front.
+pub identities_split : (a b : List ℕ) → IsUsage a → IsUsage b
+    → same_bytes (identity2_of a) (identity2_of b) ≡ true
+    → same_bytes (identity_of a) (identity_of b) ≡ true
+unfolding identity2_of
+identities_split a b usage_a usage_b same =
+    let behind : List ℕ → List ℕ = λ bytes. part_in bytes identification initiation in
+    let both : identity_of a ++ behind a ≡ identity_of b ++ behind b =
+    tells_apart exact_bytes (identity_of a ++ behind a) (identity_of b ++ behind b)
+    (sym (λ i. same_bytes-by_cmp i (identity_of a ++ behind a) (identity_of b ++ behind b))
+    ∙ same) in
+    let one : identity_of a ≡ identity_of b =
+    sym (take-append_seam (identity_of a) (behind a))
+    ∙ ap (λ n. take n (identity_of a ++ behind a))
+    (identity-long a usage_a ∙ sym (identity-long b usage_b))
+    ∙ ap (take (length (identity_of b))) both
+    ∙ take-append_seam (identity_of b) (behind b) in
+    ap (same_bytes (identity_of a)) (sym one) ∙ nat_list_eq_equiv.refl (identity_of a)
+
+-- the second rule is adopted where no period adopted it
+none_adopted : (was : Option ℕ)
+    → ◌≡◌ {A = Result Ruled LedgerFault} (if second_rule == (if is_some was then second_rule
+    else first_rule) then Ok Already
+    else if second_rule == first_rule then Err OldRule else Ok Done) (Ok Done)
+    → was ≡ None
+none_adopted None done = refl
+none_adopted (Some period) done = cc
+
+-- so the rule was the first until then
+pub first_adopted : (book : Book) → adopt_answer book second_rule ≡ Ok Done
+    → book.rulings.adopted ≡ None
+first_adopted book done = none_adopted book.rulings.adopted done
+
+-- the law of it
+pub adoption_takes_nothing : AdoptionTakesNothing
+adoption_takes_nothing naming book sound usage done =
+    charged_still book.rulings book.held sound.chosen (λ a b there too same.
+    ap (λ was. same_bytes (option_map_or (λ period. identity2_of a) was (identity_of a))
+    (option_map_or (λ period. identity2_of b) was (identity_of b))) (first_adopted book done)
+    ∙ identities_split a b ((usage a there).usage) ((usage b too).usage) same)

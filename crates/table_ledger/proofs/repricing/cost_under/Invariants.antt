@@ -1,0 +1,15 @@
+use Rattle.std.proofs.Common.{◌≤◌}
+use Rattle.book_model.specs.Words.{most_cost}
+use Rattle.kept_tables.specs.TableChanges.{amount_under}
+use Rattle.tree_tables.specs.States.{state}
+use Rattle.tree_tables.proofs.Walked.{SumsTo}
+use Rattle.table_ledger.specs.Repricing.{CanCost}
+use Rattle.table_ledger.proofs.repricing.cost_under.Given as goal
+
+-- what the records up to the last name cost together, which the books hold
+abbrev pub invariant-records : goal.invariant-records
+invariant-records g l = record {
+  sums : SumsTo (amount_under l.fn.tariff) (CanCost l.fn.tariff)
+      (state g.S.Store l.fn.tables.store) (state g.S.Store l.tables.store) l.last l.cost;
+  small : l.cost ≤ most_cost;
+}

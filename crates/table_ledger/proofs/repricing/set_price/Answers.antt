@@ -1,0 +1,18 @@
+use Rattle.table_ledger.proofs.Repriced.{repriced_charged}
+use Rattle.table_ledger.proofs.StepLemmas.{does_so, does_then}
+use Rattle.tree_tables.specs.Stored.{stored_entry}
+use Rattle.table_ledger.proofs.repricing.set_price.Goals as goal
+
+-- the row, and then the charge rows
+pub returns : goal.returns
+returns g c = record {
+  does = does_so c.change_price.result
+      (does_then c.change_price.result c.in_ok-set_price.ensures.does c.change_price.ensures.does
+      (λ tables stands. (stands, tt)))
+      (λ tables stands. (
+        stands,
+        repriced_charged c.args.period c.args.stored.now.name
+            (stored_entry c.args.stored.now).1 c.args.priced.now tables stands
+            c.if-not-stored.false,
+      ));
+}

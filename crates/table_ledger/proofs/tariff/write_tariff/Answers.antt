@@ -1,0 +1,28 @@
+use Rattle.std.proofs.Common.{◌∙◌, Ok, sym}
+use Rattle.std.specs.FinMap.{keys}
+use Rattle.kept_tables.specs.Steps.{put_tariff_row, set_sums}
+use Rattle.kept_tables.specs.TableChanges.{reprice_step, walk}
+use Rattle.tree_tables.specs.Steps.{Always}
+use Rattle.table_ledger.proofs.CodeDays.{kept_day}
+use Rattle.table_ledger.proofs.StepLemmas.{does_so, does_then}
+use Rattle.table_ledger.proofs.tariff.write_tariff.Goals as goal
+
+-- the prices, the tariff's row and the sums
+pub returns : goal.returns
+returns g c = record {
+  does =
+      let terms = c.args.tariff.now in
+      let day = kept_day c.effective.result c.effective.ensures.day ∙ c.effective.ensures.value in
+      does_so c.set_sums.result
+      (does_then {When = Always} c.set_sums.result
+      (does_then {When = Always} (Ok c.in_ok-put_tariff.field-0) c.in_ok-reprice_all.ensures.does
+      c.in_ok-put_tariff.ensures.does (λ tables always. (tt, tt)))
+      c.set_sums.ensures.does (λ tables always. (tt, tt)))
+      (λ tables counts. (
+        tt,
+        λ i.
+            set_sums (sym counts i) c.args.sums.now.amount
+            (put_tariff_row (day i) c.args.text.now
+            (walk (reprice_step c.args.period terms) (keys tables.records) tables)),
+      ));
+}

@@ -1,0 +1,81 @@
+-- A price that joins the charge rows of a period puts one row, and a price that leaves them puts or
+-- drops one, where each row stands under its own place.
+use Rattle.std.proofs.Common.{◌≡◌, ◌∙◌, ℕ, [], true, false, cond, Option, Some, None}
+use Rattle.std.proofs.Common.{refl, sym, ap}
+use Rattle.std.specs.Prelude.{◌==◌, unwrap_or}
+use Rattle.std.specs.FinMap.{get, insert, remove}
+use Rattle.tariff_rules.specs.declared.priced.Priced.{Priced}
+use Rattle.book_model.specs.declared.row.ChargeRow.{ChargeRow}
+use Rattle.book_model.specs.Words.{key_of, row_at}
+use Rattle.book_core.specs.declared.effect_table.DayChange.TheVariants.{Add, Take}
+use Rattle.kept_tables.specs.RowChanges.{less_price, take_at, with_price}
+use Rattle.kept_tables.specs.Steps.{change_day_row, drop_day_row, put_day_row}
+use Rattle.kept_tables.specs.Tables.{Tables}
+use Rattle.kept_tables.specs.TablesOf.{place_of}
+use Rattle.tree_tables.specs.Holds.{ArePlaced}
+
+module _ (period : ℕ) (priced : Priced) (tables : Tables) (placed : ArePlaced tables.days) where
+  -- what stands at the place of the price
+  abbrev there : Option ChargeRow
+  there = get tables.days (period, key_of priced)
+
+  -- the row of its place, or an empty one
+  abbrev here : Option ChargeRow → ChargeRow
+  here found = unwrap_or found (row_at [] (key_of priced))
+
+  -- it stands under its own place
+  here_placed : (found : Option ChargeRow) → there ≡ found
+      → place_of (here found) ≡ key_of priced
+  here_placed None is = refl
+  here_placed (Some row) is = placed (period, key_of priced) row is
+
+  -- a price that joins puts the row of its place
+  pub joins : change_day_row period (Some (Add priced)) tables
+      ≡ put_day_row period (with_price (here there) priced) tables
+  joins =
+      ap (λ place. record tables {
+        days = insert tables.days (period, place) (with_price (here there) priced);
+      })
+      (sym (here_placed there refl))
+
+  -- a price that leaves no row changes nothing
+  pub leaves_none : there ≡ None → change_day_row period (Some (Take priced)) tables ≡ tables
+  leaves_none none =
+      ap (λ found. record tables {
+        days = take_at (period, key_of priced) found priced tables.days;
+      })
+      none
+
+  -- the last price of a row drops it
+  pub leaves_last : (row : ChargeRow) → there ≡ Some row → (row.count == 1) ≡ true
+      → change_day_row period (Some (Take priced)) tables
+      ≡ drop_day_row period (key_of priced) tables
+  leaves_last row is last =
+      ap (λ found. record tables {
+        days = take_at (period, key_of priced) found priced tables.days;
+      })
+      is
+      ∙ ap (λ b. record tables {
+        days = cond b (remove tables.days (period, key_of priced))
+            (insert tables.days (period, key_of priced) (less_price row priced));
+      })
+      last
+
+  -- another one puts the row without it
+  pub leaves : (row : ChargeRow) → there ≡ Some row → (row.count == 1) ≡ false
+      → change_day_row period (Some (Take priced)) tables
+      ≡ put_day_row period (less_price row priced) tables
+  leaves row is more =
+      ap (λ found. record tables {
+        days = take_at (period, key_of priced) found priced tables.days;
+      })
+      is
+      ∙ ap (λ b. record tables {
+        days = cond b (remove tables.days (period, key_of priced))
+            (insert tables.days (period, key_of priced) (less_price row priced));
+      })
+      more
+      ∙ ap (λ place. record tables {
+        days = insert tables.days (period, place) (less_price row priced);
+      })
+      (sym (placed (period, key_of priced) row is))
