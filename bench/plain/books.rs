@@ -17,6 +17,16 @@ pub struct Rates {
     pub record: u64,
 }
 
+impl Rates {
+    /// What a record costs at so many percent, rounded once.
+    pub fn amount(&self, percent: u64, cpu: u64, blocks: u64) -> u64 {
+        let price = 10 * u128::from(cpu) * u128::from(self.cpu)
+            + u128::from(blocks) * u128::from(self.excp)
+            + 1000 * u128::from(self.record);
+        ((price * u128::from(percent) + 50_000) / 100_000) as u64
+    }
+}
+
 /// What records measure and cost together.
 #[derive(Default)]
 pub struct Sums {
@@ -45,16 +55,8 @@ pub struct Usage {
 
 impl Usage {
     pub fn read(record: &[u8], rates: &Rates) -> Usage {
-        let processor = offset(record, PROCESSOR);
-        let cpu = u64::from(number4(record, processor + 4)) + u64::from(number4(record, processor + 8));
-        let blocks = match count(record, IO_ACTIVITY) {
-            0 => 0,
-            _ => u64::from(number4(record, offset(record, IO_ACTIVITY) + 4)),
-        };
-        let price = 10 * u128::from(cpu) * u128::from(rates.cpu)
-            + u128::from(blocks) * u128::from(rates.excp)
-            + 1000 * u128::from(rates.record);
-        let amount = ((price * 100 + 50_000) / 100_000) as u64;
+        let (cpu, blocks) = measured(record);
+        let amount = rates.amount(100, cpu, blocks);
         let day = Day::of(record).expect("a usage record has a day");
         Usage { record: record.into(), identity: identity(record), day, sums: Sums { count: 1, cpu, blocks, amount } }
     }
@@ -62,6 +64,17 @@ impl Usage {
     pub fn data(&self) -> &[u8] {
         &self.record[DESCRIPTOR_LEN..]
     }
+}
+
+/// The CPU time and the blocks of a usage record.
+pub fn measured(record: &[u8]) -> (u64, u64) {
+    let processor = offset(record, PROCESSOR);
+    let cpu = u64::from(number4(record, processor + 4)) + u64::from(number4(record, processor + 8));
+    let blocks = match count(record, IO_ACTIVITY) {
+        0 => 0,
+        _ => u64::from(number4(record, offset(record, IO_ACTIVITY) + 4)),
+    };
+    (cpu, blocks)
 }
 
 pub fn identification(record: &[u8]) -> &[u8] {

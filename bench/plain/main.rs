@@ -6,7 +6,8 @@
 //! its data. Here a record is known by the data itself, and only those of a dispute list are named.
 //!
 //! Built with `--cfg books`, `plain import BOOK FILE CPU EXCP RECORD` keeps books in a file, by SQLite's own
-//! library, and `plain serve BOOK PORT REQUESTS CPU EXCP RECORD` answers for them over HTTP.
+//! library, `plain tariff BOOK FILE` puts a tariff in force there, and `plain serve BOOK PORT REQUESTS CPU EXCP RECORD`
+//! answers for them over HTTP.
 
 mod books;
 mod dumps;
@@ -15,10 +16,14 @@ mod filed;
 mod numbers;
 mod records;
 #[cfg(books)]
+mod repriced;
+#[cfg(books)]
 mod served;
 mod sha256;
 #[cfg(books)]
 mod sqlite;
+#[cfg(books)]
+mod tariffs;
 mod texts;
 
 use books::{Books, Rates, import};
@@ -71,6 +76,20 @@ fn import_into(book: &str, file: &str, rates: &Rates) -> io::Result<Stop> {
     Ok(stop)
 }
 
+/// Puts the tariff of a file in force, and prints what is answered.
+#[cfg(books)]
+fn put_in_force(book: &str, file: &str) -> io::Result<ExitCode> {
+    let text = std::fs::read_to_string(file)?;
+    let db = filed::open(book);
+    let answer = repriced::put_in_force(&db, &text);
+    db.close();
+    match answer {
+        Ok(word) => println!("{word}"),
+        Err(fault) => eprintln!("plain: ledger {fault}"),
+    }
+    Ok(if answer.is_ok() { ExitCode::SUCCESS } else { ExitCode::from(3) })
+}
+
 fn main() -> ExitCode {
     let words: Vec<String> = env::args().skip(1).collect();
     let words: Vec<&str> = words.iter().map(String::as_str).collect();
@@ -85,6 +104,8 @@ fn main() -> ExitCode {
         ["import", book, file, cpu, excp, record] => {
             import_into(book, file, &Rates { cpu: rate(cpu), excp: rate(excp), record: rate(record) })
         }
+        #[cfg(books)]
+        ["tariff", book, file] => return put_in_force(book, file).unwrap_or(ExitCode::FAILURE),
         #[cfg(books)]
         ["serve", book, port, requests, cpu, excp, record] => {
             let rates = Rates { cpu: rate(cpu), excp: rate(excp), record: rate(record) };

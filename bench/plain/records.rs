@@ -41,6 +41,19 @@ pub fn has_accounts(record: &[u8]) -> bool {
     count(record, ACCOUNTING) == 0 || at <= record.len()
 }
 
+/// Accounting field n, the first being 1, if a usage record has it.
+#[cfg(books)]
+pub fn account(record: &[u8], n: u16) -> Option<&[u8]> {
+    if n > count(record, ACCOUNTING) {
+        return None;
+    }
+    let mut at = offset(record, ACCOUNTING);
+    for _ in 1..n {
+        at += 1 + usize::from(record[at]);
+    }
+    Some(&record[at + 1..][..usize::from(record[at])])
+}
+
 #[derive(Clone, Copy, PartialEq, Eq, PartialOrd, Ord)]
 pub struct Day {
     pub year: u32,
@@ -49,6 +62,11 @@ pub struct Day {
 
 pub fn is_leap(year: u32) -> bool {
     year % 4 == 0 && (year % 100 != 0 || year % 400 == 0)
+}
+
+/// How long the months of a year are, without the last.
+fn months(year: u32) -> [u32; 11] {
+    [31, if is_leap(year) { 29 } else { 28 }, 31, 30, 31, 30, 31, 31, 30, 31, 30]
 }
 
 impl Day {
@@ -66,6 +84,15 @@ impl Day {
         (1 <= day_of_year && day_of_year <= last && is_signed).then_some(Day { year, day_of_year })
     }
 
+    /// Reads `YYYY-MM-DD`.
+    #[cfg(books)]
+    pub fn of_text(text: &str) -> Option<Day> {
+        let mut parts = text.split('-').map(|part| part.parse::<u32>().ok());
+        let (year, month, day) = (parts.next()??, parts.next()??, parts.next()??);
+        let before: u32 = months(year).get(..month.checked_sub(1)? as usize)?.iter().sum();
+        Some(Day { year, day_of_year: before + day })
+    }
+
     /// Days since 1970-01-01.
     #[cfg(books)]
     pub fn number(self) -> i64 {
@@ -75,9 +102,8 @@ impl Day {
     }
 
     pub fn text(self) -> String {
-        let february = if is_leap(self.year) { 29 } else { 28 };
         let (mut month, mut day) = (1, self.day_of_year);
-        for len in [31, february, 31, 30, 31, 30, 31, 31, 30, 31, 30] {
+        for len in months(self.year) {
             if day > len {
                 day -= len;
                 month += 1;

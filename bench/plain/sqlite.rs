@@ -89,20 +89,26 @@ impl Statement {
         unsafe { sqlite3_reset(self.0) };
     }
 
-    /// What is made of each row.
-    pub fn query<T>(&self, values: &[Value], read: impl Fn(&Statement) -> T) -> Vec<T> {
+    /// Sees each row as it comes, and keeps none.
+    pub fn each(&self, values: &[Value], mut see: impl FnMut(&Statement)) {
         self.bind(values);
-        let mut rows = Vec::new();
         loop {
             match unsafe { sqlite3_step(self.0) } {
-                ROW => rows.push(read(self)),
+                ROW => see(self),
                 status => {
                     assert_eq!(status, DONE, "step");
                     unsafe { sqlite3_reset(self.0) };
-                    return rows;
+                    return;
                 }
             }
         }
+    }
+
+    /// What is made of each row.
+    pub fn query<T>(&self, values: &[Value], read: impl Fn(&Statement) -> T) -> Vec<T> {
+        let mut rows = Vec::new();
+        self.each(values, |row| rows.push(read(row)));
+        rows
     }
 
     pub fn int(&self, at: c_int) -> i64 {
@@ -110,9 +116,16 @@ impl Statement {
     }
 
     pub fn bytes(&self, at: c_int) -> Vec<u8> {
+        self.lent(at).to_vec()
+    }
+
+    /// The bytes of a column, which are there until the next row.
+    pub fn lent(&self, at: c_int) -> &[u8] {
         unsafe {
-            let len = sqlite3_column_bytes(self.0, at) as usize;
-            std::slice::from_raw_parts(sqlite3_column_blob(self.0, at), len).to_vec()
+            match sqlite3_column_bytes(self.0, at) as usize {
+                0 => &[],
+                len => std::slice::from_raw_parts(sqlite3_column_blob(self.0, at), len),
+            }
         }
     }
 }

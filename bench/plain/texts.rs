@@ -36,6 +36,16 @@ pub fn shown_byte(byte: u8) -> String {
     }
 }
 
+/// A text in code page 037.
+#[cfg(books)]
+pub fn encoded(text: &str) -> Option<Vec<u8>> {
+    let place = |character: char| match character {
+        '\\' => Some(0xE0),
+        _ => PAGE.iter().find_map(|(first, run)| Some(first + run.find(character)? as u8)),
+    };
+    text.chars().map(place).collect()
+}
+
 /// A field without the blanks at its end.
 pub fn shown(field: &[u8]) -> String {
     let blanks = field.iter().rev().take_while(|byte| **byte == 0x40).count();
