@@ -28,9 +28,10 @@
 //! | `stops FILE written` | the same, where what was written was not lost |
 //! | `stops FILE torn` | the same, where of a write in hand the first half got there |
 //! | `stops FILE twice`, `stops FILE twice written` | the same, where the disk stopped again at each call on the way back into the books |
+//! | `refuses memory` | what was found when the store answered each of its calls in turn with want of memory |
 //!
-//! The body of `stops` is a run of commands. The row goes on with the books behind it. Each word of
-//! an import names one record there.
+//! The body of `stops` and of `refuses` is a run of commands. The row goes on with the books behind
+//! it. Each word of an import names one record there.
 //!
 //! In a session every word that begins with `@` is a file of this row alone:
 //!
@@ -52,6 +53,8 @@ mod left;
 mod lines;
 mod names;
 mod plain_books;
+mod refusals;
+mod refusing;
 mod restart;
 mod rows;
 mod run;

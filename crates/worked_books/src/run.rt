@@ -51,7 +51,7 @@ fn told_by_receipt<'a>(words: &[&'a str]) -> Option<(usize, Option<&'a str>)> {
 
 /// How many changes an answer tells of, and the number of the fault in it, if it is an answer to a
 /// command.
-fn told<'a>(words: &[&'a str]) -> Option<(usize, Option<&'a str>)> {
+pub(crate) fn told<'a>(words: &[&'a str]) -> Option<(usize, Option<&'a str>)> {
     match *words {
         ["DONE"] => Some((1, None)),
         ["ALREADY"] => Some((0, None)),
@@ -111,7 +111,7 @@ impl Run<'_> {
     }
 
     /// Asks books, and adds what they answer.
-    fn ask<L: Ledger>(
+    pub(crate) fn ask<L: Ledger>(
         self,
         ledger: &mut L,
         words: &[&str],

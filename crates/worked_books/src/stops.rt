@@ -2,9 +2,9 @@
 
 use crate::run::Run;
 use crate::stopping::{Found, Stop, Stopping};
-use crate::sweep::{Met, Other, meet_stops};
+use crate::sweep::{Met, meet_stops};
 use crate::trees::Trees;
-use crate::unstopped::{Unstopped, run_unstopped};
+use crate::unstopped::{Other, Unstopped, run_unstopped};
 use row_scripts::{Ask, Named, push_line};
 use sqlite_disk::{Files, Memory};
 use sqlite_store::FileStore;
@@ -104,16 +104,12 @@ fn stop_behind(
 /// should not.
 fn swept(run: Run<'_>, whole: &Unstopped, sweep: Sweep) -> Result<String, AllocError> {
     let alloc = run.named.alloc();
-    let changes = whole.changes();
     let mut stops: usize = 0;
     for turn in 0..ENOUGH {
         let calls = turn.saturating_mul(sweep.stride());
         match stop_behind(run, whole, sweep, calls, &mut stops) {
             Ok(true) => {}
-            Ok(false) if stops > changes => {
-                return format!(in alloc; "CHANGES {changes} STOPS MORE");
-            }
-            Ok(false) => return format!(in alloc; "CHANGES {changes} STOPS {stops}"),
+            Ok(false) => return whole.met(alloc, "STOPS", stops),
             Err(other) => return format!(in alloc; "BEHIND {calls} CALLS {}", other.0),
         }
     }

@@ -3,25 +3,11 @@
 
 use crate::restart::Restart;
 use crate::run::{Came, NOT_BEGUN, Run};
-use crate::shown::all_rows;
 use crate::trees::Trees;
-use crate::unstopped::{Stage, Unstopped};
+use crate::unstopped::{Books, Other, Unstopped, stage_of};
 use book_core::{Ledger, LedgerFault, ShaNames};
-use std::alloc::{AllocError, Global};
+use std::alloc::Global;
 use table_ledger::TableLedger;
-
-/// Books in files.
-type Books<S> = TableLedger<S, ShaNames>;
-
-/// What is not as it has to be.
-#[derive(Clone, Copy)]
-pub(crate) struct Other(pub(crate) &'static str);
-
-impl From<AllocError> for Other {
-    fn from(_: AllocError) -> Other {
-        Other("NO MEMORY")
-    }
-}
 
 /// What is left of books: their store, or the files of a disk that failed before it was made.
 #[derive(Drop)]
@@ -140,17 +126,6 @@ fn reopen<S: Restart>(alloc: Global, left: Left<S>) -> Result<(Books<S>, bool), 
     }
 }
 
-/// All rows and texts of books, and what is left of them.
-fn stage_of<S: Restart>(run: Run<'_>, books: Books<S>) -> Result<(Stage, Left<S>), Other> {
-    let mut books = books;
-    let texts = run.texts(&mut books)?;
-    let mut trees = Trees::over(books.close_store());
-    match all_rows(run.named.alloc(), &mut trees) {
-        Some(rows) => Ok((Stage { rows, texts }, Left::Store(trees.into_store()))),
-        None => Err(Other("OTHER ROWS")),
-    }
-}
-
 /// Gives the books that are left all commands once more, which brings them to the end.
 fn finish<S: Restart>(run: Run<'_>, whole: &Unstopped, left: Left<S>) -> Result<(), Other> {
     let alloc = run.named.alloc();
@@ -193,10 +168,10 @@ pub(crate) fn meet_stops<S: Restart>(
     if twice && !again {
         return Ok(met);
     }
-    let (found, left) = stage_of(run, books)?;
+    let (found, trees) = stage_of(run, books)?;
     if !whole.is_reached(came, &found) {
         return Err(Other("OTHER BOOKS"));
     }
-    finish(run, whole, left)?;
+    finish(run, whole, Left::Store(trees.into_store()))?;
     Ok(met)
 }

@@ -8,6 +8,7 @@ ghost use Rattle.tree_tables.specs.Holds.{HasShapes};
 use crate::changed::{change_of, change_rows};
 use crate::lines::Lines;
 use crate::names::Names;
+use crate::refusals::answer_refusals;
 use crate::rows::Books;
 use crate::shown::shown_table;
 use crate::stops::answer_stops;
@@ -65,10 +66,10 @@ impl Books for TreeBooks {
         if answer_by_rows(named.alloc(), &mut trees, ask, out)? {
             return Ok((TreeBooks { trees, names }, true));
         }
-        let (trees, is_read) = if ask.verb == "stops" {
-            answer_stops(named, trees, ask, out)?
-        } else {
-            trees.ask(lines, named, names, ask, out)?
+        let (trees, is_read) = match ask.verb {
+            "stops" => answer_stops(named, trees, ask, out)?,
+            "refuses" => answer_refusals(named, trees, ask, out)?,
+            _ => trees.ask(lines, named, names, ask, out)?,
         };
         Ok((TreeBooks { trees, names }, is_read))
     }

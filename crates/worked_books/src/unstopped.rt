@@ -7,7 +7,21 @@ use crate::trees::Trees;
 use book_core::ShaNames;
 use row_scripts::Ask;
 use sqlite_trees::store::Store;
-use std::alloc::AllocError;
+use std::alloc::{AllocError, Global};
+use table_ledger::TableLedger;
+
+/// Books in the trees of a store.
+pub(crate) type Books<S> = TableLedger<S, ShaNames>;
+
+/// What is not as it has to be.
+#[derive(Clone, Copy)]
+pub(crate) struct Other(pub(crate) &'static str);
+
+impl From<AllocError> for Other {
+    fn from(_: AllocError) -> Other {
+        Other("NO MEMORY")
+    }
+}
 
 /// Books as they stand between two changes: all their rows, and all their texts.
 #[derive(Drop, PartialEq)]
@@ -36,9 +50,44 @@ impl Unstopped {
         reached.any(|stage| stage == found)
     }
 
+    /// These are the books behind so many changes.
+    pub(crate) fn is_behind(&self, changes: usize, found: &Stage) -> bool {
+        self.stages.get(changes) == Some(found)
+    }
+
     /// These are the books at its end.
     pub(crate) fn is_end(&self, found: &Stage) -> bool {
         self.stages.last() == Some(found)
+    }
+
+    /// How many changes it makes, and how often something came in its way: more often than that, or
+    /// how often.
+    pub(crate) fn met(
+        &self,
+        alloc: Global,
+        what: &str,
+        times: usize,
+    ) -> Result<String, AllocError> {
+        let changes = self.changes();
+        if times > changes {
+            format!(in alloc; "CHANGES {changes} {what} MORE")
+        } else {
+            format!(in alloc; "CHANGES {changes} {what} {times}")
+        }
+    }
+}
+
+/// All rows and texts of books, and their trees.
+pub(crate) fn stage_of<S: Store + Drop>(
+    run: Run<'_>,
+    books: Books<S>,
+) -> Result<(Stage, Trees<S>), Other> {
+    let mut books = books;
+    let texts = run.texts(&mut books)?;
+    let mut trees = Trees::over(books.close_store());
+    match all_rows(run.named.alloc(), &mut trees) {
+        Some(rows) => Ok((Stage { rows, texts }, trees)),
+        None => Err(Other("OTHER ROWS")),
     }
 }
 

@@ -1,0 +1,151 @@
+//! Want of memory at each call of a store.
+
+use crate::refusing::Refusing;
+use crate::run::{Run, told};
+use crate::trees::Trees;
+use crate::unstopped::{Books, Other, Unstopped, run_unstopped, stage_of};
+use book_core::{Ledger, LedgerFault, ShaNames};
+use row_scripts::{Ask, Named, push_line};
+use sqlite_trees::memory::MemStore;
+use sqlite_trees::store::Store;
+use std::alloc::{AllocError, Global};
+use table_ledger::TableLedger;
+use tree_tables::trees_in_memory;
+
+/// More calls than any run makes of a store.
+const ENOUGH: u64 = 50_000;
+
+/// The number of want of memory.
+const MEMORY: &str = "1";
+
+/// New books in a store that has none, and whether memory was wanting for them at first.
+fn create_in<S: Store + Drop>(alloc: Global, trees: Trees<S>) -> Result<(Books<S>, bool), Other> {
+    match TableLedger::create(alloc, trees.into_store(), ShaNames) {
+        Ok(books) => Ok((books, false)),
+        Err((LedgerFault::Memory, store)) => match TableLedger::create(alloc, store, ShaNames) {
+            Ok(books) => Ok((books, true)),
+            Err(_) => Err(Other("NOT MADE AGAIN")),
+        },
+        Err(_) => Err(Other("OTHER ANSWERS")),
+    }
+}
+
+/// Gives books the commands up to one that is answered with want of memory, and answers how many
+/// changes were told of till then; nothing where none was answered so.
+fn work<L: Ledger>(run: Run<'_>, ledger: &mut L) -> Result<Option<usize>, Other> {
+    let alloc = run.named.alloc();
+    let mut changes: usize = 0;
+    for line in run.body.lines() {
+        let mut answer = Vec::new(alloc);
+        let asked: Vec<&str> = line.split_whitespace().collect(alloc)?;
+        run.ask(ledger, &asked, &mut answer)?;
+        let text = String::from_utf8_lossy(alloc, &answer)?;
+        let words: Vec<&str> = text.as_str().split_whitespace().collect(alloc)?;
+        let Some((count, fault)) = told(&words) else {
+            return Err(Other("OTHER ANSWERS"));
+        };
+        changes = changes.saturating_add(count);
+        match fault {
+            None => {}
+            Some(MEMORY) => return Ok(Some(changes)),
+            Some(_) => return Err(Other("OTHER ANSWERS")),
+        }
+    }
+    Ok(None)
+}
+
+/// Makes books in a store that refuses the call behind so many, and works on them up to that call.
+/// Answers the books, and how many changes were told of till then; nothing where no call was refused.
+fn begin(run: Run<'_>, calls: u64) -> Result<(Books<Refusing<MemStore>>, Option<usize>), Other> {
+    let alloc = run.named.alloc();
+    let Ok(store) = trees_in_memory(alloc) else {
+        return Err(Other("NO MEMORY"));
+    };
+    let (mut books, is_refused) = create_in(alloc, Trees::over(Refusing::new(store, calls)))?;
+    let changes = if is_refused {
+        Some(0)
+    } else {
+        work(run, &mut books)?
+    };
+    Ok((books, changes))
+}
+
+/// Books as a refused call left them are those behind the last change that was told of.
+fn look(
+    run: Run<'_>,
+    whole: &Unstopped,
+    books: Books<Refusing<MemStore>>,
+    changes: usize,
+) -> Result<(), Other> {
+    let (found, _) = stage_of(run, books)?;
+    if whole.is_behind(changes, &found) {
+        Ok(())
+    } else {
+        Err(Other("OTHER BOOKS"))
+    }
+}
+
+/// They serve on: all commands once more bring them to the end.
+fn finish(run: Run<'_>, whole: &Unstopped, books: Books<Refusing<MemStore>>) -> Result<(), Other> {
+    let mut books = books;
+    let came = run.give_all(&mut books)?;
+    let (end, _) = stage_of(run, books)?;
+    if came.is_as_told && !came.stopped && whole.is_end(&end) {
+        Ok(())
+    } else {
+        Err(Other("ANOTHER END"))
+    }
+}
+
+/// Makes a run on books whose store refuses the call behind so many, twice: what is found is looked at,
+/// and then how it ends. Answers whether the run came to that call.
+fn meet_refusal(run: Run<'_>, whole: &Unstopped, calls: u64) -> Result<bool, Other> {
+    let (books, changes) = begin(run, calls)?;
+    let Some(changes) = changes else {
+        let is_untold = books.close_store().has_refused();
+        return if is_untold {
+            Err(Other("NOT TOLD"))
+        } else {
+            Ok(false)
+        };
+    };
+    look(run, whole, books, changes)?;
+    let (books, _) = begin(run, calls)?;
+    finish(run, whole, books)?;
+    Ok(true)
+}
+
+/// Refuses the calls of a run one by one, up to one that the run does not come to. Answers what came
+/// of it: how many changes the run has and how many calls were refused, or the first refusal that
+/// leaves what it should not.
+fn swept(run: Run<'_>, whole: &Unstopped) -> Result<String, AllocError> {
+    let alloc = run.named.alloc();
+    for calls in 0..ENOUGH {
+        match meet_refusal(run, whole, calls) {
+            Ok(true) => {}
+            Ok(false) => return whole.met(alloc, "REFUSED", calls as usize),
+            Err(other) => return format!(in alloc; "BEHIND {calls} CALLS {}", other.0),
+        }
+    }
+    String::from_str(alloc, "EVERY RUN WAS REFUSED")
+}
+
+/// Answers `refuses memory`, with commands, and gives the trees back, whose books got them with no
+/// refusal, with whether the line was read.
+pub(crate) fn answer_refusals<S: Store + Drop>(
+    named: &Named,
+    trees: Trees<S>,
+    ask: Ask<'_>,
+    out: &mut Vec<u8>,
+) -> Result<(Trees<S>, bool), AllocError> {
+    if ask.words != ["memory"].as_slice() {
+        return Ok((trees, false));
+    }
+    let run = Run {
+        named,
+        body: ask.body,
+    };
+    let (whole, trees) = run_unstopped(run, trees)?;
+    push_line(out, swept(run, &whole)?.as_str())?;
+    Ok((trees, true))
+}
