@@ -3,12 +3,13 @@ changed, by the rules of office.py. The commands are made by arithmetic alone, s
 It fails where a kind of record or of answer did not come that a history may have."""
 import collections
 import datetime
+import hashlib
 import re
 import struct
 
 import office
 
-TURNS = 300
+TURNS = 330
 LAST_OF_2023 = datetime.date(2023, 12, 31)
 
 # The name of a job, the hour at which it runs, and its accounting fields.
@@ -51,17 +52,20 @@ RULES = ("free_jobs evenings by_job", "paid_jobs nights weekends by_field", "no_
 # What has to come, each of it more than once.
 NEEDED = ["import " + kind for kind in (
     "repeated", "unpriced", "in time", "late", "variant", "variant of a late record", "variant of a posted record",
-    "later variant of a posted record", "third variant", "other")]
+    "later variant of a posted record", "third variant", "variant behind a choice", "other")]
 NEEDED += ["tariff " + answer for answer in (
     "DONE", "ALREADY", "ledger 6", "ledger 7", "that changed prices", "that changed prices in dispute", "tariff 1",
     "tariff 2 step_record", "tariff 3 job_cpu", "tariff 4", "tariff 5")]
 NEEDED += ["close " + answer for answer in ("DONE", "ALREADY", "ledger 9", "ledger 10", "that moved rows")]
+NEEDED += ["choose " + answer for answer in (
+    "DONE", "ALREADY", "ledger 12", "ledger 13", "a posted record", "a late record", "a record in time",
+    "in place of a posted record", "in place of a late record", "in place of a record in time")]
 
 
 class Numbers:
     """Numbers in no order that can be seen: each follows from the one before."""
     def __init__(self):
-        self.state = 2020
+        self.state = 2041
 
     def below(self, limit):
         self.state = (self.state * 1664525 + 1013904223) % 2**32
@@ -132,7 +136,8 @@ class History:
     def variant_parts(self, today):
         """A step that was handed in before: measured otherwise, or dated today."""
         change = "10:" + packed(today) if self.numbers.below(4) == 0 else "160:%08X" % (1101 + self.numbers.below(3))
-        return "%s %s" % (self.earlier(self.steps), change)
+        steps = self.numbers.below(4) == 0 and self.contradicted()[-4:] or self.steps
+        return "%s %s" % (self.earlier(steps), change)
 
     def step(self, today):
         """The name of a step that was handed in before, or of a new one, or of a variant of one."""
@@ -176,16 +181,36 @@ class History:
             through = last - datetime.timedelta(self.numbers.below(2))
         return "close %d %s" % (period, through)
 
+    def choice_words(self):
+        """A choice among the last records that contradict each other; now and then of any, or of what no books hold."""
+        if self.numbers.below(8) == 0:
+            return "choose " + UNHELD[self.numbers.below(len(UNHELD))][0]
+        if self.numbers.below(4) == 0:
+            return "choose " + self.earlier(self.steps)
+        return "choose " + self.earlier(self.contradicted()[-4:] or self.steps)
+
     def words(self, turn):
         """The command of a turn. A day has two turns; the first command is a tariff."""
-        today, kind = 8 + turn // 2, self.numbers.below(14)
+        today, kind = 8 + turn // 2, self.numbers.below(16)
         if turn == 0:
             self.name_text("t0", 'effective = "2024-01-05"\n[rates]\nstep_cpu = 20000\n')
             self.fronts.append("tariff t0 " + RULES[0])
             return self.fronts[0]
         if kind < 2:
             return self.tariff_words(today)
-        return self.close_words(today) if kind < 4 else self.import_words(today)
+        if kind < 4:
+            return self.close_words(today)
+        return self.choice_words() if kind < 6 and self.steps else self.import_words(today)
+
+    def name_of(self, dump):
+        """The name of the one record of a dump."""
+        [data] = office.joined(self.dumps[dump])
+        return hashlib.sha256(data).hexdigest()
+
+    def contradicted(self):
+        """The steps that others contradict."""
+        names = ((step, self.name_of(step)) for step in self.steps)
+        return [step for step, name in names if name in self.books.held and self.books.rivals(name)]
 
     def kind_of(self, data):
         """What a record is to the books before they take it."""
@@ -196,6 +221,8 @@ class History:
             return "unpriced" if record is None else "repeated"
         others = [held for held in books.held.values() if held.identity == record.identity]
         is_late, posted = record.day <= books.before(books.open), books.charged(books.open - 1) if books.closes else ()
+        if record.identity in books.chosen():
+            return "variant behind a choice"
         if len(others) != 1:
             return "third variant" if others else "late" if is_late else "in time"
         if others[0].name in posted:
@@ -221,6 +248,22 @@ class History:
         self.came["tariff that changed prices in dispute"] += bool(changed - charged)
         return answer
 
+    def standing(self, name):
+        """What a held record is to the open period."""
+        books = self.books
+        if books.closes and name in books.charged(books.open - 1):
+            return "a posted record"
+        return "a late record" if books.held[name].day <= books.before(books.open) else "a record in time"
+
+    def choose(self, dump):
+        name, charged = self.name_of(dump), self.books.undisputed()
+        answer = self.books.choose(name)
+        if answer == ["DONE"]:
+            self.came["choose " + self.standing(name)] += 1
+            for other in self.books.rivals(name) & charged:
+                self.came["choose in place of " + self.standing(other)] += 1
+        return answer
+
     def answer(self, words):
         """The answer to a command."""
         verb, *rest = words.split()
@@ -229,6 +272,8 @@ class History:
             return [office.receipt(self.take_one(data) for data in office.joined(dump))]
         if verb == "close":
             answer = self.close(*rest)
+        elif verb == "choose":
+            answer = self.choose(*rest)
         else:
             answer = self.tariff("".join(self.texts[name] for name in rest))
         self.came["%s %s" % (verb, re.sub("chargectl: |(?<=ledger 9) .*", "", answer[0]))] += 1

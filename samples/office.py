@@ -1,7 +1,7 @@
 """The office's rules once more, apart from the program: what its commands print of a dump, of a tariff file, of a
-close, and as each report. `samples/make` writes by it what a month of commands has to print, and history.py the answers
-to a long history. Only what these need is here: no dump is torn, no books are full, and five faults of a tariff file
-are known."""
+close, of a choice among records in dispute, and as each report. `samples/make` writes by it what a month of commands
+has to print, and history.py the answers to a long history. Only what these need is here: no dump is torn, no books are
+full, and five faults of a tariff file are known."""
 import collections
 import datetime
 import hashlib
@@ -13,7 +13,7 @@ Record = collections.namedtuple(
     "Record", "name identity day minute job centre shift cpu blocks amount code job_id program")
 EPOCH = datetime.date(1970, 1, 1)
 RATES = ["%s_%s" % (kind, unit) for kind in ("step", "job") for unit in ("cpu", "excp", "record")]
-TARIFF_DATE, TARIFF_EXISTS, _, WRONG_PERIOD, NOT_LATER, NO_SUCH_PERIOD = range(6, 12)
+TARIFF_DATE, TARIFF_EXISTS, _, WRONG_PERIOD, NOT_LATER, NO_SUCH_PERIOD, NO_SUCH_RECORD, NOT_DISPUTED = range(6, 14)
 
 
 def refused(fault, *more):
@@ -136,6 +136,8 @@ def decimals(number, places):
 class Books:
     def __init__(self):
         self.tariffs, self.held, self.data, self.charged_at, self.closes = [], {}, {}, [], []
+        # The names of the records that were chosen, each with the period that was open then.
+        self.choices = []
 
     @property
     def open(self):
@@ -180,9 +182,28 @@ class Books:
     def take(self, dump):
         return [receipt(self.take_one(data) for data in joined(dump))]
 
+    def rivals(self, name):
+        """The other records of its identity."""
+        return {other for other, record in self.held.items() if record.identity == self.held[name].identity} - {name}
+
+    def chosen(self):
+        """The name that was chosen last of each identity of which some was."""
+        return {self.held[name].identity: name for name, _ in self.choices}
+
     def undisputed(self):
-        count = collections.Counter(record.identity for record in self.held.values())
-        return {name for name, record in self.held.items() if count[record.identity] == 1}
+        count, chosen = collections.Counter(record.identity for record in self.held.values()), self.chosen()
+        return {name for name, record in self.held.items()
+                if count[record.identity] == 1 or chosen.get(record.identity) == name}
+
+    def choose(self, name):
+        if name not in self.held:
+            return refused(NO_SUCH_RECORD)
+        if not self.rivals(name):
+            return refused(NOT_DISPUTED)
+        if self.chosen().get(self.held[name].identity) == name:
+            return ["ALREADY"]
+        self.choices.append((name, self.open))
+        return ["DONE"]
 
     def close(self, period, through):
         if 0 < period < self.open and self.closes[period - 1] == through:
@@ -254,7 +275,8 @@ class Books:
         groups = collections.defaultdict(list)
         for record in self.held.values():
             groups[record.identity].append(record)
-        disputed = sorted(group for group in groups.items() if len(group[1]) > 1)
+        chosen = self.chosen()
+        disputed = sorted(group for group in groups.items() if len(group[1]) > 1 and group[0] not in chosen)
         yield "DISPUTES %d" % len(disputed)
         for identity, members in disputed:
             read = identity[12:20].hex().upper()

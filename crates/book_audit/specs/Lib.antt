@@ -1,4 +1,6 @@
--- The trees and what is looked up in them; what the data of a record say; how a record is posted.
+-- The trees and what is looked up in them; what the data of a record say; which record was chosen
+-- last of an identity; how a record is charged and posted.
 pub mod Trees
 pub mod Data
+pub mod Choices
 pub mod Marks

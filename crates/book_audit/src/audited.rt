@@ -6,6 +6,7 @@ pub struct Counts {
     pub records: u64,
     pub tariffs: u64,
     pub closes: u64,
+    pub choices: u64,
     /// Charge rows.
     pub rows: u64,
     /// Adjustment lines.

@@ -24,6 +24,7 @@ pub enum Tree {
     Identities,
     /// It finds records by their marks.
     Marks,
+    Choices,
 }
 
 impl Tree {
@@ -41,6 +42,7 @@ impl Tree {
             Tree::Lines => 5,
             Tree::Identities => 6,
             Tree::Marks => 7,
+            Tree::Choices => 8,
         }
     }
 
@@ -55,13 +57,14 @@ impl Tree {
             Tree::Lines => "line",
             Tree::Identities => "record_ident",
             Tree::Marks => "record_charged",
+            Tree::Choices => "choice",
         }
     }
 
     /// How many of the first columns of a row are its key.
     pub(crate) fn key_columns(self) -> usize {
         match self {
-            Tree::Book | Tree::Tariffs | Tree::Closes | Tree::Records => 1,
+            Tree::Book | Tree::Tariffs | Tree::Closes | Tree::Records | Tree::Choices => 1,
             Tree::Lines | Tree::Identities => 2,
             Tree::Marks => 3,
             Tree::Days => 4,
@@ -80,6 +83,8 @@ pub enum Place {
     Tariff(i32),
     /// The close of a period.
     Close(u16),
+    /// The choice of a number.
+    Choice(u32),
     /// The record of a name.
     Record([u8; 32]),
     /// A charge row.
@@ -111,6 +116,16 @@ pub enum Wrong {
     CloseOrder,
     /// There are more closes than periods can be closed.
     Closes,
+    /// A number is left out: the choices have the numbers from 1 on.
+    ChoiceNumber,
+    /// A choice's period is 0, below that of the choice before, or above the open one.
+    ChoicePeriod,
+    /// A choice's record is not held.
+    NotHeld,
+    /// A choice's record is alone in its identity.
+    ChosenAlone,
+    /// There are more choices than can be made.
+    Choices,
     /// The name is not the digest of the data.
     Name,
     /// The data are those of no usage record.
@@ -125,7 +140,8 @@ pub enum Wrong {
     NoIdentity,
     /// The record is not found by its mark.
     NoMark,
-    /// The record is charged and not alone in its identity, or the other way round.
+    /// The record is charged and neither alone in its identity nor chosen last of it, or the other
+    /// way round.
     Charged,
     /// The record is not posted as the last close charged it.
     Posted,

@@ -4,6 +4,7 @@
 
 mod audited;
 mod bytes;
+mod choices;
 mod day_sums;
 mod entries;
 mod finding;

@@ -3,12 +3,20 @@
 ghost use Rattle.std.specs.Prelude.{◌≡◌};
 ghost use Rattle.book_audit.specs.Marks as spec;
 
+use crate::choices::Chosen;
 use crate::finding::{Place, Tree, Wrong};
 use crate::rulings::Rulings;
 use crate::stop::{Stop, met, unsound};
 use crate::trees::Trees;
 use sqlite_trees::store::Store;
 use tree_tables::StoredRecord;
+
+/// Whether a record is to be charged: where it is alone in its identity, or was chosen last of it.
+fn is_charged(is_shared: bool, is_chosen: bool) -> bool
+    ensures { result ≡ spec.is_charged is_shared is_chosen }
+{
+    !is_shared || is_chosen
+}
 
 /// Whether a record is posted as the last close charged it: as it is charged now, but for what a
 /// line of the open period changed since. A record that is dated later was not posted.
@@ -29,6 +37,7 @@ fn is_posted_so(stored: &StoredRecord, is_closed: bool, line: Option<bool>) -> b
 /// What is wrong with the way in which the trees find a record.
 fn wrong_by_trees<S: Store>(
     trees: &mut Trees<S>,
+    chosen: &Chosen,
     record: &StoredRecord,
 ) -> Result<Option<Wrong>, Stop> {
     if !trees
@@ -46,7 +55,8 @@ fn wrong_by_trees<S: Store>(
     let is_shared = trees
         .is_shared(&record.identity)
         .map_err(|error| met(Tree::Identities, error))?;
-    if record.charged == is_shared {
+    let is_chosen = chosen.is_last(&record.identity, &record.name);
+    if record.charged != is_charged(is_shared, is_chosen) {
         return Ok(Some(Wrong::Charged));
     }
     Ok(None)
@@ -65,14 +75,14 @@ fn is_posted_right<S: Store>(
     Ok(is_posted_so(record, is_closed, line))
 }
 
-/// A record is found by its identity and its mark, is charged where it is alone in its identity, and
-/// is posted as the last close charged it.
+/// A record is found by its identity and its mark, is charged where it is alone in its identity or
+/// was chosen last of it, and is posted as the last close charged it.
 pub(crate) fn check_marks<S: Store>(
     trees: &mut Trees<S>,
     rulings: &Rulings,
     record: &StoredRecord,
 ) -> Result<(), Stop> {
-    if let Some(wrong) = wrong_by_trees(trees, record)? {
+    if let Some(wrong) = wrong_by_trees(trees, &rulings.chosen, record)? {
         return Err(unsound(Place::Record(record.name), wrong));
     }
     if is_posted_right(trees, rulings, record)? {

@@ -1,11 +1,13 @@
-//! The row of the book, the tariffs and the closes.
+//! The row of the book, the tariffs, the closes and the choices.
 
 ghost use Rattle.std.specs.Prelude.{◌<◌, length};
 
+use crate::choices::{Chosen, read_choices};
 use crate::finding::{Place, Tree, Wrong};
 use crate::stop::{Stop, met, unsound};
 use crate::trees::Trees;
 use crate::walk::{MOST_ROWS, Walk, endless};
+use crate::watch::Watch;
 use book_model::LedgerFault;
 use smf_text::{FIRST_DAY, LAST_DAY};
 use sqlite_trees::error::StoreError;
@@ -25,6 +27,7 @@ pub(crate) struct Rulings {
     pub(crate) tariffs: Vec<Tariff>,
     /// The days through which periods were closed, in order.
     pub(crate) closes: Vec<i32>,
+    pub(crate) chosen: Chosen,
     pub(crate) held: u64,
     pub(crate) amount: u64,
     ghost few: { length closes.items < 9999 },
@@ -130,18 +133,25 @@ fn read_closes<S: Store>(alloc: Global, trees: &mut Trees<S>) -> Result<Vec<i32>
 }
 
 /// Reads the rulings of the office.
-pub(crate) fn read_rulings<S: Store>(alloc: Global, trees: &mut Trees<S>) -> Result<Rulings, Stop> {
+pub(crate) fn read_rulings<S: Store, W: Watch>(
+    alloc: Global,
+    trees: &mut Trees<S>,
+    watch: &mut W,
+) -> Result<Rulings, Stop> {
     let sums = read_book(alloc, trees)?;
     let tariffs = read_tariffs(alloc, trees)?;
     let closes = read_closes(alloc, trees)?;
     if closes.len() > MAX_CLOSES {
         return Err(unsound(Place::Tree(Tree::Closes), Wrong::Closes));
     }
+    let open = closes.len() as u16 + 1;
+    let chosen = read_choices(alloc, trees, open, watch)?;
     let held = sums.held;
     let amount = sums.amount;
     Ok(Rulings {
         tariffs,
         closes,
+        chosen,
         held,
         amount,
     })

@@ -19,6 +19,12 @@ fn wrong_text(wrong: Wrong) -> &'static str {
         Wrong::TariffText => "its text is no tariff of that day",
         Wrong::CloseOrder => "it does not follow the close before",
         Wrong::Closes => "it has more closes than there are periods",
+        Wrong::ChoiceNumber => "its number is not the next one",
+        Wrong::ChoicePeriod =>
+            "its period is not one from that of the choice before to the open one",
+        Wrong::NotHeld => "the record that it names is not held",
+        Wrong::ChosenAlone => "the record that it names is alone in its identity",
+        Wrong::Choices => "it has more than 1,000,000 choices",
         Wrong::Name => "its name is not the SHA-256 of its data",
         Wrong::NoUsage => "its data are those of no usage record",
         Wrong::Identity => "its identity is not that of its bytes",
@@ -26,7 +32,8 @@ fn wrong_text(wrong: Wrong) -> &'static str {
         Wrong::Price => "its price is not that of the tariff in force",
         Wrong::NoIdentity => "record_ident does not find it",
         Wrong::NoMark => "record_charged does not find it",
-        Wrong::Charged => "charged does not say whether it is alone in its identity",
+        Wrong::Charged =>
+            "charged does not say whether it is alone in its identity or chosen last of it",
         Wrong::Posted => "posted does not say whether the last close charged it",
         Wrong::Entries => "it has not as many entries as there are records",
         Wrong::NoRecord => "no record of that name is held",
@@ -72,6 +79,7 @@ fn push_place(alloc: Global, out: &mut String, place: &Place) -> Result<(), Allo
             push_day(alloc, out, *day)
         }
         Place::Close(period) => write!(out, "closed {period}"),
+        Place::Choice(number) => write!(out, "choice {number}"),
         Place::Record(name) => {
             out.push_str("record ")?;
             push_name(alloc, out, name)
@@ -104,6 +112,7 @@ fn push_counts(out: &mut String, counts: &Counts) -> Result<(), AllocError> {
     push_count(out, "RECORDS", counts.records)?;
     push_count(out, "TARIFFS", counts.tariffs)?;
     push_count(out, "CLOSES", counts.closes)?;
+    push_count(out, "CHOICES", counts.choices)?;
     push_count(out, "ROWS", counts.rows)?;
     push_count(out, "LINES", counts.lines)
 }

@@ -10,7 +10,7 @@ use sqlite_trees::store::Store;
 use sqlite_value::row::Row;
 use std::alloc::Global;
 use tree_rows::{find_row, first_after, first_from, has_key};
-use tree_tables::{StoredRecord, mark_at, read_record};
+use tree_tables::{StoredRecord, bytes_at, mark_at, read_record};
 
 /// The tree that finds records by their identities.
 const IDENTITIES: u32 = 6;
@@ -27,8 +27,9 @@ pub(crate) struct Trees<S: Store> {
 }
 
 impl<S: Store> Trees<S> {
-    ghost use Rattle.std.specs.Prelude.{◌≡◌, ◌∷◌, [], IfOk, OnOk, pos};
+    ghost use Rattle.std.specs.Prelude.{◌≡◌, ◌∷◌, [], IfOk, IfSome, OnOk, is_some, pos};
     ghost use Rattle.sqlite_trees.specs.View.{IsClean};
+    ghost use Rattle.sqlite_value.specs.Order.{column};
     ghost use Rattle.sqlite_value.specs.declared.value.Value.TheVariants.{Blob, Int};
     ghost use Rattle.tree_rows.specs.Rows.{Finds, IsFirst, IsUnchanged};
     ghost use Rattle.tree_tables.specs.Columns.{flag};
@@ -140,6 +141,27 @@ impl<S: Store> Trees<S> {
             return Ok(None);
         }
         Ok(Some(mark_at(&self.found, 2)?))
+    }
+
+    /// The identity of the record of a name, if there is one.
+    pub(crate) fn identity_of(
+        &mut self,
+        alloc: Global,
+        name: &[u8; 32],
+    ) -> Result<Option<Vec<u8>>, StoreError>
+        ensures found { IfOk result (λ identity. IsClean (S.Store.view self.new.store)
+            → Finds (Blob name.now ∷ []) ((S.Store.view self.old.store).trees 3)
+            self.new.found (is_some identity)) }
+        ensures read { IfOk result (λ identity. IfSome identity (λ bytes.
+            column self.new.found 1 ≡ Blob bytes.items)) }
+        ensures same { OnOk result (IsClean (S.Store.view self.new.store)
+            → IsUnchanged (S.Store.view self.old.store) (S.Store.view self.new.store)) }
+    {
+        bytes_key(&mut self.key, name)?;
+        if !self.finds(Tree::Records)? {
+            return Ok(None);
+        }
+        Ok(Some(bytes_at(&self.found, 1, alloc)?))
     }
 
     /// The record of a name, if there is one.

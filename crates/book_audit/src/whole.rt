@@ -22,7 +22,7 @@ fn read_trees<S: Store, W: Watch>(
     trees: &mut Trees<S>,
     watch: &mut W,
 ) -> Result<Counts, Stop> {
-    let rulings = read_rulings(alloc, trees)?;
+    let rulings = read_rulings(alloc, trees, watch)?;
     let mut places = Places::new(alloc);
     let records = check_records(alloc, trees, &rulings, &mut places, watch)?;
     let lines = check_lines(alloc, trees, &rulings, &mut places, watch)?;
@@ -31,6 +31,7 @@ fn read_trees<S: Store, W: Watch>(
         records,
         tariffs: rulings.tariffs.len() as u64,
         closes: rulings.closes.len() as u64,
+        choices: u64::from(rulings.chosen.count),
         rows,
         lines,
     })

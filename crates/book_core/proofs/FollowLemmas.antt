@@ -2,12 +2,13 @@
 use Rattle.std.proofs.Common.{◌≡◌, ◌∙◌, ℕ, Bool, true, false, List, [], ◌++◌, refl, sym, ap, subst}
 use Rattle.std.proofs.Common.{Result, Ok, Err, ◌⊎◌, inl, inr, append_assoc, not}
 use Rattle.std.proofs.lemmas.Bool.{eqb-true}
-use Rattle.std.specs.Prelude.{ℤ, ◌==◌, if◌then◌else◌}
+use Rattle.std.specs.Prelude.{ℤ, ◌==◌, if◌then◌else◌, Option, Some, None}
 use Rattle.book_model.specs.Words.{Terms, terms_in, Naming, Book, new_book, open_number, Event}
 use Rattle.book_model.specs.Words.{after_all, accept_answer, tariff_answer, terms_answer}
 use Rattle.book_model.specs.Words.{close_answer, is_closed, is_early, last_period, Outcome}
 use Rattle.book_model.specs.Words.{accept_event, tariff_event, close_event, tariff_outcome}
 use Rattle.book_model.specs.Words.{close_outcome, book_after, book_of, IsAnswered}
+use Rattle.book_model.specs.Words.{choose_answer, choose_event, choose_outcome, record_named}
 use Rattle.tariff_rules.specs.declared.fault.TariffFault.{TariffFault}
 use Rattle.book_model.specs.declared.fault.LedgerFault.{LedgerFault}
 use Rattle.book_model.specs.declared.fault.LedgerFault.TheVariants.{Memory, Store, Reopen}
@@ -21,6 +22,7 @@ use Rattle.book_core.specs.Ledgers.{Seen}
 use Rattle.book_core.specs.Work.{Work, Then, IsWork}
 use Rattle.book_core.specs.Calls.{Makes, Calls, listed}
 use Rattle.book_core.specs.Follow.{FollowsHistory}
+use Rattle.book_core.proofs.NamedLemmas.{its_name}
 use Rattle.book_core.proofs.WorkLemmas.{after_all-append}
 
 -- such work makes answered events of the book of any history that calls made
@@ -171,3 +173,29 @@ close_answered naming view number day result =
     calls_answered naming view (close_outcome number day) result (λ history.
     close_event-answered naming number day history
     (close_answer (book_after history) number day) refl)
+
+-- the event of the answer to a choice
+choose_event-answered : (naming : Naming) (name : List ℕ) (history : List Event)
+    (meant : Option (List ℕ)) (answer : Result Ruled LedgerFault)
+    → record_named naming (book_after history).held name ≡ meant
+    → choose_answer naming (book_after history) name ≡ answer → IsAnswered naming history
+    → IsAnswered naming (listed (choose_event meant answer) ++ history)
+choose_event-answered naming name history None answer found is answered = answered
+choose_event-answered naming name history (Some bytes) (Ok Done) found is answered =
+    let book : Book = book_after history in
+    let named = sym (its_name naming book.held name bytes found) in
+    let done = subst (λ name. choose_answer naming book name ≡ Ok Done) named is in
+    let held = subst (λ name. record_named naming book.held name ≡ Some bytes) named found in
+    (done, answered, held)
+choose_event-answered naming name history (Some bytes) (Ok Already) found is answered = answered
+choose_event-answered naming name history (Some bytes) (Err fault) found is answered = answered
+
+-- a choice
+pub choose_answered : {V : Type 0} (naming : Naming) (view : V → Ruled) (name : List ℕ)
+    (result : Result V LedgerFault)
+    → MakesAnswered naming (Calls view (choose_outcome naming name) result)
+choose_answered naming view name result =
+    calls_answered naming view (choose_outcome naming name) result (λ history.
+    choose_event-answered naming name history
+    (record_named naming (book_after history).held name)
+    (choose_answer naming (book_after history) name) refl refl)

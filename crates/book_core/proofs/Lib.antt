@@ -1,11 +1,13 @@
 -- Work on a ledger, and on the books of a history; entries of a map, and what those of a plain
 -- ledger hold, charge and dispute.
 pub mod WorkLemmas
+pub mod NamedLemmas
 pub mod FollowLemmas
 pub mod EntryLemmas
 pub mod HeldLemmas
 pub mod RecallLemmas
 pub mod AcceptLemmas
+pub mod ChoiceLemmas
 pub mod ChargedLemmas
 pub mod DisputeLemmas
 pub mod GroupLemmas
@@ -18,5 +20,6 @@ pub mod TariffLemmas
 pub mod NameLemmas
 pub mod ShareLemmas
 pub mod BookLemmas
+pub mod ChosenLemmas
 pub mod MemoryLemmas
 pub mod LineLemmas

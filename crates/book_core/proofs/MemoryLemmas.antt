@@ -1,14 +1,15 @@
 -- Calls of a ledger that keeps its books in memory: no store fails, and nothing is left to open.
 use Rattle.std.proofs.Common.{◌≡◌, ◌∙◌, ℕ, List, refl, sym, ap, subst, Bool, true, false}
 use Rattle.std.proofs.Common.{true≢false, Option, None, Some, Result, Ok, Err}
-use Rattle.std.specs.Prelude.{ℤ, ◌==◌, if◌then◌else◌, ok_or}
+use Rattle.std.specs.Prelude.{ℤ, ◌==◌, if◌then◌else◌, ok_or, length, nat_le}
 use Rattle.std.specs.List.{list_any}
 use Rattle.book_model.specs.Words.{Terms, is_full, clashes, accept_priced, accept_answer, Answers}
 use Rattle.book_model.specs.Words.{event_of, Book, open_number, Event, after_any, after_all}
 use Rattle.book_model.specs.Words.{last_period, Outcome, Naming, price_in, has_text, is_effective}
 use Rattle.book_model.specs.Words.{is_later, is_too_dear, with_tariff, tariff_answer, is_closed}
 use Rattle.book_model.specs.Words.{is_early}
-use Rattle.book_model.specs.Words.{close_answer, has}
+use Rattle.book_model.specs.Words.{close_answer, has, chosen_answer, is_unrivalled, is_chosen}
+use Rattle.book_model.specs.Words.{most_choices}
 use Rattle.tariff_rules.specs.declared.priced.Priced.{Priced}
 use Rattle.tariff_rules.specs.declared.fault.TariffFault.{TariffFault}
 use Rattle.book_model.specs.declared.answer.Accepted.{Accepted}
@@ -17,6 +18,7 @@ use Rattle.book_model.specs.declared.fault.LedgerFault.{LedgerFault}
 use Rattle.book_model.specs.declared.fault.LedgerFault.TheVariants.{Memory, Store, Reopen, Full}
 use Rattle.book_model.specs.declared.fault.LedgerFault.TheVariants.{DigestClash, NoSuchPeriod}
 use Rattle.book_model.proofs.CallLemmas.{by_tests, close_by}
+use Rattle.book_core.proofs.ChosenLemmas.{chosen_by}
 use Rattle.book_model.specs.declared.naming.Naming.{Ghosts}
 use Rattle.book_core.specs.declared.plain.PlainLedger.{PlainLedger}
 use Rattle.book_core.specs.PlainBook.{IsPlainCall, book_in, naming_in, seen_in}
@@ -233,3 +235,17 @@ pub close-of_books : (book : Book) (number : ℕ) (day : ℤ) → IsOfBooks (clo
 close-of_books book number day =
     by_day (open_number book) (is_closed number day book.rulings) (number == open_number book)
     (is_early day book.rulings) (number == last_period)
+
+-- choose
+
+by_choice : (alone chosen full : Bool) → IsOfBooks (chosen_by alone chosen full)
+by_choice true chosen full = record { store = refl; reopen = refl }
+by_choice false true full = record { store = refl; reopen = refl }
+by_choice false false true = record { store = refl; reopen = refl }
+by_choice false false false = record { store = refl; reopen = refl }
+
+pub choose-of_books : (book : Book) (meant : Option (List ℕ)) → IsOfBooks (chosen_answer book meant)
+choose-of_books book None = record { store = refl; reopen = refl }
+choose-of_books book (Some bytes) =
+    by_choice (is_unrivalled book.rulings book.held bytes) (is_chosen book.rulings bytes)
+    (nat_le most_choices (length book.rulings.choices))

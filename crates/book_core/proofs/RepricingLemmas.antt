@@ -12,6 +12,7 @@ use Rattle.std.proofs.lemmas.Map.Made.{is_some-lookup}
 use Rattle.std.proofs.lemmas.Simd.{map-map}
 use Rattle.book_model.specs.Words.{Terms, Tariffed, most_cost, by_bytes, set_of}
 use Rattle.book_model.proofs.ListLemmas.{filter-map}
+use Rattle.book_core.specs.declared.chosen.ChosenRecord.{ChosenRecord}
 use Rattle.book_core.specs.declared.closed.ClosedPeriod.{ClosedPeriod}
 use Rattle.book_core.specs.declared.held.HeldRecord.{HeldRecord}
 use Rattle.book_core.specs.Plain.{Entry, entry_records, held_in, record_of, ruled_by}
@@ -106,9 +107,11 @@ module _ {terms : Terms} {entries anew : List Entry} (is : AreRepriced terms ent
 
   -- so the book changes nowhere but in what its records cost
   pub book_stays : (tariffs : List Tariffed) (posted : Names) (closed : List ClosedPeriod)
-      → book_with tariffs anew posted closed ≡ book_with tariffs entries posted closed
-  book_stays tariffs posted closed = λ i. record {
-    rulings = ruled_by tariffs closed;
+      (choices : List ChosenRecord)
+      → book_with tariffs anew posted closed choices
+      ≡ book_with tariffs entries posted closed choices
+  book_stays tariffs posted closed choices = λ i. record {
+    rulings = ruled_by tariffs closed choices;
     held = held_stay i;
     posted = posted_stay posted i;
     past = past_stay closed i;

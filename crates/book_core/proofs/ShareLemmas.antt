@@ -1,6 +1,6 @@
 -- Periods by the shares that they have in entries: which sets of records these are.
 use Rattle.std.proofs.Common.{◌≡◌, ◌∙◌, ℕ, List, map, refl, sym, ap, subst, Bool}
-use Rattle.std.proofs.Common.{true, false, not, ◌&&◌, Option, Some, None, get_or}
+use Rattle.std.proofs.Common.{true, false, not, ◌&&◌, ◌||◌, Option, Some, None, get_or}
 use Rattle.std.specs.Prelude.{All, filter, sum_by, ℤ, int_lt}
 use Rattle.std.specs.BTreeSet.{contains}
 use Rattle.std.specs.List.{filter_map, IsDistinct}
@@ -12,21 +12,24 @@ use Rattle.std.proofs.lemmas.Cmp.{nat_list_cmp_total, nat_list_eq_equiv}
 use Rattle.std.proofs.lemmas.List.Elements.{All-filter}
 use Rattle.std.proofs.lemmas.Map.Lookups.{exact_bytes}
 use Rattle.tariff_rules.specs.declared.priced.Priced.{Priced}
-use Rattle.book_model.specs.Words.{is_undisputed, is_dated_by, is_dated_after, charged_by}
+use Rattle.book_model.specs.Words.{is_chosen, is_undisputed, is_dated_by, is_dated_after}
+use Rattle.book_model.specs.Words.{charged_by, last_close}
 use Rattle.book_model.specs.Words.{period_by, Records, Naming, by_bytes, same_bytes, rows_for}
 use Rattle.book_model.specs.Words.{rows_of, Rulings, price_in, set_of, members, has, those, without}
 use Rattle.book_model.proofs.ListLemmas.{filter-agree, filter-map, filter-filter, list_any-map}
 use Rattle.book_model.proofs.ListLemmas.{filter_map-map, filter_map-defined}
 use Rattle.book_model.proofs.RowLemmas.{rows_of-alike}
 use Rattle.book_model.proofs.SumsAlike.{SumsAlike, filter_map-alike}
+use Rattle.book_model.proofs.UnchosenLemmas.{identity_by-first}
 use Rattle.book_model.proofs.SetLemmas.{those-set_of, those-alike, has-texts, same_bytes-by_cmp}
 use Rattle.book_core.specs.declared.ending.Ending.{Ending}
 use Rattle.book_core.specs.declared.share.Share.{Share}
 use Rattle.book_core.specs.Plain.{Entry, entry_records, held_in, AreBooked, is_alone}
 use Rattle.book_core.specs.Shares.{share_of, is_counted, is_added, is_taken, charges, share_at}
-use Rattle.book_core.specs.Shares.{records_where, period_with, IsEnding}
+use Rattle.book_core.specs.Choices.{last_of}
+use Rattle.book_core.specs.Shares.{records_where, period_with, IsEnding, is_choice}
 use Rattle.book_core.proofs.HeldLemmas.{bytes_of, records_differ, held-alike, each_priced}
-use Rattle.book_core.proofs.ChargedLemmas.{each_undisputed}
+use Rattle.book_core.proofs.ChargedLemmas.{each_unrivalled}
 use Rattle.book_core.proofs.TariffLemmas.{each_dated}
 use Rattle.book_core.proofs.EntryLemmas.{any-filter, any_at_itself}
 use Rattle.book_core.proofs.DisputeLemmas.{shared-not_alone}
@@ -92,32 +95,44 @@ module _ {naming : Naming} {rulings : Rulings} {entries : List Entry} {total : �
       ∙ any-filter p (λ (other : Entry). same (bytes_of entry) (bytes_of other)) entries
       ∙ any_at_itself nat_list_eq_equiv bytes_of p entries apart k d within
 
-  -- an entry's identity is shared by no other where its record is undisputed
-  alone-held : (last through : Option ℤ) (ending : Ending) → IsEnding entries last through ending
-      → All (λ (entry : Entry). not (contains by_bytes ending.shared entry.1.identity)
+  -- an entry's record is the choice of its identity where it is chosen
+  choice-held : (through : Option ℤ) (ending : Ending) → IsEnding entries rulings through ending
+      → (entry : Entry) → is_choice ending entry.1 ≡ is_chosen rulings (bytes_of entry)
+  choice-held through ending ends entry =
+      let own = bytes_of entry in
+      ap (λ chosen. option_map_or (same_bytes own) chosen false)
+      (ends.chosen entry.1.identity
+      ∙ ap (last_of rulings)
+      (entry.1.identity_is ∙ sym (identity_by-first rulings kept.first_rule own)))
+
+  -- its identity is shared by no other, or it is the choice, where it is undisputed
+  undisputed-held : (through : Option ℤ) (ending : Ending) → IsEnding entries rulings through ending
+      → All (λ (entry : Entry).
+      (not (contains by_bytes ending.shared entry.1.identity) || is_choice ending entry.1)
       ≡ is_undisputed rulings (held_in entries) (bytes_of entry)) entries
-  alone-held last through ending ends k d within =
+  undisputed-held through ending ends k d within =
       let entry = get_or entries k d in
-      ap not (ends.shared entry.1.identity ∙ shared-not_alone entries k d within)
+      let alone = ap not (ends.shared entry.1.identity ∙ shared-not_alone entries k d within)
       ∙ not-not (is_alone entries entry)
-      ∙ sym (each_undisputed kept rising k d within)
+      ∙ sym (each_unrivalled kept rising k d within) in
+      λ i. alone i || choice-held through ending ends entry i
 
   -- the entries that are charged at the end of a period are the records that the definitions charge
-  pub charged-ends : (last through : Option ℤ) (ending : Ending)
-      → IsEnding entries last through ending
+  pub charged-ends : (through : Option ℤ) (ending : Ending)
+      → IsEnding entries rulings through ending
       → records_where (λ e. charges ending e.1) entries
       ≡ charged_by rulings through (held_in entries)
-  charged-ends last None ending ends =
+  charged-ends None ending ends =
       where-agree _ _ entries (λ k d within.
       let entry = get_or entries k d in
-      (λ i. alone-held last None ending ends k d within i
+      (λ i. undisputed-held None ending ends k d within i
       && option_map_or (λ day. not (int_lt day entry.1.priced.day)) (ends.through i) true)
       ∙ and-true (is_undisputed rulings (held_in entries) (bytes_of entry)))
       ∙ sym (those-held (is_undisputed rulings (held_in entries)) entries)
-  charged-ends last (Some day) ending ends =
+  charged-ends (Some day) ending ends =
       where-agree _ _ entries (λ k d within.
       let entry = get_or entries k d in
-      (λ i. alone-held last (Some day) ending ends k d within i
+      (λ i. undisputed-held (Some day) ending ends k d within i
       && option_map_or (λ day. not (int_lt day entry.1.priced.day)) (ends.through i) true)
       ∙ (λ i. is_undisputed rulings (held_in entries) (bytes_of entry)
       && not (int_lt day (each_dated kept k d within i))))
@@ -126,8 +141,11 @@ module _ {naming : Naming} {rulings : Rulings} {entries : List Entry} {total : �
 
   -- a period that ends has the records so that the definition says, where the entries that were
   -- charged at the close before are those that pass a test
-  module _ (posted : Entry → Bool) (last through : Option ℤ) (ending : Ending)
-      (ends : IsEnding entries last through ending) where
+  module _ (posted : Entry → Bool) (through : Option ℤ) (ending : Ending)
+      (ends : IsEnding entries rulings through ending) where
+    abbrev last : Option ℤ
+    last = last_close rulings
+
     abbrev charged : Entry → Bool
     charged e = charges ending e.1
 
@@ -201,7 +219,7 @@ module _ {naming : Naming} {rulings : Rulings} {entries : List Entry} {total : �
           added = added-ends i;
           taken = taken-ends i;
         })
-        ∙ ap (period_by last before) (charged-ends last through ending ends)
+        ∙ ap (period_by last before) (charged-ends through ending ends)
 
   -- what the records of some entries cost is what the entries say
   prices-listed : (p : Entry → Bool)

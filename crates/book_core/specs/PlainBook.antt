@@ -3,6 +3,7 @@ use Rattle.std.specs.Prelude.{◌≡◌, List, map, Result}
 use Rattle.book_model.specs.declared.fault.LedgerFault.{LedgerFault}
 use Rattle.book_model.specs.declared.naming.Naming.{Ghosts}
 use Rattle.book_model.specs.Words.{Tariffed, Period, Book, Outcome, IsBookCall}
+use Rattle.book_core.specs.declared.chosen.ChosenRecord.{ChosenRecord}
 use Rattle.book_core.specs.declared.closed.ClosedPeriod.{ClosedPeriod}
 use Rattle.book_core.specs.declared.period.Period.{Period as ReadPeriod}
 use Rattle.book_core.specs.declared.plain.PlainLedger.{PlainLedger}
@@ -11,10 +12,11 @@ use Rattle.book_core.specs.Plain.{Entry, held_in, ruled_by}
 use Rattle.book_core.specs.Shares.{Names, records_where, is_named, period_with}
 use Rattle.book_core.specs.Shares.{share_closed, share_in}
 
--- the book of such tariffs, entries, posted names and closed periods
-abbrev pub book_with : List Tariffed → List Entry → Names → List ClosedPeriod → Book
-book_with tariffs entries posted closed = record {
-  rulings = ruled_by tariffs closed;
+-- the book of such tariffs, entries, posted names, closed periods and choices
+abbrev pub book_with :
+    List Tariffed → List Entry → Names → List ClosedPeriod → List ChosenRecord → Book
+book_with tariffs entries posted closed choices = record {
+  rulings = ruled_by tariffs closed choices;
   held = held_in entries;
   posted = records_where (is_named posted) entries;
   past = map (λ period. period_with (share_closed period) entries) closed;
@@ -27,6 +29,7 @@ module _ {N : Type 0} {names : Ghosts N} where
   abbrev pub book_in : PlainLedger N names → Book
   book_in ledger =
       book_with ledger.tariffs.items ledger.held.entries ledger.posted ledger.closed.items
+      ledger.choices.items
 
   -- what is seen of the ledger as one that is kept in memory
   abbrev pub seen_in : PlainLedger N names → Seen

@@ -1,12 +1,13 @@
 -- How a plain ledger keeps closed periods, and reads the open one: what a period does with each
 -- record that is held.
-use Rattle.std.specs.Prelude.{◌≡◌, Bool, true, false, not, ◌&&◌, List, ℕ, ℤ, int_lt, filter, All}
-use Rattle.std.specs.Prelude.{Option, Some, None, nat_le, count_by}
+use Rattle.std.specs.Prelude.{◌≡◌, Bool, true, false, not, ◌&&◌, ◌||◌, List, ℕ, ℤ, int_lt, filter}
+use Rattle.std.specs.Prelude.{All, Option, Some, None, nat_le, count_by}
 use Rattle.std.specs.BTreeMap as map
 use Rattle.std.specs.BTreeSet as set
 use Rattle.std.specs.Map.{lookup}
 use Rattle.std.specs.Option.{option_map_or, option_and_then}
 use Rattle.book_model.specs.Words.{job_of, set_of, Records, by_bytes, same_bytes, Period}
+use Rattle.book_model.specs.Words.{Rulings, last_close}
 use Rattle.book_model.specs.declared.line.Line.{Line}
 use Rattle.book_core.specs.declared.closed.ClosedPeriod.{ClosedPeriod}
 use Rattle.book_core.specs.declared.ending.Ending.{Ending}
@@ -15,6 +16,7 @@ use Rattle.book_core.specs.declared.period.Period.{Period as ReadPeriod}
 use Rattle.book_core.specs.declared.period.Period.TheVariants.{Closed, Open}
 use Rattle.book_core.specs.declared.share.Share.{Share}
 use Rattle.book_core.specs.declared.share.Share.TheVariants.{Counted, Added, Taken}
+use Rattle.book_core.specs.Choices.{AreLast, record_at}
 use Rattle.book_core.specs.Plain.{Entry, entry_records, record_of}
 
 -- the names of some records
@@ -57,11 +59,17 @@ line_at (Some Added) entry = Some (line_of true entry)
 line_at (Some Taken) entry = Some (line_of false entry)
 line_at share entry = None
 
--- the record is charged at the end of a period: its identity is shared by none, and it is dated no
--- later than the day through which the period ends, if it ends through one
+-- the record is the one that was chosen last of its identity
+abbrev pub is_choice : Ending → HeldRecord → Bool
+is_choice ending held =
+    option_map_or (same_bytes (record_of held)) (record_at ending.chosen held.identity) false
+
+-- the record is charged at the end of a period: its identity is shared by none, or it was chosen
+-- last of that identity; and it is dated no later than the day through which the period ends, if it
+-- ends through one
 abbrev pub charges : Ending → HeldRecord → Bool
 charges ending held =
-    not (set.contains by_bytes ending.shared held.identity)
+    (not (set.contains by_bytes ending.shared held.identity) || is_choice ending held)
     && option_map_or (λ through. not (int_lt through held.priced.day)) ending.through true
 
 -- the share of a record at the end of a period
@@ -119,10 +127,13 @@ pub record AreNamed (entries : List Entry) (names : Names) (closed : List Closed
   pub past : All (λ period. (name : List ℕ) → under_name name entries ≡ None
       → map.get by_bytes period.shares name ≡ None) closed
 
--- what decides how the open period ends over these entries: the identities that two or more of them
--- have, the day of the close before, and the day through which it ends
-pub record IsEnding (entries : List Entry) (close day : Option ℤ) (ending : Ending) : Type 0 where
+-- what decides how the open period ends over these entries by these rulings: the identities that
+-- two or more of them have, the record that was chosen last of each identity, the day of the close
+-- before, and the day through which it ends
+pub record IsEnding (entries : List Entry) (rulings : Rulings) (day : Option ℤ) (ending : Ending)
+    : Type 0 where
   pub shared : (identity : List ℕ) → set.contains by_bytes ending.shared identity
       ≡ nat_le 2 (count_by (λ entry. same_bytes entry.1.identity identity) entries)
-  pub last : ending.last ≡ close
+  pub chosen : AreLast rulings ending.chosen
+  pub last : ending.last ≡ last_close rulings
   pub through : ending.through ≡ day

@@ -12,12 +12,15 @@ use crate::held::HeldRecord;
 use crate::share::{Share, share_of};
 use std::alloc::{AllocError, Global};
 use std::collections::{BTreeMap, BTreeSet};
+use std::rc::RcSlice;
 
 /// What decides how the open period has a record.
 #[derive(Drop)]
 pub(crate) struct Ending {
     /// The identities that two or more records have.
     pub(crate) shared: BTreeSet<[u8; 24]>,
+    /// The record that was chosen last of each identity.
+    pub(crate) chosen: BTreeMap<[u8; 24], RcSlice<u8>>,
     /// The day of the close before the period, if there was one.
     pub(crate) last: Option<i32>,
     /// The day through which it is closed; none where it stays open.
@@ -45,11 +48,22 @@ fn is_by(through: Option<i32>, day: i32) -> bool
 }
 
 impl Ending {
+    /// The record is the one that was chosen last of its identity.
+    fn is_choice(&self, kept: &HeldRecord) -> bool
+        ensures { result ≡ spec.is_choice self.now kept.now }
+    {
+        match self.chosen.get(&kept.identity) {
+            Some(chosen) => kept.bytes.as_slice() == chosen.as_slice(),
+            None => false,
+        }
+    }
+
     /// The record is charged at the end of the period.
     fn charges(&self, kept: &HeldRecord) -> bool
         ensures { result ≡ spec.charges self.now kept.now }
     {
-        !self.shared.contains(&kept.identity) && is_by(self.through, kept.priced.day)
+        let is_undisputed = !self.shared.contains(&kept.identity) || self.is_choice(kept);
+        is_undisputed && is_by(self.through, kept.priced.day)
     }
 
     /// How the period has a record, which the last close charged or not.

@@ -2,7 +2,7 @@ ghost use Rattle.std.specs.Prelude.{All, IfOk, map};
 ghost use Rattle.book_model.specs.Words.{IsDay, IsUsageRecord, AreRows, AreLines, AreDisputes};
 ghost use Rattle.book_model.specs.Words.{dispute_shown, accept_outcome, close_outcome};
 ghost use Rattle.book_model.specs.Words.{tariff_outcome, adjustments_outcome, charges_outcome};
-ghost use Rattle.book_model.specs.Words.{disputes_outcome, periods_outcome};
+ghost use Rattle.book_model.specs.Words.{choose_outcome, disputes_outcome, periods_outcome};
 ghost use Rattle.book_core.specs.Ledgers.{IsSettled, Seen};
 ghost use Rattle.book_core.specs.Calls.{IsCall};
 
@@ -29,6 +29,12 @@ pub trait Ledger {
         ensures { IsCall (λ ruled. ruled) (seen self.old) (seen self.new) result
             (close_outcome period through) };
 
+    /// Chooses a record that is held, by its name, among those of its identity: it counts as
+    /// undisputed from now on, the others stay uncharged. The choice that came last counts.
+    fn choose(&mut self, name: [u8; 32]) -> Result<Ruled, LedgerFault>
+        ensures { IsCall (λ ruled. ruled) (seen self.old) (seen self.new) result
+            (choose_outcome (seen self.old).naming name) };
+
     /// Hands in a record, which is held from now on where it is new, a tariff is in force on its
     /// day, and there is room for it.
     fn accept(&mut self, bytes: &[u8]) -> Result<Accepted, LedgerFault>
@@ -48,8 +54,8 @@ pub trait Ledger {
             (adjustments_outcome (seen self.old).naming period) }
         ensures shown { IfOk result (λ lines. AreLines lines.items) };
 
-    /// The identities of two or more records that are held, by their bytes, each with its records
-    /// by name.
+    /// The identities of two or more records that are held and of which none was chosen, by their
+    /// bytes, each with its records by name.
     fn disputes(&mut self) -> Result<Vec<Dispute>, LedgerFault>
         ensures disputes { IsCall (λ found. map dispute_shown found.items)
             (seen self.old) (seen self.new) result (disputes_outcome (seen self.old).naming) }

@@ -3,6 +3,8 @@
 
 mod accepted_tariff;
 mod charge_rows;
+mod choices;
+mod chosen;
 mod closed;
 mod effect_table;
 mod ending;
@@ -30,7 +32,7 @@ pub use effect_table::{
 };
 pub use ending::is_after;
 pub use ledger::Ledger;
-pub use limits::{LAST_PERIOD, MAX_COST, MAX_HELD};
+pub use limits::{LAST_PERIOD, MAX_CHOICES, MAX_COST, MAX_HELD};
 pub use lines::sort_lines;
 pub use plain::PlainLedger;
 pub use pricing::price_in;

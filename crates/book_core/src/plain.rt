@@ -6,11 +6,13 @@ ghost use Rattle.book_model.specs.Words.{last_period, by_bytes, are_rising};
 ghost use Rattle.book_core.specs.Plain.{AreBooked, AreHeld, ruled_by};
 ghost use Rattle.book_core.specs.Shares.{AreNamed};
 
+mod choices;
 mod lists;
 mod records;
 mod rulings;
 
 use crate::accepted_tariff::AcceptedTariff;
+use crate::chosen::ChosenRecord;
 use crate::closed::ClosedPeriod;
 use crate::held::HeldRecord;
 use crate::ledger::Ledger;
@@ -32,10 +34,11 @@ pub struct PlainLedger<N: Naming + Drop> {
     /// The names of the records that the last close charged.
     posted: BTreeSet<[u8; 32]>,
     closed: Vec<ClosedPeriod>,
+    choices: Vec<ChosenRecord>,
     alloc: Global,
     ghost rising: { IsStrictlySortedBy by_bytes (keys_of held.entries) } by { Prim.hlevel props },
-    ghost kept: { AreBooked (N.name_of naming) (ruled_by tariffs.items closed.items)
-        held.entries total },
+    ghost kept: { AreBooked (N.name_of naming)
+        (ruled_by tariffs.items closed.items choices.items) held.entries total },
     ghost recalls: { AreHeld held.entries recalled },
     ghost named: { AreNamed held.entries posted closed.items },
     ghost few: { length closed.items < last_period },
@@ -68,7 +71,7 @@ impl<N: Naming + Drop> PlainLedger<N> {
     fn under(alloc: Global, naming: N, tariffs: Vec<AcceptedTariff>) -> PlainLedger<N>
         requires { are_rising tariffs.items ≡ true }
         ensures { IsOpenAt (N.name_of naming)
-            (record new_book { rulings = ruled_by tariffs.items [] })
+            (record new_book { rulings = ruled_by tariffs.items [] [] })
             (⟦<PlainLedger<N> as Ledger>⟧.seen result) }
     {
         PlainLedger {
@@ -79,6 +82,7 @@ impl<N: Naming + Drop> PlainLedger<N> {
             total: 0,
             posted: BTreeSet::new(alloc),
             closed: Vec::new(alloc),
+            choices: Vec::new(alloc),
             alloc,
         }
     }
@@ -95,6 +99,10 @@ impl<N: Naming + Drop> Ledger for PlainLedger<N> {
 
     fn close(&mut self, period: u16, through: i32) -> Result<Ruled, LedgerFault> {
         self.close_period(period, through)
+    }
+
+    fn choose(&mut self, name: [u8; 32]) -> Result<Ruled, LedgerFault> {
+        self.choose_named(name)
     }
 
     fn accept(&mut self, bytes: &[u8]) -> Result<Accepted, LedgerFault> {

@@ -4,6 +4,7 @@ use crate::answers::{push_accepted, push_receipt, push_ruled};
 use crate::changes::push_changes;
 use crate::day::Day;
 use crate::lines::BookLines;
+use crate::names::name_in;
 use crate::reading::Reading;
 use crate::request_lists::push_answers;
 use crate::texts::{BookText, TextOf};
@@ -88,6 +89,7 @@ impl BookLines {
                 let (period, day) = (period.parse::<u16>()?, Day::of(day)?);
                 push_ruled(out, ledger.close(period, day.number))
             }
+            ("choose", [word]) => push_ruled(out, ledger.choose(name_in(named, word)?)),
             ("closes", [periods, day]) => close_each(ledger, periods, Day::of(day)?, out),
             ("import", parts) => read_in(alloc, ledger, reading, &named.read_dump(parts)?, out),
             ("accept", parts) => accept_each(alloc, ledger, &named.read_dump(parts)?, out),

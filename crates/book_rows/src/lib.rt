@@ -1,14 +1,16 @@
 //! Lines of scripts on books, over any ledger, and lines that need none. `PARTS` are parts of a
-//! dump, `TEXT` is a text that is named, and a body stands behind its line.
+//! dump, `RECORD` is a part that is one record, `TEXT` is a text that is named, and a body stands
+//! behind its line.
 //!
 //! | A line on books | Is answered with |
 //! |---|---|
 //! | `tariff TEXT..`, with a body in front of the texts | `DONE`, `ALREADY` or the fault's line |
 //! | `close PERIOD DAY` | the same |
 //! | `closes FROM..END DAY`: a period a day | how many were done, behind the first other answer |
+//! | `choose RECORD`, or 64 hexadecimal digits | `DONE`, `ALREADY` or the fault's line |
 //! | `import PARTS..` | the receipt |
 //! | `accept PARTS..` | `KEPT`, `KNOWN`, `UNPRICED` or the fault's line, of each usage record |
-//! | `list`, with a body of `tariff`, `import` and `close` | the answer to each |
+//! | `list`, with a body of `tariff`, `import`, `close`, `choose` | the answer to each |
 //! | `statement PERIOD`, `table PERIOD`, `adjustments PERIOD`, `disputes`, `periods` | the text |
 //! | `changes` | each text, but for tables, that is not as at the last `changes` of the row |
 //!
@@ -39,6 +41,7 @@ mod day;
 mod dumps;
 mod faults;
 mod lines;
+mod names;
 mod plans;
 mod prices;
 mod reading;

@@ -5,22 +5,17 @@ ghost use Rattle.book_core.specs.Effects.{HasOnly};
 
 use crate::answers::{push_fault, push_hex};
 use crate::day::Day;
+use crate::names::{record_in, record_name};
 use crate::prices::{push_priced, tariff_of, usage_of};
-use book_core::{DayChange, Effects, LineChange, Member, Naming, ShaNames, View, plan};
+use book_core::{DayChange, Effects, LineChange, Member, View, plan};
 use row_scripts::{Answered, LineFault, Named, push_line};
-use smf_frames::{Layout, split};
 use tariff_rules::{Priced, Tariff, price};
 
 /// The name and the price of the usage record that a word names.
 fn record_of(named: &Named, tariff: &Tariff, word: &str) -> Answered<([u8; 32], Priced)> {
-    let dump = named.read_dump(&[word])?;
-    let parts = split(named.alloc(), Layout::Rdw, &dump)?;
-    let [bytes] = parts.records.as_slice() else {
-        return Err(LineFault::Unread);
-    };
-    let usage = usage_of(bytes).ok_or(LineFault::Unread)?;
-    let (_descriptor, data) = bytes.split_at_checked(4).ok_or(LineFault::Unread)?;
-    Ok((ShaNames.name(data), price(tariff, &usage)))
+    let bytes = record_in(named, word)?;
+    let usage = usage_of(&bytes).ok_or(LineFault::Unread)?;
+    Ok((record_name(&bytes)?, price(tariff, &usage)))
 }
 
 /// A record that is held: `NAME`, with `:charged`, `:posted` or both behind it.

@@ -5,6 +5,7 @@ ghost use Rattle.office.specs.Runs.{IsAskableAlone};
 
 use crate::answers::push_answer;
 use crate::day::Day;
+use crate::names::name_in;
 use book_core::Ledger;
 use office::{Asked, run};
 use row_scripts::{Answered, LineFault, Named};
@@ -26,6 +27,7 @@ fn asked_by(named: &Named, layout: Layout, line: &str) -> Answered<Asked>
             let through = day.number;
             Ok(Asked::Close { period, through })
         }
+        ["choose", word] => Ok(Asked::Choose(name_in(named, word)?)),
         _ => Err(LineFault::Unread),
     }
 }

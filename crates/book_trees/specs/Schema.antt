@@ -6,7 +6,7 @@ use Rattle.sqlite_value.specs.Keys.{plain}
 use Rattle.sqlite_value.specs.declared.value.Value.TheVariants.{Text}
 use Rattle.book_trees.specs.Texts.{book_text, tariff_text, closed_text, record_text}
 use Rattle.book_trees.specs.Texts.{day_sum_text, line_text, record_ident_text}
-use Rattle.book_trees.specs.Texts.{record_charged_text}
+use Rattle.book_trees.specs.Texts.{record_charged_text, choice_text}
 
 -- a tree in the order of its entries, of this kind and name, over this table
 abbrev pub sorted : List ℕ → List ℕ → List ℕ → List ℕ → Wanted
@@ -35,4 +35,5 @@ books_schema =
     ∷ table_of (codes "line") line_text
     ∷ index_of (codes "record_ident") record_ident_text
     ∷ index_of (codes "record_charged") record_charged_text
+    ∷ table_of (codes "choice") choice_text
     ∷ []

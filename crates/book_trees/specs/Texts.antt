@@ -42,6 +42,12 @@ line_text =
     codes "CREATE TABLE line (period INT NOT NULL, name BLOB NOT NULL, plus INT NOT NULL, "
     ++ codes "PRIMARY KEY (period, name)) STRICT, WITHOUT ROWID"
 
+-- the records that were chosen, by the numbers of the choices
+abbrev pub choice_text : List ℕ
+choice_text =
+    codes "CREATE TABLE choice (number INT NOT NULL PRIMARY KEY, name BLOB NOT NULL, "
+    ++ codes "period INT NOT NULL) STRICT, WITHOUT ROWID"
+
 -- the names of records, by their identities
 abbrev pub record_ident_text : List ℕ
 record_ident_text = codes "CREATE INDEX record_ident ON record (ident)"

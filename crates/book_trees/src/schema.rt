@@ -37,7 +37,7 @@ fn index(name: &'static str, sql: &'static str) -> Object<'static>
 }
 
 /// What a file of books lists. The tables are numbered in this order, from 0.
-pub fn books_objects() -> [Object<'static>; 8]
+pub fn books_objects() -> [Object<'static>; 9]
     ensures { map wanted_of result ≡ books_schema }
 {
     [
@@ -83,6 +83,11 @@ pub fn books_objects() -> [Object<'static>; 8]
         index(
             "record_charged",
             "CREATE INDEX record_charged ON record (charged, ident)",
+        ),
+        table(
+            "choice",
+            "CREATE TABLE choice (number INT NOT NULL PRIMARY KEY, name BLOB NOT NULL, \
+             period INT NOT NULL) STRICT, WITHOUT ROWID",
         ),
     ]
 }

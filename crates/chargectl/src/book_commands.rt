@@ -1,5 +1,5 @@
-//! The commands on books. Faults are found in the order of the words: a date, the books, the file, and
-//! then what the books say.
+//! The commands on books. Faults are found in this order: a date or a name, the books, the file,
+//! and then what the books say.
 
 ghost use Rattle.office.specs.Requests.{IsAskableAnew};
 ghost use Rattle.office.proofs.AskLemmas.{askable_once};
@@ -10,6 +10,7 @@ use book_audit::{Audited, AuditedShelf, audit_text};
 use book_core::{Ledger, LedgerFault, Sink, Source};
 use command_words::DumpFile;
 use office::{Answer, Asked, Report, Shelf, Visit, answer};
+use program_answers::name_of_text;
 use smf_text::day_of_text;
 use std::alloc::Global;
 use std::fs::File;
@@ -104,6 +105,23 @@ pub(crate) fn close<S: Shelf, O: Write + Drop>(
     };
     shelf.expect(book)?;
     let asked = Asked::Close { period, through };
+    ask_books(rt, shelf, book, asked, io::empty(), output)?;
+    Ok(())
+}
+
+/// Chooses the record of a name.
+pub(crate) fn choose<S: Shelf, O: Write + Drop>(
+    rt: &HostRuntime,
+    shelf: &S,
+    book: &str,
+    name: &str,
+    output: O,
+) -> Result<(), Trouble> {
+    let Some(name) = name_of_text(name) else {
+        return Err(Trouble::Word);
+    };
+    shelf.expect(book)?;
+    let asked = Asked::Choose(name);
     ask_books(rt, shelf, book, asked, io::empty(), output)?;
     Ok(())
 }

@@ -28,7 +28,7 @@ Give the command again with more memory; nothing is counted twice.",
 Look at the disk and at the file's rights, then give the command again; nothing is counted twice.",
     "The books have to be opened again after a fault of their file.
 Give the command again; nothing is counted twice.",
-    "A limit is reached: 50,000,000 records, what all of them cost together, or 9,999 periods.
+    "A limit is reached: 50,000,000 records, their cost together, 9,999 periods, 1,000,000 choices.
 Begin new books; where it is a tariff that was refused, hand in one of lower prices.",
     "Another record has the same SHA-256 name as a record that is held. The first one is kept.
 Keep the dump: this is not known to have happened anywhere.",
@@ -46,7 +46,7 @@ Name a later day.",
 Ask for one of these.",
     "No record of that name is held.
 Take the name from the list of disputes.",
-    "That record is in no dispute.
+    "No held record contradicts that one: it is charged already.
 Take the name from the list of disputes.",
     "The second rule of identity is in force, and the first can't come back.
 Nothing is to be done.",

@@ -20,7 +20,7 @@ pub(crate) enum Trouble {
     Number,
     /// The file is there already.
     Exists,
-    /// A word is no date.
+    /// A word is no date, or no name of a record.
     Word,
     Ledger(LedgerFault),
     Report(ReportFault),

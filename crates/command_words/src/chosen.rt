@@ -57,6 +57,7 @@ fn asked_in<'a>(name: &str, found: &ArgMatches<'a>) -> Option<BookRequest<'a>> {
         "tariff" => tariff_in(found),
         "import" => Some(BookRequest::Import(dump_in(found)?)),
         "close" => close_in(found),
+        "choose" => choice_in(found),
         "audit" => Some(audit_in(found)),
         "serve" => serve_in(found),
         _ => Some(BookRequest::Print(report_in(name, found)?)),
@@ -76,6 +77,11 @@ fn close_in<'a>(found: &ArgMatches<'a>) -> Option<BookRequest<'a>> {
     let period = period_in(found)?;
     let date = found.get_str("date")?;
     Some(BookRequest::Close { period, date })
+}
+
+fn choice_in<'a>(found: &ArgMatches<'a>) -> Option<BookRequest<'a>> {
+    let name = found.get_str("sha256")?;
+    Some(BookRequest::Choose { name })
 }
 
 fn report_in(name: &str, found: &ArgMatches<'_>) -> Option<Report> {

@@ -86,6 +86,13 @@ const DATE: Word = Word::InPlace(Valued {
     kind: Kind::Text,
 });
 
+const SHA256: Word = Word::InPlace(Valued {
+    name: "sha256",
+    shown: "SHA256",
+    help: "The record's name, as the list of disputes shows it",
+    kind: Kind::Text,
+});
+
 const LAYOUT: Word = Word::Optional(
     Valued {
         name: "layout",
@@ -165,7 +172,7 @@ const NUMBER: Word = Word::InPlace(Valued {
 });
 
 /// The commands in the order of the program's help.
-pub(crate) static KNOWN: [Known; 12] = [
+pub(crate) static KNOWN: [Known; 13] = [
     Known {
         name: "trial",
         about: "Prices a dump: standard input into new books, their statement to standard output",
@@ -195,6 +202,11 @@ pub(crate) static KNOWN: [Known; 12] = [
         name: "close",
         about: "Closes the open period through a day",
         words: &[BOOK, PERIOD, DATE],
+    },
+    Known {
+        name: "choose",
+        about: "Charges one of the records in dispute with each other, and none of the others",
+        words: &[BOOK, SHA256],
     },
     Known {
         name: "statement",

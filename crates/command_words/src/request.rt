@@ -44,6 +44,11 @@ pub enum BookRequest<'a> {
         /// Its last day, as `YYYY-MM-DD`.
         date: &'a str,
     },
+    /// A record chosen among those of its identity.
+    Choose {
+        /// Its name, as 64 hexadecimal digits.
+        name: &'a str,
+    },
     /// A report printed.
     Print(Report),
     /// The whole file looked through.

@@ -7,7 +7,7 @@ use Rattle.book_model.specs.declared.row.RowKey.{RowKey}
 use Rattle.kept_tables.specs.MapChanges.{updated, moved}
 use Rattle.book_core.specs.declared.effect_table.DayChange.{DayChange}
 use Rattle.book_core.specs.declared.effect_table.DayChange.TheVariants.{Add, Take}
-use Rattle.kept_tables.specs.RowChanges.{change_day, change_mark, price_at}
+use Rattle.kept_tables.specs.RowChanges.{change_day, change_mark, mark_at, price_at, put_mark}
 use Rattle.book_model.specs.Words.{Terms}
 use Rattle.kept_tables.specs.TableChanges.{move_on, reprice_step, walk}
 use Rattle.kept_tables.specs.Tables.{RecordRow, Tables}
@@ -33,6 +33,22 @@ put_record_row name row tables = record tables { records = insert tables.records
 -- a record loses its mark
 abbrev pub unmark_row : List ℕ → Tables → Tables
 unmark_row name tables = record tables { records = change_mark (Some name) tables.records }
+
+-- a record gets its mark, or loses it
+abbrev pub set_mark_row : Bool → List ℕ → Tables → Tables
+set_mark_row mark name tables =
+    record tables { records = mark_at mark name (get tables.records name) tables.records }
+
+-- a record gets its mark
+abbrev pub mark_row : List ℕ → Tables → Tables
+mark_row name tables = record tables { records = put_mark name tables.records }
+
+-- a record that was chosen, and the period that was open then, stand under the choice's number
+abbrev pub put_choice_row : ℕ → List ℕ → ℕ → Tables → Tables
+put_choice_row number name period tables =
+    record tables {
+      choices = insert tables.choices number (record { name = name; period = period });
+    }
 
 -- a record costs something else; its row stays otherwise
 abbrev pub put_price_row : List ℕ → Priced → Tables → Tables

@@ -1,5 +1,5 @@
 -- Requests that bring their dumps, one after another: their work, and the events that they make.
-use Rattle.std.proofs.Common.{◌≡◌, ◌∙◌, ℕ, Bool, false, List, [], ◌∷◌, ◌++◌, None, Result, refl, sym}
+use Rattle.std.proofs.Common.{◌≡◌, ◌∙◌, Bool, false, List, [], ◌∷◌, ◌++◌, None, Result, refl, sym}
 use Rattle.std.proofs.Common.{ap, subst, append_assoc, append-nil}
 use Rattle.book_model.specs.Words.{front, Naming, Book, Event, after_all, IsAnswered}
 use Rattle.book_core.specs.Work.{Work, NoEvent, Then}

@@ -1,6 +1,8 @@
--- Read in this order: what a trial and a check are, the exit statuses, and laws that follow.
+-- Read in this order: what a trial and a check are, the exit statuses, the name that a word spells,
+-- and laws that follow.
 pub mod Trials
 pub mod Checks
 pub mod Listings
 pub mod Statuses
+pub mod Names
 pub mod Laws

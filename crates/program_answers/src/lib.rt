@@ -1,11 +1,12 @@
-//! What the program writes of a dump alone, the lines that it says on standard error, and the
-//! statuses with which it ends. No file is opened here, and no word is read.
+//! What the program writes of a dump alone, the lines that it says on standard error, the statuses
+//! with which it ends, and the name that a word spells. No file is opened here.
 #![tactic(auto)]
 
 mod check;
 mod laws;
 mod listing;
 mod message;
+mod names;
 mod status;
 mod trials;
 
@@ -15,5 +16,6 @@ pub use message::{
     PROGRAM, books_unsound, io_failed, ledger_refused, no_such_number, out_of_memory,
     report_failed, said, stopped, words_failed,
 };
+pub use names::name_of_text;
 pub use status::Status;
 pub use trials::trial;

@@ -277,11 +277,12 @@ module _ (naming : Naming) (was : Summary) (bytes name : List ℕ) (usage : IsUs
     pub accept_remembers : (is : Summary) {view : View} (book : Book)
         → IsReadyAt naming was view book → FindsRecord name (tables_of naming book) None
         → is.tariffs.items ≡ was.tariffs.items → is.closes.items ≡ was.closes.items
-        → is.held ≡ was.held + 1 → is.total ≡ was.total + priced.amount
+        → is.choices ≡ was.choices → is.held ≡ was.held + 1 → is.total ≡ was.total + priced.amount
         → Remembers is (keep bytes book)
-    accept_remembers is book ready known tariffs closes held total = record {
+    accept_remembers is book ready known tariffs closes choices held total = record {
       tariffs = tariffs ∙ ready.remembers.tariffs;
       closes = closes ∙ ready.remembers.closes;
+      choices = choices ∙ ready.remembers.choices;
       held = held ∙ ap (λ count. count + 1) ready.remembers.held
           ∙ sym (ap (λ (tables : Tables). tables.book.held) (tables_kept book ready known));
       total = total ∙ ap (λ sum. sum + priced.amount) ready.remembers.total
@@ -310,14 +311,14 @@ module _ (naming : Naming) (was : Summary) (bytes name : List ℕ) (usage : IsUs
         → CommitsOne (Ok done) middle new
         (λ tables. AreRemembered was tables × IsNew name tables) (keep_as was name bytes priced)
         → is.tariffs.items ≡ was.tariffs.items → is.closes.items ≡ was.closes.items
-        → is.held ≡ was.held + 1 → is.total ≡ was.total + priced.amount
+        → is.choices ≡ was.choices → is.held ≡ was.held + 1 → is.total ≡ was.total + priced.amount
         → Tries (λ (accepted : Accepted). accepted) naming was is old new
         (accept_outcome naming bytes) (Ok (Ok Kept))
     unfolding accept_is_event
-    try_kept {new = new} is is_priced saw commit tariffs closes held total =
+    try_kept {new = new} is is_priced saw commit tariffs closes choices held total =
         try_done (λ (accepted : Accepted). accepted) naming was (accept_outcome naming bytes)
         new (λ tables. AreRemembered was tables × IsNew name tables)
         (keep_as was name bytes priced) saw
         (λ book ready known. accept_is_event is_priced book ready known) commit
         (λ book ready known. accept_kept book ready known)
-        (λ book ready known. accept_remembers is book ready known tariffs closes held total)
+        (λ book ready known. accept_remembers is book ready known tariffs closes choices held total)

@@ -1,16 +1,21 @@
 -- Rows that join disputes, and that such disputes can be shown.
 use Rattle.std.proofs.Common.{◌≡◌, ◌∙◌, Bool, true, false, List, [], ◌∷◌, ◌++◌, refl, sym, ap, map, append_assoc}
-use Rattle.std.proofs.Common.{inl}
-use Rattle.std.proofs.lemmas.List.{map-append}
-use Rattle.std.specs.Prelude.{All, if◌then◌else◌}
+use Rattle.std.proofs.Common.{inl, subst, ℕ, ◌+◌, ◌<◌, not, cond, take, length, append-nil}
+use Rattle.std.proofs.Common.{slice_index_or}
+use Rattle.std.proofs.lemmas.List.{map-append, take_more}
+use Rattle.std.specs.Prelude.{All, filter, if◌then◌else◌}
 use Rattle.std.specs.List.{AllByRecursion}
-use Rattle.std.proofs.lemmas.List.Elements.{All-cons, All-from_recursion, recursion_from_All}
+use Rattle.std.proofs.lemmas.List.Elements.{All-push, All-from_recursion, filter-append}
+use Rattle.std.proofs.lemmas.List.Elements.{recursion_from_All}
 use Rattle.book_model.specs.Words.{IsDay, Disputed, IsDispute, AreDisputes, dispute_shown}
 use Rattle.book_model.specs.Words.{same_bytes}
 use Rattle.book_model.specs.declared.dispute.Dispute.{Dispute}
 use Rattle.book_model.specs.declared.dispute.Variant.{Variant}
-use Rattle.table_readings.specs.DisputesRead.{NamedRow, grouped, join_first, join_last, of_one}
+use Rattle.table_readings.specs.DisputesRead.{NamedRow, grouped, join_last, of_one}
 use Rattle.table_readings.specs.DisputesRead.{variant_read}
+use Rattle.table_readings.proofs.GroupingLemmas.{grouped-push}
+use Rattle.tree_tables.specs.Stored.{stored_entry}
+use Rattle.tree_tables.specs.declared.stored_record.StoredRecord.{StoredRecord}
 use Rattle.table_ledger.specs.DisputeReads.{IsShownRow}
 
 -- a row behind disputes joins the last of them, or comes behind it
@@ -82,34 +87,72 @@ one_shows row shown = record {
       (shown.day, tt);
 }
 
--- a row that can be shown, in front of disputes that can be
-first_shows : (row : NamedRow) (disputes : List Disputed) → IsShownRow row
-    → AllByRecursion IsDispute disputes → AllByRecursion IsDispute (join_first row disputes)
-first_shows row [] shown all = (one_shows row shown, tt)
-first_shows row (first ∷ others) shown all = by_test (same_bytes row.1.identity first.identity)
+-- a row that can be shown, behind disputes that can be
+last_shows : (disputes : List Disputed) (row : NamedRow) → IsShownRow row
+    → AllByRecursion IsDispute disputes → AllByRecursion IsDispute (join_last disputes row)
+last_shows [] row shown all = (one_shows row shown, tt)
+last_shows (last ∷ []) row shown all = by_test (same_bytes last.identity row.1.identity)
   where
     by_test : (joins : Bool) → AllByRecursion IsDispute (if joins
-        then record first { members = variant_read row ∷ first.members } ∷ others
-        else of_one row ∷ first ∷ others)
+        then record last { members = last.members ++ variant_read row ∷ [] } ∷ []
+        else last ∷ of_one row ∷ [])
     by_test true = (
       record {
         identity = all.0.identity;
-        days = All-cons (λ (member : Variant). IsDay member.priced.day) (variant_read row)
-            first.members shown.day all.0.days;
+        days = All-push (λ (member : Variant). IsDay member.priced.day) last.members
+            (variant_read row) all.0.days shown.day;
       },
-      all.1,
+      tt,
     )
-    by_test false = (one_shows row shown, all)
+    by_test false = (all.0, (one_shows row shown, tt))
+last_shows (first ∷ next ∷ others) row shown all =
+    (all.0, last_shows (next ∷ others) row shown all.1)
 
--- rows that can be shown, in groups
-groups_show : (rows : List NamedRow) → AllByRecursion IsShownRow rows
-    → AllByRecursion IsDispute (grouped rows)
-groups_show [] shown = tt
-groups_show (row ∷ rows) shown =
-    first_shows row (grouped rows) shown.0 (groups_show rows shown.1)
+-- Disputes that can be shown can be so with a row more that can.
+pub joined_show : (before behind : List Disputed) (row : NamedRow)
+    → behind ≡ join_last before row → IsShownRow row → AreDisputes before → AreDisputes behind
+joined_show before behind row is shown all =
+    subst AreDisputes (sym is)
+    (All-from_recursion IsDispute (join_last before row)
+    (last_shows before row shown (recursion_from_All IsDispute before all)))
 
--- Rows that can be shown make disputes that can be.
-pub disputes_show : (rows : List NamedRow) → All IsShownRow rows → AreDisputes (grouped rows)
-disputes_show rows shown =
-    All-from_recursion IsDispute (grouped rows)
-    (groups_show rows (recursion_from_All IsShownRow rows shown))
+-- none can
+pub none_show : AreDisputes []
+none_show = All-from_recursion IsDispute [] tt
+
+-- ---- groups of the rows that pass a test, one row after the other
+
+module _ (keeps : NamedRow → Bool) (rows : List StoredRecord) (at : ℕ) (one : StoredRecord) where
+  -- the rows so far
+  abbrev done : List NamedRow
+  done = map stored_entry (take at rows)
+
+  -- those of them that are kept
+  abbrev kept : List NamedRow
+  kept = filter keeps done
+
+  -- the row behind them joins their groups where it is kept
+  joined : (olds : List Disputed) (settled : Bool) → not settled ≡ keeps (stored_entry one)
+      → olds ≡ grouped kept
+      → (if settled then olds else join_last olds (stored_entry one))
+      ≡ grouped (kept ++ filter keeps (stored_entry one ∷ []))
+  joined olds true told before =
+      before ∙ ap grouped (sym (append-nil kept))
+      ∙ ap (λ (is : Bool). grouped (kept ++ cond is (stored_entry one ∷ []) [])) told
+  joined olds false told before =
+      ap (λ (all : List Disputed). join_last all (stored_entry one)) before
+      ∙ sym (grouped-push kept (stored_entry one))
+      ∙ ap (λ (is : Bool). grouped (kept ++ cond is (stored_entry one ∷ []) [])) told
+
+  -- so these are the groups of one row more
+  pub grouped_more : (olds news : List Disputed) (settled : Bool) → at < length rows
+      → one ≡ slice_index_or rows at one → not settled ≡ keeps (stored_entry one)
+      → news ≡ (if settled then olds else join_last olds (stored_entry one))
+      → olds ≡ grouped kept
+      → news ≡ grouped (filter keeps (map stored_entry (take (at + 1) rows)))
+  grouped_more olds news settled within is told more before =
+      more ∙ joined olds settled told before
+      ∙ ap grouped (sym (filter-append keeps done (stored_entry one ∷ []))
+      ∙ ap (filter keeps) (sym (map-append stored_entry (take at rows) (one ∷ []))
+      ∙ ap (λ (last : StoredRecord). map stored_entry (take at rows ++ last ∷ [])) is
+      ∙ ap (map stored_entry) (sym (take_more rows at one within))))

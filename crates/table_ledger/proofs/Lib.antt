@@ -10,10 +10,12 @@ mod OneCall
 mod SettleLemmas
 mod StepLemmas
 mod LastClose
+mod LastChoice
 mod RowsTaken
 mod CodeDays
 mod TariffTries
 mod CloseTries
+mod ChoiceTries
 mod DayLooks
 mod Repriced
 mod NewEntries

@@ -59,19 +59,20 @@ new_follow naming =
 -- new books are open, where nothing is remembered
 pub created : (naming : Naming) (state : State) (summary : Summary)
     → LeavesTheLast state.view state.may_leave → HasCleanDisk state → Keeping state.view new_tables
-    → ruled_in summary ≡ no_rulings → summary.held ≡ 0 → summary.total ≡ 0
+    → ruled_in summary ≡ no_rulings → summary.choices ≡ 0 → summary.held ≡ 0 → summary.total ≡ 0
     → IsOpenAt naming new_book (seen_on (record {
       naming = naming;
       state = state;
       must_reopen = false;
       summary = summary;
     }))
-created naming state summary last clean keeping none held total =
+created naming state summary last clean keeping none choices held total =
     opened naming state summary new_book last clean (calls_stay.start naming)
     (subst (Keeping state.view) (new_follow naming) keeping)
     (record {
       tariffs = ap (λ ruled. ruled.tariffs) none;
       closes = ap (λ ruled. ruled.closes) none;
+      choices = choices;
       held = held ∙ ap (λ (tables : Tables). tables.book.held) (new_follow naming);
       total = total ∙ ap (λ (tables : Tables). tables.book.amount) (new_follow naming);
     })

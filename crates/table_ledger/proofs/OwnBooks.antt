@@ -1,5 +1,5 @@
 -- Books that calls made are read again: their rows fit, and what fails has a cause of the store.
-use Rattle.std.proofs.Common.{◌≡◌, ◌∙◌, ◌+◌, ◌≤◌, ◌^◌, ℕ, ℤ, suc, List, [], ◌∷◌, Option, Some}
+use Rattle.std.proofs.Common.{◌≡◌, ◌∙◌, ◌+◌, ◌≤◌, ◌<◌, ◌^◌, ℕ, ℤ, suc, List, [], ◌∷◌, Option, Some}
 use Rattle.std.proofs.Common.{Result, Ok, Err, IsTrue, ap, arith, false, inl, inr, length, map, pos}
 use Rattle.std.proofs.Common.{refl, rules, subst, sym, true, true≢false}
 use Rattle.std.specs.Prelude.{◌⊎◌, All, int_lt, ◌≤ℤ◌, ◌+ℤ◌}
@@ -32,6 +32,7 @@ use Rattle.tree_tables.specs.Steps.{IsCaused, Looks}
 use Rattle.table_ledger.specs.Commits.{IsAtRest, Saw}
 use Rattle.table_ledger.specs.Recalled.{CanBeListed, HasTexts, IsOpenCause, IsRecalled, ReadsItsOwn}
 use Rattle.table_ledger.specs.declared.summary.Summary.{Summary}
+use Rattle.table_ledger.proofs.LastChoice.{last_counts}
 use Rattle.table_ledger.proofs.Standing.{holds_on}
 use Rattle.table_ledger.proofs.SurvivalLemmas.{clean_before, survives_then}
 
@@ -153,6 +154,8 @@ can_be_listed naming book calls texts =
         few = subst (λ (rows : List Row). length rows ≤ 2 ^ 32) days
             (subst (λ n. n ≤ 2 ^ 32) (sym (closes_many 1 closes)) (omega (arith, few)));
       };
+      choices = subst (λ n. n < 2 ^ 32) (sym (last_counts naming book whole))
+          (let most = whole.limits.choices in omega (arith, most));
     }
 
 -- a fault of the store behind more faults of the disk

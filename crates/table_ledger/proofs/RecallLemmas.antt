@@ -10,7 +10,7 @@ use Rattle.std.proofs.lemmas.List.Elements.{All-cons}
 use Rattle.std.proofs.lemmas.Result.{err_from_is_err_and}
 use Rattle.tree_tables.specs.States.{State, HasCleanDisk, Survives}
 use Rattle.sqlite_trees.specs.declared.error.StoreError.{StoreError}
-use Rattle.book_model.specs.Words.{IsDay, Book, Naming, Rulings, Tariffed, no_rulings}
+use Rattle.book_model.specs.Words.{IsDay, Book, Naming, Rulings, Tariffed}
 use Rattle.book_model.specs.declared.fault.LedgerFault.{LedgerFault}
 use Rattle.book_model.specs.declared.fault.LedgerFault.TheVariants.{NotBooks, Store}
 use Rattle.book_core.specs.Ledgers.{IsOpenAt}
@@ -20,6 +20,7 @@ use Rattle.table_readings.specs.BookIn.{tariff_read}
 use Rattle.table_readings.specs.FromCalls.{IsFromCalls}
 use Rattle.table_readings.proofs.BookLemmas.{book_follows}
 use Rattle.table_readings.proofs.ReadableLemmas.{calls_read}
+use Rattle.tree_tables.specs.Answers.{last_number}
 use Rattle.tree_tables.specs.Steps.{Looks}
 use Rattle.tree_tables.specs.Stored.{book_of, close_of, tariff_of}
 use Rattle.tree_tables.specs.declared.book_row.StoredBook.{StoredBook as Stored}
@@ -33,6 +34,7 @@ use Rattle.table_ledger.specs.Shelf.{seen_on}
 use Rattle.table_ledger.specs.Told.{LeavesTheLast}
 use Rattle.table_ledger.specs.declared.summary.Summary.{Summary}
 use Rattle.table_ledger.proofs.OpenLemmas.{opened}
+use Rattle.table_ledger.proofs.LastChoice.{last_counts}
 use Rattle.table_ledger.proofs.RowsTaken.{index_again, rows_of}
 use Rattle.table_ledger.proofs.SurvivalLemmas.{survives_then}
 use Rattle.table_ledger.proofs.Standing.{holds_on, rest_on}
@@ -91,48 +93,54 @@ all_days (row ∷ rows) (day ∷ days) had =
 
 -- a summary that rows show is that of the tables that they are the rows of
 pub recalled : (summary : Summary) (tables : Tables) (row : Stored) (tariffs : List StoredTariff)
-    (closes : List Close) → Shows row tariffs closes summary → book_of row ≡ tables.book
+    (closes : List Close) (choices : ℕ) → Shows row tariffs closes choices summary
+    → book_of row ≡ tables.book
     → map tariff_of tariffs ≡ entries tables.tariffs → map close_of closes ≡ entries tables.closes
-    → Recalls summary tables
-recalled summary tables row tariffs closes shows book texts days =
+    → choices ≡ last_number tables.choices → Recalls summary tables
+recalled summary tables row tariffs closes choices shows book texts days last =
     let ruled = sym (tariffs_said tariffs summary.tariffs.items shows.tariffs)
     ∙ ap (filter_map tariff_read) texts in
     let closed = sym (days_had closes summary.closes.items shows.closes)
     ∙ ap (map (λ (close : ℕ × ℤ). close.1)) days in
     record {
-      rulings = λ i. record no_rulings { tariffs = ruled i; closes = closed i };
+      tariffs = ruled;
+      closes = closed;
+      choices = shows.made ∙ last;
       held = shows.held ∙ ap (λ (kept : BookRow). kept.held) book;
       total = shows.total ∙ ap (λ (kept : BookRow). kept.amount) book;
     }
 
 -- so is what is answered of the rows
 pub recalled_by : (answer : Result Summary LedgerFault) (tables : Tables) (row : Stored)
-    (texts : List StoredTariff) (days : List Close) → IfOk answer (Shows row texts days)
+    (texts : List StoredTariff) (days : List Close) (choices : ℕ)
+    → IfOk answer (Shows row texts days choices)
     → IfErr answer IsStoreFault
-    → IfErr answer (λ fault. fault ≡ Store → (rulings : Rulings) → AreRowsOf row texts days rulings
-    → ⊥) → book_of row ≡ tables.book
+    → IfErr answer (λ fault. fault ≡ Store → (rulings : Rulings)
+    → AreRowsOf row texts days choices rulings → ⊥) → book_of row ≡ tables.book
     → map tariff_of texts ≡ entries tables.tariffs → map close_of days ≡ entries tables.closes
-    → IsRecalled tables answer
-recalled_by (Ok summary) tables row texts days shows kinds refused book said had =
-    recalled summary tables row texts days shows book said had
-recalled_by (Err fault) tables row texts days shows kinds refused book said had = (
+    → choices ≡ last_number tables.choices → IsRecalled tables answer
+recalled_by (Ok summary) tables row texts days choices shows kinds refused book said had last =
+    recalled summary tables row texts days choices shows book said had last
+recalled_by (Err fault) tables row texts days choices shows kinds refused book said had last = (
   kinds,
   λ store naming of calls are.
-      refused store of.rulings (rows_of naming of row texts days calls
+      refused store of.rulings (rows_of naming of row texts days choices calls
       (book ∙ ap (λ (tables : Tables). tables.book) are)
       (said ∙ ap (λ (tables : Tables). entries tables.tariffs) are)
-      (had ∙ ap (λ (tables : Tables). entries tables.closes) are)),
+      (had ∙ ap (λ (tables : Tables). entries tables.closes) are)
+      (last ∙ ap (λ (tables : Tables). last_number tables.choices) are)),
 )
 
 -- a summary of the tables of a book is one of the book
 pub remembered : (naming : Naming) (book : Book) (summary : Summary) → IsFromCalls naming book
     → Recalls summary (tables_of naming book) → Remembers summary book
 remembered naming book summary calls recalls =
-    let back = recalls.rulings
-    ∙ ap (λ (book : Book). book.rulings) (book_follows naming book (calls_read naming book calls)) in
+    let whole = calls_read naming book calls in
+    let back = ap (λ (book : Book). book.rulings) (book_follows naming book whole) in
     record {
-      tariffs = ap (λ (rulings : Rulings). rulings.tariffs) back;
-      closes = ap (λ (rulings : Rulings). rulings.closes) back;
+      tariffs = recalls.tariffs ∙ ap (λ (rulings : Rulings). rulings.tariffs) back;
+      closes = recalls.closes ∙ ap (λ (rulings : Rulings). rulings.closes) back;
+      choices = recalls.choices ∙ last_counts naming book whole;
       held = recalls.held;
       total = recalls.total;
     }

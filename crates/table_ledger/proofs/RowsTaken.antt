@@ -13,7 +13,7 @@ use Rattle.std.specs.declared.cmp.Ordering.TheVariants.{Less}
 use Rattle.std.proofs.lemmas.Int.{ints}
 use Rattle.std.proofs.lemmas.List.Elements.{All-head, All-tail}
 use Rattle.book_model.specs.Words.{IsDay, Tariffed, are_rising, Book, Naming, members, total_of}
-use Rattle.book_model.specs.Words.{most_cost, most_held, first_rule, second_rule}
+use Rattle.book_model.specs.Words.{most_choices, most_cost, most_held, first_rule, second_rule}
 use Rattle.book_model.proofs.RecordSets.{first_of, second_of}
 use Rattle.kept_tables.specs.Tables.{BookRow, never_adopted}
 use Rattle.kept_tables.specs.TablesOf.{close_entries, tables_of, tariff_entries}
@@ -22,10 +22,12 @@ use Rattle.table_readings.specs.FromCalls.{IsFromCalls}
 use Rattle.table_readings.specs.Readable.{IsTexted}
 use Rattle.table_readings.proofs.ReadableLemmas.{calls_read}
 use Rattle.table_readings.proofs.RulingsReading.{closes_kept, one_read, tariffs_kept}
+use Rattle.tree_tables.specs.Answers.{last_number}
 use Rattle.tree_tables.specs.Stored.{book_of, close_of, tariff_of}
 use Rattle.tree_tables.specs.declared.book_row.StoredBook.{StoredBook as Stored}
 use Rattle.tree_tables.specs.declared.closed_rows.Close.{Close}
 use Rattle.tree_tables.specs.declared.tariff_rows.StoredTariff.{StoredTariff}
+use Rattle.table_ledger.proofs.LastChoice.{last_counts}
 use Rattle.table_ledger.specs.Recalled.{AreCloses, AreRowsOf, HasDay, IsNextClose, SaysTariff, TellsTariff}
 
 -- a place within a list has its element, whatever stands for none
@@ -210,11 +212,13 @@ texts_tell (row ∷ rows) (tariff ∷ tariffs) texted same =
 
 -- rows of the tables of a book that calls made are those of its rulings, within the limits
 pub rows_of : (naming : Naming) (book : Book) (row : Stored) (texts : List StoredTariff)
-    (days : List Close) → IsFromCalls naming book → book_of row ≡ (tables_of naming book).book
+    (days : List Close) (choices : ℕ) → IsFromCalls naming book
+    → book_of row ≡ (tables_of naming book).book
     → map tariff_of texts ≡ entries (tables_of naming book).tariffs
     → map close_of days ≡ entries (tables_of naming book).closes
-    → AreRowsOf row texts days book.rulings
-rows_of naming book row texts days calls kept said had =
+    → choices ≡ last_number (tables_of naming book).choices
+    → AreRowsOf row texts days choices book.rulings
+rows_of naming book row texts days choices calls kept said had last =
     let whole = calls_read naming book calls in
     let rulings = book.rulings in
     let held : row.held ≡ length (members book.held) = ap (λ (it : BookRow). it.held) kept in
@@ -238,4 +242,6 @@ rows_of naming book row texts days calls kept said had =
         in_order = whole.in_order;
       };
       few = whole.limits.closes;
+      chosen = subst (λ n. n ≤ most_choices) (sym (last ∙ last_counts naming book whole))
+          whole.limits.choices;
     }

@@ -148,8 +148,8 @@ module _ (summary : Summary) (text : List ℕ) (terms : Terms) where
     pub readable : IsReadable naming book
     readable = calls_read naming book ready.kept.calls
 
-    -- the rulings that are remembered
-    pub same : ruled_in summary ≡ book.rulings
+    -- the rulings that are remembered, with the choices
+    pub same : record (ruled_in summary) { choices = book.rulings.choices } ≡ book.rulings
     same = sym (rulings_are readable ready.remembers)
 
     -- the answer to the text
@@ -248,12 +248,14 @@ module _ (summary : Summary) (text : List ℕ) (terms : Terms) where
       pub tariff_remembered : (is : Summary)
           → is.tariffs.items
           ≡ summary.tariffs.items ++ record { text = Some text; terms = terms } ∷ []
-          → is.closes.items ≡ summary.closes.items → is.held ≡ summary.held → is.total ≡ amount
+          → is.closes.items ≡ summary.closes.items → is.choices ≡ summary.choices
+          → is.held ≡ summary.held → is.total ≡ amount
           → Remembers is (put_in_force (Some text) terms book)
-      tariff_remembered is tariffs closes held total = record {
+      tariff_remembered is tariffs closes choices held total = record {
         tariffs = tariffs ∙ ap (λ own. own ++ record { text = Some text; terms = terms } ∷ [])
             ready.remembers.tariffs;
         closes = closes ∙ ready.remembers.closes;
+        choices = choices ∙ ready.remembers.choices;
         held = held ∙ ready.remembers.held;
         total = total ∙ sum_is;
       }

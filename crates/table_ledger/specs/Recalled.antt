@@ -1,5 +1,5 @@
 -- What is read of a store when its books are opened.
-use Rattle.std.specs.Prelude.{◌≡◌, ◌≢◌, ◌⊎◌, ◌≤◌, ◌<◌, ◌+◌, All, IfErr, IfOk, Some, None, Result, Ok}
+use Rattle.std.specs.Prelude.{◌≡◌, ◌≢◌, ◌⊎◌, ◌≤◌, ◌<◌, ◌+◌, ◌^◌, All, IfErr, IfOk, Some, None, Result, Ok}
 use Rattle.std.specs.Prelude.{Err, List, ℕ, ℤ, int_lt, length, map, false, true}
 use Rattle.std.specs.List.{AllZip, last_or}
 use Rattle.std.specs.List.Sorted.{IsStrictlySortedBy}
@@ -10,7 +10,7 @@ use Rattle.std.specs.Str.{IsUtf8}
 use Rattle.sqlite_disk.specs.Disk.{MoreFaults}
 use Rattle.tree_tables.specs.States.{State, HasCleanDisk, Survives}
 use Rattle.book_model.specs.Words.{IsDay, Tariffed, Rulings, Book, Naming, are_rising, last_period}
-use Rattle.book_model.specs.Words.{most_cost, most_held}
+use Rattle.book_model.specs.Words.{most_choices, most_cost, most_held}
 use Rattle.book_model.specs.declared.fault.LedgerFault.{LedgerFault}
 use Rattle.book_model.specs.declared.fault.LedgerFault.TheVariants.{Memory, NoSuchPeriod, NotBooks}
 use Rattle.book_model.specs.declared.fault.LedgerFault.TheVariants.{Store}
@@ -18,6 +18,7 @@ use Rattle.kept_tables.specs.Tables.{Tables, first_rule, never_adopted}
 use Rattle.kept_tables.specs.TablesOf.{close_entries, tables_of}
 use Rattle.table_readings.specs.BookIn.{rulings_in, tariff_read}
 use Rattle.table_readings.specs.FromCalls.{IsFromCalls}
+use Rattle.tree_tables.specs.Answers.{last_number}
 use Rattle.tree_tables.specs.Columns.{closed_columns, tariff_columns}
 use Rattle.tree_tables.specs.Fits.{CloseFits, RowsFit, TariffFits}
 use Rattle.tree_tables.specs.Holds.{Holds}
@@ -28,7 +29,6 @@ use Rattle.tree_tables.specs.declared.closed_rows.Close.{Close}
 use Rattle.tree_tables.specs.declared.tariff_rows.StoredTariff.{StoredTariff}
 use Rattle.table_ledger.specs.Commits.{Keeping}
 use Rattle.table_ledger.specs.Shelf.{Shelf, seen_on}
-use Rattle.table_ledger.specs.Summaries.{ruled_in}
 use Rattle.table_ledger.specs.declared.summary.Summary.{Summary}
 
 -- want of memory, or another fault of the store
@@ -72,26 +72,30 @@ pub record AreCloses (rows : List Close) (closes : List ℤ) : Type 0 where
   pub days : All IsDay closes
   pub in_order : IsStrictlySortedBy int_cmp closes
 
--- rows are those of a book of these rulings, which are within the office's limits
-pub record AreRowsOf (row : Stored) (texts : List StoredTariff) (days : List Close)
+-- rows are those of a book of these rulings, of which so many are choices, within the office's limits
+pub record AreRowsOf (row : Stored) (texts : List StoredTariff) (days : List Close) (choices : ℕ)
     (rulings : Rulings) : Type 0 where
   pub book : IsBookRow row
   pub tariffs : AllZip TellsTariff texts rulings.tariffs
   pub rising : are_rising rulings.tariffs ≡ true
   pub closes : AreCloses days rulings.closes
   pub few : length rulings.closes < last_period
+  pub chosen : choices ≤ most_choices
 
 -- the summary is what the rows show
-pub record Shows (row : Stored) (texts : List StoredTariff) (days : List Close)
+pub record Shows (row : Stored) (texts : List StoredTariff) (days : List Close) (choices : ℕ)
     (summary : Summary) : Type 0 where
   pub tariffs : AllZip SaysTariff texts summary.tariffs.items
   pub closes : AllZip HasDay days summary.closes.items
+  pub made : summary.choices ≡ choices
   pub held : summary.held ≡ row.held
   pub total : summary.total ≡ row.amount
 
 -- the summary is what the tables say
 pub record Recalls (summary : Summary) (tables : Tables) : Type 0 where
-  pub rulings : ruled_in summary ≡ rulings_in tables
+  pub tariffs : summary.tariffs.items ≡ (rulings_in tables).tariffs
+  pub closes : summary.closes.items ≡ (rulings_in tables).closes
+  pub choices : summary.choices ≡ last_number tables.choices
   pub held : summary.held ≡ tables.book.held
   pub total : summary.total ≡ tables.book.amount
 
@@ -106,10 +110,11 @@ abbrev pub IsRecalled : Tables → Result Summary LedgerFault → Type 0
 IsRecalled tables (Ok summary) = Recalls summary tables
 IsRecalled tables (Err fault) = IsStoreFault fault × (fault ≡ Store → AreOfNone tables)
 
--- the rows of tariffs and closes fit, so that they can be listed
+-- the rows of tariffs and closes fit, so that they can be listed, and so does the last choice's number
 pub record CanBeListed (tables : Tables) : Type 0 where
   pub tariffs : RowsFit TariffFits (map tariff_columns (entries tables.tariffs))
   pub closes : RowsFit CloseFits (map closed_columns (entries tables.closes))
+  pub choices : last_number tables.choices < 2 ^ 32
 
 -- the texts of the tariffs are such of characters, as any text that a call is given
 abbrev pub HasTexts : Book → Type 0

@@ -9,7 +9,7 @@ use Rattle.book_model.specs.declared.fault.LedgerFault.{LedgerFault}
 use Rattle.book_model.specs.declared.fault.LedgerFault.TheVariants.{TariffDate, TariffExists}
 use Rattle.table_ledger.specs.declared.summary.Summary.{Summary}
 
--- the tariffs and the closes that a ledger remembers
+-- The tariffs and the closes that a ledger remembers. Of the choices it remembers how many were made.
 abbrev pub ruled_in : Summary → Rulings
 ruled_in summary =
     record no_rulings { tariffs = summary.tariffs.items; closes = summary.closes.items }

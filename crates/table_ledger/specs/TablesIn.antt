@@ -1,14 +1,14 @@
 -- The tables that trees tell, whatever they hold.
 use Rattle.std.specs.Prelude.{ℕ, ℤ, pos, negsuc, Bool, List, [], ◌∷◌, map, ◌==◌, not, Option, Some}
 use Rattle.std.specs.Prelude.{None}
-use Rattle.std.specs.FinMap.{empty, from_entries}
+use Rattle.std.specs.FinMap.{from_entries}
 use Rattle.sqlite_trees.specs.Tree.{Trees}
 use Rattle.sqlite_value.specs.Order.{Row, column, bytes}
 use Rattle.sqlite_value.specs.declared.value.Value.{Value}
 use Rattle.sqlite_value.specs.declared.value.Value.TheVariants.{Int, Text}
 use Rattle.book_model.specs.declared.row.ChargeRow.{ChargeRow}
 use Rattle.book_model.specs.declared.row.RowKey.{RowKey}
-use Rattle.kept_tables.specs.Tables.{BookRow, RecordRow, Tables}
+use Rattle.kept_tables.specs.Tables.{BookRow, ChoiceRow, RecordRow, Tables}
 
 -- the number that a value is
 abbrev pub number_of : Value → ℤ
@@ -77,6 +77,10 @@ day_in row =
 abbrev pub line_in : Row → (ℕ × List ℕ) × Bool
 line_in row = ((count_in row 0, bytes (column row 1)), mark_in row 2)
 
+abbrev pub choice_in : Row → ℕ × ChoiceRow
+choice_in row =
+    (count_in row 0, record { name = bytes (column row 1); period = count_in row 2 })
+
 -- the row of the book, by the first of its tree
 abbrev pub book_row_in : List Row → BookRow
 book_row_in [] = record { rule = 0; adopted = 0; held = 0; amount = 0 }
@@ -93,7 +97,7 @@ tables_in trees = record {
   book = book_row_in (trees 0);
   tariffs = from_entries (map tariff_in (trees 1));
   closes = from_entries (map closed_in (trees 2));
-  choices = empty;
+  choices = from_entries (map choice_in (trees 8));
   records = from_entries (map record_in (trees 3));
   days = from_entries (map day_in (trees 4));
   lines = from_entries (map line_in (trees 5));

@@ -22,10 +22,10 @@ use Rattle.kept_tables.specs.TablesOf.{place_of}
 use Rattle.kept_tables.specs.Tables.{DayTable, RecordRow, Tables}
 use Rattle.kept_tables.proofs.NumberedLemmas.{by_period_total, by_period_exact}
 use Rattle.tree_tables.specs.Columns.{tariff_columns, closed_columns, record_columns}
-use Rattle.tree_tables.specs.Columns.{day_columns, line_columns, flag}
+use Rattle.tree_tables.specs.Columns.{choice_columns, day_columns, line_columns, flag}
 use Rattle.tree_tables.specs.Holds.{ArePlaced, Holds}
 use Rattle.table_ledger.specs.TablesIn.{tables_in, tariff_in, closed_in, record_in, day_in, line_in}
-use Rattle.table_ledger.specs.TablesIn.{book_row_in}
+use Rattle.table_ledger.specs.TablesIn.{book_row_in, choice_in}
 
 -- a mark is read back
 mark_back : (marked : Bool) → not (flag marked == 0) ≡ marked
@@ -131,11 +131,14 @@ tables_read trees tables holds =
     ∙ ap from_entries (all_back line_columns line_in line_back (entries tables.lines))
     ∙ of_entries (by_period_total by_bytes nat_list_cmp_total)
     (by_period_exact by_bytes exact_bytes) tables.lines in
+    let choices = ap (λ rows. from_entries (map choice_in rows)) holds.choices
+    ∙ ap from_entries (all_back choice_columns choice_in (λ choice. refl) (entries tables.choices))
+    ∙ of_entries nat_cmp_total nat_cmp-IsAntisymmetric tables.choices in
     λ i. record {
       book = ap book_row_in holds.book i;
       tariffs = tariffs i;
       closes = closes i;
-      choices = sym holds.choices i;
+      choices = choices i;
       records = records i;
       days = days i;
       lines = lines i;

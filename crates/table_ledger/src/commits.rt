@@ -1,7 +1,8 @@
-//! What a new record writes, in one commit.
+//! What a new record writes, in one commit; and the parts of it that other changes write too.
 
 ghost use Rattle.std.specs.Prelude.{◌≡◌, ◌<◌, ◌^◌, None};
 ghost use Rattle.book_model.specs.Words.{IsPriced};
+ghost use Rattle.kept_tables.specs.Steps as step;
 ghost use Rattle.tree_tables.specs.States.{state};
 ghost use Rattle.tree_tables.specs.Steps.{Always, Does};
 ghost use Rattle.table_ledger.specs.Commits.{CommitsOne};
@@ -9,8 +10,8 @@ ghost use Rattle.table_ledger.specs.DayWrites.{WriteFits};
 ghost use Rattle.table_ledger.specs.Entries as entry_spec;
 ghost use Rattle.table_ledger.specs.Entries.{IsNew};
 
-use crate::day_write::DayWrite;
-use book_core::{Effects, LineChange};
+use crate::day_write::{DayWrite, look_for_day};
+use book_core::{DayChange, Effects, LineChange};
 use sqlite_trees::error::StoreError;
 use sqlite_trees::store::Store;
 use tree_tables::{DayPlace, DayRow, LinePlace, NewRecord, Sums, TreeTables};
@@ -42,8 +43,21 @@ pub(crate) fn write_day<S: Store>(
     }
 }
 
+/// A price joins the charge rows of a period, or leaves them.
+pub(crate) fn change_day<S: Store>(
+    tables: &mut TreeTables<S>,
+    period: u16,
+    change: &Option<DayChange>,
+) -> Result<(), StoreError>
+    ensures does { Does result (state S.Store tables.old.store) (state S.Store tables.new.store)
+        Always (step.change_day_row period change.now) }
+{
+    let write = look_for_day(tables, period, change)?;
+    write_day(tables, period, &write)
+}
+
 /// Writes a line, or deletes it.
-fn write_line<S: Store>(
+pub(crate) fn write_line<S: Store>(
     tables: &mut TreeTables<S>,
     period: u16,
     change: &Option<LineChange>,
@@ -62,7 +76,7 @@ fn write_line<S: Store>(
 }
 
 /// Takes the mark from a record that is charged no more.
-fn write_mark<S: Store>(
+pub(crate) fn write_mark<S: Store>(
     tables: &mut TreeTables<S>,
     unmark: &Option<[u8; 32]>,
 ) -> Result<(), StoreError>

@@ -1,11 +1,12 @@
-//! Identities that two or more records have.
+//! Identities that two or more records have, none of which was chosen.
 
-ghost use Rattle.std.specs.Prelude.{◌≡◌, All, IfErr, IfOk, IsTrue, false, map};
+ghost use Rattle.std.specs.Prelude.{◌≡◌, All, IfErr, IfOk, IsTrue, false, filter, map};
 ghost use Rattle.tree_tables.specs.States.{state};
 ghost use Rattle.book_model.specs.Words.{AreDisputes, dispute_shown, disputes_outcome, Naming};
 ghost use Rattle.tree_tables.specs.Stored.{stored_entry};
 ghost use Rattle.table_readings.specs.DisputesRead as reading;
 ghost use Rattle.table_readings.specs.DisputesRead.{join_last, of_one, variant_read};
+ghost use Rattle.tree_tables.specs.Steps.{FailsByStore, Looks};
 ghost use Rattle.table_ledger.specs.DisputeReads.{IsShownRow};
 ghost use Rattle.table_ledger.specs.RecordReads.{HasWideNames, IsUsageData};
 ghost use Rattle.table_ledger.specs.Tries.{Tries, TriesItsOwn};
@@ -74,6 +75,9 @@ fn alone(alloc: Global, stored: &StoredRecord) -> Result<Dispute, StoreError>
 fn join(alloc: Global, found: &mut Vec<Dispute>, stored: &StoredRecord) -> Result<(), StoreError>
     ensures joined { IfOk result (λ joined. map dispute_shown found.new.items
         ≡ join_last (map dispute_shown found.old.items) (stored_entry stored.now)) }
+    ensures shown { IfOk result (λ joined. IsShownRow (stored_entry stored.now)
+        → AreDisputes (map dispute_shown found.old.items)
+        → AreDisputes (map dispute_shown found.new.items)) }
     ensures taken { IfErr result (λ error. IsUsageData stored.now.data_bytes.items
         → error ≡ StoreError.OutOfMemory) }
 {
@@ -91,21 +95,33 @@ fn join(alloc: Global, found: &mut Vec<Dispute>, stored: &StoredRecord) -> Resul
     Ok(())
 }
 
-/// Records that are in order, in groups: neighbours of one identity are one dispute.
-fn grouped(alloc: Global, rows: &[StoredRecord]) -> Result<Vec<Dispute>, StoreError>
-    ensures grouped { IfOk result (λ found. map dispute_shown found.items
-        ≡ reading.grouped (map stored_entry rows.now)) }
-    ensures taken { IfErr result (λ error. All (λ row. IsUsageData row.data_bytes.items) rows.now
-        → error ≡ StoreError.OutOfMemory) }
+/// Records that are not charged and in order, in groups: neighbours of one identity are one dispute.
+/// Where another of the identity is charged, that was chosen, and they are left out.
+fn grouped<S: Store>(
+    tables: &mut TreeTables<S>,
+    alloc: Global,
+    rows: &[StoredRecord],
+) -> Result<Vec<Dispute>, StoreError>
+    requires shown { All (λ row. IsShownRow (stored_entry row)) rows.now }
+    ensures looks { Looks result (state S.Store tables.old.store) (state S.Store tables.new.store)
+        (λ tables found. map dispute_shown found.items ≡ reading.grouped
+        (filter (reading.is_unsettled tables.records) (map stored_entry rows.now))) }
+    ensures shown { IfOk result (λ found. AreDisputes (map dispute_shown found.items)) }
+    ensures cause { FailsByStore result (state S.Store tables.old.store)
+        (state S.Store tables.new.store)
+        (λ tables. All (λ row. IsUsageData row.data_bytes.items) rows.now) }
 {
     let mut found = Vec::new(alloc);
     for stored in rows {
-        join(alloc, &mut found, stored)?;
+        if !tables.has_charged(&stored.identity)? {
+            join(alloc, &mut found, stored)?;
+        }
     }
     Ok(found)
 }
 
-/// The identities of two or more records, by their bytes, each with its records by name.
+/// The identities of two or more records, none of which was chosen, by their bytes, each with its
+/// records by name.
 pub(crate) fn try_disputes<S: Store>(
     tables: &mut TreeTables<S>,
     summary: &Summary,
@@ -124,5 +140,5 @@ pub(crate) fn try_disputes<S: Store>(
     if !can_show(&rows) {
         return Err(StoreError::Corrupt);
     }
-    Ok(Ok(grouped(alloc, &rows)?))
+    Ok(Ok(grouped(tables, alloc, &rows)?))
 }

@@ -4,7 +4,7 @@ ghost use Rattle.std.specs.Prelude.{◌≡◌, false, map};
 ghost use Rattle.tree_tables.specs.States.{state};
 ghost use Rattle.book_core.specs.Effects.{HasOnly, effects_of};
 ghost use Rattle.tree_tables.specs.Stored.{stored_entry};
-ghost use Rattle.kept_tables.specs.Views.{rows_with};
+ghost use Rattle.kept_tables.specs.Views.{member_at, rows_with};
 ghost use Rattle.table_readings.specs.AcceptRead.{view_with};
 ghost use Rattle.tree_tables.specs.Steps.{Looks};
 
@@ -15,18 +15,25 @@ use std::alloc::Global;
 use tariff_rules::Priced;
 use tree_tables::{StoredRecord, TreeTables};
 
+/// A record as a member of its identity.
+pub(crate) fn member_of(stored: &StoredRecord) -> Member
+    ensures { result ≡ member_at (stored_entry stored.now) }
+{
+    Member {
+        name: stored.name,
+        priced: stored.priced,
+        charged: stored.charged,
+        posted: stored.posted,
+    }
+}
+
 /// The view of records that share an identity, two at most.
 fn view(through: Option<i32>, sharing: &[StoredRecord]) -> View
     ensures view { result ≡ view_with through (map stored_entry sharing.now) }
     ensures only { HasOnly result }
 {
     let only = match sharing {
-        [member] => Some(Member {
-            name: member.name,
-            priced: member.priced,
-            charged: member.charged,
-            posted: member.posted,
-        }),
+        [member] => Some(member_of(member)),
         _ => None,
     };
     View {

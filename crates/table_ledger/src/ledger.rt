@@ -6,6 +6,7 @@ mod opening;
 use crate::accept::try_accept;
 use crate::adjustments::try_adjustments;
 use crate::charges::try_charges;
+use crate::choices::try_choose;
 use crate::close::try_close;
 use crate::disputes::try_disputes;
 use crate::periods::try_periods;
@@ -57,6 +58,14 @@ impl<S: Store, N: Naming + Drop> Ledger for TableLedger<S, N> {
             &mut self.summary,
             &Close { period, through },
         );
+        settle(&mut self.tables, &mut self.must_reopen, tried)
+    }
+
+    fn choose(&mut self, name: [u8; 32]) -> Result<Ruled, LedgerFault> {
+        if self.must_reopen {
+            return Err(LedgerFault::Reopen);
+        }
+        let tried = try_choose(&mut self.tables, self.alloc, &mut self.summary, name);
         settle(&mut self.tables, &mut self.must_reopen, tried)
     }
 

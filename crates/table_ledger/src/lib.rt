@@ -5,6 +5,7 @@
 mod accept;
 mod adjustments;
 mod charges;
+mod choices;
 mod close;
 mod commits;
 mod day_write;

@@ -1,11 +1,11 @@
 //! The summary of a book, read from its tables.
 
-ghost use Rattle.std.specs.Prelude.{◌≡◌, ◌<◌, ◌≤◌, IfErr, IfOk, IsTrue, List, None, false, length};
+ghost use Rattle.std.specs.Prelude.{◌≡◌, ◌⊎◌, ◌<◌, ◌≤◌, IfErr, IfOk, IsTrue, List, None, false, length};
 ghost use Rattle.std.specs.Prelude.{true, ℤ};
 ghost use Rattle.std.specs.List.{AllZip, last_or};
 ghost use Rattle.tree_tables.specs.States.{state};
 ghost use Rattle.book_model.specs.Words.{Rulings, Tariffed, are_rising, last_period, most_cost};
-ghost use Rattle.book_model.specs.Words.{most_held};
+ghost use Rattle.book_model.specs.Words.{most_choices, most_held};
 ghost use Rattle.tree_tables.specs.Steps.{FailsByStore, Looks};
 ghost use Rattle.table_ledger.specs.Recalled.{AreCloses, AreRowsOf, CanBeListed, HasDay, IsBookRow};
 ghost use Rattle.table_ledger.specs.Recalled.{IsNextClose, IsOpenFault, IsRecalled, IsStoreFault};
@@ -14,7 +14,7 @@ ghost use Rattle.table_ledger.specs.Recalled.{Reads, ReadsItsOwn, SaysTariff, Sh
 use crate::settle::fault_of;
 use crate::summary::Summary;
 use book_core::{
-    AcceptedTariff, LAST_PERIOD, LedgerFault, MAX_COST, MAX_HELD, are_before, is_after,
+    AcceptedTariff, LAST_PERIOD, LedgerFault, MAX_CHOICES, MAX_COST, MAX_HELD, are_before, is_after,
 };
 use smf_text::{FIRST_DAY, LAST_DAY};
 use sqlite_trees::error::StoreError;
@@ -126,34 +126,38 @@ fn is_kept(row: &StoredBook) -> bool
         && row.amount <= MAX_COST
 }
 
-/// There are fewer closes than there may be periods.
-fn are_few(closes: &[i32]) -> bool
+/// There are fewer closes than there may be periods, and no more choices than there may be.
+fn are_few(closes: &[i32], choices: u32) -> bool
     ensures few { result ≡ true → length closes.now < last_period }
-    ensures many { result ≡ false → last_period ≤ length closes.now }
+    ensures chosen { result ≡ true → choices ≤ most_choices }
+    ensures many { result ≡ false
+        → (last_period ≤ length closes.now) ⊎ (most_choices < choices) }
 {
-    closes.len() < LAST_PERIOD as usize
+    closes.len() < LAST_PERIOD as usize && choices as usize <= MAX_CHOICES
 }
 
-/// The summary of the rows, where they are those of a book.
+/// The summary of the rows, where they are those of a book; the last of its choices has this number.
 fn summary_of(
     alloc: Global,
     row: &StoredBook,
     tariffs: &[StoredTariff],
     closes: &[Close],
+    choices: u32,
 ) -> Result<Summary, LedgerFault>
-    ensures shows { IfOk result (Shows row.now tariffs.now closes.now) }
+    ensures shows { IfOk result (Shows row.now tariffs.now closes.now choices) }
     ensures kinds { IfErr result IsStoreFault }
     ensures refused { IfErr result (λ fault. fault ≡ LedgerFault.Store
-        → (rulings : Rulings) → ¬ AreRowsOf row.now tariffs.now closes.now rulings) }
+        → (rulings : Rulings) → ¬ AreRowsOf row.now tariffs.now closes.now choices rulings) }
 {
     let tariffs = tariffs_of(alloc, tariffs)?;
     let closes = days_of(alloc, closes)?;
-    if !is_kept(row) || !are_few(&closes) {
+    if !is_kept(row) || !are_few(&closes, choices) {
         return Err(LedgerFault::Store);
     }
     Ok(Summary {
         tariffs,
         closes,
+        choices,
         held: row.held as usize,
         total: row.amount,
     })
@@ -175,7 +179,8 @@ fn look_for_summary<S: Store>(
     };
     let tariffs = tables.list_tariffs(alloc)?;
     let closes = tables.list_closes(alloc)?;
-    Ok(summary_of(alloc, &row, &tariffs, &closes))
+    let choices = tables.last_choice()?;
+    Ok(summary_of(alloc, &row, &tariffs, &closes, choices))
 }
 
 /// Reads the summary of the book that a store keeps, if it keeps one.

@@ -11,8 +11,8 @@ ghost use Rattle.tree_tables.specs.Steps.{Always, Does, Looks};
 ghost use Rattle.tree_tables.specs.Stored.{IsAsRead, stored_entry};
 ghost use Rattle.table_ledger.specs.Repricing.{CanCost, CostUnder, price_under};
 
-use crate::commits::write_day;
-use crate::day_write::{key_of, look_for_day, look_for_turn};
+use crate::commits::{change_day, write_day};
+use crate::day_write::{key_of, look_for_turn};
 use crate::stored_usage::usage_bytes;
 use book_core::{DayChange, MAX_COST};
 use smf_type30::Type30;
@@ -83,19 +83,6 @@ pub(crate) fn cost_under<S: Store>(
     }
     // Only a disk that lies has more rows.
     Err(StoreError::Corrupt)
-}
-
-/// A price joins the charge rows of a period, or leaves them.
-fn change_day<S: Store>(
-    tables: &mut TreeTables<S>,
-    period: u16,
-    change: &Option<DayChange>,
-) -> Result<(), StoreError>
-    ensures does { Does result (state S.Store tables.old.store) (state S.Store tables.new.store)
-        Always (step.change_day_row period change.now) }
-{
-    let write = look_for_day(tables, period, change)?;
-    write_day(tables, period, &write)
 }
 
 /// A price takes the place of another in the charge rows of a period: that leaves its row, and this

@@ -1,20 +1,24 @@
 //! What a ledger in tables remembers of its book, so that it looks up no more than it has to.
 
 ghost use Rattle.std.specs.Prelude.{◌≡◌, ◌≢◌, ◌≤◌, ◌<◌, All, Ok, false, length, true};
-ghost use Rattle.book_model.specs.Words.{IsDay, last_period, most_cost, most_held, are_rising};
+ghost use Rattle.book_model.specs.Words.{IsDay, last_period, most_choices, most_cost, most_held};
+ghost use Rattle.book_model.specs.Words.{are_rising};
 
 use book_core::{
     AcceptedTariff, LAST_PERIOD, LedgerFault, Ruled, are_before, has_day_of, has_text, is_after,
 };
 use tariff_rules::Tariff;
 
-/// The office's rulings, and the sums of the records that are held.
+/// The office's tariffs and closes, how many choices it made, and the sums of the records that are
+/// held.
 #[derive(Drop)]
 pub(crate) struct Summary {
     /// In the order of their first days.
     pub(crate) tariffs: Vec<AcceptedTariff>,
     /// The days through which periods were closed, in order.
     pub(crate) closes: Vec<i32>,
+    /// How many choices were made.
+    pub(crate) choices: u32,
     /// How many records are held.
     pub(crate) held: usize,
     /// What they cost together.
@@ -22,6 +26,7 @@ pub(crate) struct Summary {
     ghost rising: { are_rising tariffs.items ≡ true },
     ghost days: { All IsDay closes.items },
     ghost few: { length closes.items < last_period },
+    ghost chosen: { choices ≤ most_choices },
     ghost room: { held ≤ most_held },
     ghost small: { total ≤ most_cost },
 }

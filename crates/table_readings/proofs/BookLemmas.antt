@@ -14,6 +14,7 @@ use Rattle.kept_tables.specs.TablesOf.{tables_of}
 use Rattle.table_readings.specs.BookIn.{close_after, charged_before, period_in, past_in, book_in}
 use Rattle.table_readings.specs.Laws.{BookFollows, TablesTell}
 use Rattle.table_readings.specs.Readable.{IsReadable, chained}
+use Rattle.table_readings.proofs.ChoiceReading.{choices_back}
 use Rattle.table_readings.proofs.LineSides.{added_back, taken_back}
 use Rattle.table_readings.proofs.RecordReading.{held_back, posted_back}
 use Rattle.table_readings.proofs.RulingsReading.{tariffs_back, closes_back}
@@ -105,12 +106,13 @@ module _ (naming : Naming) (book : Book) (whole : IsReadable naming book) where
   read_back =
       let closes = closes_back days in
       let tariffs = tariffs_back book.rulings.tariffs whole.rising whole.texts in
+      let choices = choices_back naming book whole.sound whole.lines.framed in
       let posted = posted_back naming book whole.sound whole.lines.framed in
       same_book
       (λ i. record {
         tariffs = tariffs i;
         closes = closes i;
-        choices = sym whole.unchosen i;
+        choices = choices i;
         adopted = sym whole.first_rule i;
       })
       (held_back naming book whole.sound whole.lines.framed)

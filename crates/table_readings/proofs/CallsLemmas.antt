@@ -2,7 +2,8 @@
 use Rattle.std.proofs.Common.{◌≡◌, ℕ, List, [], ◌∷◌, refl, ap, ◌∙◌, subst, Some, Ok}
 use Rattle.std.specs.Prelude.{ℤ}
 use Rattle.book_model.specs.Words.{IsDay, Terms, accept_answer, Book, open_number, RecordKept}
-use Rattle.book_model.specs.Words.{TariffAccepted, PeriodClosed, keep, put_in_force, close, Naming}
+use Rattle.book_model.specs.Words.{TariffAccepted, PeriodClosed, RecordChosen, keep, put_in_force}
+use Rattle.book_model.specs.Words.{close, choose, choose_answer, record_named, name_of, Naming}
 use Rattle.book_model.specs.Words.{terms_answer, close_answer, Rulings, with_tariff}
 use Rattle.book_model.specs.declared.answer.Accepted.TheVariants.{Kept}
 use Rattle.book_model.specs.declared.answer.Ruled.TheVariants.{Done}
@@ -10,6 +11,7 @@ use Rattle.book_model.proofs.AnsweredLemmas.{rulings_are}
 use Rattle.kept_tables.proofs.CloseDays.{closed_open}
 use Rattle.table_readings.specs.FromCalls.{ArePriced, IsFromCalls, IsHandedIn, IsReadFrom}
 use Rattle.table_readings.specs.Laws.{CallsStay}
+use Rattle.table_readings.proofs.Finding.{named_so}
 
 -- a record that is kept
 keep_made : (naming : Naming) (book : Book) (bytes : List ℕ) → IsFromCalls naming book
@@ -62,6 +64,29 @@ close_made naming book number day made on done =
       left = ap (close day) made.left;
     }
 
+-- a record that is chosen: it is the one of its own name
+choose_made : (naming : Naming) (book : Book) (name bytes : List ℕ) → IsFromCalls naming book
+    → choose_answer naming book name ≡ Ok Done
+    → record_named naming book.held name ≡ Some bytes → IsFromCalls naming (choose bytes book)
+choose_made naming book name bytes made done found =
+    let own = named_so naming book.held name bytes found in
+    let done_too : choose_answer naming book (name_of naming bytes) ≡ Ok Done =
+    ap (choose_answer naming book) own ∙ done in
+    let found_too : record_named naming book.held (name_of naming bytes) ≡ Some bytes =
+    ap (record_named naming book.held) own ∙ found in
+    record {
+      history = RecordChosen bytes ∷ made.history;
+      answered = (
+        subst (λ before. choose_answer naming before (name_of naming bytes) ≡ Ok Done) made.left
+            done_too,
+        made.answered,
+        subst (λ (before : Book). record_named naming before.held (name_of naming bytes)
+            ≡ Some bytes) made.left found_too,
+      );
+      handed_in = made.handed_in;
+      left = ap (choose bytes) made.left;
+    }
+
 -- the law of it
 pub calls_stay : CallsStay
 calls_stay = record {
@@ -69,4 +94,5 @@ calls_stay = record {
   keep = keep_made;
   tariff = tariff_made;
   close = close_made;
+  choose = choose_made;
 }

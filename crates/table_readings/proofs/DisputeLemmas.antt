@@ -1,8 +1,7 @@
 -- The disputes are answered from the tables.
 use Rattle.std.proofs.Common.{◌≡◌, ℕ, List, [], ◌∷◌, map, length, refl, sym, ap, ◌∙◌, true, Ok}
-use Rattle.std.proofs.Common.{arith, subst, Bool, not, ◌&&◌}
-use Rattle.std.specs.Prelude.{◌<◌, filter}
-use Rattle.std.proofs.Math.Bool.{and-true}
+use Rattle.std.proofs.Common.{arith, subst, not}
+use Rattle.std.specs.Prelude.{◌<◌}
 use Rattle.std.specs.List.{AllByRecursion}
 use Rattle.std.specs.List.Sorted.{IsStrictlySortedBy}
 use Rattle.std.specs.Ordering.{is_eq}
@@ -10,22 +9,23 @@ use Rattle.std.specs.declared.cmp.Ordering.TheVariants.{Less}
 use Rattle.std.proofs.lemmas.Bool.Decides.{nat_tests}
 use Rattle.std.proofs.lemmas.List.Elements.{filter_map-append}
 use Rattle.book_model.specs.Words.{Book, Disputed, dispute_at, disputes_in, identities}
-use Rattle.book_model.specs.Words.{is_in_dispute, reading, Naming, by_bytes, same_bytes}
+use Rattle.book_model.specs.Words.{is_in_dispute, is_settled, reading, Naming, by_bytes, same_bytes}
 use Rattle.book_model.specs.Words.{identity_by, has}
-use Rattle.book_model.proofs.RecordSets.{second_of}
-use Rattle.book_model.proofs.UnchosenLemmas.{none_settled}
+use Rattle.book_model.proofs.RecordSets.{first_of, second_of}
 use Rattle.kept_tables.specs.TablesOf.{tables_of}
 use Rattle.table_readings.specs.ListLaws.{DisputesFollow}
 use Rattle.table_readings.specs.DisputesRead.{NamedRow, grouped, disputes_read, disputed_among}
+use Rattle.table_readings.specs.DisputesRead.{is_unsettled, uncharged_among}
 use Rattle.table_readings.specs.Readable.{IsReadable}
-use Rattle.table_readings.proofs.DisputedIdentities.{shared, is_shared, shared_rises}
+use Rattle.table_readings.proofs.DisputedIdentities.{disputed, disputed_rises, is_shared}
 use Rattle.table_readings.proofs.DisputedRecords.{block, block_own, in_block, flat}
 use Rattle.table_readings.proofs.DisputedRows.{AreListed, listed_entries, first_entry, each_entry}
-use Rattle.table_readings.proofs.DisputedRows.{disputed_are, all_shown, rows_in_order}
+use Rattle.table_readings.proofs.DisputedRows.{disputed_are, all_shown}
 use Rattle.table_readings.proofs.GroupingLemmas.{grouped-push, grouped-append, join_all, one_group}
 use Rattle.table_readings.proofs.GroupingLemmas.{of_rows, StartsOther}
 use Rattle.table_readings.proofs.ListOrder.{all_passing}
 use Rattle.table_readings.proofs.RecordReading.{entry}
+use Rattle.table_readings.proofs.RowOrder.{rows_in_order, rows_left}
 use Rattle.table_readings.proofs.Texts.{same_is}
 
 module _ (naming : Naming) (book : Book) (whole : IsReadable naming book) where
@@ -68,6 +68,13 @@ module _ (naming : Naming) (book : Book) (whole : IsReadable naming book) where
   starts_other id [] less = tt
   starts_other id (next ∷ ids) less = same_is id next ∙ ap is_eq less.0
 
+  -- an identity in dispute is one that two or more have
+  pub two_or_more : (id : List ℕ) → is_in_dispute naming book.rulings book.held id ≡ true
+      → is_shared naming book.rulings book.held id ≡ true
+  two_or_more id in_dispute =
+      first_of (is_shared naming book.rulings book.held id) (not (is_settled book.rulings id))
+      in_dispute
+
   -- the rows of an identity in front of other disputes are its dispute
   block_grouped : (id : List ℕ) (others : List Disputed)
       → is_shared naming book.rulings book.held id ≡ true → StartsOther id others
@@ -86,39 +93,27 @@ module _ (naming : Naming) (book : Book) (whole : IsReadable naming book) where
 
   -- so are those of several identities
   flat_grouped : (ids : List (List ℕ)) → IsStrictlySortedBy by_bytes ids
-      → AllByRecursion (λ id. is_shared naming book.rulings book.held id ≡ true) ids
+      → AllByRecursion (λ id. is_in_dispute naming book.rulings book.held id ≡ true) ids
       → grouped (rows_of_records (flat naming book.rulings book.held ids)) ≡ map dispute ids
   unfolding IsStrictlySortedBy
-  flat_grouped [] rising two = refl
-  flat_grouped (id ∷ ids) rising two =
+  flat_grouped [] rising open_all = refl
+  flat_grouped (id ∷ ids) rising open_all =
       let rest : List (List ℕ) = flat naming book.rulings book.held ids in
       ap grouped (filter_map-append (entry naming book whole.sound) (works_of id) rest)
       ∙ grouped-append (rows_of_records (works_of id)) (rows_of_records rest)
-      ∙ ap (join_all (rows_of_records (works_of id))) (flat_grouped ids rising.1 two.1)
-      ∙ block_grouped id (map dispute ids) two.0 (starts_other id ids rising.0)
-
-  -- identities in dispute are those that two or more have, as none was chosen
-  in_dispute : (id : List ℕ) → is_shared naming book.rulings book.held id
-      ≡ is_in_dispute naming book.rulings book.held id
-  in_dispute id =
-      let two : Bool = is_shared naming book.rulings book.held id in
-      sym ((λ i. two && not (none_settled book.rulings whole.unchosen id i)) ∙ and-true two)
-
-  -- so these have the disputes
-  pub shared_disputed : map dispute (shared naming book.rulings book.held)
-      ≡ disputes_in naming book.rulings book.held
-  shared_disputed = λ i.
-      map dispute (filter (λ id. in_dispute id i) (identities book.rulings book.held))
+      ∙ ap (join_all (rows_of_records (works_of id))) (flat_grouped ids rising.1 open_all.1)
+      ∙ block_grouped id (map dispute ids) (two_or_more id open_all.0)
+      (starts_other id ids rising.0)
 
   -- and the disputes are read of the rows
   pub disputes_are : disputes_read (tables_of naming book)
       ≡ disputes_in naming book.rulings book.held
   disputes_are =
-      ap grouped (disputed_are naming book whole.sound whole.unchosen)
-      ∙ flat_grouped (shared naming book.rulings book.held)
-      (shared_rises naming book.rulings book.held)
-      (all_passing (is_shared naming book.rulings book.held) (identities book.rulings book.held))
-      ∙ shared_disputed
+      ap grouped (disputed_are naming book whole.sound)
+      ∙ flat_grouped (disputed naming book.rulings book.held)
+      (disputed_rises naming book.rulings book.held)
+      (all_passing (is_in_dispute naming book.rulings book.held)
+      (identities book.rulings book.held))
 
 -- the law of it
 pub disputes_follow : DisputesFollow
@@ -127,5 +122,8 @@ disputes_follow = record {
       ap (λ found. reading (Ok found)) (sym (disputes_are naming book whole));
   in_order = λ naming book rows whole same rising.
       rows_in_order rows (disputed_among (tables_of naming book).records) same rising;
+  unsettled = λ naming book rows whole same rising.
+      rows_left (is_unsettled (tables_of naming book).records) rows
+      (uncharged_among (tables_of naming book).records) same rising;
   push = grouped-push;
 }

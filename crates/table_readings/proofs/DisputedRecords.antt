@@ -1,6 +1,6 @@
 -- The records in dispute, by identity, then name.
 use Rattle.std.proofs.Common.{◌≡◌, ℕ, List, [], ◌∷◌, ◌++◌, refl, sym, ap, ◌∙◌, true, false}
-use Rattle.std.proofs.Common.{true≢false, Bool, ◌&&◌, ◌||◌}
+use Rattle.std.proofs.Common.{Bool, ◌&&◌, ◌||◌}
 use Rattle.std.specs.Prelude.{filter}
 use Rattle.std.specs.Cmp.{IsTotalOrder, tied_itself}
 use Rattle.std.specs.FinMap as fin
@@ -13,31 +13,15 @@ use Rattle.std.proofs.lemmas.Cmp.{nat_list_cmp_total, then_total, on_total}
 use Rattle.std.proofs.lemmas.List.Folds.{list_any-append}
 use Rattle.std.proofs.lemmas.Map.Lookups.{exact_bytes}
 use Rattle.book_model.specs.Words.{by_name, records_of, Records, Naming, by_bytes, same_bytes}
-use Rattle.book_model.specs.Words.{Rulings, identity_by, set_of, members, has, those}
-use Rattle.book_model.proofs.RecordSets.{is, has_those, first_of}
-use Rattle.book_model.proofs.SetLemmas.{any-members, members-those, members_rise, fails_too}
+use Rattle.book_model.specs.Words.{Rulings, identity_by, set_of, members, has}
+use Rattle.book_model.proofs.RecordSets.{is, first_of}
+use Rattle.book_model.proofs.SetLemmas.{any-members, members_rise}
 use Rattle.book_model.proofs.SetLemmas.{same_ties}
 use Rattle.book_core.proofs.HeldLemmas.{by_name_total, by_name_exact}
 use Rattle.table_readings.proofs.ListOrder.{all_joined, all_so, all_texts, rise_together}
 use Rattle.table_readings.proofs.ListOrder.{both_equal}
+use Rattle.table_readings.proofs.SetReading.{among-filter}
 use Rattle.table_readings.proofs.Texts.{same_text}
-
--- a record of a set that passes a test is one that does
-pub some_passes : (p : List ℕ → Bool) (s : Records) (bytes : List ℕ) → has s bytes ≡ true
-    → p bytes ≡ true → list_any p (members s) ≡ true
-some_passes p s bytes there passes =
-    elim (list_any p (members s)) as (λ b. list_any p (members s) ≡ b → b ≡ true) [
-      | true ↦ λ e. refl
-      | false ↦ λ none. absurd (true≢false (sym passes
-          ∙ fails_too nat_list_cmp_total exact_bytes p s bytes none there))
-    ] refl
-
--- who is among those members of a set that pass a test
-pub among-filter : (p : List ℕ → Bool) (s : Records) (q : List ℕ)
-    → list_any (is q) (filter p (members s)) ≡ (p q && has s q)
-among-filter p s q =
-    ap (list_any (is q)) (sym (members-those nat_list_cmp_total exact_bytes p s))
-    ∙ sym (fin.contains_key-keys (those p s) q) ∙ has_those p s q
 
 module _ (naming : Naming) (rulings : Rulings) (held : Records) where
   -- the identity of a record

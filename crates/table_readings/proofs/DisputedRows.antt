@@ -1,50 +1,53 @@
 -- The rows of the records in dispute, and what they show.
-use Rattle.std.proofs.Common.{◌≡◌, ℕ, List, [], ◌∷◌, map, refl, sym, ap, ◌∙◌, subst, true, not}
-use Rattle.std.proofs.Common.{◌||◌, Option, Some, None}
-use Rattle.std.specs.Cmp.{IsTotalOrder, tied_itself}
+use Rattle.std.proofs.Common.{◌≡◌, ℕ, List, [], ◌∷◌, map, refl, sym, ap, ◌∙◌, subst, true, false}
+use Rattle.std.proofs.Common.{true≢false, Bool, not, ◌&&◌, ◌||◌, Option, Some, None}
+use Rattle.std.specs.Prelude.{filter}
+use Rattle.std.specs.Cmp.{tied_itself}
+use Rattle.std.specs.FinMap.{entries}
 use Rattle.std.specs.List.{AllByRecursion, list_any, filter_map, cons_option}
 use Rattle.std.specs.List.Sorted.{IsPermutation, IsStrictlySortedBy}
 use Rattle.std.specs.Option.{option_map}
 use Rattle.std.specs.Ordering.{eq_by_cmp}
 use Rattle.std.specs.declared.cmp.Ordering.TheVariants.{Less, Equal}
 use Rattle.std.proofs.Math.Bool.{or-true}
-use Rattle.std.proofs.lemmas.Cmp.{nat_list_cmp_total, then_total, on_total}
+use Rattle.std.proofs.lemmas.Cmp.{nat_list_cmp_total, nat_list_eq_equiv}
 use Rattle.std.proofs.lemmas.List.Sorted.{IsPermutation-sym, IsPermutation-trans}
-use Rattle.std.proofs.lemmas.Map.Keys.{IsDistinct-from_sorted}
 use Rattle.std.proofs.lemmas.Map.Lookups.{exact_bytes}
 use Rattle.book_model.specs.Words.{job_id_of, program_of, completion_of, Book, charged_of}
 use Rattle.book_model.specs.Words.{variant_of, Naming, name_of, by_bytes, price_in, identity_by}
-use Rattle.book_model.specs.Words.{set_of, members, has, IsSound}
+use Rattle.book_model.specs.Words.{set_of, members, has, those, IsSound, Records, is_undisputed}
+use Rattle.book_model.specs.Words.{same_bytes, share_identity}
+use Rattle.book_model.proofs.DisputeLemmas.{disputed_is_uncharged}
+use Rattle.book_model.proofs.ListLemmas.{filter-filter}
 use Rattle.tariff_rules.specs.declared.priced.Priced.{Priced}
 use Rattle.book_model.specs.declared.dispute.Variant.{Variant}
 use Rattle.book_model.proofs.GivenLemmas.{map-filter_map}
-use Rattle.book_model.proofs.PermutedSets.{apart_from_distinct, given_permuted, sorted_members}
-use Rattle.book_model.proofs.PermutedSets.{distinct_permuted}
-use Rattle.book_model.proofs.RecordSets.{is, is_itself, second_of}
+use Rattle.book_model.proofs.PermutedSets.{apart_from_distinct, given_permuted}
+use Rattle.book_model.proofs.RecordSets.{is, is_itself, second_of, has_those, in_those}
+use Rattle.book_model.proofs.RecordSets.{same_records}
+use Rattle.book_model.proofs.SetLemmas.{members-those}
 use Rattle.kept_tables.specs.Reading.{AreFramed}
+use Rattle.kept_tables.specs.Tables.{RecordTable}
 use Rattle.kept_tables.specs.TablesOf.{tables_of}
+use Rattle.kept_tables.specs.Views.{rows_with}
 use Rattle.kept_tables.proofs.TableParts.{what_is}
 use Rattle.table_readings.specs.DisputesRead.{NamedRow, by_identity, variant_read, disputed_among}
-use Rattle.table_readings.specs.DisputesRead.{disputed_rows}
-use Rattle.table_readings.proofs.DisputedIdentities.{shared, works, works_distinct, flat_is}
-use Rattle.table_readings.proofs.DisputedIdentities.{shared_rises}
+use Rattle.table_readings.specs.DisputesRead.{disputed_rows, is_unsettled}
+use Rattle.table_readings.proofs.DisputedIdentities.{disputed, disputed_rises, flat_is, unsettled}
+use Rattle.table_readings.proofs.DisputedIdentities.{works, works_distinct}
 use Rattle.table_readings.proofs.DisputedRecords.{by_work, by_work_total, flat, in_flat, flat_rises}
 use Rattle.table_readings.proofs.ListOrder.{first_two}
-use Rattle.table_readings.proofs.RecordReading.{entry, entry_at, rows_permuted, entries-where}
+use Rattle.table_readings.proofs.RecordReading.{any_row, entry, entry_at, entries-where}
+use Rattle.table_readings.proofs.RecordReading.{rows_permuted}
+use Rattle.table_readings.proofs.RowOrder.{list_any-filter, rows_in_order}
+use Rattle.table_readings.proofs.SetReading.{some_passes}
 
--- rows are in an order by identity, then name
-pub by_identity_total : IsTotalOrder by_identity
-by_identity_total =
-    then_total (on_total (λ (row : NamedRow). row.1.identity) nat_list_cmp_total)
-    (on_total (λ (row : NamedRow). row.0) nat_list_cmp_total)
-
--- rows in that order are the ordered rows of any list that has the same ones
-pub rows_in_order : (rows all : List NamedRow) → IsPermutation rows all
-    → IsStrictlySortedBy by_identity rows → rows ≡ members (set_of by_identity all)
-rows_in_order rows all same rising =
-    let own = IsDistinct-from_sorted by_identity rows rising in
-    sorted_members by_identity_total all rows
-    (distinct_permuted by_identity_total rows all same own) (IsPermutation-sym rows all same) rising
+-- both of two tests, in either order
+both_ways : (a b : Bool) → (a && b) ≡ (b && a)
+both_ways true true = refl
+both_ways true false = refl
+both_ways false true = refl
+both_ways false false = refl
 
 module _ (naming : Naming) (book : Book) (sound : IsSound naming book) where
   -- records that are held
@@ -136,35 +139,100 @@ module _ (naming : Naming) (book : Book) (sound : IsSound naming book) where
       second_of _ (has book.held bytes)
       (sym (in_flat naming book.rulings book.held ids bytes) ∙ among)
 
-  -- the rows that are not charged, in order, are theirs
-  pub disputed_are : book.rulings.choices ≡ [] → disputed_rows (tables_of naming book)
-      ≡ listed_entries (flat naming book.rulings book.held (shared naming book.rulings book.held))
-  disputed_are unchosen =
-      let ids : List (List ℕ) = shared naming book.rulings book.held in
+  -- what is charged
+  abbrev charged : Records
+  charged = charged_of book
+
+  -- the records that are charged
+  charged_among : filter (has charged) (members book.held) ≡ members charged
+  charged_among =
+      let undisputed : List ℕ → Bool = is_undisputed book.rulings book.held in
+      sym (members-those nat_list_cmp_total exact_bytes (has charged) book.held)
+      ∙ ap members (same_records (those (has charged) book.held) charged (λ q.
+      has_those (has charged) book.held q
+      ∙ within (has charged q) (has book.held q) (in_those undisputed book.held q)))
+    where
+      within : (a b : Bool) → (a ≡ true → b ≡ true) → (a && b) ≡ a
+      within true b there = there refl
+      within false b there = refl
+
+  -- a row of a record's identity is charged where a charged record shares it
+  settled_rows : (bytes : List ℕ)
+      → list_any (λ row. row.1.charged)
+      (rows_with (identity_by book.rulings bytes) (tables_of naming book).records)
+      ≡ list_any (share_identity book.rulings bytes) (members charged)
+  settled_rows bytes =
+      let id : List ℕ = identity_by book.rulings bytes in
+      let mark : NamedRow → Bool = λ row. row.1.charged in
+      let own : NamedRow → Bool = λ row. same_bytes row.1.identity id in
+      let share : List ℕ → Bool = share_identity book.rulings bytes in
+      list_any-filter mark own (entries (tables_of naming book).records)
+      ∙ any_row naming book sound (λ row. own row && mark row)
+      (λ x. same_bytes (identity_by book.rulings x) id && has charged x)
+      (λ x priced price. refl)
+      ∙ (λ i. list_any (λ x.
+      both_ways (nat_list_eq_equiv.symm (identity_by book.rulings x) id i) (has charged x) i)
+      (members book.held))
+      ∙ sym (list_any-filter share (has charged) (members book.held))
+      ∙ ap (list_any share) charged_among
+
+  -- so a row is in dispute where nothing of its record's identity is charged
+  disputed_row : (bytes : List ℕ) (priced : Priced)
+      → (is_unsettled (tables_of naming book).records (entry_at naming book sound bytes priced)
+      && not (has charged bytes))
+      ≡ unsettled naming book.rulings book.held bytes
+  disputed_row bytes priced =
+      ap (λ settled. not settled && not (has charged bytes)) (settled_rows bytes)
+      ∙ narrower (list_any (share_identity book.rulings bytes) (members charged))
+      (has charged bytes)
+      (λ was. some_passes (share_identity book.rulings bytes) charged bytes was
+      (nat_list_eq_equiv.refl (identity_by book.rulings bytes)))
+    where
+      narrower : (some own : Bool) → (own ≡ true → some ≡ true) → (not some && not own) ≡ not some
+      narrower true own within = refl
+      narrower false true within = absurd (true≢false (sym (within refl)))
+      narrower false false within = refl
+
+  -- the rows in dispute are those of these records
+  disputed_permuted : IsPermutation (disputed_among (tables_of naming book).records)
+      (listed_entries (works naming book.rulings book.held))
+  disputed_permuted =
+      let records : RecordTable = (tables_of naming book).records in
+      let uncharged : NamedRow → Bool = λ row. not row.1.charged in
+      let each : NamedRow → Bool = λ row. is_unsettled records row && uncharged row in
+      subst (λ xs. IsPermutation xs (listed_entries (works naming book.rulings book.held)))
+      (sym (filter-filter (is_unsettled records) uncharged (entries records)))
+      (subst (IsPermutation (filter each (entries records)))
+      (entries-where naming book sound each (unsettled naming book.rulings book.held)
+      (λ bytes priced price. disputed_row bytes priced))
+      (rows_permuted naming book sound each))
+
+  -- the rows in dispute, in order, are theirs
+  pub disputed_are : disputed_rows (tables_of naming book)
+      ≡ listed_entries (flat naming book.rulings book.held
+      (disputed naming book.rulings book.held))
+  disputed_are =
+      let ids : List (List ℕ) = disputed naming book.rulings book.held in
       let order = by_work naming book.rulings book.held in
       let those_works : List (List ℕ) = works naming book.rulings book.held in
       let all : List NamedRow = disputed_among (tables_of naming book).records in
       let in_order : List (List ℕ) = members (set_of order those_works) in
       let own : listed_entries (flat naming book.rulings book.held ids)
       ≡ listed_entries in_order =
-      ap listed_entries (flat_is naming book.rulings book.held unchosen) in
+      ap listed_entries (flat_is naming book.rulings book.held (λ q there.
+      disputed_is_uncharged naming book q sound there)) in
       let given = given_permuted order (entry naming book sound)
       (by_work_total naming book.rulings book.held) those_works
       (apart_from_distinct (eq_by_cmp order) those_works
       (works_distinct naming book.rulings book.held)) in
-      let rows : IsPermutation all (listed_entries those_works) =
-      subst (IsPermutation all)
-      (entries-where naming book sound (λ row. not row.1.charged)
-      (λ bytes. not (has (charged_of book) bytes)) (λ bytes priced price. refl))
-      (rows_permuted naming book sound (λ row. not row.1.charged)) in
-      let back = IsPermutation-sym all (listed_entries those_works) rows in
+      let back = IsPermutation-sym all (listed_entries those_works) disputed_permuted in
       let same =
       IsPermutation-trans (listed_entries in_order) (listed_entries those_works) all given back in
       sym (rows_in_order (listed_entries (flat naming book.rulings book.held ids)) all
       (subst (λ xs. IsPermutation xs all) (sym own) same)
       (rows_rise (flat naming book.rulings book.held ids) (flat_listed ids)
       (flat_rises naming book.rulings book.held ids
-      (shared_rises naming book.rulings book.held))))
+      (disputed_rises naming book.rulings book.held))))
 
   module _ (framed : AreFramed book.held) where
     -- a row shows its record as the list of disputes does

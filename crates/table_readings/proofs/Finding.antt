@@ -1,15 +1,17 @@
 -- What is found in a table has what each of its rows has.
 use Rattle.std.proofs.Common.{◌≡◌, ℕ, zero, suc, ◌+◌, List, [], ◌∷◌, map, refl, sym, ap, ◌∙◌, subst}
-use Rattle.std.proofs.Common.{true, false, Bool, cond, Option, Some, None, arith}
-use Rattle.std.specs.Prelude.{filter, slice_get}
+use Rattle.std.proofs.Common.{true, false, Bool, cond, ◌||◌, Option, Some, None, arith}
+use Rattle.std.specs.Prelude.{filter, find as find_first, slice_get}
 use Rattle.std.specs.FinMap.{IsAntisymmetric, find, nat_cmp-IsAntisymmetric}
-use Rattle.std.specs.List.{AllByRecursion}
+use Rattle.std.specs.List.{AllByRecursion, list_any}
 use Rattle.std.specs.Ordering.{is_eq, nat_cmp}
 use Rattle.std.specs.declared.cmp.Ordering.{Ordering}
 use Rattle.std.specs.declared.cmp.Ordering.TheVariants.{Less, Equal, Greater}
+use Rattle.book_model.specs.Words.{Naming, Records, members, name_of, record_named, same_bytes}
 use Rattle.book_model.proofs.MapLemmas.{else_find, find-both}
 use Rattle.kept_tables.specs.Numbered.{by_period, under, numbered}
 use Rattle.kept_tables.proofs.NumberedLemmas.{find-under}
+use Rattle.table_readings.proofs.Texts.{same_text}
 
 -- a row that is found is one of the list
 pub find_one : {K V : Type 0} (R : K → K → Ordering) → IsAntisymmetric R
@@ -76,3 +78,35 @@ first_passes p (first ∷ xs) x rest is =
       | true ↦ λ passes own. let same : first ≡ x = cc in ap p (sym same) ∙ passes
       | false ↦ λ fails own. first_passes p xs x rest own
     ] refl is
+
+-- what is found passes the test
+pub found_passes : {X : Type 0} (p : X → Bool) (xs : List X) (x : X) → find_first p xs ≡ Some x
+    → p x ≡ true
+found_passes p [] x found = cc
+found_passes p (first ∷ xs) x found =
+    elim (p first) as (λ b. p first ≡ b → cond b (Some first) (find_first p xs) ≡ Some x
+    → p x ≡ true) [
+      | true ↦ λ passes found. let same : first ≡ x = cc in ap p (sym same) ∙ passes
+      | false ↦ λ fails found. found_passes p xs x found
+    ] refl found
+
+-- where none is found, none passes
+pub found_none : {X : Type 0} (p : X → Bool) (xs : List X) → find_first p xs ≡ None
+    → list_any p xs ≡ false
+found_none p [] none = refl
+found_none {X} p (first ∷ xs) none =
+    elim (p first) as (λ b. cond b (Some first) (find_first p xs) ≡ None
+    → (b || list_any p xs) ≡ false) [
+      | true ↦ λ none. something first none
+      | false ↦ λ none. found_none p xs none
+    ] none
+  where
+    something : (x : X) → Some x ≡ None → (true ≡ false)
+    something x none = cc
+
+-- so the record of a name has it
+pub named_so : (naming : Naming) (held : Records) (name bytes : List ℕ)
+    → record_named naming held name ≡ Some bytes → name_of naming bytes ≡ name
+named_so naming held name bytes found =
+    same_text (name_of naming bytes) name
+    (found_passes (λ other. same_bytes (name_of naming other) name) (members held) bytes found)

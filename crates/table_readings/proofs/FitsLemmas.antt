@@ -1,6 +1,6 @@
 -- 64 bits with a sign hold the numbers of the tables.
 use Rattle.std.proofs.Common.{◌≡◌, ℕ, suc, ◌+◌, List, [], ◌∷◌, map, length, refl, sym, ap}
-use Rattle.std.proofs.Common.{◌∙◌, subst, true, Bool, ◌||◌, Option, Some, None, arith}
+use Rattle.std.proofs.Common.{◌∙◌, subst, true, Bool, ◌||◌, Option, Some, None, is_some, arith}
 use Rattle.std.specs.Prelude.{◌<◌, ◌≤◌, slice_get, sum_by, All, ℤ}
 use Rattle.std.specs.FinMap.{get, find, get-from_entries, int_cmp-IsAntisymmetric}
 use Rattle.std.specs.FinMap as fin
@@ -19,23 +19,26 @@ use Rattle.std.proofs.lemmas.Option.{slice_get_within}
 use Rattle.book_model.specs.Words.{IsDay, IsName, IsPriced, Book, all_periods, open_period}
 use Rattle.book_model.specs.Words.{last_period, Period, Naming, by_bytes, IsUsageRecord, key_of}
 use Rattle.book_model.specs.Words.{by_key, same_key, charged_at, Tariffed, price_in, members, has}
-use Rattle.book_model.specs.Words.{AreAmong, AreHeld}
+use Rattle.book_model.specs.Words.{AreAmong, AreHeld, Choice, IsChoiceOf, most_choices}
 use Rattle.tariff_rules.specs.declared.priced.Priced.{Priced}
 use Rattle.book_model.specs.declared.row.ChargeRow.{ChargeRow}
 use Rattle.book_model.specs.declared.row.RowKey.{RowKey}
 use Rattle.book_model.proofs.RecordSets.{is, is_itself}
 use Rattle.book_model.proofs.RowLemmas.{by_key_total, by_key_exact, same_key_ties}
 use Rattle.kept_tables.specs.Numbered.{numbered}
-use Rattle.kept_tables.specs.Tables.{RecordRow}
-use Rattle.kept_tables.specs.TablesOf.{tariff_entries, close_entries, day_entries, line_entries}
-use Rattle.kept_tables.specs.TablesOf.{tables_of}
+use Rattle.kept_tables.specs.Tables.{ChoiceRow, RecordRow}
+use Rattle.kept_tables.specs.TablesOf.{tariff_entries, choice_entries, close_entries, day_entries}
+use Rattle.kept_tables.specs.TablesOf.{line_entries, tables_of}
 use Rattle.kept_tables.proofs.DayChanges.{row_of, days-found, found_at}
 use Rattle.kept_tables.proofs.HeldPeriods.{one_of, all_held}
+use Rattle.kept_tables.proofs.LineReading.{found_row}
 use Rattle.kept_tables.proofs.NumberedLemmas.{by_period_total}
+use Rattle.kept_tables.proofs.TableParts.{what_is}
 use Rattle.table_readings.specs.AnswerLaws.{NumbersFit}
 use Rattle.table_readings.specs.BookIn.{record_of}
-use Rattle.table_readings.specs.Fits.{IsPeriod, RecordFits, DayFits, TablesFit}
-use Rattle.table_readings.specs.Readable.{IsTexted, IsReadable}
+use Rattle.table_readings.specs.Fits.{IsPeriod, RecordFits, ChoiceFits, DayFits, TablesFit}
+use Rattle.table_readings.specs.Readable.{IsContested, IsTexted, IsReadable}
+use Rattle.table_readings.proofs.ChoiceReading.{choices_count}
 use Rattle.table_readings.proofs.Finding.{find_one, find_numbered, one_mapped, first_passes}
 use Rattle.table_readings.proofs.PriceSums.{part_within, FitSigned, costs, all_priced, some_within}
 use Rattle.table_readings.proofs.PriceSums.{within_fits}
@@ -111,6 +114,33 @@ module _ (naming : Naming) (book : Book) (whole : IsReadable naming book) where
           (filter_map (entry naming book whole.sound) ks)
           (each ks (λ other behind.
           held other (ap (λ b. is other k || b) behind ∙ or-true (is other k))))
+
+  -- choices have numbers, names that have records, and periods
+  choices_fit : (n : ℕ) (choices : List Choice) → 0 < n → n + length choices ≤ most_choices + 1
+      → All (IsContested book) choices → All (IsChoiceOf book.held) choices
+      → AllByRecursion (λ (row : ℕ × ChoiceRow).
+      ChoiceFits (tables_of naming book).records row.0 row.1) (choice_entries naming n choices)
+  choices_fit n [] some few contested held = tt
+  choices_fit n (choice ∷ choices) some few contested held =
+      let was = All-head (IsContested book) choice choices contested in
+      let there = All-head (IsChoiceOf book.held) choice choices held in
+      let cost = what_is (price_in book.rulings choice.chosen)
+      (whole.sound.priced choice.chosen there) in
+      let row = found_row naming book whole.sound whole.lines.framed choice.chosen cost.0 there
+      cost.1 in
+      let numbered = was.numbered in
+      let begun = was.begun in
+      let closed = whole.limits.closes in (
+        record {
+          numbered = some;
+          few = omega arith;
+          named = ap is_some row;
+          period = record { numbered = numbered; early = omega arith };
+        },
+        choices_fit (suc n) choices (omega arith) (omega arith)
+            (All-tail (IsContested book) choice choices contested)
+            (All-tail (IsChoiceOf book.held) choice choices held),
+      )
 
   -- a period of the book has a number
   its_number : (k number : ℕ) (period : Period) → slice_get (all_periods book) k ≡ Some period
@@ -215,10 +245,13 @@ module _ (naming : Naming) (book : Book) (whole : IsReadable naming book) where
   tables_fit =
       let tariffs : List Tariffed = book.rulings.tariffs in
       let closes : List ℤ = book.rulings.closes in
+      let choices : List Choice = book.rulings.choices in
       let few = whole.limits.closes in
+      let some = whole.limits.choices in
       record {
         held = whole.limits.held;
         amount = whole.limits.cost;
+        chosen = subst (λ n. n ≤ most_choices) (sym (choices_count naming book)) some;
         tariffs = λ day text found.
             find_one int_cmp int_cmp-IsAntisymmetric (λ day (text : Option (List ℕ)). IsDay day) day
             text (tariff_entries tariffs) (tariff_days tariffs whole.texts)
@@ -228,6 +261,11 @@ module _ (naming : Naming) (book : Book) (whole : IsReadable naming book) where
             number day (close_entries 1 closes)
             (close_days 1 closes (omega arith) (omega arith) whole.days)
             (sym (get-from_entries nat_cmp_total (close_entries 1 closes) number) ∙ found);
+        choices = λ number row found.
+            find_one nat_cmp nat_cmp-IsAntisymmetric (ChoiceFits (tables_of naming book).records)
+            number row (choice_entries naming 1 choices)
+            (choices_fit 1 choices (omega arith) (omega arith) whole.contested whole.sound.chosen)
+            (sym (get-from_entries nat_cmp_total (choice_entries naming 1 choices) number) ∙ found);
         records = rows_fit;
         days = days_fit;
         lines = lines_fit;

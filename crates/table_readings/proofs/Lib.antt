@@ -1,25 +1,33 @@
 -- Read in this order: texts, lists in order, what is found in a table, and sets that are made of
--- lists; books that calls made, and that they can be read back; the rulings, the records and the
--- lines that are read, and the book; the answers to records and rulings, and the lists of a period;
--- rows in groups, and the disputes; the numbers that fit, and the lists that can be shown.
+-- lists; records that have rivals; books that calls made, what their calls passed, and that they
+-- can be read back; the rulings, the records, the choices and the lines that are read, and the
+-- book; the rows of an identity; the answers to records, choices and other rulings, and the lists
+-- of a period; rows in groups and in order, and the disputes; the numbers that fit, and the lists
+-- that can be shown.
 pub mod Texts
 pub mod ListOrder
 pub mod Finding
 pub mod SetReading
+pub mod Rivals
 pub mod CallsLemmas
 pub mod ChainLemmas
 pub mod CloseOrder
+pub mod PassedTests
 pub mod ReadableLemmas
 pub mod RulingsReading
 pub mod RecordReading
+pub mod ChoiceReading
 pub mod LineSides
 pub mod BookLemmas
+pub mod IdentityRows
 pub mod AcceptLemmas
+pub mod ChoiceLemmas
 pub mod RulingLemmas
 pub mod ListLemmas
 pub mod GroupingLemmas
 pub mod DisputedRecords
 pub mod DisputedIdentities
+pub mod RowOrder
 pub mod DisputedRows
 pub mod DisputeLemmas
 pub mod PriceSums

@@ -1,14 +1,14 @@
 -- Books that calls made can be read back.
 use Rattle.std.proofs.Common.{◌≡◌, ℕ, ◌+◌, List, [], ◌∷◌, length, refl, sym, ap, ◌∙◌, subst, true}
-use Rattle.std.proofs.Common.{false, true≢false, Bool, ◌||◌, Some, None, Ok, Err, Result, arith}
-use Rattle.std.specs.Prelude.{◌≤◌, ◌==◌, nat_le, nat_lt, if◌then◌else◌, All, sum_by, ℤ}
+use Rattle.std.proofs.Common.{false, true≢false, Some, None, Ok, Err, arith}
+use Rattle.std.specs.Prelude.{◌≤◌, ◌<◌, ◌==◌, nat_le, if◌then◌else◌, All, sum_by, ℤ}
 use Rattle.std.specs.List.{filter_map, list_any}
 use Rattle.std.specs.List.Sorted.{IsStrictlySortedBy}
 use Rattle.std.specs.Ordering.{int_cmp}
-use Rattle.std.proofs.lemmas.Bool.{ltb-false}
+use Rattle.std.proofs.lemmas.Bool.{ltb-false, leb-false}
 use Rattle.std.proofs.lemmas.Bool.Decides.{nat_tests}
 use Rattle.std.proofs.lemmas.List.{length-append}
-use Rattle.std.proofs.lemmas.List.Elements.{All-nil, All-push}
+use Rattle.std.proofs.lemmas.List.Elements.{All-nil, All-push, All-weaker}
 use Rattle.book_model.specs.Words.{IsDay, IsPriced, Terms, accept_answer, accept_priced, clashes}
 use Rattle.book_model.specs.Words.{is_full, total_of, IsAnswered, Book, new_book, open_number}
 use Rattle.book_model.specs.Words.{Event, RecordKept, TariffAccepted, PeriodClosed, RecordChosen}
@@ -17,15 +17,15 @@ use Rattle.book_model.specs.Words.{is_too_dear, with_tariff}
 use Rattle.book_model.specs.Words.{put_in_force, close, book_after, most_held, most_cost}
 use Rattle.book_model.specs.Words.{last_period, Naming, IsUsageRecord, by_bytes, terms_answer}
 use Rattle.book_model.specs.Words.{close_answer, is_closed, is_early, Rulings, price_in, are_rising}
+use Rattle.book_model.specs.Words.{Choice, choose, choose_answer, chosen_answer, is_chosen, name_of}
+use Rattle.book_model.specs.Words.{is_unrivalled, most_choices, open_by, record_named}
 use Rattle.book_model.specs.Words.{members, has, with, IsSound}
 use Rattle.tariff_rules.specs.declared.priced.Priced.{Priced}
-use Rattle.book_model.specs.declared.answer.Accepted.{Accepted}
 use Rattle.book_model.specs.declared.answer.Accepted.TheVariants.{Kept, Known}
 use Rattle.book_model.specs.declared.answer.Ruled.TheVariants.{Done}
-use Rattle.book_model.specs.declared.fault.LedgerFault.{LedgerFault}
-use Rattle.book_model.specs.declared.fault.LedgerFault.TheVariants.{DigestClash, Full}
+use Rattle.book_model.specs.declared.fault.LedgerFault.TheVariants.{DigestClash}
 use Rattle.book_model.proofs.AnsweredLemmas.{rulings_are, sound_after, latest_is_last}
-use Rattle.book_model.proofs.CallLemmas.{calls_go_forward, close_by, leaves_room}
+use Rattle.book_model.proofs.CallLemmas.{calls_go_forward, leaves_room}
 use Rattle.book_model.proofs.RecordSets.{one_or}
 use Rattle.book_model.proofs.SetLemmas.{members-empty}
 use Rattle.book_model.proofs.SoundLemmas.{none_in}
@@ -38,9 +38,12 @@ use Rattle.kept_tables.proofs.LinesStay.{lines_stay}
 use Rattle.kept_tables.proofs.RecordChanges.{book_row-with}
 use Rattle.table_readings.specs.FromCalls.{ArePriced, IsHandedIn, IsReadFrom, AreHandedIn}
 use Rattle.table_readings.specs.Laws.{CallsRead}
-use Rattle.table_readings.specs.Readable.{IsTexted, IsChain, IsWithinLimits, IsReadable}
+use Rattle.table_readings.specs.Readable.{IsTexted, IsChain, IsContested, IsWithinLimits}
+use Rattle.table_readings.specs.Readable.{IsReadable}
 use Rattle.table_readings.proofs.ChainLemmas.{chain_of}
 use Rattle.table_readings.proofs.CloseOrder.{rise_behind}
+use Rattle.table_readings.proofs.PassedTests.{choice_tests, has_room, kept_tests, room_behind}
+use Rattle.table_readings.proofs.Rivals.{rivalled_with}
 
 -- What each event keeps of a book that can be read back, beside its soundness.
 record IsGrown (book : Book) : Type 0 where
@@ -51,7 +54,7 @@ record IsGrown (book : Book) : Type 0 where
   texts : All IsTexted book.rulings.tariffs
   days : All IsDay book.rulings.closes
   in_order : IsStrictlySortedBy int_cmp book.rulings.closes
-  unchosen : book.rulings.choices ≡ []
+  contested : All (IsContested book) book.rulings.choices
   first_rule : book.rulings.adopted ≡ None
   limits : IsWithinLimits book
 
@@ -75,49 +78,30 @@ start_grown = record {
   texts = All-nil IsTexted;
   days = All-nil IsDay;
   in_order = tt;
-  unchosen = refl;
+  contested = All-nil (IsContested new_book);
   first_rule = refl;
   limits = record {
     held = subst (λ n. n ≤ most_held) (sym no_records) (omega arith);
     cost = subst (λ n. n ≤ most_cost) (sym no_cost) (omega arith);
     closes = omega arith;
+    choices = omega arith;
   };
 }
 
--- the answer by whether there is no room
-abbrev by_room : Bool → Result Accepted LedgerFault
-by_room full = if full then Err Full else Ok Kept
-
--- the tests that a record passed which is kept: it is new, and there is room for it
-kept_tests : (known clash full : Bool)
-    → (if known then Ok Known else if clash then Err DigestClash else by_room full) ≡ Ok Kept
-    → (known ≡ false) × (full ≡ false)
-kept_tests true clash full kept = cc
-kept_tests false true full kept = cc
-kept_tests false false true kept = cc
-kept_tests false false false kept = (refl, refl)
-
--- where there is room, one more is within the limits
-has_room : (held cost : ℕ) → (nat_le most_held held || nat_lt most_cost cost) ≡ false
-    → (held + 1 ≤ most_held) × (cost ≤ most_cost)
-has_room held cost room =
-    let full : Bool = nat_le most_held held in
-    let dear : Bool = nat_lt most_cost cost in
-    (few (first_fails full dear room), cheap (second_fails full dear room))
-  where
-    few : nat_le most_held held ≡ false → held + 1 ≤ most_held
-    few not_full = grind (arith, nat_tests)
-
-    cheap : nat_lt most_cost cost ≡ false → cost ≤ most_cost
-    cheap not_dear = grind (arith, nat_tests)
-
-    first_fails : (a b : Bool) → (a || b) ≡ false → a ≡ false
-    first_fails true b fails = absurd (true≢false fails)
-    first_fails false b fails = refl
-
-    second_fails : (a b : Bool) → (a || b) ≡ false → b ≡ false
-    second_fails true b fails = absurd (true≢false fails)
-    second_fails false b fails = fails
+-- choices stay contested where rivals do, and periods that have begun
+still_contested : {book : Book} (after : Book) (choices : List Choice)
+    → ((one : List ℕ) → is_unrivalled book.rulings book.held one ≡ false
+    → is_unrivalled after.rulings after.held one ≡ false)
+    → open_number book ≤ open_number after
+    → All (IsContested book) choices → All (IsContested after) choices
+still_contested {book} after choices rivals later all =
+    All-weaker (IsContested book) (IsContested after) (λ choice was.
+    let begun = was.begun in
+    record {
+      rivalled = rivals choice.chosen was.rivalled;
+      numbered = was.numbered;
+      begun = omega arith;
+    }) choices all
 
 module _ (naming : Naming) (book : Book) (sound : IsSound naming book) (grown : IsGrown book) where
   -- a record that is kept
@@ -151,12 +135,15 @@ module _ (naming : Naming) (book : Book) (sound : IsSound naming book) (grown : 
         texts = grown.texts;
         days = grown.days;
         in_order = grown.in_order;
-        unchosen = grown.unchosen;
+        contested = still_contested (keep bytes book) book.rulings.choices
+            (λ one. rivalled_with book.rulings book.held bytes one) (omega arith)
+            grown.contested;
         first_rule = grown.first_rule;
         limits = record {
           held = subst (λ n. n ≤ most_held) (sym count) room.0;
           cost = subst (λ n. n ≤ most_cost) (sym amount) room.1;
           closes = grown.limits.closes;
+          choices = grown.limits.choices;
         };
       }
 
@@ -178,12 +165,14 @@ module _ (naming : Naming) (book : Book) (sound : IsSound naming book) (grown : 
             grown.texts (record { text = text; is = refl; said = said.said; day = said.day });
         days = grown.days;
         in_order = grown.in_order;
-        unchosen = grown.unchosen;
+        contested = still_contested (put_in_force (Some text) terms book) book.rulings.choices
+            (λ one rivalled. rivalled) (omega arith) grown.contested;
         first_rule = grown.first_rule;
         limits = record {
           held = grown.limits.held;
           cost = ltb-false most_cost (total_of ruled book.held) fits;
           closes = grown.limits.closes;
+          choices = grown.limits.choices;
         };
       }
 
@@ -205,22 +194,47 @@ module _ (naming : Naming) (book : Book) (sound : IsSound naming book) (grown : 
         days = All-push IsDay book.rulings.closes day grown.days on;
         in_order = rise_behind book.rulings.closes day grown.in_order
             (calls_go_forward.close book number day done);
-        unchosen = grown.unchosen;
+        contested = still_contested (close day book) book.rulings.choices
+            (λ one rivalled. rivalled) (omega arith) grown.contested;
         first_rule = grown.first_rule;
         limits = record {
           held = grown.limits.held;
           cost = grown.limits.cost;
           closes = grind (arith, nat_tests);
+          choices = grown.limits.choices;
         };
       }
-    where
-      room_behind : (number_open : ℕ) (closed is_open early full : Bool)
-          → close_by number_open closed is_open early full ≡ Ok Done → full ≡ false
-      room_behind number_open true is_open early full done = cc
-      room_behind number_open false false early full done = cc
-      room_behind number_open false true true full done = cc
-      room_behind number_open false true false true done = cc
-      room_behind number_open false true false false done = refl
+
+  -- a record that is chosen
+  choose_grown : (name bytes : List ℕ) → choose_answer naming book name ≡ Ok Done
+      → record_named naming book.held name ≡ Some bytes → IsGrown (choose bytes book)
+  choose_grown name bytes done found =
+      let tests = choice_tests (is_unrivalled book.rulings book.held bytes)
+      (is_chosen book.rulings bytes) (nat_le most_choices (length book.rulings.choices))
+      (ap (chosen_answer book) (sym found) ∙ done) in
+      let choice : Choice = record { chosen = bytes; period = open_by book.rulings } in
+      let more = length-append book.rulings.choices (choice ∷ []) in
+      let room : length book.rulings.choices < most_choices =
+      leb-false most_choices (length book.rulings.choices) tests.1 in
+      record {
+        lines = lines_stay.choose book bytes grown.lines;
+        usage = grown.usage;
+        priced = grown.priced;
+        texts = grown.texts;
+        days = grown.days;
+        in_order = grown.in_order;
+        contested = All-push (IsContested (choose bytes book)) book.rulings.choices choice
+            (still_contested (choose bytes book) book.rulings.choices
+            (λ one rivalled. rivalled) (omega arith) grown.contested)
+            (record { rivalled = tests.0; numbered = omega arith; begun = omega arith });
+        first_rule = grown.first_rule;
+        limits = record {
+          held = grown.limits.held;
+          cost = grown.limits.cost;
+          closes = grown.limits.closes;
+          choices = omega arith;
+        };
+      }
 
 -- the book of a history
 grown_after : (naming : Naming) (history : List Event) → IsAnswered naming history
@@ -239,7 +253,9 @@ grown_after naming (PeriodClosed day ∷ older) answered handed =
     close_grown naming (book_after older) (sound_after naming older answered.1)
     (grown_after naming older answered.1 handed.1) (open_number (book_after older)) day handed.0
     answered.0
-grown_after naming (RecordChosen bytes ∷ older) answered handed = absurd handed
+grown_after naming (RecordChosen bytes ∷ older) answered handed =
+    choose_grown naming (book_after older) (sound_after naming older answered.1)
+    (grown_after naming older answered.1 handed) (name_of naming bytes) bytes answered.0 answered.2
 grown_after naming (SecondRuleAdopted ∷ older) answered handed = absurd handed
 
 -- it can be read back
@@ -258,7 +274,7 @@ readable_after naming history answered handed =
           ∙ latest_is_last.rising naming history answered;
       days = grown.days;
       in_order = grown.in_order;
-      unchosen = grown.unchosen;
+      contested = grown.contested;
       first_rule = grown.first_rule;
       past = subst IsChain (sym (books_follow_history history)) (chain_of history);
       limits = grown.limits;

@@ -13,7 +13,7 @@ use Rattle.std.proofs.lemmas.Map.Views.{list_any-from_Contains}
 use Rattle.book_model.specs.Words.{is_dated_after, Period, period_by, Records, by_bytes, set_of}
 use Rattle.book_model.specs.Words.{members, has, those, without, AreDatedBy}
 use Rattle.book_model.proofs.RecordSets.{is, same_records, has_those}
-use Rattle.book_model.proofs.SetLemmas.{has-set_of, members-those, set_of-alike}
+use Rattle.book_model.proofs.SetLemmas.{fails_too, has-set_of, members-those, set_of-alike}
 use Rattle.book_model.proofs.SumsAlike.{SumsAlike, filter_map-alike}
 use Rattle.table_readings.specs.BookIn.{joined, charged_before}
 
@@ -52,6 +52,23 @@ one_passes p s some =
     fin.contains_key-keys s one
     ∙ list_any-from_Contains (eq_by_cmp_equiv nat_list_cmp_total) one (members s) place in
     (one, there, passing.4)
+
+-- a record of a set that passes a test is one that does
+pub some_passes : (p : List ℕ → Bool) (s : Records) (bytes : List ℕ) → has s bytes ≡ true
+    → p bytes ≡ true → list_any p (members s) ≡ true
+some_passes p s bytes there passes =
+    elim (list_any p (members s)) as (λ b. list_any p (members s) ≡ b → b ≡ true) [
+      | true ↦ λ e. refl
+      | false ↦ λ none. absurd (true≢false (sym passes
+          ∙ fails_too nat_list_cmp_total exact_bytes p s bytes none there))
+    ] refl
+
+-- who is among those members of a set that pass a test
+pub among-filter : (p : List ℕ → Bool) (s : Records) (q : List ℕ)
+    → list_any (is q) (filter p (members s)) ≡ (p q && has s q)
+among-filter p s q =
+    ap (list_any (is q)) (sym (members-those nat_list_cmp_total exact_bytes p s))
+    ∙ sym (fin.contains_key-keys (those p s) q) ∙ has_those p s q
 
 -- who is in one of two sets
 has_joined : (one other : Records) (q : List ℕ)

@@ -1,11 +1,12 @@
 -- The disputes that are answered from the tables can be shown.
-use Rattle.std.proofs.Common.{◌≡◌, ℕ, List, [], ◌∷◌, length, sym, ap, ◌∙◌, subst, true, arith, inl}
+use Rattle.std.proofs.Common.{◌≡◌, ℕ, Bool, List, [], ◌∷◌, length, sym, ap, ◌∙◌, subst, true, arith}
+use Rattle.std.proofs.Common.{inl}
 use Rattle.std.specs.Prelude.{◌<◌, All}
 use Rattle.std.specs.List.{AllByRecursion}
 use Rattle.std.proofs.lemmas.Bool.Decides.{nat_tests}
 use Rattle.std.proofs.lemmas.List.Elements.{All-from_recursion, All-map}
 use Rattle.book_model.specs.Words.{IsDay, identity_length, Book, IsDispute, AreDisputes, dispute_at}
-use Rattle.book_model.specs.Words.{identities, Naming, identity_by}
+use Rattle.book_model.specs.Words.{identities, is_in_dispute, Naming, identity_by}
 use Rattle.smf_type30.proofs.IdentityLength.{identity-long}
 use Rattle.book_model.specs.declared.dispute.Variant.{Variant}
 use Rattle.book_model.proofs.UnchosenLemmas.{identity_by-first}
@@ -13,8 +14,8 @@ use Rattle.kept_tables.specs.TablesOf.{tables_of}
 use Rattle.table_readings.specs.DisputesRead.{NamedRow, disputes_read, variant_read}
 use Rattle.table_readings.specs.Readable.{IsReadable}
 use Rattle.table_readings.specs.ListLaws.{ListsShow}
-use Rattle.table_readings.proofs.DisputeLemmas.{disputes_are, shared_disputed, works_held}
-use Rattle.table_readings.proofs.DisputedIdentities.{is_shared, shared}
+use Rattle.table_readings.proofs.DisputeLemmas.{disputes_are, two_or_more, works_held}
+use Rattle.table_readings.proofs.DisputedIdentities.{disputed, is_shared}
 use Rattle.table_readings.proofs.DisputedRecords.{block, block_own}
 use Rattle.table_readings.proofs.DisputedRows.{AreListed, first_listed, listed_entries, each_entry}
 use Rattle.table_readings.proofs.DisputedRows.{all_shown}
@@ -55,15 +56,15 @@ module _ (naming : Naming) (book : Book) (whole : IsReadable naming book) where
   -- and so can all
   disputes_show : AreDisputes (disputes_read (tables_of naming book))
   disputes_show =
-      let ids : List (List ℕ) = shared naming book.rulings book.held in
+      let ids : List (List ℕ) = disputed naming book.rulings book.held in
       let dispute = dispute_at naming book.rulings book.held in
-      subst AreDisputes (shared_disputed naming book whole ∙ sym (disputes_are naming book whole))
+      let test : List ℕ → Bool = is_in_dispute naming book.rulings book.held in
+      subst AreDisputes (sym (disputes_are naming book whole))
       (All-map IsDispute dispute ids
       (All-from_recursion (λ id. IsDispute (dispute id)) ids
-      (all_so (λ id. is_shared naming book.rulings book.held id ≡ true)
-      (λ id. IsDispute (dispute id)) dispute_shows ids
-      (all_passing (is_shared naming book.rulings book.held)
-      (identities book.rulings book.held)))))
+      (all_so (λ id. test id ≡ true) (λ id. IsDispute (dispute id))
+      (λ id in_dispute. dispute_shows id (two_or_more naming book whole id in_dispute)) ids
+      (all_passing test (identities book.rulings book.held)))))
 
 -- the law of it
 pub lists_show : ListsShow

@@ -1,9 +1,12 @@
 -- The laws of answers: of a book that can be read back, each is what its tables say.
-use Rattle.std.specs.Prelude.{◌≡◌, ℕ, false, List, Some, None, Ok, ℤ, int_lt, take, Option}
-use Rattle.std.specs.FinMap.{get, values}
+use Rattle.std.specs.Prelude.{◌≡◌, ℕ, ◌≤◌, ◌==◌, false, filter, length, List, Some, None, Ok, ℤ}
+use Rattle.std.specs.Prelude.{int_lt, slice_get, take, unwrap_or, Option}
+use Rattle.std.specs.FinMap.{get, keys, values}
 use Rattle.std.specs.List.{last_or}
+use Rattle.std.specs.Option.{option_map}
 use Rattle.book_model.specs.Words.{Terms, accept_answer, Book, open_number, keep, put_in_force}
-use Rattle.book_model.specs.Words.{close, Naming, IsUsageRecord, terms_answer, close_answer}
+use Rattle.book_model.specs.Words.{choose, choose_answer, close, Naming, IsUsageRecord}
+use Rattle.book_model.specs.Words.{terms_answer, close_answer, record_named}
 use Rattle.book_model.specs.Words.{price_in, price_by, IsPriced, with_tariff}
 use Rattle.tariff_rules.specs.declared.priced.Priced.{Priced}
 use Rattle.book_model.specs.declared.answer.Accepted.TheVariants.{Kept}
@@ -11,14 +14,15 @@ use Rattle.book_model.specs.declared.answer.Ruled.TheVariants.{Done}
 use Rattle.book_core.specs.Effects.{effects_of}
 use Rattle.kept_tables.specs.MapChanges.{updated}
 use Rattle.kept_tables.specs.TableChanges.{close_tables, put_tariff, post}
-use Rattle.kept_tables.specs.Tables.{RecordRow}
+use Rattle.kept_tables.specs.Tables.{RecordRow, RecordTable}
 use Rattle.kept_tables.specs.TablesOf.{tables_of}
-use Rattle.kept_tables.specs.Views.{rows_with, view_in}
+use Rattle.kept_tables.specs.Views.{current_in, member_at, rows_with, view_in}
 use Rattle.table_readings.specs.AcceptRead.{accept_read, keep_read, view_with}
 use Rattle.table_readings.specs.BookIn.{record_of}
 use Rattle.table_readings.specs.Fits.{TablesFit}
 use Rattle.table_readings.specs.FromCalls.{ArePriced}
 use Rattle.table_readings.specs.Readable.{IsReadable}
+use Rattle.table_readings.specs.RulingsRead.{choice_put, choices_made, choose_read, is_lone}
 use Rattle.table_readings.specs.RulingsRead.{terms_read, post_changed}
 
 -- A record that is handed in is answered by the rows of its name and of the book; and where it is
@@ -37,7 +41,8 @@ pub record AcceptFollows : Type 0 where
       → tables_of naming (keep bytes book)
       ≡ keep_read naming book.rulings bytes priced (tables_of naming book)
 
--- as no call chooses a record, what a ledger looks at for a new one are the rows of its identity
+-- as a record that was chosen is never alone in its identity, what a ledger looks at for a new one
+-- are the rows of its identity
 abbrev pub ViewIsOfRows : Type 0
 ViewIsOfRows =
     (naming : Naming) (book : Book) (identity : List ℕ) → IsReadable naming book
@@ -84,6 +89,39 @@ pub record ClosingFollows : Type 0 where
       → close_answer book number day ≡ Ok Done
       → updated (post_changed day) (tables_of naming book).records
       ≡ updated (post day) (tables_of naming book).records
+
+-- A choice is answered by the row of its name, by the rows of that identity, and by the number of
+-- choices; and where it is Done, the tables after it are made of those before it. The first two
+-- rows of an identity tell whether a row is alone; the number of the last choice is how many there
+-- are; and of each identity one row is charged at most, so the first such row is the current one.
+pub record ChoicesFollow : Type 0 where
+  pub answer :
+      (naming : Naming) (book : Book) (name : List ℕ) → IsReadable naming book
+      → choose_answer naming book name ≡ choose_read (tables_of naming book) name
+  pub done :
+      (naming : Naming) (book : Book) (name bytes : List ℕ) (row : RecordRow)
+      → IsReadable naming book
+      → choose_answer naming book name ≡ Ok Done
+      → record_named naming book.held name ≡ Some bytes
+      → get (tables_of naming book).records name ≡ Some row
+      → tables_of naming (choose bytes book) ≡ choice_put name row (tables_of naming book)
+  pub lone :
+      (records : RecordTable) (row : RecordRow)
+      → is_lone records row ≡ (length (take 2 (rows_with row.identity records)) == 1)
+  pub counted :
+      (naming : Naming) (book : Book) → IsReadable naming book
+      → unwrap_or (last_or None (keys (tables_of naming book).choices)) 0
+      ≡ choices_made (tables_of naming book)
+  pub few :
+      (naming : Naming) (book : Book) (identity : List ℕ) → IsReadable naming book
+      → length (filter (λ row. row.1.charged) (rows_with identity (tables_of naming book).records))
+      ≤ 1
+  pub current :
+      (naming : Naming) (book : Book) (identity : List ℕ) → IsReadable naming book
+      → option_map member_at
+      (slice_get (filter (λ row. row.1.charged)
+      (rows_with identity (tables_of naming book).records)) 0)
+      ≡ current_in (tables_of naming book) identity
 
 -- 64 bits with a sign hold the numbers of the tables
 abbrev pub NumbersFit : Type 0

@@ -6,10 +6,10 @@ use Rattle.std.specs.List.{filter_map}
 use Rattle.std.specs.Option.{option_map, option_and_then}
 use Rattle.book_model.specs.Words.{record_with, terms_in, Terms, Book, is_dated_after, Period}
 use Rattle.book_model.specs.Words.{Records, by_bytes, Rulings, Tariffed, no_rulings, set_of}
-use Rattle.book_model.specs.Words.{members, those, without}
+use Rattle.book_model.specs.Words.{Choice, members, those, without}
 use Rattle.tariff_rules.specs.declared.fault.TariffFault.{TariffFault}
 use Rattle.kept_tables.specs.Numbered.{rows_under}
-use Rattle.kept_tables.specs.Tables.{RecordRow, RecordTable, Tables}
+use Rattle.kept_tables.specs.Tables.{ChoiceRow, RecordRow, RecordTable, Tables}
 
 -- a tariff of this text, where it says terms
 abbrev pub tariff_saying : List ℕ → Result Terms TariffFault → Option Tariffed
@@ -20,17 +20,24 @@ tariff_saying text (Err fault) = None
 abbrev pub tariff_read : ℤ × Option (List ℕ) → Option Tariffed
 tariff_read row = option_and_then (λ text. tariff_saying text (terms_in text)) row.1
 
--- The rulings: the tariffs in order of their first days, the closes in order of their periods. No
--- call chooses a record, nor adopts a rule.
+-- the record of a row: its data behind their descriptor
+abbrev pub record_of : RecordRow → List ℕ
+record_of row = record_with row.data_bytes
+
+-- a row of the choices, where its name has a record
+abbrev pub choice_read : RecordTable → ChoiceRow → Option Choice
+choice_read records row =
+    option_map (λ found. record { chosen = record_of found; period = row.period })
+    (get records row.name)
+
+-- The rulings: the tariffs in order of their first days, the closes in order of their periods, and
+-- the choices in order of their numbers. No call adopts a rule.
 abbrev pub rulings_in : Tables → Rulings
 rulings_in tables = record no_rulings {
   tariffs = filter_map tariff_read (entries tables.tariffs);
   closes = values tables.closes;
+  choices = filter_map (choice_read tables.records) (values tables.choices);
 }
-
--- the record of a row: its data behind their descriptor
-abbrev pub record_of : RecordRow → List ℕ
-record_of row = record_with row.data_bytes
 
 -- the records of the rows that pass a test
 abbrev pub records_where : (RecordRow → Bool) → RecordTable → Records

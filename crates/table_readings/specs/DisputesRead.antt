@@ -1,12 +1,14 @@
 -- The disputes, as they are answered from the tables.
-use Rattle.std.specs.Prelude.{ℕ, not, if◌then◌else◌, List, [], ◌∷◌, ◌++◌, filter}
+use Rattle.std.specs.Prelude.{ℕ, Bool, not, if◌then◌else◌, List, [], ◌∷◌, ◌++◌, filter}
 use Rattle.std.specs.FinMap.{entries}
+use Rattle.std.specs.List.{list_any}
 use Rattle.std.specs.Ordering.{ordering_then}
 use Rattle.std.specs.declared.cmp.Ordering.{Ordering}
 use Rattle.book_model.specs.Words.{record_with, job_id_of, program_of, completion_of, Disputed}
 use Rattle.book_model.specs.Words.{by_bytes, same_bytes, set_of, members}
 use Rattle.book_model.specs.declared.dispute.Variant.{Variant}
 use Rattle.kept_tables.specs.Tables.{RecordRow, RecordTable, Tables}
+use Rattle.kept_tables.specs.Views.{rows_with}
 
 -- a row with its name
 abbrev pub NamedRow : Type 0
@@ -54,8 +56,17 @@ join_last (last ∷ []) row =
 join_last (first ∷ next ∷ others) row = first ∷ join_last (next ∷ others) row
 
 -- the rows that are not charged
+abbrev pub uncharged_among : RecordTable → List NamedRow
+uncharged_among records = filter (λ row. not row.1.charged) (entries records)
+
+-- no row of the row's identity is charged
+abbrev pub is_unsettled : RecordTable → NamedRow → Bool
+is_unsettled records row =
+    not (list_any (λ other. other.1.charged) (rows_with row.1.identity records))
+
+-- the rows in dispute: those that are not charged, without those of an identity that was settled
 abbrev pub disputed_among : RecordTable → List NamedRow
-disputed_among records = filter (λ row. not row.1.charged) (entries records)
+disputed_among records = filter (is_unsettled records) (uncharged_among records)
 
 -- the same by identity, then name
 abbrev pub disputed_rows : Tables → List NamedRow

@@ -1,11 +1,12 @@
 -- Tables whose numbers 64 bits with a sign hold, and whose days and periods are such.
-use Rattle.std.specs.Prelude.{◌≡◌, ℕ, ◌≤◌, ◌<◌, ◌^◌, Bool, List, Option, Some, ℤ}
-use Rattle.std.specs.FinMap.{get}
+use Rattle.std.specs.Prelude.{◌≡◌, ℕ, ◌≤◌, ◌<◌, ◌^◌, Bool, IsSome, length, List, Option, Some}
+use Rattle.std.specs.Prelude.{ℤ}
+use Rattle.std.specs.FinMap.{get, values}
 use Rattle.book_model.specs.Words.{IsDay, IsName, IsPriced, most_held, most_cost, last_period}
-use Rattle.book_model.specs.Words.{IsUsageRecord}
+use Rattle.book_model.specs.Words.{IsUsageRecord, most_choices}
 use Rattle.book_model.specs.declared.row.ChargeRow.{ChargeRow}
 use Rattle.book_model.specs.declared.row.RowKey.{RowKey}
-use Rattle.kept_tables.specs.Tables.{RecordRow, Tables}
+use Rattle.kept_tables.specs.Tables.{ChoiceRow, RecordRow, RecordTable, Tables}
 use Rattle.kept_tables.specs.TablesOf.{place_of}
 use Rattle.table_readings.specs.BookIn.{record_of}
 
@@ -26,6 +27,13 @@ pub record RecordFits (row : RecordRow) : Type 0 where
   pub excp : row.priced.excp < signed_end
   pub amount : row.priced.amount < signed_end
 
+-- a choice under its number: its name has a record
+pub record ChoiceFits (records : RecordTable) (number : ℕ) (row : ChoiceRow) : Type 0 where
+  pub numbered : 0 < number
+  pub few : number ≤ most_choices
+  pub named : IsSome (get records row.name)
+  pub period : IsPeriod row.period
+
 -- a charge row under its period and place
 pub record DayFits (place : ℕ × RowKey) (row : ChargeRow) : Type 0 where
   pub period : IsPeriod place.0
@@ -42,9 +50,12 @@ pub record DayFits (place : ℕ × RowKey) (row : ChargeRow) : Type 0 where
 pub record TablesFit (tables : Tables) : Type 0 where
   pub held : tables.book.held ≤ most_held
   pub amount : tables.book.amount ≤ most_cost
+  pub chosen : length (values tables.choices) ≤ most_choices
   pub tariffs : (day : ℤ) (text : Option (List ℕ)) → get tables.tariffs day ≡ Some text → IsDay day
   pub closes : (number : ℕ) (day : ℤ) → get tables.closes number ≡ Some day
       → IsPeriod number × IsDay day
+  pub choices : (number : ℕ) (row : ChoiceRow) → get tables.choices number ≡ Some row
+      → ChoiceFits tables.records number row
   pub records : (name : List ℕ) (row : RecordRow) → get tables.records name ≡ Some row
       → RecordFits row
   pub days : (place : ℕ × RowKey) (row : ChargeRow) → get tables.days place ≡ Some row

@@ -23,8 +23,8 @@ ArePriced rulings held =
     → price_in rulings bytes ≡ Some priced → IsPriced priced
 
 -- Each event is one of what calls hand in: no tariff comes without its text, nor makes a price that
--- can't be of a record that is held; periods are closed through days; and no record is chosen, nor
--- a rule adopted.
+-- can't be of a record that is held; periods are closed through days; and no rule is adopted. Of
+-- the choice of a record nothing more is asked than that it was answered so.
 abbrev pub AreHandedIn : List Event → Type 0
 AreHandedIn [] = Unit {0}
 AreHandedIn (RecordKept bytes ∷ older) = IsHandedIn (rulings older) bytes × AreHandedIn older
@@ -33,7 +33,7 @@ AreHandedIn (TariffAccepted (Some text) terms ∷ older) =
     × ArePriced (with_tariff (Some text) terms (book_after older).rulings) (book_after older).held
 AreHandedIn (TariffAccepted None terms ∷ older) = ⊥
 AreHandedIn (PeriodClosed day ∷ older) = IsDay day × AreHandedIn older
-AreHandedIn (RecordChosen bytes ∷ older) = ⊥
+AreHandedIn (RecordChosen bytes ∷ older) = AreHandedIn older
 AreHandedIn (SecondRuleAdopted ∷ older) = ⊥
 
 -- The book is the one that a history of calls leaves, from new books on.

@@ -2,7 +2,8 @@
 -- tables.
 use Rattle.std.specs.Prelude.{◌≡◌, ℕ, List, Some, Ok, ℤ}
 use Rattle.book_model.specs.Words.{IsDay, Terms, accept_answer, Book, new_book, keep, put_in_force}
-use Rattle.book_model.specs.Words.{close, Naming, terms_answer, close_answer, with_tariff}
+use Rattle.book_model.specs.Words.{close, choose, Naming, terms_answer, close_answer, with_tariff}
+use Rattle.book_model.specs.Words.{choose_answer, record_named}
 use Rattle.book_model.specs.declared.answer.Accepted.TheVariants.{Kept}
 use Rattle.book_model.specs.declared.answer.Ruled.TheVariants.{Done}
 use Rattle.kept_tables.specs.TablesOf.{tables_of}
@@ -27,6 +28,10 @@ pub record CallsStay : Type 0 where
       (naming : Naming) (book : Book) (number : ℕ) (day : ℤ) → IsFromCalls naming book
       → IsDay day
       → close_answer book number day ≡ Ok Done → IsFromCalls naming (close day book)
+  pub choose :
+      (naming : Naming) (book : Book) (name bytes : List ℕ) → IsFromCalls naming book
+      → choose_answer naming book name ≡ Ok Done
+      → record_named naming book.held name ≡ Some bytes → IsFromCalls naming (choose bytes book)
 
 -- books that calls made can be read back
 abbrev pub CallsRead : Type 0

@@ -1,13 +1,14 @@
 -- The laws of lists: what is answered of a period and of disputes is what the tables say, and can
 -- be shown.
-use Rattle.std.specs.Prelude.{◌≡◌, ℕ, List, [], ◌∷◌, ◌++◌, Ok, true}
+use Rattle.std.specs.Prelude.{◌≡◌, ℕ, filter, List, [], ◌∷◌, ◌++◌, Ok, true}
 use Rattle.std.specs.FinMap.{values}
 use Rattle.std.specs.List.Sorted.{IsPermutation, IsStrictlySortedBy}
 use Rattle.book_model.specs.Words.{Book, charges_outcome, adjustments_outcome, disputes_outcome}
 use Rattle.book_model.specs.Words.{periods_outcome, reading, Naming, AreDisputes, AreLines, AreRows}
 use Rattle.kept_tables.specs.TablesOf.{tables_of}
 use Rattle.table_readings.specs.DisputesRead.{NamedRow, by_identity, disputed_among, disputed_rows}
-use Rattle.table_readings.specs.DisputesRead.{disputes_read, grouped, join_last}
+use Rattle.table_readings.specs.DisputesRead.{disputes_read, grouped, is_unsettled, join_last}
+use Rattle.table_readings.specs.DisputesRead.{uncharged_among}
 use Rattle.table_readings.specs.ListsRead.{charges_read, adjustments_read, is_period}
 use Rattle.table_readings.specs.Readable.{IsReadable}
 use Rattle.kept_tables.specs.Reading.{rows_read, lines_read}
@@ -26,8 +27,10 @@ pub record ListsFollow : Type 0 where
       (naming : Naming) (book : Book) → IsReadable naming book
       → periods_outcome book ≡ reading (Ok (values (tables_of naming book).closes))
 
--- The disputes are the rows that are not charged, in groups; rows that are in order are these where
--- they are the same ones; and a row behind others joins the last group or makes one.
+-- The disputes are the rows of identities of which no row is charged, in groups; rows that are in
+-- order are these where they are the same ones; so the rows that are not charged, in order, are
+-- these without those of an identity that was settled; and a row behind others joins the last group
+-- or makes one.
 pub record DisputesFollow : Type 0 where
   pub disputes :
       (naming : Naming) (book : Book) → IsReadable naming book
@@ -37,6 +40,12 @@ pub record DisputesFollow : Type 0 where
       → IsPermutation rows (disputed_among (tables_of naming book).records)
       → IsStrictlySortedBy by_identity rows
       → rows ≡ disputed_rows (tables_of naming book)
+  pub unsettled :
+      (naming : Naming) (book : Book) (rows : List NamedRow) → IsReadable naming book
+      → IsPermutation rows (uncharged_among (tables_of naming book).records)
+      → IsStrictlySortedBy by_identity rows
+      → filter (is_unsettled (tables_of naming book).records) rows
+      ≡ disputed_rows (tables_of naming book)
   pub push : (rows : List NamedRow) (row : NamedRow)
       → grouped (rows ++ row ∷ []) ≡ join_last (grouped rows) row
 

@@ -1,8 +1,9 @@
 //! Laws of what is read back from kept tables, which hold over their definitions alone. Each stands
 //! on a function that does nothing.
 
-ghost use Rattle.table_readings.specs.AnswerLaws.{AcceptFollows, ClosingFollows, NumbersFit};
-ghost use Rattle.table_readings.specs.AnswerLaws.{TermsFollow, TwoAreEnough, ViewIsOfRows};
+ghost use Rattle.table_readings.specs.AnswerLaws.{AcceptFollows, ChoicesFollow, ClosingFollows};
+ghost use Rattle.table_readings.specs.AnswerLaws.{NumbersFit, TermsFollow, TwoAreEnough};
+ghost use Rattle.table_readings.specs.AnswerLaws.{ViewIsOfRows};
 ghost use Rattle.table_readings.specs.Laws.{BookFollows, CallsRead, CallsStay, TablesTell};
 ghost use Rattle.table_readings.specs.ListLaws.{DisputesFollow, ListsFollow, ListsShow};
 
@@ -47,6 +48,12 @@ pub fn terms_follow()
     ensures { TermsFollow }
 {}
 
+/// A choice is answered by the row of its name, by the rows of that identity, and by the number of
+/// choices; and where it is done, the tables after it are made of those before it.
+pub fn choices_follow()
+    ensures { ChoicesFollow }
+{}
+
 /// The tables after a close are made of those before it; and to post records is to update the rows
 /// that are dated by its day and whose marks differ.
 pub fn closing_follows()
@@ -59,7 +66,8 @@ pub fn lists_follow()
     ensures { ListsFollow }
 {}
 
-/// The disputes are the rows that are not charged, by identity, then name, in groups.
+/// The disputes are the rows of identities of which no row is charged, by identity, then name, in
+/// groups.
 pub fn disputes_follow()
     ensures { DisputesFollow }
 {}

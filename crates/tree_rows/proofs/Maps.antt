@@ -27,7 +27,7 @@ prefix_of (x ∷ a) more (y ∷ b) long =
     ap (ordering_then _) (prefix_of a more b (omega (arith, long)))
 
 -- of three comparisons, one after the other, it does not matter which two are taken together
-then_assoc : (a b c : Ordering)
+pub then_assoc : (a b c : Ordering)
     → ordering_then a (ordering_then b c) ≡ ordering_then (ordering_then a b) c
 then_assoc Less b c = refl
 then_assoc Equal b c = refl

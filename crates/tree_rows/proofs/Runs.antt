@@ -1,6 +1,7 @@
 -- The rows of a map that begin with a part of a key are those of the entries whose keys begin so.
 use Rattle.std.proofs.Common.{◌≡◌, ℕ, List, [], ◌∷◌, ◌++◌, map, Bool, true, false, cond, pos, ◌==◌}
-use Rattle.std.proofs.Common.{refl, sym, ap, ◌∙◌, arith}
+use Rattle.std.proofs.Common.{◌&&◌, Some, length, refl, reverse, sym, ap, subst, ◌∙◌}
+use Rattle.std.proofs.Common.{append_assoc, arith}
 use Rattle.std.specs.Prelude.{filter, take_while, T}
 use Rattle.std.specs.Cmp.{IsTotalOrder, unsigned_tied}
 use Rattle.std.specs.Cmp.Lexicographic.{slice_cmp}
@@ -8,20 +9,26 @@ use Rattle.std.proofs.lemmas.Bool.Decides.{nat_tests}
 use Rattle.std.proofs.lemmas.Cmp.{nat_cmp_total, nat_list_cmp_total}
 use Rattle.std.proofs.lemmas.List.Elements.{filter_agree}
 use Rattle.std.proofs.lemmas.List.Sums.{take_while-cons}
+use Rattle.std.proofs.lemmas.Option.{same_Some}
 use Rattle.std.specs.FinMap.{FinMap, entries, entries_sorted, is_sorted}
 use Rattle.std.specs.FinMap.Entries.{below_all}
 use Rattle.std.specs.Ordering.{is_lt, is_eq, nat_cmp, int_cmp, ordering_then, ordering_reverse}
 use Rattle.std.specs.declared.cmp.Ordering.{Ordering}
 use Rattle.std.specs.declared.cmp.Ordering.TheVariants.{Less, Equal, Greater}
-use Rattle.sqlite_trees.specs.Tree.{from_key}
+use Rattle.sqlite_trees.specs.Tree.{from_key, order_of, sought, up_to_key}
+use Rattle.sqlite_trees.specs.View.{Advances, View, with_cursor}
+use Rattle.sqlite_trees.specs.declared.store.Direction.TheVariants.{Backward}
+use Rattle.sqlite_trees.specs.declared.store.Shape.{Shape}
+use Rattle.sqlite_trees.specs.declared.store.Shape.TheVariants.{Index}
 use Rattle.sqlite_value.proofs.OrderLemmas.{value_cmp-Blob, value_cmp-Int, then-Equal}
 use Rattle.sqlite_value.specs.declared.value.Value.{Value}
 use Rattle.sqlite_value.specs.declared.value.Value.TheVariants.{Int, Blob}
 use Rattle.sqlite_value.specs.Keys.{plain, prefix_cmp, first_key}
-use Rattle.sqlite_value.specs.Order.{Row, value_cmp}
+use Rattle.sqlite_value.specs.Order.{Row, row_cmp, value_cmp}
 use Rattle.tree_rows.specs.Layouts.{Layout, row_of, rows_of}
+use Rattle.tree_rows.specs.Rows.{Finds, IsFirst}
 use Rattle.tree_rows.specs.Runs.{has_part, run_of}
-use Rattle.tree_rows.proofs.Maps.{first, second, less}
+use Rattle.tree_rows.proofs.Maps.{first, second, less, prefix_of}
 
 -- each row is not below the key of no columns
 from_no_part : (rows : List Row) → from_key plain [] rows ≡ rows
@@ -33,6 +40,37 @@ all_begin : (rows : List Row) → take_while (has_part []) rows ≡ rows
 all_begin [] = refl
 all_begin (row ∷ rows) =
     take_while-cons (has_part []) row rows ∙ ap (λ more. row ∷ more) (all_begin rows)
+
+-- and not above it
+up_to_no_part : (rows : List Row) → up_to_key plain [] rows ≡ rows
+up_to_no_part [] = refl
+up_to_no_part (row ∷ rows) = ap (λ more. row ∷ more) (up_to_no_part rows)
+
+-- so a walk back from it begins with the last row of all
+pub last_sought : (old mid new : View) (cursor tree : ℕ) (key row : Row) (there : Bool) → key ≡ []
+    → old.shape tree ≡ Index plain
+    → mid ≡ with_cursor old cursor (sought (order_of (old.shape tree)) Backward key
+    (old.trees tree))
+    → Advances mid new cursor row there → IsFirst (reverse (old.trees tree)) row there
+last_sought old mid new cursor tree key row there whole shape placed it =
+    by there (ap (λ (v : View). v.cursors cursor) placed ∙ given (cursor == cursor) (same cursor)
+    ∙ ap (λ (s : Shape). Some (sought (order_of s) Backward key (old.trees tree))) shape
+    ∙ ap (λ part. Some (reverse (up_to_key plain part (old.trees tree)))) whole
+    ∙ ap (λ rows. Some (reverse rows)) (up_to_no_part (old.trees tree))) it
+  where
+    left : List Row
+    left = sought (order_of (old.shape tree)) Backward key (old.trees tree)
+
+    same : (n : ℕ) → (n == n) ≡ true
+    same n = grind (arith, nat_tests)
+
+    given : (b : Bool) → b ≡ true → cond b (Some left) (old.cursors cursor) ≡ Some left
+    given b is = ap (λ b. cond b (Some left) (old.cursors cursor)) is
+
+    by : (there : Bool) → mid.cursors cursor ≡ Some (reverse (old.trees tree))
+        → Advances mid new cursor row there → IsFirst (reverse (old.trees tree)) row there
+    by true stands it = (it.0, same_Some _ _ (sym stands ∙ it.1))
+    by false stands it = same_Some _ _ (sym stands ∙ it.0)
 
 -- the rows that begin with no columns are all rows
 pub run_whole : (rows : List Row) → run_of [] rows ≡ rows
@@ -187,6 +225,56 @@ module _ {K V A : Type 0} {R : K → K → Ordering} {C : A → A → Ordering} 
   run_by_first a = run_is layout (value a ∷ []) (λ k. C (head k) a) (at_first a)
       (λ k l below. falls_then total (head k) (head l) a (more k l) (sym (by_head k l) ∙ below))
       (λ k l below. rises_then total (head k) (head l) a (more k l) (sym (by_head k l) ∙ below))
+
+-- Keys have a front, by which they are compared first, and it stands in their first columns.
+module _ {K V A : Type 0} {R : K → K → Ordering} {C : A → A → Ordering} (total : IsTotalOrder C)
+    (layout : Layout K V R) (head : K → A) (front : A → Row) (rest : K → Row)
+    (more : K → K → Ordering)
+    (by_head : (k l : K) → R k l ≡ ordering_then (C (head k) (head l)) (more k l))
+    (by_front : (a b : A) → row_cmp (front a) (front b) ≡ C a b)
+    (alike : (a b : A) → length (front a) ≡ length (front b))
+    (is : (k : K) → layout.key k ≡ front (head k) ++ rest k) where
+  -- a row against first columns
+  at_front : (a : A) (e : K × V)
+      → prefix_cmp plain (row_of layout e) (front a) ≡ C (head e.0) a
+  at_front a e =
+      ap (λ (key : Row). prefix_cmp plain (key ++ layout.rest e.1) (front a)) (is e.0)
+      ∙ ap (λ row. prefix_cmp plain row (front a))
+      (append_assoc (front (head e.0)) (rest e.0) (layout.rest e.1))
+      ∙ prefix_of (front (head e.0)) (rest e.0 ++ layout.rest e.1) (front a)
+      (alike (head e.0) a)
+      ∙ by_front (head e.0) a
+
+  -- the rows that begin with a front are those of the entries whose keys have it
+  pub run_by_front : (a : A) (m : FinMap R V) → run_of (front a) (rows_of layout m)
+      ≡ map (row_of layout) (filter (λ (e : K × V). is_eq (C (head e.0) a)) (entries m))
+  run_by_front a = run_is layout (front a) (λ k. C (head k) a) (at_front a)
+      (λ k l below. falls_then total (head k) (head l) a (more k l) (sym (by_head k l) ∙ below))
+      (λ k l below. rises_then total (head k) (head l) a (more k l) (sym (by_head k l) ∙ below))
+
+-- a look-up of a key shows the first of the rows that begin with it, where one does
+pub finds_run : (key row : Row) (rows : List Row) (hit : Bool) → Finds key rows row hit
+    → IsFirst (run_of key rows) row hit
+finds_run key row rows hit finds =
+    by finds.there finds.first finds.is
+  where
+    begins : Bool
+    begins = is_eq (prefix_cmp plain row key)
+
+    taken_first : (b : Bool) (later : List Row)
+        → IsFirst (cond b (row ∷ take_while (has_part key) later) []) row b
+    taken_first true later = (take_while (has_part key) later, refl)
+    taken_first false later = refl
+
+    by : (there : Bool) → IsFirst (from_key plain key rows) row there → hit ≡ (there && begins)
+        → IsFirst (run_of key rows) row hit
+    by true first is =
+        subst (IsFirst (run_of key rows) row) (sym is)
+        (subst (λ run. IsFirst run row begins)
+        (sym (ap (take_while (has_part key)) first.1
+        ∙ take_while-cons (has_part key) row first.0)) (taken_first begins first.0))
+    by false first is =
+        subst (IsFirst (run_of key rows) row) (sym is) (ap (take_while (has_part key)) first)
 
 -- numbers that are not negative compare in their columns as they do elsewhere
 numbers_compare : (a b : ℕ) → value_cmp (Int (pos a)) (Int (pos b)) ≡ nat_cmp a b

@@ -7,5 +7,5 @@ mod reading;
 mod writing;
 
 pub use listing::{MOST_ROWS, ReadRow, list_first, list_run};
-pub use reading::{find_row, first_after, first_from, has_key};
+pub use reading::{find_row, first_after, first_from, has_key, last_row};
 pub use writing::{add_row, change_row, drop_row, put_row};

@@ -1,6 +1,6 @@
 //! Rows are looked up by a key.
 
-ghost use Rattle.std.specs.Prelude.{◌≡◌, IfOk, IfErr, OnErr, OnOk};
+ghost use Rattle.std.specs.Prelude.{◌≡◌, IfOk, IfErr, OnErr, OnOk, reverse};
 ghost use Rattle.sqlite_trees.specs.Tree.{from_key};
 ghost use Rattle.sqlite_disk.specs.Disk.{MoreFaults};
 ghost use Rattle.sqlite_trees.specs.View.{HasCause, IsClean, IsFailure, IsQuiet, KeepsCommitted};
@@ -50,8 +50,8 @@ pub fn first_from<S: Store>(
     }
 }
 
-/// Whether a row has the key, and writes that row over `row`, where no two rows have one key. Nothing
-/// is written to the store; an error is the store's own.
+/// Whether a row has the key, and writes the first that has it over `row`. Nothing is written to the
+/// store; an error is the store's own.
 pub fn find_row<S: Store>(
     store: &mut S,
     tree: u32,
@@ -110,6 +110,33 @@ pub fn first_after<S: Store>(
     if !has_key(row, key) {
         return Ok(true);
     }
+    match store.next(WALK, row) {
+        Ok(there) => Ok(there),
+        Err(error) => Err(error),
+    }
+}
+
+/// Writes the last row of all over `row`, or answers that there is none. Nothing is written to the
+/// store; an error is the store's own, and what is in `row` is lost then.
+pub fn last_row<S: Store>(store: &mut S, tree: u32, row: &mut Row) -> Result<bool, StoreError>
+    requires { IsClean (S.Store.view store.old)
+        → (S.Store.view store.old).shape tree ≡ Shape.Index plain }
+    ensures found { IfOk result (λ there. IsClean (S.Store.view store.new)
+        → IsFirst (reverse ((S.Store.view store.old).trees tree)) row.new there) }
+    ensures same { OnOk result (IsClean (S.Store.view store.new)
+        → IsUnchanged (S.Store.view store.old) (S.Store.view store.new)) }
+    ensures kept { OnErr result (IsClean (S.Store.view store.new)
+        → KeepsCommitted (S.Store.view store.old) (S.Store.view store.new)) }
+    ensures schema { KeepsSchema (S.Store.view store.old) (S.Store.view store.new) }
+    ensures cause { IfErr result (λ error. IsClean (S.Store.view store.new)
+        → HasCause (S.Store.view store.old)
+        (MoreFaults (S.Store.faults store.old) (S.Store.faults store.new)) ⊥ error) }
+    ensures quiet { IsQuiet S.Store.view S.Store.faults S.Store.recovers S.Store.is_shielded
+        store.old store.new }
+{
+    // No row is above the key of no columns, so the walk back begins with the last of all.
+    row.clear();
+    store.seek(WALK, tree, row, Direction::Backward)?;
     match store.next(WALK, row) {
         Ok(there) => Ok(there),
         Err(error) => Err(error),

@@ -5,11 +5,11 @@ use Rattle.std.specs.Prelude.{◌==◌}
 use Rattle.std.proofs.lemmas.Bool.Decides.{nat_tests}
 use Rattle.std.specs.FinMap.{entries}
 use Rattle.sqlite_trees.specs.Tree.{Trees}
-use Rattle.kept_tables.specs.Tables.{BookRow, TariffTable, ClosedTable, DayTable}
+use Rattle.kept_tables.specs.Tables.{BookRow, ChoiceTable, TariffTable, ClosedTable, DayTable}
 use Rattle.kept_tables.specs.Tables.{LineTable, RecordTable, Tables}
 use Rattle.tree_tables.specs.Columns.{book_columns, tariff_columns, closed_columns}
 use Rattle.tree_tables.specs.Columns.{record_columns, day_columns, line_columns}
-use Rattle.tree_tables.specs.Columns.{identity_columns, mark_columns}
+use Rattle.tree_tables.specs.Columns.{identity_columns, mark_columns, choice_columns}
 use Rattle.tree_tables.specs.Holds.{ArePlaced, Holds, identities, marks}
 
 -- each tree but one has the rows that it had
@@ -32,13 +32,13 @@ module _ {old new : Trees} {tables : Tables} (holds : Holds old tables) where
     book = now;
     tariffs = same 1 (apart 1 0 refl) ∙ holds.tariffs;
     closes = same 2 (apart 2 0 refl) ∙ holds.closes;
-    choices = holds.choices;
     records = same 3 (apart 3 0 refl) ∙ holds.records;
     days = same 4 (apart 4 0 refl) ∙ holds.days;
     placed = holds.placed;
     lines = same 5 (apart 5 0 refl) ∙ holds.lines;
     identities = same 6 (apart 6 0 refl) ∙ holds.identities;
     marks = same 7 (apart 7 0 refl) ∙ holds.marks;
+    choices = same 8 (apart 8 0 refl) ∙ holds.choices;
   }
 
   pub with_tariffs : (rows : TariffTable) → SameBut old new 1
@@ -47,13 +47,13 @@ module _ {old new : Trees} {tables : Tables} (holds : Holds old tables) where
     book = same 0 (apart 0 1 refl) ∙ holds.book;
     tariffs = now;
     closes = same 2 (apart 2 1 refl) ∙ holds.closes;
-    choices = holds.choices;
     records = same 3 (apart 3 1 refl) ∙ holds.records;
     days = same 4 (apart 4 1 refl) ∙ holds.days;
     placed = holds.placed;
     lines = same 5 (apart 5 1 refl) ∙ holds.lines;
     identities = same 6 (apart 6 1 refl) ∙ holds.identities;
     marks = same 7 (apart 7 1 refl) ∙ holds.marks;
+    choices = same 8 (apart 8 1 refl) ∙ holds.choices;
   }
 
   pub with_closes : (rows : ClosedTable) → SameBut old new 2
@@ -62,13 +62,13 @@ module _ {old new : Trees} {tables : Tables} (holds : Holds old tables) where
     book = same 0 (apart 0 2 refl) ∙ holds.book;
     tariffs = same 1 (apart 1 2 refl) ∙ holds.tariffs;
     closes = now;
-    choices = holds.choices;
     records = same 3 (apart 3 2 refl) ∙ holds.records;
     days = same 4 (apart 4 2 refl) ∙ holds.days;
     placed = holds.placed;
     lines = same 5 (apart 5 2 refl) ∙ holds.lines;
     identities = same 6 (apart 6 2 refl) ∙ holds.identities;
     marks = same 7 (apart 7 2 refl) ∙ holds.marks;
+    choices = same 8 (apart 8 2 refl) ∙ holds.choices;
   }
 
   pub with_days : (rows : DayTable) → ArePlaced rows → SameBut old new 4
@@ -77,13 +77,13 @@ module _ {old new : Trees} {tables : Tables} (holds : Holds old tables) where
     book = same 0 (apart 0 4 refl) ∙ holds.book;
     tariffs = same 1 (apart 1 4 refl) ∙ holds.tariffs;
     closes = same 2 (apart 2 4 refl) ∙ holds.closes;
-    choices = holds.choices;
     records = same 3 (apart 3 4 refl) ∙ holds.records;
     days = now;
     placed = placed;
     lines = same 5 (apart 5 4 refl) ∙ holds.lines;
     identities = same 6 (apart 6 4 refl) ∙ holds.identities;
     marks = same 7 (apart 7 4 refl) ∙ holds.marks;
+    choices = same 8 (apart 8 4 refl) ∙ holds.choices;
   }
 
   pub with_lines : (rows : LineTable) → SameBut old new 5
@@ -92,13 +92,13 @@ module _ {old new : Trees} {tables : Tables} (holds : Holds old tables) where
     book = same 0 (apart 0 5 refl) ∙ holds.book;
     tariffs = same 1 (apart 1 5 refl) ∙ holds.tariffs;
     closes = same 2 (apart 2 5 refl) ∙ holds.closes;
-    choices = holds.choices;
     records = same 3 (apart 3 5 refl) ∙ holds.records;
     days = same 4 (apart 4 5 refl) ∙ holds.days;
     placed = holds.placed;
     lines = now;
     identities = same 6 (apart 6 5 refl) ∙ holds.identities;
     marks = same 7 (apart 7 5 refl) ∙ holds.marks;
+    choices = same 8 (apart 8 5 refl) ∙ holds.choices;
   }
 
   pub with_records : (rows : RecordTable) → SameButRecords old new
@@ -110,11 +110,26 @@ module _ {old new : Trees} {tables : Tables} (holds : Holds old tables) where
     book = same 0 (apart 0 3 refl) (apart 0 6 refl) (apart 0 7 refl) ∙ holds.book;
     tariffs = same 1 (apart 1 3 refl) (apart 1 6 refl) (apart 1 7 refl) ∙ holds.tariffs;
     closes = same 2 (apart 2 3 refl) (apart 2 6 refl) (apart 2 7 refl) ∙ holds.closes;
-    choices = holds.choices;
     records = now;
     days = same 4 (apart 4 3 refl) (apart 4 6 refl) (apart 4 7 refl) ∙ holds.days;
     placed = holds.placed;
     lines = same 5 (apart 5 3 refl) (apart 5 6 refl) (apart 5 7 refl) ∙ holds.lines;
     identities = identities_now;
     marks = marks_now;
+    choices = same 8 (apart 8 3 refl) (apart 8 6 refl) (apart 8 7 refl) ∙ holds.choices;
+  }
+
+  pub with_choices : (rows : ChoiceTable) → SameBut old new 8
+      → new 8 ≡ map choice_columns (entries rows) → Holds new (record tables { choices = rows })
+  with_choices rows same now = record {
+    book = same 0 (apart 0 8 refl) ∙ holds.book;
+    tariffs = same 1 (apart 1 8 refl) ∙ holds.tariffs;
+    closes = same 2 (apart 2 8 refl) ∙ holds.closes;
+    records = same 3 (apart 3 8 refl) ∙ holds.records;
+    days = same 4 (apart 4 8 refl) ∙ holds.days;
+    placed = holds.placed;
+    lines = same 5 (apart 5 8 refl) ∙ holds.lines;
+    identities = same 6 (apart 6 8 refl) ∙ holds.identities;
+    marks = same 7 (apart 7 8 refl) ∙ holds.marks;
+    choices = now;
   }

@@ -16,7 +16,7 @@ use Rattle.book_model.specs.declared.row.ChargeRow.{ChargeRow}
 use Rattle.book_model.specs.declared.row.RowKey.{RowKey}
 use Rattle.book_model.proofs.RowLemmas.{by_key_total, by_key_exact}
 use Rattle.kept_tables.specs.Numbered.{by_period}
-use Rattle.kept_tables.specs.Tables.{RecordRow}
+use Rattle.kept_tables.specs.Tables.{ChoiceRow, RecordRow}
 use Rattle.kept_tables.proofs.NumberedLemmas.{by_period_total, by_period_exact}
 use Rattle.tree_rows.specs.Indexes.{by_both, by_mark}
 use Rattle.tree_rows.specs.Layouts.{Layout}
@@ -94,6 +94,17 @@ line_layout = record {
   alike = λ k l. refl;
   ordered = λ k l. ap₂ ordering_then (value_cmp-Int (pos k.0) (pos l.0) ∙ numbers k.0 l.0)
       (then-Equal _ ∙ value_cmp-Blob k.1 l.1);
+}
+
+-- choices by their numbers
+abbrev pub choice_layout : Layout ℕ ChoiceRow nat_cmp
+choice_layout = record {
+  key = λ number. Int (pos number) ∷ [];
+  rest = λ choice. Blob choice.name ∷ Int (pos choice.period) ∷ [];
+  total = nat_cmp_total;
+  exact = nat_cmp-IsAntisymmetric;
+  alike = λ k l. refl;
+  ordered = λ k l. then-Equal _ ∙ value_cmp-Int (pos k) (pos l) ∙ numbers k l;
 }
 
 -- identities with the names that have them, which stand in keys alone

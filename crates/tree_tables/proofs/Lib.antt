@@ -8,10 +8,12 @@ pub mod RowsRead
 pub mod TheBook
 pub mod NewTables
 pub mod Rulings
+pub mod ChoiceRows
 pub mod RecordIndexes
 pub mod Records
 pub mod FoundNames
 pub mod RecordLists
+pub mod ChargedRows
 pub mod Posting
 pub mod Prices
 pub mod WalkNames

@@ -17,6 +17,7 @@ use Rattle.tree_rows.specs.Indexes.{index_of, indexed_by}
 use Rattle.tree_rows.proofs.IndexOrders.{by_both_total, by_both_exact, by_mark_total, by_mark_exact}
 use Rattle.tree_tables.specs.Columns.{book_columns, tariff_columns, closed_columns, record_columns}
 use Rattle.tree_tables.specs.Columns.{day_columns, line_columns, identity_columns, mark_columns}
+use Rattle.tree_tables.specs.Columns.{choice_columns}
 use Rattle.tree_tables.specs.Holds.{Holds, identity_key, mark_key}
 use Rattle.tree_tables.specs.States.{state}
 use Rattle.tree_tables.specs.Steps.{HasNoRows, Makes}
@@ -52,7 +53,7 @@ module _ {old new : Trees} (order : Order) (row : Row) (none : HasNoRows old)
     (now : new ≡ with_tree old 0 (insert_entry order row (old 0)))
     (is : row ≡ book_columns new_tables.book) where
   -- each tree but that of the book has no rows still
-  still : (tree : ℕ) → tree < 8 → with_tree old 0 (insert_entry order row (old 0)) tree ≡ old tree
+  still : (tree : ℕ) → tree < 9 → with_tree old 0 (insert_entry order row (old 0)) tree ≡ old tree
       → new tree ≡ []
   still tree within other = ap (λ (trees : Trees). trees tree) now ∙ other ∙ none.empty tree within
 
@@ -63,7 +64,6 @@ module _ {old new : Trees} (order : Order) (row : Row) (none : HasNoRows old)
         ∙ ap (insert_entry order row) (none.empty 0 (omega arith)) ∙ ap (λ row. row ∷ []) is;
     tariffs = still 1 (omega arith) refl ∙ sym (no_rows _ tariff_columns);
     closes = still 2 (omega arith) refl ∙ sym (no_rows _ closed_columns);
-    choices = refl;
     records = still 3 (omega arith) refl ∙ sym (no_rows _ record_columns);
     days = still 4 (omega arith) refl ∙ sym (no_rows _ day_columns);
     placed = λ key row there. absurd (no_value row (sym there ∙ get-empty _ key));
@@ -74,6 +74,7 @@ module _ {old new : Trees} (order : Order) (row : Row) (none : HasNoRows old)
     marks = still 7 (omega arith) refl
         ∙ sym (ap (λ m. map mark_columns (entries m))
         (no_index _ _ by_mark_total by_mark_exact mark_key) ∙ no_rows _ mark_columns);
+    choices = still 8 (omega arith) refl ∙ sym (no_rows _ choice_columns);
   }
     where
       no_value : {V : Type 0} (value : V) → Some value ≡ None → ⊥

@@ -58,7 +58,6 @@ with_indexed holds rows same now same_identities same_marks = record {
   book = same 0 (apart 0 3 refl) ∙ holds.book;
   tariffs = same 1 (apart 1 3 refl) ∙ holds.tariffs;
   closes = same 2 (apart 2 3 refl) ∙ holds.closes;
-  choices = holds.choices;
   records = now;
   days = same 4 (apart 4 3 refl) ∙ holds.days;
   placed = holds.placed;
@@ -67,6 +66,7 @@ with_indexed holds rows same now same_identities same_marks = record {
       ∙ ap (λ places. map identity_columns (entries places)) (sym same_identities);
   marks = same 7 (apart 7 3 refl) ∙ holds.marks
       ∙ ap (λ places. map mark_columns (entries places)) (sym same_marks);
+  choices = same 8 (apart 8 3 refl) ∙ holds.choices;
 }
 
 -- the first row behind a walk's key is that of the first entry that is still to come

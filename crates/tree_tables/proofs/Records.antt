@@ -8,8 +8,8 @@ use Rattle.sqlite_trees.specs.View.{View}
 use Rattle.sqlite_value.specs.Keys.{plain}
 use Rattle.sqlite_value.specs.Order.{Row, column}
 use Rattle.sqlite_value.specs.declared.value.Value.TheVariants.{Blob, Int}
-use Rattle.kept_tables.specs.RowChanges.{unmark_at}
-use Rattle.kept_tables.specs.Steps.{put_record_row, unmark_row}
+use Rattle.kept_tables.specs.RowChanges.{mark_at}
+use Rattle.kept_tables.specs.Steps.{put_record_row, set_mark_row}
 use Rattle.kept_tables.specs.Tables.{RecordRow, Tables}
 use Rattle.tree_rows.specs.Layouts.{Answers}
 use Rattle.tree_rows.specs.Rows.{Finds, IsUnchanged, Rewrites}
@@ -23,7 +23,7 @@ use Rattle.tree_tables.proofs.Looking.{rewrites_behind}
 use Rattle.tree_tables.proofs.RecordIndexes.{identity_named, mark_named}
 use Rattle.tree_tables.proofs.RecordIndexes.{index_row_added, index_row_changed}
 use Rattle.tree_tables.specs.Answers.{FindsRecord}
-use Rattle.tree_tables.specs.Columns.{record_columns, identity_columns, mark_columns}
+use Rattle.tree_tables.specs.Columns.{flag, record_columns, identity_columns, mark_columns}
 use Rattle.tree_tables.specs.Holds.{Holds, identity_key, mark_key, marks}
 use Rattle.tree_tables.specs.Stored.{stored_entry}
 use Rattle.tree_tables.specs.declared.stored_record.StoredRecord.{StoredRecord}
@@ -89,48 +89,50 @@ record_added {old} {one} {two} {new} {tables} name row first second third made_i
     ∙ first.others 7 (apart 7 3 refl) ∙ holds.marks)
     ∙ index_row_added mark_named mark_layout tables.records name row none)
 
--- the record without its mark
-abbrev unmarked : RecordRow → RecordRow
-unmarked row = record row { charged = false }
+-- the record with this mark
+abbrev marked : Bool → RecordRow → RecordRow
+marked mark row = record row { charged = mark }
 
--- Behind a look the row of a record makes room for the one without the mark, and its mark for the
+-- Behind a look the row of a record makes room for the one with this mark, and its mark for the
 -- other; its identity stays.
-pub record_unmarked : (old : View) {look mid new : View} (tables : Tables) (name : List ℕ)
-    (row : RecordRow) {before made from to : Row} → IsUnchanged old look
+pub record_marked : (old : View) {look mid new : View} (tables : Tables) (name : List ℕ)
+    (mark : Bool) (row : RecordRow) {before made from to : Row} → IsUnchanged old look
     → Rewrites look mid 3 (insert_entry plain made (remove_entry plain before (look.trees 3)))
     → Rewrites mid new 7 (insert_entry plain to (remove_entry plain from (mid.trees 7)))
     → before ≡ record_columns (name, row)
-    → made ≡ slice_set before 9 (Int (pos 0))
+    → made ≡ slice_set before 9 (Int (pos (flag mark)))
     → from ≡ column before 9 ∷ column before 1 ∷ column before 0 ∷ []
-    → to ≡ Int (pos 0) ∷ column before 1 ∷ column before 0 ∷ []
+    → to ≡ Int (pos (flag mark)) ∷ column before 1 ∷ column before 0 ∷ []
     → get tables.records name ≡ Some row → Holds old.trees tables
-    → Holds new.trees (unmark_row name tables)
-record_unmarked old {look} {mid} {new} tables name row {before} {made} {from} {to} same first
+    → Holds new.trees (set_mark_row mark name tables)
+record_marked old {look} {mid} {new} tables name mark row {before} {made} {from} {to} same first
     second before_is made_is from_is to_is some holds =
     let records = tables.records in
+    let value = Int (pos (flag mark)) in
+    let now = marked mark row in
     let behind : Rewrites old mid 3 (insert_entry plain made (remove_entry plain before
     (look.trees 3))) = rewrites_behind {old = old} same first in
     let rows_are : look.trees 3 ≡ old.trees 3 = ap (λ (v : View). v.trees 3) same in
-    subst (λ found. Holds new.trees (record tables { records = unmark_at name found records }))
+    subst (λ found. Holds new.trees (record tables { records = mark_at mark name found records }))
     (sym some)
-    (with_records holds (insert records name (unmarked row))
+    (with_records holds (insert records name now)
     (λ other apart_records apart_identities apart_marks.
     second.others other apart_marks ∙ behind.others other apart_records)
     (second.others 3 (apart 3 7 refl) ∙ behind.rows_now
     ∙ ap₂ (λ one rows. insert_entry plain one (remove_entry plain before rows))
-    (made_is ∙ ap (λ one. slice_set one 9 (Int (pos 0))) before_is)
+    (made_is ∙ ap (λ one. slice_set one 9 value) before_is)
     (rows_are ∙ holds.records)
-    ∙ ap (λ one. insert_entry plain (record_columns (name, unmarked row))
+    ∙ ap (λ one. insert_entry plain (record_columns (name, now))
     (remove_entry plain one (map record_columns (entries records)))) before_is
-    ∙ changed record_layout records name row (unmarked row) some)
+    ∙ changed record_layout records name row now some)
     (second.others 6 (apart 6 7 refl) ∙ behind.others 6 (apart 6 3 refl) ∙ holds.identities
     ∙ ap (λ keys. map identity_columns (entries keys))
-    (sym (index_same identity_named records name row (unmarked row) some refl)))
+    (sym (index_same identity_named records name row now some refl)))
     (second.rows_now
     ∙ ap₂ (λ one rows. insert_entry plain one (remove_entry plain from rows))
-    (to_is ∙ ap (λ one. Int (pos 0) ∷ column one 1 ∷ column one 0 ∷ []) before_is)
+    (to_is ∙ ap (λ one. value ∷ column one 1 ∷ column one 0 ∷ []) before_is)
     (behind.others 7 (apart 7 3 refl) ∙ holds.marks)
-    ∙ ap (λ one. insert_entry plain (mark_columns (mark_key (name, unmarked row), tt))
+    ∙ ap (λ one. insert_entry plain (mark_columns (mark_key (name, now), tt))
     (remove_entry plain one (map mark_columns (entries (marks records)))))
     (from_is ∙ ap (λ one. column one 9 ∷ column one 1 ∷ column one 0 ∷ []) before_is)
-    ∙ index_row_changed mark_named mark_layout records name row (unmarked row) some))
+    ∙ index_row_changed mark_named mark_layout records name row now some))

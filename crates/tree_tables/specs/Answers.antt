@@ -1,7 +1,8 @@
 -- What each look answers of the tables.
-use Rattle.std.specs.Prelude.{◌≡◌, ℕ, Bool, not, List, map, filter, take, Option, Some, slice_get}
-use Rattle.std.specs.FinMap.{entries, get}
-use Rattle.std.specs.List.{AllZip}
+use Rattle.std.specs.Prelude.{◌≡◌, ℕ, Bool, not, List, map, filter, take, Option, Some, None}
+use Rattle.std.specs.Prelude.{slice_get, unwrap_or}
+use Rattle.std.specs.FinMap.{entries, get, keys}
+use Rattle.std.specs.List.{AllZip, last_or, list_any}
 use Rattle.std.specs.List.Sorted.{IsPermutation, IsStrictlySortedBy}
 use Rattle.std.specs.Option.{option_map}
 use Rattle.std.specs.Ordering.{ordering_then}
@@ -11,7 +12,7 @@ use Rattle.book_model.specs.declared.row.ChargeRow.{ChargeRow}
 use Rattle.book_model.specs.declared.row.RowKey.{RowKey}
 use Rattle.kept_tables.specs.Numbered.{rows_under}
 use Rattle.kept_tables.specs.Reading.{rows_read}
-use Rattle.kept_tables.specs.Tables.{RecordRow, Tables}
+use Rattle.kept_tables.specs.Tables.{ChoiceTable, RecordRow, RecordTable, Tables}
 use Rattle.kept_tables.specs.Views.{rows_with}
 use Rattle.tree_rows.specs.Changes.{above}
 use Rattle.tree_tables.specs.Stored.{book_of, tariff_of, close_of, stored_entry, signed_name}
@@ -68,6 +69,27 @@ is_uncharged entry = not entry.1.charged
 pub record ListsUncharged (tables : Tables) (list : List StoredRecord) : Type 0 where
   pub same : IsPermutation (map stored_entry list) (filter is_uncharged (entries tables.records))
   pub sorted : IsStrictlySortedBy by_identity (map stored_entry list)
+
+-- the records that have an identity and are charged, by name
+abbrev pub is_charged : List ℕ × RecordRow → Bool
+is_charged entry = entry.1.charged
+
+abbrev pub charged_with : List ℕ → RecordTable → List (List ℕ × RecordRow)
+charged_with identity records = filter is_charged (rows_with identity records)
+
+-- whether a record of the identity is charged
+abbrev pub HasCharged : List ℕ → Tables → Bool → Type 0
+HasCharged identity tables found =
+    found ≡ list_any is_charged (rows_with identity tables.records)
+
+-- the charged record of an identity, if there is one; the first by name, if there are more
+abbrev pub FindsCharged : List ℕ → Tables → Option StoredRecord → Type 0
+FindsCharged identity tables found =
+    option_map stored_entry found ≡ slice_get (charged_with identity tables.records) 0
+
+-- the number of the last choice, or 0 where there is none
+abbrev pub last_number : ChoiceTable → ℕ
+last_number choices = unwrap_or (last_or None (keys choices)) 0
 
 -- the charge row of a period at a place, if there is one
 abbrev pub FindsDay : ℕ → RowKey → Tables → Option ChargeRow → Type 0

@@ -1,11 +1,12 @@
 -- The rows of the tables: the columns in which each kind of row is kept, those of its key first.
-use Rattle.std.specs.Prelude.{ℕ, ℤ, pos, Bool, List, [], ◌∷◌, Option, Some, None, if◌then◌else◌}
+use Rattle.std.specs.Prelude.{ℕ, ℤ, pos, Bool, true, List, [], ◌∷◌, Option, Some, None}
+use Rattle.std.specs.Prelude.{if◌then◌else◌}
 use Rattle.sqlite_value.specs.Order.{Row}
 use Rattle.sqlite_value.specs.declared.value.Value.{Value}
 use Rattle.sqlite_value.specs.declared.value.Value.TheVariants.{Null, Int, Text, Blob}
 use Rattle.book_model.specs.declared.row.ChargeRow.{ChargeRow}
 use Rattle.book_model.specs.declared.row.RowKey.{RowKey}
-use Rattle.kept_tables.specs.Tables.{BookRow, RecordRow}
+use Rattle.kept_tables.specs.Tables.{BookRow, ChoiceRow, RecordRow}
 
 -- a mark is 1 or 0
 abbrev pub flag : Bool → ℕ
@@ -55,6 +56,10 @@ day_columns entry =
 abbrev pub line_columns : (ℕ × List ℕ) × Bool → Row
 line_columns line = Int (pos line.0.0) ∷ Blob line.0.1 ∷ Int (pos (flag line.1)) ∷ []
 
+-- a choice: its number, the name of the record that was chosen, and the period that was open then
+abbrev pub choice_columns : ℕ × ChoiceRow → Row
+choice_columns choice = Int (pos choice.0) ∷ Blob choice.1.name ∷ Int (pos choice.1.period) ∷ []
+
 -- an identity and the name of a record that has it
 abbrev pub identity_columns : (List ℕ × List ℕ) × Unit {0} → Row
 identity_columns entry = Blob entry.0.0 ∷ Blob entry.0.1 ∷ []
@@ -62,3 +67,7 @@ identity_columns entry = Blob entry.0.0 ∷ Blob entry.0.1 ∷ []
 -- a record's mark, its identity and its name
 abbrev pub mark_columns : (ℕ × (List ℕ × List ℕ)) × Unit {0} → Row
 mark_columns entry = Int (pos entry.0.0) ∷ Blob entry.0.1.0 ∷ Blob entry.0.1.1 ∷ []
+
+-- the first of these columns, of charged records that have an identity
+abbrev pub charged_part : List ℕ → Row
+charged_part identity = Int (pos (flag true)) ∷ Blob identity ∷ []

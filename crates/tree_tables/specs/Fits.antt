@@ -20,6 +20,10 @@ HasCount value = (n : ℕ) × (value ≡ Int (pos n))
 abbrev pub HasPeriod : Value → Type 0
 HasPeriod value = (n : ℕ) × (n < 2 ^ 16) × (value ≡ Int (pos n))
 
+-- the number of a choice, in 32 bits
+abbrev pub HasNumber : Value → Type 0
+HasNumber value = (n : ℕ) × (n < 2 ^ 32) × (value ≡ Int (pos n))
+
 -- a day
 abbrev pub HasDay : Value → Type 0
 HasDay value = (day : ℤ) × IsDay day × (value ≡ Int day)

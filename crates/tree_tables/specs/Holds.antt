@@ -1,7 +1,7 @@
 -- The trees that hold the tables: one a table, in the order of its key, and two more that find
 -- records, by their identities and by their marks.
 use Rattle.std.specs.Prelude.{◌≡◌, ℕ, List, [], ◌∷◌, map, Some}
-use Rattle.std.specs.FinMap.{FinMap, empty, entries, get}
+use Rattle.std.specs.FinMap.{FinMap, entries, get}
 use Rattle.sqlite_trees.specs.Tree.{Trees}
 use Rattle.sqlite_trees.specs.View.{View}
 use Rattle.sqlite_trees.specs.declared.store.Shape.TheVariants.{Index}
@@ -13,7 +13,7 @@ use Rattle.kept_tables.specs.TablesOf.{place_of}
 use Rattle.tree_rows.specs.Indexes.{index_of, by_both, by_mark}
 use Rattle.tree_tables.specs.Columns.{flag, book_columns, tariff_columns, closed_columns}
 use Rattle.tree_tables.specs.Columns.{record_columns, day_columns, line_columns}
-use Rattle.tree_tables.specs.Columns.{identity_columns, mark_columns}
+use Rattle.tree_tables.specs.Columns.{identity_columns, mark_columns, choice_columns}
 
 -- an identity with a name that has it
 abbrev pub identity_key : List ℕ × RecordRow → List ℕ × List ℕ
@@ -34,18 +34,18 @@ abbrev pub ArePlaced : DayTable → Type 0
 ArePlaced days =
     (key : ℕ × RowKey) (row : ChargeRow) → get days key ≡ Some row → place_of row ≡ key.1
 
--- The rows of the trees are those of the tables. Choices have no tree, so there are none.
+-- The rows of the trees are those of the tables.
 pub record Holds (trees : Trees) (tables : Tables) : Type 0 where
   pub book : trees 0 ≡ book_columns tables.book ∷ []
   pub tariffs : trees 1 ≡ map tariff_columns (entries tables.tariffs)
   pub closes : trees 2 ≡ map closed_columns (entries tables.closes)
-  pub choices : tables.choices ≡ empty
   pub records : trees 3 ≡ map record_columns (entries tables.records)
   pub days : trees 4 ≡ map day_columns (entries tables.days)
   pub placed : ArePlaced tables.days
   pub lines : trees 5 ≡ map line_columns (entries tables.lines)
   pub identities : trees 6 ≡ map identity_columns (entries (identities tables.records))
   pub marks : trees 7 ≡ map mark_columns (entries (marks tables.records))
+  pub choices : trees 8 ≡ map choice_columns (entries tables.choices)
 
 -- each of the trees is sorted by its whole rows, in this transaction and in the last commit
 pub record HasShapes (view : View) : Type 0 where
@@ -57,4 +57,5 @@ pub record HasShapes (view : View) : Type 0 where
   pub lines : view.shape 5 ≡ Index plain
   pub identities : view.shape 6 ≡ Index plain
   pub marks : view.shape 7 ≡ Index plain
+  pub choices : view.shape 8 ≡ Index plain
   pub committed : view.committed_shape ≡ view.shape

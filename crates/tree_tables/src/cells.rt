@@ -6,7 +6,7 @@ ghost use Rattle.sqlite_value.specs.Order.{column};
 ghost use Rattle.sqlite_value.specs.declared.value.Value.TheVariants.{Blob, Int, Text};
 ghost use Rattle.tree_tables.specs.Columns.{flag};
 ghost use Rattle.tree_tables.specs.Fits.{HasBytes, HasCount, HasDay, HasHash, HasMark, HasName};
-ghost use Rattle.tree_tables.specs.Fits.{HasPeriod, HasText};
+ghost use Rattle.tree_tables.specs.Fits.{HasNumber, HasPeriod, HasText};
 
 use smf_text::Name;
 use sqlite_trees::error::StoreError;
@@ -42,6 +42,15 @@ pub fn period_at(row: &Row, at: usize) -> Result<u16, StoreError>
 {
     let n = int_at(row, at)?;
     u16::try_from(n).map_err(|_| StoreError::Corrupt)
+}
+
+/// The number of a choice in a column.
+pub fn number_at(row: &Row, at: usize) -> Result<u32, StoreError>
+    ensures read { IfOk result (λ n. column row.now at ≡ Int (pos n)) }
+    ensures taken { IfErr result (λ error. ¬ HasNumber (column row.now at)) }
+{
+    let n = int_at(row, at)?;
+    u32::try_from(n).map_err(|_| StoreError::Corrupt)
 }
 
 /// The day in a column.

@@ -32,6 +32,13 @@ pub(crate) fn period_key(key: &mut Row, period: u16) -> Result<(), StoreError>
     number_key(key, i64::from(period))
 }
 
+/// The number of a choice as a key.
+pub(crate) fn choice_key(key: &mut Row, number: u32) -> Result<(), StoreError>
+    ensures { OnOk result (key.new ≡ Int (pos number) ∷ []) }
+{
+    number_key(key, i64::from(number))
+}
+
 /// Bytes as a key.
 pub(crate) fn bytes_key(key: &mut Row, bytes: &[u8]) -> Result<(), StoreError>
     ensures made { OnOk result (key.new ≡ Blob bytes.now ∷ []) }

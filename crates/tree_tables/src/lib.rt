@@ -4,6 +4,8 @@
 
 mod book_row;
 mod cells;
+mod charged_rows;
+mod choice_rows;
 mod closed_rows;
 mod day_rows;
 mod found_names;
@@ -18,7 +20,9 @@ mod tariff_rows;
 
 pub use book_row::{StoredBook, Sums};
 // How columns are read, for who reads the rows anew.
-pub use cells::{bytes_at, count_at, day_at, hash_at, mark_at, name_at, period_at, text_at};
+pub use cells::{
+    bytes_at, count_at, day_at, hash_at, mark_at, name_at, number_at, period_at, text_at,
+};
 pub use closed_rows::Close;
 pub use day_rows::{DayPlace, DayRow};
 pub use line_rows::{LinePlace, StoredLine};

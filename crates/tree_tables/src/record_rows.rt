@@ -1,6 +1,6 @@
 //! Records by name, and the two trees that find them by identity and by mark.
 
-ghost use Rattle.std.specs.Prelude.{◌≡◌, ◌∷◌, ◌++◌, [], OnOk, pos};
+ghost use Rattle.std.specs.Prelude.{◌≡◌, ◌∷◌, ◌++◌, [], OnOk, pos, slice_set};
 ghost use Rattle.sqlite_value.specs.Value.{owned};
 ghost use Rattle.sqlite_value.specs.declared.value.Value.TheVariants.{Blob, Int, Text};
 ghost use Rattle.tree_tables.specs.Columns.{flag, record_columns};
@@ -135,6 +135,13 @@ fn mark_row(
     Ok(())
 }
 
+/// Makes the row of a record anew, charged or not.
+fn marked_row(row: &mut Row, before: &Row, mark: bool) -> Result<(), StoreError>
+    ensures { OnOk result (row.new ≡ slice_set before.now CHARGED (Int (pos (flag mark)))) }
+{
+    with_column(row, before, CHARGED, i64::from(mark))
+}
+
 impl<S: Store> TreeTables<S> {
     ghost use Rattle.std.specs.Prelude.{◌≡◌, None};
     ghost use Rattle.std.specs.FinMap.{get};
@@ -228,21 +235,37 @@ impl<S: Store> TreeTables<S> {
         change_row(&mut self.store, RECORDS, &self.before, &self.row)
     }
 
+    /// The record of a name, if there is one, is charged from now on.
+    pub fn mark_record(&mut self, name: &[u8]) -> Result<(), StoreError>
+        ensures does { Does result (state S.Store self.old.store) (state S.Store self.new.store)
+            Always (step.mark_row name.now) }
+    {
+        self.set_mark(name, true)
+    }
+
     /// The record of a name, if there is one, is charged no more.
     pub fn unmark_record(&mut self, name: &[u8]) -> Result<(), StoreError>
         ensures does { Does result (state S.Store self.old.store) (state S.Store self.new.store)
             Always (step.unmark_row name.now) }
     {
+        self.set_mark(name, false)
+    }
+
+    /// The record of a name, if there is one, has this mark, and is found by it.
+    fn set_mark(&mut self, name: &[u8], mark: bool) -> Result<(), StoreError>
+        ensures does { Does result (state S.Store self.old.store) (state S.Store self.new.store)
+            Always (step.set_mark_row mark name.now) }
+    {
         bytes_key(&mut self.key, name)?;
         if !find_row(&mut self.store, RECORDS, &self.key, &mut self.before)? {
             return Ok(());
         }
-        with_column(&mut self.row, &self.before, CHARGED, 0)?;
+        marked_row(&mut self.row, &self.before, mark)?;
         change_row(&mut self.store, RECORDS, &self.before, &self.row)?;
         let identity = self.before.get(1);
         let name = self.before.get(0);
         mark_row(&mut self.key, self.before.get(CHARGED), identity, name)?;
-        mark_row(&mut self.row, mark_value(false), identity, name)?;
+        mark_row(&mut self.row, mark_value(mark), identity, name)?;
         change_row(&mut self.store, MARKS, &self.key, &self.row)
     }
 }

@@ -21,7 +21,7 @@
 //!
 //! | A line | Is answered with |
 //! |---|---|
-//! | `rows`, `lines`, `marks`, `closed`, `tariffs`, `book` | the rows of a table, in the order of their keys |
+//! | `rows`, `lines`, `marks`, `closed`, `choices`, `tariffs`, `book` | the rows of a table, in the order of their keys |
 //! | `set day_sum.COLUMN NUMBER` | how many charge rows were changed behind the books' back |
 //! | `empty TABLE` | how many rows were taken away behind the books' back |
 //! | `stops log`, `stops database` | what was found when the disk stopped at each call of that file, and lost what was not synced |

@@ -30,12 +30,21 @@ fn create_in<S: Store + Drop>(alloc: Global, trees: Trees<S>) -> Result<(Books<S
     }
 }
 
-/// Gives books the commands up to one that is answered with want of memory, and answers how many
-/// changes were told of till then; nothing where none was answered so.
-fn work<L: Ledger>(run: Run<'_>, ledger: &mut L) -> Result<Option<usize>, Other> {
+/// How far a run came before a call was refused.
+#[derive(Clone, Copy)]
+struct Refused {
+    /// How many changes were told of.
+    changes: usize,
+    /// How many commands were answered.
+    commands: usize,
+}
+
+/// Gives books the commands up to one that is answered with want of memory, and answers how far they
+/// came till then; nothing where none was answered so.
+fn work<L: Ledger>(run: Run<'_>, ledger: &mut L) -> Result<Option<Refused>, Other> {
     let alloc = run.named.alloc();
     let mut changes: usize = 0;
-    for line in run.body.lines() {
+    for (commands, line) in run.body.lines().enumerate() {
         let mut answer = Vec::new(alloc);
         let asked: Vec<&str> = line.split_whitespace().collect(alloc)?;
         run.ask(ledger, &asked, &mut answer)?;
@@ -47,7 +56,7 @@ fn work<L: Ledger>(run: Run<'_>, ledger: &mut L) -> Result<Option<usize>, Other>
         changes = changes.saturating_add(count);
         match fault {
             None => {}
-            Some(MEMORY) => return Ok(Some(changes)),
+            Some(MEMORY) => return Ok(Some(Refused { changes, commands })),
             Some(_) => return Err(Other("OTHER ANSWERS")),
         }
     }
@@ -55,19 +64,22 @@ fn work<L: Ledger>(run: Run<'_>, ledger: &mut L) -> Result<Option<usize>, Other>
 }
 
 /// Makes books in a store that refuses the call behind so many, and works on them up to that call.
-/// Answers the books, and how many changes were told of till then; nothing where no call was refused.
-fn begin(run: Run<'_>, calls: u64) -> Result<(Books<Refusing<MemStore>>, Option<usize>), Other> {
+/// Answers the books, and how far they came till then; nothing where no call was refused.
+fn begin(run: Run<'_>, calls: u64) -> Result<(Books<Refusing<MemStore>>, Option<Refused>), Other> {
     let alloc = run.named.alloc();
     let Ok(store) = trees_in_memory(alloc) else {
         return Err(Other("NO MEMORY"));
     };
     let (mut books, is_refused) = create_in(alloc, Trees::over(Refusing::new(store, calls)))?;
-    let changes = if is_refused {
-        Some(0)
+    let refused = if is_refused {
+        Some(Refused {
+            changes: 0,
+            commands: 0,
+        })
     } else {
         work(run, &mut books)?
     };
-    Ok((books, changes))
+    Ok((books, refused))
 }
 
 /// Books as a refused call left them are those behind the last change that was told of.
@@ -75,20 +87,25 @@ fn look(
     run: Run<'_>,
     whole: &Unstopped,
     books: Books<Refusing<MemStore>>,
-    changes: usize,
+    refused: Refused,
 ) -> Result<(), Other> {
     let (found, _) = stage_of(run, books)?;
-    if whole.is_behind(changes, &found) {
+    if whole.is_behind(refused.changes, &found) {
         Ok(())
     } else {
         Err(Other("OTHER BOOKS"))
     }
 }
 
-/// They serve on: all commands once more bring them to the end.
-fn finish(run: Run<'_>, whole: &Unstopped, books: Books<Refusing<MemStore>>) -> Result<(), Other> {
+/// They serve on: the command that was refused and those behind it bring them to the end.
+fn finish(
+    run: Run<'_>,
+    whole: &Unstopped,
+    books: Books<Refusing<MemStore>>,
+    refused: Refused,
+) -> Result<(), Other> {
     let mut books = books;
-    let came = run.give_all(&mut books)?;
+    let came = run.give_from(&mut books, refused.commands)?;
     let (end, _) = stage_of(run, books)?;
     if came.is_as_told && !came.stopped && whole.is_end(&end) {
         Ok(())
@@ -100,8 +117,8 @@ fn finish(run: Run<'_>, whole: &Unstopped, books: Books<Refusing<MemStore>>) -> 
 /// Makes a run on books whose store refuses the call behind so many, twice: what is found is looked at,
 /// and then how it ends. Answers whether the run came to that call.
 fn meet_refusal(run: Run<'_>, whole: &Unstopped, calls: u64) -> Result<bool, Other> {
-    let (books, changes) = begin(run, calls)?;
-    let Some(changes) = changes else {
+    let (books, refused) = begin(run, calls)?;
+    let Some(refused) = refused else {
         let is_untold = books.close_store().has_refused();
         return if is_untold {
             Err(Other("NOT TOLD"))
@@ -109,9 +126,9 @@ fn meet_refusal(run: Run<'_>, whole: &Unstopped, calls: u64) -> Result<bool, Oth
             Ok(false)
         };
     };
-    look(run, whole, books, changes)?;
+    look(run, whole, books, refused)?;
     let (books, _) = begin(run, calls)?;
-    finish(run, whole, books)?;
+    finish(run, whole, books, refused)?;
     Ok(true)
 }
 

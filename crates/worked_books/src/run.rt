@@ -16,6 +16,8 @@ const REOPEN: &str = "3";
 pub(crate) struct Came {
     /// How many changes of the books were told of.
     pub(crate) changes: usize,
+    /// How many commands were answered before the first fault.
+    pub(crate) commands: usize,
     /// The last answer is a fault.
     pub(crate) stopped: bool,
     /// The first fault is the store's, each answer behind it says that the books are to be opened
@@ -26,6 +28,7 @@ pub(crate) struct Came {
 /// A run that got no answer yet.
 const BEGUN: Came = Came {
     changes: 0,
+    commands: 0,
     stopped: false,
     is_as_told: true,
 };
@@ -33,6 +36,7 @@ const BEGUN: Came = Came {
 /// A run that was stopped before there were books.
 pub(crate) const NOT_BEGUN: Came = Came {
     changes: 0,
+    commands: 0,
     stopped: true,
     is_as_told: true,
 };
@@ -73,8 +77,10 @@ impl Came {
             None => !self.stopped,
             Some(fault) => fault == if self.stopped { REOPEN } else { STORE },
         };
+        let is_answered = fault.is_none() && !self.stopped;
         Came {
             changes: self.changes.saturating_add(changes),
+            commands: self.commands.saturating_add(usize::from(is_answered)),
             stopped: fault.is_some(),
             is_as_told: self.is_as_told && is_due,
         }
@@ -129,11 +135,15 @@ impl Run<'_> {
         Ok(())
     }
 
-    /// Gives books all commands, and answers how far they came.
-    pub(crate) fn give_all<L: Ledger>(self, ledger: &mut L) -> Result<Came, AllocError> {
+    /// Gives books all commands but so many, and answers how far they came.
+    pub(crate) fn give_from<L: Ledger>(
+        self,
+        ledger: &mut L,
+        commands: usize,
+    ) -> Result<Came, AllocError> {
         let alloc = self.named.alloc();
         let mut answers = Vec::new(alloc);
-        for line in self.body.lines() {
+        for line in self.body.lines().skip(commands) {
             let words: Vec<&str> = line.split_whitespace().collect(alloc)?;
             self.ask(ledger, &words, &mut answers)?;
         }

@@ -25,8 +25,8 @@ const CHARGES: u32 = 4;
 /// That of the adjustment lines.
 const LINES: u32 = 5;
 
-/// How many trees books have.
-const COUNT: u32 = 8;
+/// That of the choices, the last.
+const CHOICES: u32 = 8;
 
 /// The columns of a record that an adjustment line shows: day, centre, shift, CPU, blocks, amount.
 const CHARGED: [usize; 6] = [3, 5, 4, 6, 7, 8];
@@ -170,6 +170,7 @@ pub(crate) fn shown_table<S: Store + Drop>(
         ("rows", []) => Some(shown(alloc, trees, CHARGES, Showing::Whole)),
         ("tariffs", []) => Some(shown(alloc, trees, TARIFFS, Showing::Tariffs)),
         ("marks", []) => Some(shown(alloc, trees, RECORDS, Showing::Marks)),
+        ("choices", []) => Some(shown(alloc, trees, CHOICES, Showing::Whole)),
         ("lines", []) => Some(shown_lines(alloc, trees)),
         _ => None,
     }
@@ -178,7 +179,7 @@ pub(crate) fn shown_table<S: Store + Drop>(
 /// All rows of all trees, an empty line behind those of each; none where one can't be read.
 pub(crate) fn all_rows<S: Store + Drop>(alloc: Global, trees: &mut Trees<S>) -> Option<Vec<u8>> {
     let mut text = Vec::new(alloc);
-    for tree in 0..COUNT {
+    for tree in 0..=CHOICES {
         for row in &trees.rows(alloc, tree)? {
             push_whole(alloc, &mut text, &row.0).ok()?;
         }

@@ -46,7 +46,7 @@ fn open_in<S: Restart>(alloc: Global, trees: Trees<S>) -> Result<Opened<S>, Othe
 
 /// Gives books the commands, up to a stop.
 fn work<L: Ledger>(run: Run<'_>, ledger: &mut L) -> Result<Came, Other> {
-    let came = run.give_all(ledger)?;
+    let came = run.give_from(ledger, 0)?;
     let is_lost = came.stopped && ledger.periods().err() != Some(LedgerFault::Reopen);
     if came.is_as_told && !is_lost {
         Ok(came)
@@ -126,11 +126,17 @@ fn reopen<S: Restart>(alloc: Global, left: Left<S>) -> Result<(Books<S>, bool), 
     }
 }
 
-/// Gives the books that are left all commands once more, which brings them to the end.
-fn finish<S: Restart>(run: Run<'_>, whole: &Unstopped, left: Left<S>) -> Result<(), Other> {
+/// Gives the books that are left the command in hand once more and those behind it, which brings them
+/// to the end.
+fn finish<S: Restart>(
+    run: Run<'_>,
+    whole: &Unstopped,
+    stopped: Came,
+    left: Left<S>,
+) -> Result<(), Other> {
     let alloc = run.named.alloc();
     let (mut books, _) = reopen(alloc, left)?;
-    let came = run.give_all(&mut books)?;
+    let came = run.give_from(&mut books, stopped.commands)?;
     let (books, _) = reopen(alloc, Left::Store(books.close_store()))?;
     let (end, _) = stage_of(run, books)?;
     if came.is_as_told && !came.stopped && whole.is_end(&end) {
@@ -172,6 +178,6 @@ pub(crate) fn meet_stops<S: Restart>(
     if !whole.is_reached(came, &found) {
         return Err(Other("OTHER BOOKS"));
     }
-    finish(run, whole, Left::Store(trees.into_store()))?;
+    finish(run, whole, came, Left::Store(trees.into_store()))?;
     Ok(met)
 }

@@ -6,6 +6,7 @@ ghost use Rattle.book_core.specs.Plain.{ruled_by};
 
 use super::PlainLedger;
 use crate::charge_rows::charge_rows;
+use crate::choices::last_chosen;
 use crate::closed::ClosedPeriod;
 use crate::ending::Ending;
 use crate::identities::{disputes, shared_identities};
@@ -16,7 +17,7 @@ use std::alloc::{AllocError, Global};
 
 /// The day of the last close, if there was one.
 pub(super) fn last_close(closed: &[ClosedPeriod]) -> Option<i32>
-    ensures { result ≡ day_of_last (ruled_by [] closed.now) }
+    ensures { result ≡ day_of_last (ruled_by [] closed.now []) }
 {
     let last = closed.last()?;
     Some(last.through)
@@ -43,11 +44,11 @@ impl<N: Naming + Drop> PlainLedger<N> {
 
     /// How the open period ends through a day, or, where there is none, now.
     pub(super) fn ending(&self, through: Option<i32>) -> Result<Ending, AllocError>
-        ensures { IfOk result (IsEnding self.now.held.entries
-            (day_of_last (book_in self.now).rulings) through) }
+        ensures { IfOk result (IsEnding self.now.held.entries (book_in self.now).rulings through) }
     {
         Ok(Ending {
             shared: shared_identities(self.alloc, &self.held)?,
+            chosen: last_chosen(self.alloc, &self.choices)?,
             last: last_close(&self.closed),
             through,
         })
@@ -91,13 +92,13 @@ impl<N: Naming + Drop> PlainLedger<N> {
         Ok(lines)
     }
 
-    /// The identities of two or more records, with these records.
+    /// The identities in dispute, with their records.
     pub(super) fn disputes_held(&self) -> Result<Vec<Dispute>, LedgerFault>
         ensures disputes { Answers (λ found. map dispute_shown found.items) result
             (disputes_outcome (N.name_of (naming_in self.now)) (book_in self.now)).answer }
         ensures shown { IfOk result (λ found. AreDisputes (map dispute_shown found.items)) }
     {
-        Ok(disputes(self.alloc, &self.held)?)
+        Ok(disputes(self.alloc, &self.held, &self.choices)?)
     }
 
     /// The days of the closes.

@@ -84,6 +84,7 @@ impl<S: Store, N: Naming + Drop> TableLedger<S, N> {
                 summary: Summary {
                     tariffs: Vec::new(alloc),
                     closes: Vec::new(alloc),
+                    choices: 0,
                     held: 0,
                     total: 0,
                 },

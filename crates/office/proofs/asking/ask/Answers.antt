@@ -9,8 +9,8 @@ use Rattle.book_core.specs.Work.{IsWork}
 use Rattle.book_import.specs.Imports.{Imports}
 use Rattle.book_import.specs.Reading.{cut_of}
 use Rattle.office.specs.declared.request.Asked.{Asked}
-use Rattle.office.specs.declared.request.Asked.TheVariants.{Tariff, Close, Import, ImportBytes}
-use Rattle.office.specs.declared.request.Asked.TheVariants.{Report}
+use Rattle.office.specs.declared.request.Asked.TheVariants.{Tariff, Close, Choose, Import}
+use Rattle.office.specs.declared.request.Asked.TheVariants.{ImportBytes, Report}
 use Rattle.office.specs.Requests.{Ruling, Text, IsAskable, no_dump, whole_dump}
 use Rattle.office.proofs.AskLemmas.{work_told, unread, as_asked}
 use Rattle.office.proofs.asking.ask.Goals as goal
@@ -39,6 +39,12 @@ returns-in-Close g c =
     (subst (λ (day : ℤ).
     IsWork old new (Calls (λ ruled. ruled) (close_outcome c.in-Close.period day) c.close.result))
     (to_z-of_z w32 through (day_fits through day)) c.close.ensures.work)))
+
+pub returns-in-Choose : goal.returns-in-Choose
+returns-in-Choose g c =
+    as_asked (Choose c.in-Choose.name) c.in-Choose.is
+    (unread no_dump (record { is = refl; same = refl })
+    (work_told Ruling c.ruled-in-Choose.ensures c.choose.ensures.work))
 
 pub returns-in-Import : goal.returns-in-Import
 returns-in-Import g c =

@@ -63,6 +63,7 @@ returns-in_err-push g c = record {
       (λ book remembers. record {
         tariffs = remembers.tariffs;
         closes = c.in_err-push.ensures.items ∙ remembers.closes;
+        choices = remembers.choices;
         held = remembers.held;
         total = remembers.total;
       }));
@@ -92,6 +93,7 @@ returns-in-Err g c = record {
             ∙ ap (λ items. take (length items - 1) items)
             (c.in_ok-push.ensures.items ∙ ap (λ day. summary.closes.items ++ day ∷ []) (kept_day day c.requires.day))
             ∙ popped summary.closes.items day ∙ remembers.closes;
+        choices = remembers.choices;
         held = remembers.held;
         total = remembers.total;
       });
@@ -117,6 +119,7 @@ returns g c = record {
         closes = c.in_ok-push.ensures.items
             ∙ ap (λ day. summary.closes.items ++ day ∷ []) (kept_day day c.requires.day)
             ∙ ap (λ closes. closes ++ day ∷ []) ready.remembers.closes;
+        choices = ready.remembers.choices;
         held = ready.remembers.held;
         total = ready.remembers.total;
       });

@@ -1,22 +1,75 @@
-use Rattle.std.proofs.Common.{◌∙◌, ◌++◌, ◌∷◌, [], sym, ap, map, take, List}
-use Rattle.std.proofs.lemmas.List.{map-append, take_more}
-use Rattle.book_model.specs.Words.{Disputed}
+use Rattle.std.proofs.Common.{◌≡◌, ◌∙◌, List, Vec, ap, map, not, subst, sym}
+use Rattle.std.specs.Global.{Global}
+use Rattle.std.specs.List.{list_any}
+use Rattle.std.specs.Prelude.{All, Bool, if◌then◌else◌}
+use Rattle.std.proofs.lemmas.Result.{err_from_is_err_and}
+use Rattle.book_model.specs.Words.{AreDisputes, Disputed, dispute_shown}
+use Rattle.book_model.specs.declared.dispute.Dispute.{Dispute}
+use Rattle.kept_tables.specs.Tables.{Tables}
+use Rattle.kept_tables.specs.Views.{rows_with}
+use Rattle.table_readings.specs.DisputesRead.{is_unsettled, join_last}
+use Rattle.tree_tables.specs.Answers.{is_charged}
+use Rattle.tree_tables.specs.Holds.{Holds}
+use Rattle.tree_tables.specs.States.{HasCleanDisk, state}
+use Rattle.tree_tables.specs.Steps.{IsCaused}
 use Rattle.tree_tables.specs.Stored.{stored_entry}
 use Rattle.tree_tables.specs.declared.stored_record.StoredRecord.{StoredRecord}
-use Rattle.table_readings.specs.DisputesRead.{grouped, join_last}
-use Rattle.table_readings.proofs.GroupingLemmas.{grouped-push}
+use Rattle.table_ledger.specs.DisputeReads.{IsShownRow}
+use Rattle.table_ledger.specs.RecordReads.{IsUsageData}
+use Rattle.table_ledger.proofs.JoinLemmas.{grouped_more}
+use Rattle.table_ledger.proofs.OwnBooks.{fails_behind}
+use Rattle.table_ledger.proofs.TryLemmas.{saw_found, saw_so, saw_then}
 use Rattle.table_ledger.proofs.disputes.grouped.Goals as goal
+use Rattle.table_ledger.proofs.disputes.grouped.Goals.{then-not-branch+in_ok-join, else-not-branch}
 
+-- why it was not told whether another of the identity is charged, behind the rows before
+pub returns-in_err-has_charged-clause-cause : goal.returns-in_err-has_charged-clause-cause
+returns-in_err-has_charged-clause-cause g c =
+    let start = state g.S.Store c.args.tables.now.store in
+    let end = state g.S.Store c.has_charged.new.self.store in
+    let Usage : StoredRecord → Type 0 = λ row. IsUsageData row.data_bytes.items in
+    let cause : HasCleanDisk end → (tables : Tables) → Holds start.view.trees tables
+    → All Usage c.args.rows.now → IsCaused start end c.in_err-has_charged.field-0.0 =
+    fails_behind _ c.loop-stored.invariant.saw c.in_err-has_charged.ensures.looks.survives
+    (λ clean tables holds when. c.in_err-has_charged.ensures.cause clean tables holds tt) in
+    let p = err_from_is_err_and c.from_residual.result c.from_residual.ensures.1 in
+    rw (p.1, p.2) cause
+
+-- one row more is left out, or joins the groups
 pub loop-stored-preserved : goal.loop-stored-preserved
-loop-stored-preserved c =
+loop-stored-preserved g c =
     let rows = c.args.rows.now in
     let at = c.loop-stored.stored-index in
     let row = c.stored-item.result in
-    let done = take at rows in
-    c.in_ok-join.ensures.joined
-    ∙ ap (λ (all : List Disputed). join_last all (stored_entry row)) c.loop-stored.invariant
-    ∙ sym (grouped-push (map stored_entry done) (stored_entry row))
-    ∙ ap grouped (sym (map-append stored_entry done (row ∷ [])))
-    ∙ ap (λ (one : StoredRecord). grouped (map stored_entry (done ++ one ∷ []))) c.stored-item.is
-    ∙ ap (λ (some : List StoredRecord). grouped (map stored_entry some))
-    (sym (take_more rows at row c.loop-stored-test.true))
+    let shown : Vec Dispute Global → List Disputed = λ found. map dispute_shown found.items in
+    let olds = shown c.loop-stored.found in
+    let settled = c.in_ok-has_charged.field-0 in
+    let joined : Bool → List Disputed =
+    λ settled. if settled then olds else join_last olds (stored_entry row) in
+    let more : shown c.if-not-branch.found ≡ joined settled =
+    elim c.if-not-branch.branch [
+      | then-not-branch+in_ok-join w ↦
+          ap shown w.found-is ∙ w.in_ok-join.ensures.joined
+          ∙ sym (ap joined w.if-not-branch.true)
+      | else-not-branch w ↦ ap shown w.found-is ∙ sym (ap joined w.if-not-branch.false)
+    ] in
+    record {
+      saw = saw_so (saw_then c.loop-stored.invariant.saw
+          (saw_found c.in_ok-has_charged.ensures.looks))
+          (λ tables known.
+          grouped_more (is_unsettled tables.records) rows at row olds
+          (shown c.if-not-branch.found) settled c.loop-stored-test.true c.stored-item.is
+          (ap not (known.1 ∙ (λ i. list_any is_charged
+          (rows_with (c.deref.ensures.value i) tables.records)))) more known.0);
+      shown = elim c.if-not-branch.branch [
+        | then-not-branch+in_ok-join w ↦
+            subst (λ (found : Vec Dispute Global). AreDisputes (shown found)) (sym w.found-is)
+            (w.in_ok-join.ensures.shown
+            (subst (λ (row : StoredRecord). IsShownRow (stored_entry row)) (sym c.stored-item.is)
+            (c.requires.shown at row c.loop-stored-test.true))
+            c.loop-stored.invariant.shown)
+        | else-not-branch w ↦
+            subst (λ (found : Vec Dispute Global). AreDisputes (shown found)) (sym w.found-is)
+            c.loop-stored.invariant.shown
+      ];
+    }

@@ -1,10 +1,18 @@
 use Rattle.std.proofs.Common.{◌≡◌, map, take}
-use Rattle.book_model.specs.Words.{dispute_shown}
+use Rattle.std.specs.Prelude.{filter}
+use Rattle.book_model.specs.Words.{AreDisputes, dispute_shown}
+use Rattle.table_readings.specs.DisputesRead.{grouped, is_unsettled}
+use Rattle.tree_tables.specs.States.{state}
 use Rattle.tree_tables.specs.Stored.{stored_entry}
-use Rattle.table_readings.specs.DisputesRead.{grouped}
+use Rattle.table_ledger.specs.Commits.{Saw}
 use Rattle.table_ledger.proofs.disputes.grouped.Given as goal
 
--- the records so far are in groups
+-- the records so far are in groups, which can be shown
 abbrev pub invariant-loop-stored : goal.invariant-loop-stored
-invariant-loop-stored l =
-    map dispute_shown l.found.items ≡ grouped (map stored_entry (take l.stored-index l.rows))
+invariant-loop-stored g l = record {
+  saw : Saw (state g.S.Store l.initial.tables.store) (state g.S.Store l.tables.store) (λ tables.
+      map dispute_shown l.found.items
+      ≡ grouped (filter (is_unsettled tables.records)
+      (map stored_entry (take l.stored-index l.rows))));
+  shown : AreDisputes (map dispute_shown l.found.items);
+}

@@ -3,7 +3,7 @@ use Rattle.book_model.specs.declared.dispute.Dispute.{Dispute}
 use Rattle.book_model.specs.declared.dispute.Variant.{Variant}
 use Rattle.book_model.specs.Words.{dispute_shown, same_bytes}
 use Rattle.tree_tables.specs.Stored.{stored_entry}
-use Rattle.table_ledger.proofs.JoinLemmas.{joined_same, joined_other}
+use Rattle.table_ledger.proofs.JoinLemmas.{joined_same, joined_other, joined_show}
 use Rattle.table_ledger.proofs.disputes.join.Goals as goal
 
 pub returns-in_ok-push-3-clause-joined : goal.returns-in_ok-push-3-clause-joined
@@ -28,3 +28,12 @@ returns-in_ok-push-5-clause-joined c =
     c.in_ok-push-4.ensures.items)
     ∙ joined_other c.args.found.now.items c.pop.new.self.items last c.in_ok-alone-2.field-0
     (stored_entry c.args.stored.now) c.in-Some.ensures.items differ c.in_ok-alone-2.ensures.made
+
+-- where the disputes can be shown and the record can, so can they all
+pub returns-in_ok-push-3-clause-shown : goal.returns-in_ok-push-3-clause-shown
+returns-in_ok-push-3-clause-shown c = λ shown all.
+    joined_show _ _ _ (returns-in_ok-push-3-clause-joined c) shown all
+
+pub returns-in_ok-push-5-clause-shown : goal.returns-in_ok-push-5-clause-shown
+returns-in_ok-push-5-clause-shown c = λ shown all.
+    joined_show _ _ _ (returns-in_ok-push-5-clause-joined c) shown all

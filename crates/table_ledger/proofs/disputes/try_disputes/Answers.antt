@@ -1,21 +1,19 @@
 use Rattle.std.proofs.Common.{◌∙◌, sym, ap, subst, rules, List, map}
-use Rattle.std.specs.Prelude.{All}
-use Rattle.std.proofs.lemmas.List.Elements.{All-map}
+use Rattle.std.specs.Prelude.{All, filter}
 use Rattle.std.proofs.lemmas.Result.{err_from_is_err_and}
-use Rattle.book_model.specs.Words.{AreDisputes}
 use Rattle.tree_tables.specs.Stored.{stored_entry}
 use Rattle.tree_tables.specs.declared.stored_record.StoredRecord.{StoredRecord}
-use Rattle.table_readings.specs.DisputesRead.{disputes_read, grouped}
+use Rattle.table_readings.specs.DisputesRead.{disputes_read, grouped, is_unsettled}
 use Rattle.table_readings.proofs.DisputeLemmas.{disputes_follow}
 use Rattle.table_ledger.specs.DisputeReads.{IsShownRow}
-use Rattle.table_ledger.proofs.JoinLemmas.{disputes_show}
-use Rattle.table_ledger.proofs.ListReadings.{first_refused, list_read}
-use Rattle.table_ledger.proofs.TryLemmas.{saw_found, try_stopped}
+use Rattle.table_ledger.proofs.ListReadings.{first_refused, later_refused, list_read}
+use Rattle.table_ledger.proofs.OwnBooks.{fails_behind}
+use Rattle.table_ledger.proofs.SurvivalLemmas.{clean_before}
+use Rattle.table_ledger.proofs.TryLemmas.{saw_found, saw_then, try_stopped}
 use Rattle.book_model.specs.Words.{Book}
 use Rattle.kept_tables.specs.TablesOf.{tables_of}
 use Rattle.tree_tables.specs.States.{HasCleanDisk, state}
 use Rattle.tree_tables.specs.Steps.{IsCaused}
-use Rattle.tree_tables.proofs.Looking.{caused_memory}
 use Rattle.table_ledger.specs.Ready.{IsReadyAt}
 use Rattle.table_ledger.specs.RecordReads.{IsUsageData}
 use Rattle.table_ledger.proofs.BookLists.{own_records, own_shown_rows, own_usage}
@@ -33,28 +31,20 @@ returns-then-not-can_show-clause-tries g c = λ naming.
 pub returns-clause-tries : goal.returns-clause-tries
 returns-clause-tries g c = λ naming.
     list_read disputes_read (λ book whole. disputes_follow.disputes naming book whole) _
-    (saw_found c.in_ok-rows.ensures.looks)
-    (λ book whole listed.
-    ap grouped (sym (disputes_follow.in_order naming book _ whole listed.same listed.sorted))
-    ∙ sym (c.in_ok-grouped.ensures.grouped
-    ∙ ap (λ (rows : List StoredRecord). grouped (map stored_entry rows)) c.deref-2.ensures.value))
+    (saw_then (saw_found c.in_ok-rows.ensures.looks) (saw_found c.in_ok-grouped.ensures.looks))
+    (λ book whole known.
+    let records = (tables_of naming book).records in
+    ap grouped (sym (disputes_follow.unsettled naming book _ whole known.0.same known.0.sorted))
+    ∙ sym (known.1
+    ∙ ap (λ (rows : List StoredRecord). grouped (filter (is_unsettled records)
+    (map stored_entry rows))) c.deref-2.ensures.value))
 
 pub returns-in_err-grouped-clause-tries : goal.returns-in_err-grouped-clause-tries
 returns-in_err-grouped-clause-tries g c = λ naming.
     let refused = err_from_is_err_and c.from_residual-in_err-grouped.result
     c.from_residual-in_err-grouped.ensures.1 in
-    rw refused.1 (try_stopped _ _ _ _ (saw_found c.in_ok-rows.ensures.looks))
-
-pub returns-clause-shown : goal.returns-clause-shown
-returns-clause-shown g c =
-    let rows = c.deref.result.now in
-    let shown : All IsShownRow (map stored_entry rows) =
-    All-map IsShownRow stored_entry rows (c.can_show.ensures.shown (search rules)) in
-    subst AreDisputes
-    (ap (λ (some : List StoredRecord). grouped (map stored_entry some))
-    (c.deref.ensures.value ∙ sym c.deref-2.ensures.value)
-    ∙ sym c.in_ok-grouped.ensures.grouped)
-    (disputes_show (map stored_entry rows) shown)
+    rw refused.1 (later_refused _ _ _ _ (saw_found c.in_ok-rows.ensures.looks)
+    c.in_err-grouped.ensures.looks)
 
 -- the rows of records fit
 pub returns-in_err-rows-clause-own : goal.returns-in_err-rows-clause-own
@@ -79,21 +69,23 @@ returns-then-not-can_show-clause-own g c = λ naming wide clean book ready.
     (subst (All Shown) (sym c.deref.ensures.value)
     (own_shown_rows ready wide c.in_ok-rows.rows.items lists)))
 
--- for the groups memory alone may be wanting
+-- why they were not grouped, behind the look at them
 pub returns-in_err-grouped-clause-own : goal.returns-in_err-grouped-clause-own
 returns-in_err-grouped-clause-own g c = λ naming wide.
     let start = state g.S.Store c.args.tables.now.store in
-    let end = state g.S.Store c.list_uncharged.new.self.store in
+    let end = state g.S.Store c.grouped.new.tables.store in
     let Usage : StoredRecord → Type 0 = λ row. IsUsageData row.data_bytes.items in
+    let survives = c.in_err-grouped.ensures.looks.survives in
     let cause : HasCleanDisk end → (book : Book)
     → IsReadyAt naming c.args.summary.now start.view book
     → IsCaused start end c.in_err-grouped.field-0.0 =
     λ clean book ready.
-    let lists = (c.in_ok-rows.ensures.looks.found clean).known (tables_of naming book)
-    ready.kept.holds in
-    caused_memory start end _ (c.in_err-grouped.ensures.taken
-    (subst (All Usage) (sym c.deref-2.ensures.value)
-    (own_usage ready wide c.in_ok-rows.rows.items lists))) in
+    let lists = (c.in_ok-rows.ensures.looks.found (clean_before survives clean)).known
+    (tables_of naming book) ready.kept.holds in
+    let usage = subst (All Usage) (sym c.deref-2.ensures.value)
+    (own_usage ready wide c.in_ok-rows.rows.items lists) in
+    fails_behind _ (saw_found c.in_ok-rows.ensures.looks) survives
+    c.in_err-grouped.ensures.cause clean (tables_of naming book) ready.kept.holds usage in
     let p = err_from_is_err_and c.from_residual-in_err-grouped.result
     c.from_residual-in_err-grouped.ensures.1 in
     rw (p.1, p.2) cause

@@ -34,20 +34,29 @@ returns-in_err-closes-clause-looks g c =
     (saw_found c.in_ok-tariffs.ensures.looks))
     c.in_err-closes.ensures.looks
 
+pub returns-in_err-choices-clause-looks : goal.returns-in_err-choices-clause-looks
+returns-in_err-choices-clause-looks g c =
+    refused_at _ c.from_residual-in_err-choices.result c.from_residual-in_err-choices.ensures.1
+    (saw_then (saw_then (saw_found c.in_ok-row.ensures.looks)
+    (saw_found c.in_ok-tariffs.ensures.looks))
+    (saw_found c.in_ok-closes.ensures.looks))
+    c.in_err-choices.ensures.looks
+
 pub returns-clause-looks : goal.returns-clause-looks
 returns-clause-looks g c =
     let texts = c.deref.result.now in
     let days = c.deref-2.result.now in
     let all_texts : texts ≡ c.in_ok-tariffs.tariffs.items = let e = c.deref.ensures.value in cc in
     let all_days : days ≡ c.in_ok-closes.closes.items = let e = c.deref-2.ensures.value in cc in
-    looks_known (saw_then (saw_then (saw_found c.in_ok-row.ensures.looks)
+    looks_known (saw_then (saw_then (saw_then (saw_found c.in_ok-row.ensures.looks)
     (saw_found c.in_ok-tariffs.ensures.looks))
     (saw_found c.in_ok-closes.ensures.looks))
+    (saw_found c.in_ok-choices.ensures.looks))
     (λ (tables : Tables) known.
-    let found = ap (option_map book_of) (sym c.in-Some.is) ∙ known.0.0 in
-    recalled_by c.summary_of.result tables c.in-Some.row texts days
+    let found = ap (option_map book_of) (sym c.in-Some.is) ∙ known.0.0.0 in
+    recalled_by c.summary_of.result tables c.in-Some.row texts days c.in_ok-choices.choices
     c.summary_of.ensures.shows c.summary_of.ensures.kinds c.summary_of.ensures.refused (let e = found in cc)
-    (ap (map tariff_of) all_texts ∙ known.0.1) (ap (map close_of) all_days ∙ known.1))
+    (ap (map tariff_of) all_texts ∙ known.0.0.1) (ap (map close_of) all_days ∙ known.0.1) known.1)
 
 -- why the tariffs were not listed, behind the look at the row of the book
 pub returns-in_err-tariffs-clause-cause : goal.returns-in_err-tariffs-clause-cause
@@ -72,4 +81,17 @@ returns-in_err-closes-clause-cause g c =
     fails_behind _ (saw_then (saw_found c.in_ok-row.ensures.looks)
     (saw_found c.in_ok-tariffs.ensures.looks)) c.in_err-closes.ensures.looks.survives
     (λ clean tables holds when. c.in_err-closes.ensures.cause clean tables holds when.closes) in
+    search rules
+
+-- why the last choice was not, behind all three
+pub returns-in_err-choices-clause-cause : goal.returns-in_err-choices-clause-cause
+returns-in_err-choices-clause-cause g c =
+    let start = state g.S.Store c.args.tables.now.store in
+    let end = state g.S.Store c.last_choice.new.self.store in
+    let cause : HasCleanDisk end → (tables : Tables) → Holds start.view.trees tables
+    → CanBeListed tables → IsCaused start end c.in_err-choices.field-0.0 =
+    fails_behind _ (saw_then (saw_then (saw_found c.in_ok-row.ensures.looks)
+    (saw_found c.in_ok-tariffs.ensures.looks)) (saw_found c.in_ok-closes.ensures.looks))
+    c.in_err-choices.ensures.looks.survives
+    (λ clean tables holds when. c.in_err-choices.ensures.cause clean tables holds when.choices) in
     search rules

@@ -1,5 +1,5 @@
-use Rattle.std.proofs.Common.{◌≤◌, arith, length, rules}
-use Rattle.book_model.specs.Words.{last_period}
+use Rattle.std.proofs.Common.{◌⊎◌, ◌≤◌, ◌<◌, arith, inl, inr, length, rules}
+use Rattle.book_model.specs.Words.{last_period, most_choices}
 use Rattle.table_ledger.proofs.RecallLemmas.{all_days}
 use Rattle.table_ledger.proofs.RowsTaken.{as_many}
 use Rattle.table_ledger.proofs.recall.summary_of.Goals as goal
@@ -19,6 +19,12 @@ returns-then-not-is_kept-clause-refused c = λ store rulings are.
           let same = as_many c.args.closes.now c.in_ok-closes.closes.items rulings.closes
           c.in_ok-closes.ensures.have are.closes in
           let few = are.few in
-          let many : last_period ≤ length c.in_ok-closes.closes.items = search rules in
-          absurd (omega (arith, same, few, many))
+          let told : (last_period ≤ length c.in_ok-closes.closes.items)
+          ⊎ (most_choices < c.args.choices) = search rules in
+          elim told [
+            | inl many ↦ absurd (omega (arith, same, few, many))
+            | inr more ↦
+                let most = are.chosen in
+                absurd (omega (arith, most, more))
+          ]
     ]

@@ -103,6 +103,7 @@ returns-in_err-keep_tariff g c = record {
       (λ book remembers. record {
         tariffs = c.in_ok-reserve.ensures.items ∙ remembers.tariffs;
         closes = remembers.closes;
+        choices = remembers.choices;
         held = remembers.held;
         total = remembers.total;
       })));
@@ -138,7 +139,7 @@ returns g c = record {
       ∙ ap (λ items. items ++ record { text = Some c.in_ok-from_str.field-0.bytes.items; terms = terms } ∷ [])
       c.in_ok-reserve.ensures.items)
       c.in_ok-from_str.ensures.ok)
-      refl refl refl);
+      refl refl refl refl);
 }
 
 pub invariant_of-summary-2-clause-rising : goal.invariant_of-summary-2-clause-rising

@@ -1,6 +1,7 @@
-use Rattle.std.proofs.Common.{◌≡◌, ◌∙◌, [], ◌∷◌, sym, subst, map, None}
+use Rattle.std.proofs.Common.{◌≡◌, ◌∙◌, [], ◌∷◌, sym, subst, map, None, rules}
 use Rattle.std.specs.Map.Iter.{deref_pair}
 use Rattle.std.proofs.lemmas.List.{map-append}
+use Rattle.std.proofs.lemmas.Map.Iter.{iter_end}
 use Rattle.book_core.specs.Plain.{Entry}
 use Rattle.book_core.specs.Shares.{NamesOf, charges, under_name}
 use Rattle.book_core.proofs.NameLemmas.{missing_next, names-more, names-skip}
@@ -37,3 +38,10 @@ loop-name-preserved c =
     (names-skip test done entry c.loop-name.names
     (missing (goal.at.loop-name-preserved c).After-charges)
     c.loop-name.invariant (sym c.charges.ensures ∙ c.if-charges.false))
+
+pub returns : goal.returns
+returns c =
+    let test : Entry → _ = λ entry. charges c.args.self.now entry.1 in
+    let ended : map deref_pair c.loop-name.yielded ≡ c.args.held.now.entries =
+    search (rules, iter_end) in
+    subst (λ entries. NamesOf test entries c.loop-name.names) ended c.loop-name.invariant

@@ -23,7 +23,8 @@ later_is : (g : Over) (c : After-is_later g) → c.is_later.result
 later_is g c =
     c.is_later.ensures
     ∙ (λ i. is_later c.args.tariff.now.effective
-    (ruled_by (c.deref-3.ensures.value i) (c.deref-4.ensures.value i)))
+    (ruled_by (c.deref-3.ensures.value i) (c.deref-4.ensures.value i)
+    c.args.self.now.choices.items))
 
 -- the answer, where the text is new and so is the day
 answer_is : (g : Over) (c : After-is_later g) (later dear : Bool) → c.is_later.result ≡ later

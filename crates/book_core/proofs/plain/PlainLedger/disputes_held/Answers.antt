@@ -1,14 +1,23 @@
-use Rattle.std.proofs.Common.{sym, ap, subst, ◌∙◌, Ok}
+use Rattle.std.proofs.Common.{sym, ap, subst, ◌∙◌, [], Ok}
 use Rattle.book_core.proofs.DisputeLemmas.{disputes_in-held}
 use Rattle.book_model.specs.Words.{AreDisputes}
+use Rattle.book_core.specs.Plain.{disputes_among, ruled_by}
 use Rattle.book_core.proofs.ShownLemmas.{are_disputes}
 use Rattle.book_core.proofs.plain.PlainLedger.disputes_held.Goals as goal
 
 pub returns-clause-disputes : goal.returns-clause-disputes
 returns-clause-disputes g c =
-    ap Ok (disputes_in-held c.args.self.now.kept c.args.self.now.rising
+    let ledger = c.args.self.now in
+    ap Ok (disputes_in-held ledger.kept ledger.rising
+    ∙ ap (λ choices. disputes_among (ruled_by [] [] choices) ledger.held.entries)
+    (sym c.deref.ensures.value)
     ∙ sym c.in_ok-disputes.ensures)
 
 pub returns-clause-shown : goal.returns-clause-shown
 returns-clause-shown g c =
-    subst AreDisputes (sym c.in_ok-disputes.ensures) (are_disputes c.args.self.now.kept)
+    let ledger = c.args.self.now in
+    subst AreDisputes
+    (sym (c.in_ok-disputes.ensures
+    ∙ ap (λ choices. disputes_among (ruled_by [] [] choices) ledger.held.entries)
+    c.deref.ensures.value))
+    (are_disputes ledger.kept)

@@ -3,7 +3,7 @@ use Rattle.std.proofs.lemmas.Int.{to_z-of_z}
 use Rattle.std.proofs.lemmas.List.{length-append}
 use Rattle.book_model.specs.Words.{IsDay, last_period}
 use Rattle.book_core.specs.Shares.{charges, is_named, share_at}
-use Rattle.book_core.proofs.BookLemmas.{book-closed, kept-closed}
+use Rattle.book_core.proofs.BookLemmas.{book-closed, kept-ruled}
 use Rattle.book_model.proofs.DayLemmas.{day_fits}
 use Rattle.book_core.proofs.NameLemmas.{named-closed}
 use Rattle.book_core.proofs.plain.PlainLedger.end_period.Goals as goal
@@ -18,7 +18,8 @@ invariant_of-push g c =
 pub returns-clause-book : goal.returns-clause-book
 returns-clause-book g c =
     let ledger = c.args.self.now in
-    book-closed ledger.tariffs.items ledger.closed.items ledger.kept ledger.rising ledger.posted
+    book-closed ledger.tariffs.items ledger.closed.items ledger.choices.items ledger.kept
+    ledger.rising ledger.posted
     c.in_ok-posted.posted c.in_ok-ending.ending _ c.push.new.self.items
     (to_z w32 (of_z w32 c.args.through))
     c.args.through c.in_ok-push.ensures.items
@@ -44,7 +45,8 @@ invariant_of-self-2 g c =
     let ending = c.in_ok-ending.ending in
     record {
       rising = ledger.rising;
-      kept = kept-closed ledger.closed.items c.push.new.self.items ledger.kept;
+      kept = kept-ruled ledger.closed.items c.push.new.self.items ledger.choices.items
+          ledger.choices.items ledger.kept;
       recalls = ledger.recalls;
       named = named-closed (λ entry. charges ending entry.1)
           (λ entry. share_at ending (is_named ledger.posted entry) entry.1) ledger.held.entries

@@ -43,7 +43,8 @@ pub returns-in_default-price_in : goal.returns-in_default-price_in
 returns-in_default-price_in g c =
     let usage = c.requires.same in
     let price = c.in_default-price_in.ensures.value
-    ∙ (λ i. price_in (ruled_by (c.deref.ensures.value i) c.args.self.now.closed.items) (usage i)) in
+    ∙ (λ i. price_in (ruled_by (c.deref.ensures.value i) c.args.self.now.closed.items
+    c.args.self.now.choices.items) (usage i)) in
     let book = book_in c.args.self.now in
     record {
       call = accept_calls (g.N.Naming.name_of c.args.self.now.naming) c.args.bytes.now book book _
@@ -58,7 +59,8 @@ pub returns-then-is_full : goal.returns-then-is_full
 returns-then-is_full g c =
     let usage = c.requires.same in
     let price = c.in-Some-price_in.ensures.value
-    ∙ (λ i. price_in (ruled_by (c.deref.ensures.value i) c.args.self.now.closed.items) (usage i)) in
+    ∙ (λ i. price_in (ruled_by (c.deref.ensures.value i) c.args.self.now.closed.items
+    c.args.self.now.choices.items) (usage i)) in
     let amount = c.in-Some-price_in.priced.amount in
     let book = book_in c.args.self.now in
     record {
@@ -77,14 +79,16 @@ pub invariant_of-self-2 : goal.invariant_of-self-2
 invariant_of-self-2 g c =
     let usage = c.requires.same in
     let price = c.in-Some-price_in.ensures.value
-    ∙ (λ i. price_in (ruled_by (c.deref.ensures.value i) c.args.self.now.closed.items) (usage i)) in
+    ∙ (λ i. price_in (ruled_by (c.deref.ensures.value i) c.args.self.now.closed.items
+    c.args.self.now.choices.items) (usage i)) in
     let amount = c.in-Some-price_in.priced.amount in
     let ledger = c.args.self.now in
     let names = g.N.Naming.name_of ledger.naming in
     record {
       rising = c.in_ok-insert.ensures.ordered;
       kept = subst
-          (λ entries. AreBooked names (ruled_by ledger.tariffs.items ledger.closed.items) entries
+          (λ entries. AreBooked names
+          (ruled_by ledger.tariffs.items ledger.closed.items ledger.choices.items) entries
           (ledger.total + amount))
           (sym c.in_ok-insert.ensures.entries)
           (kept_with ledger.kept ledger.rising c.args.bytes.now c.name_of-name.result
@@ -117,7 +121,8 @@ returns g c =
     let ledger = c.args.self.now in
     let usage = c.requires.same in
     let price = c.in-Some-price_in.ensures.value
-    ∙ (λ i. price_in (ruled_by (c.deref.ensures.value i) ledger.closed.items) (usage i)) in
+    ∙ (λ i. price_in (ruled_by (c.deref.ensures.value i) ledger.closed.items
+    ledger.choices.items) (usage i)) in
     let amount = c.in-Some-price_in.priced.amount in
     let missing = sym c.in_default.ensures.value in
     record {
@@ -127,9 +132,11 @@ returns g c =
           (sym price) (ap (λ n. nat_le most_held n || nat_lt most_cost (ledger.total + amount))
           (sym c.len-count.ensures.len)
           ∙ sym c.is_full.ensures ∙ c.if-is_full.false))
-          (ap (λ entries. book_with ledger.tariffs.items entries ledger.posted ledger.closed.items)
+          (ap (λ entries. book_with ledger.tariffs.items entries ledger.posted ledger.closed.items
+          ledger.choices.items)
           c.in_ok-insert.ensures.entries
           ∙ book-kept ledger.tariffs.items ledger.held.entries ledger.posted ledger.closed.items
+          ledger.choices.items
           c.name_of-name.result c.in_ok-held.held missing ledger.named
           ∙ ap (λ bytes. keep bytes (book_in ledger)) c.in_ok-held.ensures.bytes);
       naming = refl;

@@ -11,4 +11,4 @@ returns c =
     let last = c.in_ok-last.last.now in
     ap Some (to_z-of_z w32 last.through (day_fits last.through last.day))
     ∙ ap (option_map (λ (period : ClosedPeriod). period.through)) c.in_ok-last.ensures.value
-    ∙ sym (last_close-by [] c.args.closed.now)
+    ∙ sym (last_close-by [] c.args.closed.now [])

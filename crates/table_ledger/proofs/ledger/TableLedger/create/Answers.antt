@@ -16,4 +16,4 @@ returns-in-Ok-clause-books g c = λ clean rest none.
     (λ (trees : Trees). g.met.S.Store.settled c.make_books.new.tables.store trees) clean
     (c.in-Ok.ensures.made clean (subst (λ store. IsAtRest (g.S.Store.view store)) given rest)
     (subst (λ store. HasNoRows (g.S.Store.view store).trees) given none))
-    (λ i. record no_rulings { tariffs = tariffs i; closes = closes i }) refl refl
+    (λ i. record no_rulings { tariffs = tariffs i; closes = closes i }) refl refl refl

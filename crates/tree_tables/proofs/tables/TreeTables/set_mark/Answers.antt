@@ -1,18 +1,21 @@
 use Rattle.std.proofs.Common.{◌≡◌, ◌∷◌, [], ◌∙◌, ap, pos}
 use Rattle.sqlite_value.specs.Order.{column}
 use Rattle.sqlite_value.specs.declared.value.Value.TheVariants.{Int}
-use Rattle.kept_tables.specs.RowChanges.{unmark_at}
+use Rattle.kept_tables.specs.RowChanges.{mark_at}
+use Rattle.tree_tables.specs.Columns.{flag}
 use Rattle.tree_tables.proofs.Looking.{clean_before, does_after, does_nothing, quiet_both}
 use Rattle.tree_tables.proofs.Looking.{rewrites_behind}
-use Rattle.tree_tables.proofs.Records.{record_missing, record_there, record_unmarked}
-use Rattle.tree_tables.proofs.tables.TreeTables.unmark_record.Goals as goal
+use Rattle.tree_tables.proofs.Records.{record_missing, record_there, record_marked}
+use Rattle.tree_tables.proofs.tables.TreeTables.set_mark.Goals as goal
 
 -- no row has the name
 pub returns-then-not-branch : goal.returns-then-not-branch
 returns-then-not-branch g c = record {
   does = does_nothing g.S.Store c.find_row.ensures.quiet c.in_ok-find_row.ensures.same
       (λ clean tables holds.
-      ap (λ found. record tables { records = unmark_at c.args.name.now found tables.records })
+      ap (λ found. record tables {
+        records = mark_at c.args.mark c.args.name.now found tables.records;
+      })
       (record_missing tables holds.records c.in_ok-bytes_key.ensures.made
       (c.in_ok-find_row.ensures.found clean) c.if-not-branch.true));
 }
@@ -31,11 +34,12 @@ returns g c = record {
       let from_is : c.mark_row.new.row ≡ column c.find_row.new.row 9 ∷ identity ∷ name ∷ [] =
       c.in_ok-mark_row.ensures
       ∙ (λ i. c.get.ensures i ∷ c.get-identity.ensures i ∷ c.get-name.ensures i ∷ []) in
-      let to_is : c.mark_row-2.new.row ≡ Int (pos 0) ∷ identity ∷ name ∷ [] =
+      let to_is : c.mark_row-2.new.row ≡ Int (pos (flag c.args.mark)) ∷ identity ∷ name ∷ [] =
       c.in_ok-mark_row-2.ensures
       ∙ (λ i. c.mark_value.ensures i ∷ c.get-identity.ensures i ∷ c.get-name.ensures i ∷ []) in
       does_after ghosts c.change_row-2.result (quiet_both ghosts look step)
-      (λ clean. (rewrites_behind {old = old} (c.in_ok-find_row.ensures.same (clean_before ghosts step clean))
+      (λ clean. (rewrites_behind {old = old}
+      (c.in_ok-find_row.ensures.same (clean_before ghosts step clean))
       (c.in_ok-change_row.ensures.done clean)).only)
       last c.change_row-2.ensures.kept c.change_row-2.ensures.done
       (λ clean rewritten tables holds when.
@@ -43,7 +47,7 @@ returns g c = record {
       let before = clean_before ghosts step after in
       let there = record_there tables holds.records c.in_ok-bytes_key.ensures.made
       (c.in_ok-find_row.ensures.found before) c.if-not-branch.false in
-      record_unmarked old tables c.args.name.now there.0 (c.in_ok-find_row.ensures.same before)
-      (c.in_ok-change_row.ensures.done after) rewritten there.2 c.in_ok-with_column.ensures from_is
-      to_is there.1 holds);
+      record_marked old tables c.args.name.now c.args.mark there.0
+      (c.in_ok-find_row.ensures.same before) (c.in_ok-change_row.ensures.done after) rewritten
+      there.2 c.in_ok-marked_row.ensures from_is to_is there.1 holds);
 }

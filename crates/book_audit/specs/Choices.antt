@@ -1,0 +1,16 @@
+-- Which record was chosen last of an identity.
+use Rattle.std.specs.Prelude.{ℕ, Bool, false, List, Option}
+use Rattle.std.specs.BTreeMap.{get_by}
+use Rattle.std.specs.Cmp.Lexicographic.{slice_cmp}
+use Rattle.std.specs.Option.{option_map_or}
+use Rattle.std.specs.Ordering.{nat_cmp}
+use Rattle.book_model.specs.Words.{same_bytes}
+use Rattle.book_audit.specs.declared.choices.Chosen.{Chosen}
+
+-- the name of the record that was chosen last of an identity, if one was chosen
+abbrev pub name_of : Chosen → List ℕ → Option (List ℕ)
+name_of chosen identity = get_by (λ key. slice_cmp nat_cmp identity key.items) chosen.names
+
+-- it is this name
+abbrev pub is_last : Chosen → List ℕ → List ℕ → Bool
+is_last chosen identity name = option_map_or (same_bytes name) (name_of chosen identity) false

@@ -1,0 +1,155 @@
+//! The choices: which record was chosen last of each identity.
+
+ghost use Rattle.std.specs.Prelude.{◌≡◌, ◌≤◌, ◌+◌, None};
+
+use crate::finding::{Place, Tree, Wrong};
+use crate::stop::{Stop, met, unsound};
+use crate::trees::Trees;
+use crate::walk::Walk;
+use crate::watch::Watch;
+use sqlite_trees::error::StoreError;
+use sqlite_trees::store::Store;
+use sqlite_value::row::Row;
+use std::alloc::{AllocError, Global};
+use std::collections::BTreeMap;
+use tree_tables::{hash_at, number_at, period_at};
+
+/// The most choices that there are.
+const MAX_CHOICES: u64 = 1_000_000;
+
+/// A choice as its row says.
+#[derive(Clone, Copy)]
+struct Choice {
+    number: u32,
+    /// The name of the record that was chosen.
+    name: [u8; 32],
+    /// The period that was open then.
+    period: u16,
+}
+
+/// What the row of a choice says.
+fn choice_in(row: &Row) -> Result<Choice, StoreError> {
+    Ok(Choice {
+        number: number_at(row, 0)?,
+        name: hash_at(row, 1)?,
+        period: period_at(row, 2)?,
+    })
+}
+
+/// The choices so far.
+#[derive(Drop)]
+pub(crate) struct Chosen {
+    /// How many there are: the number of the last one.
+    pub(crate) count: u32,
+    /// The period of the last one; 1 where there is none.
+    since: u16,
+    /// The name of the record that was chosen last, by identity.
+    names: BTreeMap<Vec<u8>, [u8; 32]>,
+}
+
+impl Chosen {
+    ghost use Rattle.std.specs.Prelude.{◌≡◌, ℕ, List, None, OnOk, Some, if◌then◌else◌};
+    ghost use Rattle.book_model.specs.Words.{same_bytes};
+    ghost use Rattle.book_audit.specs.Choices.{is_last, name_of};
+
+    /// No choices.
+    fn new(alloc: Global) -> Chosen
+        ensures { (identity : List ℕ) → name_of result identity ≡ None }
+    {
+        Chosen {
+            count: 0,
+            since: 1,
+            names: BTreeMap::new(alloc),
+        }
+    }
+
+    /// What is wrong with the number or the period of the next choice.
+    fn wrong_with(&self, choice: &Choice, open_period: u16) -> Option<Wrong>
+        ensures number { result ≡ None → choice.now.number ≡ self.now.count + 1 }
+        ensures since { result ≡ None → self.now.since ≤ choice.now.period }
+        ensures open { result ≡ None → choice.now.period ≤ open_period }
+    {
+        if choice.number == 0 || choice.number - 1 != self.count {
+            return Some(Wrong::ChoiceNumber);
+        }
+        if choice.period < self.since || open_period < choice.period {
+            return Some(Wrong::ChoicePeriod);
+        }
+        None
+    }
+
+    /// The record of the next choice is the last of its identity from now on.
+    fn put(&mut self, identity: Vec<u8>, choice: &Choice) -> Result<(), AllocError>
+        ensures count { OnOk result (self.new.count ≡ choice.now.number) }
+        ensures since { OnOk result (self.new.since ≡ choice.now.period) }
+        ensures names { OnOk result ((other : List ℕ) → name_of self.new other
+            ≡ if same_bytes other identity.items then Some choice.now.name
+            else name_of self.old other) }
+    {
+        self.names.insert(identity, choice.name)?;
+        self.count = choice.number;
+        self.since = choice.period;
+        Ok(())
+    }
+
+    /// Whether a record was chosen last of its identity.
+    pub(crate) fn is_last(&self, identity: &[u8], name: &[u8; 32]) -> bool
+        ensures { result ≡ is_last self.now identity.now name.now }
+    {
+        match self.names.get(identity) {
+            Some(last) => name == last,
+            None => false,
+        }
+    }
+}
+
+/// A choice follows the one before, and names a record that is held and is not alone in its
+/// identity.
+fn check_choice<S: Store>(
+    alloc: Global,
+    trees: &mut Trees<S>,
+    open_period: u16,
+    chosen: &mut Chosen,
+    choice: &Choice,
+) -> Result<(), Stop> {
+    let place = Place::Choice(choice.number);
+    if let Some(wrong) = chosen.wrong_with(choice, open_period) {
+        return Err(unsound(place, wrong));
+    }
+    let identity = trees
+        .identity_of(alloc, &choice.name)
+        .map_err(|error| met(Tree::Records, error))?;
+    let Some(identity) = identity else {
+        return Err(unsound(place, Wrong::NotHeld));
+    };
+    if !trees
+        .is_shared(&identity)
+        .map_err(|error| met(Tree::Identities, error))?
+    {
+        return Err(unsound(place, Wrong::ChosenAlone));
+    }
+    chosen.put(identity, choice)?;
+    Ok(())
+}
+
+/// Reads all choices, the last of which was made in the open period or before it. What is kept of
+/// them grows with the identities that were chosen among, and not with the records.
+pub(crate) fn read_choices<S: Store, W: Watch>(
+    alloc: Global,
+    trees: &mut Trees<S>,
+    open_period: u16,
+    watch: &mut W,
+) -> Result<Chosen, Stop> {
+    let tree = Tree::Choices;
+    let mut walk = Walk::over(alloc, tree);
+    let mut chosen = Chosen::new(alloc);
+    for count in 0..=MAX_CHOICES {
+        watch.read(tree, count);
+        if !walk.next(trees)? {
+            return Ok(chosen);
+        }
+        let choice = choice_in(walk.row()).map_err(|error| met(tree, error))?;
+        check_choice(alloc, trees, open_period, &mut chosen, &choice)?;
+    }
+    Err(unsound(Place::Tree(tree), Wrong::Choices))
+}

@@ -1,0 +1,48 @@
+-- The record that is held under a name: it has the name.
+use Rattle.std.proofs.Common.{◌≡◌, ◌∙◌, ◌||◌, ℕ, List, [], ◌∷◌, refl, sym, ap, Bool, true, cond}
+use Rattle.std.proofs.Common.{false, Some, is_some}
+use Rattle.std.specs.Prelude.{find}
+use Rattle.std.specs.List.{list_any}
+use Rattle.std.proofs.lemmas.Map.Lookups.{exact_bytes}
+use Rattle.std.proofs.lemmas.Map.Views.{tells_apart}
+use Rattle.book_model.specs.Words.{Naming, Records, members, name_of, record_named, same_bytes}
+use Rattle.book_model.proofs.SetLemmas.{same_bytes-by_cmp}
+
+-- what is found in a list passes the test
+find-passes : (p : List ℕ → Bool) (list : List (List ℕ)) (one : List ℕ) → find p list ≡ Some one
+    → p one ≡ true
+find-passes p [] one found = cc
+find-passes p (first ∷ list) one found =
+    elim (p first) as (λ b. p first ≡ b → cond b (Some first) (find p list) ≡ Some one
+    → p one ≡ true) [
+      | true ↦ λ passes found. let same : first ≡ one = cc in ap p (sym same) ∙ passes
+      | false ↦ λ fails found. find-passes p list one found
+    ] refl found
+
+-- something is found where one of the list passes
+is_some-find : (p : List ℕ → Bool) (list : List (List ℕ)) → is_some (find p list) ≡ list_any p list
+is_some-find p [] = refl
+is_some-find p (first ∷ list) =
+    elim (p first)
+    as (λ b. is_some (cond b (Some first) (find p list)) ≡ (b || list_any p list)) [
+      | true ↦ refl
+      | false ↦ is_some-find p list
+    ]
+
+-- texts with the same bytes are one
+pub same_texts : (a b : List ℕ) → same_bytes a b ≡ true → a ≡ b
+same_texts a b same = tells_apart exact_bytes a b (sym (λ i. same_bytes-by_cmp i a b) ∙ same)
+
+-- the record that is held under a name has it
+pub its_name : (naming : Naming) (held : Records) (name bytes : List ℕ)
+    → record_named naming held name ≡ Some bytes → name_of naming bytes ≡ name
+its_name naming held name bytes found =
+    same_texts (name_of naming bytes) name
+    (find-passes (λ other. same_bytes (name_of naming other) name) (members held) bytes found)
+
+-- there is one where a record that is held has the name
+pub is_some-named : (naming : Naming) (held : Records) (name : List ℕ)
+    → is_some (record_named naming held name)
+    ≡ list_any (λ other. same_bytes (name_of naming other) name) (members held)
+is_some-named naming held name =
+    is_some-find (λ other. same_bytes (name_of naming other) name) (members held)

@@ -1,0 +1,96 @@
+use Rattle.std.proofs.Common.{◌≡◌, ◌∙◌, ◌+◌, [], length, Bool, true, false, sym, ap, refl}
+use Rattle.std.proofs.Common.{Some}
+use Rattle.std.specs.Prelude.{nat_le}
+use Rattle.book_model.specs.declared.answer.Ruled.{Ruled}
+use Rattle.book_model.specs.Words.{Book, IsBookCall, after_any, choose_event, choose_outcome}
+use Rattle.book_model.specs.Words.{is_chosen, most_choices}
+use Rattle.book_core.specs.Plain.{record_of, ruled_by}
+use Rattle.book_core.specs.PlainBook.{book_in}
+use Rattle.book_core.proofs.ChosenLemmas.{at_least, below, book-chosen, chosen_by}
+use Rattle.book_core.proofs.ChosenLemmas.{choose_calls-found, choose_calls-missing}
+use Rattle.book_core.proofs.plain.PlainLedger.choose_named.Given.{Over}
+use Rattle.book_core.proofs.plain.PlainLedger.choose_named.Goals as goal
+use Rattle.book_core.proofs.plain.PlainLedger.choose_named.Goals.{After-is_lone, After-is_chosen}
+use Rattle.book_core.proofs.plain.PlainLedger.choose_named.Goals.{After-len}
+
+pub returns-in_default : goal.returns-in_default
+returns-in_default g c =
+    let ledger = c.args.self.now in
+    record {
+      call = choose_calls-missing ledger.tariffs.items ledger.closed.items ledger.choices.items
+          ledger.kept ledger.rising ledger.posted c.args.name (sym c.in_default.ensures.value);
+      naming = refl;
+    }
+
+-- the call where a record stands under the name, by the tests that come
+found_call : (g : Over) (c : After-is_lone g) (new : Book) (alone chosen full : Bool)
+    → c.is_lone.result ≡ alone
+    → chosen ≡ is_chosen (book_in c.args.self.now).rulings (record_of c.in-Some.held.now)
+    → full ≡ nat_le most_choices (length c.args.self.now.choices.items)
+    → new ≡ after_any (choose_event (Some (record_of c.in-Some.held.now))
+    (chosen_by alone chosen full)) (book_in c.args.self.now)
+    → IsBookCall (λ (value : Ruled). value) (book_in c.args.self.now) new
+    (chosen_by alone chosen full)
+    (choose_outcome (g.N.Naming.name_of c.args.self.now.naming) c.args.name)
+found_call g c new alone chosen full is_alone' is_chosen' is_full changed =
+    let ledger = c.args.self.now in
+    choose_calls-found ledger.tariffs.items ledger.closed.items ledger.choices.items ledger.kept
+    ledger.rising ledger.posted c.args.name c.in-Some.held.now new alone chosen full
+    (sym c.in-Some.ensures.value) (sym is_alone' ∙ c.is_lone.ensures) is_chosen' is_full changed
+
+-- the test of the choice, on the rulings
+chosen_is : (g : Over) (c : After-is_chosen g) → c.is_chosen.result
+    ≡ is_chosen (book_in c.args.self.now).rulings (record_of c.in-Some.held.now)
+chosen_is g c =
+    c.is_chosen.ensures
+    ∙ ap (λ choices. is_chosen (ruled_by [] [] choices) (record_of c.in-Some.held.now))
+    c.deref.ensures.value
+
+-- the number of choices
+count_is : (g : Over) (c : After-len g)
+    → c.len.result ≡ length c.args.self.now.choices.items
+count_is g c = c.len.ensures ∙ sym c.deref.ensures.len ∙ ap length c.deref.ensures.value
+
+pub returns-then-is_lone : goal.returns-then-is_lone
+returns-then-is_lone g c =
+    let at = goal.at.returns-then-is_lone g c in
+    record {
+      call = found_call g at.After-is_lone _ true _ _ c.if-is_lone.true refl refl refl;
+      naming = refl;
+    }
+
+pub returns-then-is_chosen : goal.returns-then-is_chosen
+returns-then-is_chosen g c =
+    let at = goal.at.returns-then-is_chosen g c in
+    record {
+      call = found_call g at.After-is_lone _ false true _ c.if-is_lone.false
+          (sym c.if-is_chosen.true ∙ chosen_is g at.After-is_chosen) refl refl;
+      naming = refl;
+    }
+
+pub returns-then-len-ge-MAX_CHOICES : goal.returns-then-len-ge-MAX_CHOICES
+returns-then-len-ge-MAX_CHOICES g c =
+    let at = goal.at.returns-then-len-ge-MAX_CHOICES g c in
+    record {
+      call = found_call g at.After-is_lone _ false false true c.if-is_lone.false
+          (sym c.if-is_chosen.false ∙ chosen_is g at.After-is_chosen)
+          (at_least most_choices c.len.result c.if-len-ge-MAX_CHOICES.true
+          ∙ ap (nat_le most_choices) (count_is g at.After-len)) refl;
+      naming = refl;
+    }
+
+pub returns : goal.returns
+returns g c =
+    let at = goal.at.returns g c in
+    let ledger = c.args.self.now in
+    record {
+      call = found_call g at.After-is_lone _ false false false c.if-is_lone.false
+          (sym c.if-is_chosen.false ∙ chosen_is g at.After-is_chosen)
+          (below most_choices c.len.result c.if-len-ge-MAX_CHOICES.false
+          ∙ ap (nat_le most_choices) (count_is g at.After-len))
+          (book-chosen ledger.tariffs.items ledger.held.entries ledger.posted ledger.closed.items
+          ledger.choices.items c.push.new.self.items c.in_ok-choice.choice
+          (record_of c.in-Some.held.now) c.in_ok-push.ensures.items c.in_ok-choice.ensures.bytes
+          (c.in_ok-choice.ensures.period ∙ ap (λ n. n + 1) (c.len-2.ensures ∙ ledger.closed.ok.0)));
+      naming = refl;
+    }

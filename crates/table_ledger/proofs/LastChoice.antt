@@ -1,0 +1,14 @@
+-- The number of the last choice: there are as many.
+use Rattle.std.proofs.Common.{◌≡◌, ◌∙◌, length}
+use Rattle.book_model.specs.Words.{Book, Naming}
+use Rattle.kept_tables.specs.TablesOf.{tables_of}
+use Rattle.table_readings.specs.Readable.{IsReadable}
+use Rattle.table_readings.proofs.ChoiceLemmas.{choices_follow}
+use Rattle.table_readings.proofs.ChoiceReading.{choices_count}
+use Rattle.tree_tables.specs.Answers.{last_number}
+
+-- in the tables of a book it is the number of its choices
+pub last_counts : (naming : Naming) (book : Book) → IsReadable naming book
+    → last_number (tables_of naming book).choices ≡ length book.rulings.choices
+last_counts naming book whole =
+    choices_follow.counted naming book whole ∙ choices_count naming book

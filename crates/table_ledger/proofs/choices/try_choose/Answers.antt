@@ -1,0 +1,193 @@
+use Rattle.std.proofs.Common.{◌≡◌, ◌∙◌, ◌≤◌, ◌<◌, ◌+◌, ap, length, refl, rules, Err, Ok, Option}
+use Rattle.std.specs.Prelude.{slice_get, ℤ}
+use Rattle.std.specs.Option.{option_map}
+use Rattle.book_core.specs.Effects.{choice_effects}
+use Rattle.book_model.specs.Words.{choose_outcome, most_choices}
+use Rattle.book_model.specs.declared.answer.Ruled.{Ruled}
+use Rattle.book_model.specs.declared.answer.Ruled.TheVariants.{Already}
+use Rattle.book_model.specs.declared.fault.LedgerFault.TheVariants.{Full, NoSuchRecord, NotDisputed}
+use Rattle.kept_tables.specs.TableChanges.{put_choice}
+use Rattle.kept_tables.specs.TablesOf.{tables_of}
+use Rattle.kept_tables.specs.Views.{member_at}
+use Rattle.tree_tables.specs.Answers.{charged_with}
+use Rattle.tree_tables.specs.States.{state}
+use Rattle.tree_tables.specs.Steps.{Always}
+use Rattle.tree_tables.specs.Stored.{stored_entry}
+use Rattle.table_ledger.proofs.AcceptTries.{saw_as}
+use Rattle.table_ledger.proofs.ChoiceTries.{choose_again, choose_alone, choose_done, choose_full}
+use Rattle.table_ledger.proofs.ChoiceTries.{choose_is_event, choose_makes, choose_none}
+use Rattle.table_ledger.proofs.ChoiceTries.{choose_remembers, saw_shared}
+use Rattle.table_ledger.proofs.ListReadings.{first_refused, later_refused}
+use Rattle.table_ledger.proofs.TryLemmas.{saw_found, saw_then, try_answered, tries_err, tries_told}
+use Rattle.table_ledger.proofs.TryLemmas.{try_done, try_undone}
+use Rattle.table_ledger.proofs.choices.try_choose.Goals as goal
+
+-- a call answers with what was ruled
+abbrev view : Ruled → Ruled
+view = λ ruled. ruled
+
+-- the record was not looked for
+pub returns-in_err-stored : goal.returns-in_err-stored
+returns-in_err-stored g c = record {
+  tries =
+      λ naming.
+      let outcome = choose_outcome naming c.args.name in
+      tries_err view naming c.args.summary.now outcome c.from_residual.result
+      c.from_residual.ensures.0
+      (λ error. first_refused view naming c.args.summary.now outcome c.in_err-stored.ensures.looks);
+}
+
+-- there is none
+pub returns-in_default : goal.returns-in_default
+returns-in_default g c = record {
+  tries =
+      λ naming.
+      let summary = c.args.summary.now in
+      let name = c.args.name in
+      try_answered view naming summary (choose_outcome naming name)
+      (saw_as name c.in_default.is c.in_ok-stored.ensures.looks)
+      (record { stored = refl; served = refl })
+      (λ book ready known. choose_makes (Err NoSuchRecord) naming name book
+      (choose_none naming summary name _ book ready known) (λ is. cc));
+}
+
+-- the record is alone in its identity
+pub returns-then-len-lt2 : goal.returns-then-len-lt2
+returns-then-len-lt2 g c = record {
+  tries =
+      λ naming.
+      let summary = c.args.summary.now in
+      let name = c.args.name in
+      let stored = c.in-Some.stored in
+      let sharing = c.in_ok-sharing.sharing.items in
+      let few : length sharing < 2 = search rules in
+      try_answered view naming summary (choose_outcome naming name)
+      (saw_shared name stored c.in-Some.is c.deref.ensures.value c.in_ok-stored.ensures.looks
+      c.in_ok-sharing.ensures.looks)
+      (record { stored = refl; served = refl })
+      (λ book ready known. choose_makes (Err NotDisputed) naming name book
+      (choose_alone naming summary name _ book ready stored known.0 sharing known.1 few)
+      (λ is. cc));
+}
+
+-- it is the choice now
+pub returns-then-stored : goal.returns-then-stored
+returns-then-stored g c = record {
+  tries =
+      λ naming.
+      let summary = c.args.summary.now in
+      let name = c.args.name in
+      let stored = c.in-Some.stored in
+      let sharing = c.in_ok-sharing.sharing.items in
+      let many : 2 ≤ length sharing = search rules in
+      try_answered view naming summary (choose_outcome naming name)
+      (saw_shared name stored c.in-Some.is c.deref.ensures.value c.in_ok-stored.ensures.looks
+      c.in_ok-sharing.ensures.looks)
+      (record { stored = refl; served = refl })
+      (λ book ready known. choose_makes (Ok Already) naming name book
+      (choose_again naming summary name _ book ready stored known.0 sharing known.1 many
+      c.if-stored.true)
+      (λ is. cc));
+}
+
+-- there is no room for a choice more
+pub returns-then-summary-ge-MAX_CHOICES : goal.returns-then-summary-ge-MAX_CHOICES
+returns-then-summary-ge-MAX_CHOICES g c = record {
+  tries =
+      λ naming.
+      let summary = c.args.summary.now in
+      let name = c.args.name in
+      let stored = c.in-Some.stored in
+      let sharing = c.in_ok-sharing.sharing.items in
+      let many : 2 ≤ length sharing = search rules in
+      let most : most_choices ≤ summary.choices = search rules in
+      try_answered view naming summary (choose_outcome naming name)
+      (saw_shared name stored c.in-Some.is c.deref.ensures.value c.in_ok-stored.ensures.looks
+      c.in_ok-sharing.ensures.looks)
+      (record { stored = refl; served = refl })
+      (λ book ready known. choose_makes (Err Full) naming name book
+      (choose_full naming summary name _ book ready stored known.0 sharing known.1 many
+      c.if-stored.false most)
+      (λ is. cc));
+}
+
+-- what it changes was not looked up
+pub returns-in_err-effects : goal.returns-in_err-effects
+returns-in_err-effects g c = record {
+  tries =
+      λ naming.
+      let summary = c.args.summary.now in
+      let outcome = choose_outcome naming c.args.name in
+      tries_err view naming summary outcome c.from_residual-in_err-effects.result
+      c.from_residual-in_err-effects.ensures.0
+      (λ error. later_refused view naming summary outcome
+      (saw_shared c.args.name c.in-Some.stored c.in-Some.is c.deref.ensures.value
+      c.in_ok-stored.ensures.looks c.in_ok-sharing.ensures.looks)
+      c.in_err-effects.ensures.looks);
+}
+
+-- the commit is refused
+pub returns-in_err-keep_choice : goal.returns-in_err-keep_choice
+returns-in_err-keep_choice g c = record {
+  tries =
+      λ naming.
+      let summary = c.args.summary.now in
+      let name = c.args.name in
+      let stored = c.in-Some.stored in
+      let sharing = c.in_ok-sharing.sharing.items in
+      let many : 2 ≤ length sharing = search rules in
+      let room : summary.choices < most_choices = search rules in
+      let effects = c.in_ok-effects.effects in
+      let outcome = choose_outcome naming name in
+      tries_err view naming summary outcome c.from_residual-in_err-keep_choice.result
+      c.from_residual-in_err-keep_choice.ensures.0
+      (λ error. tries_told view naming summary outcome
+      (try_undone view naming summary outcome
+      (state g.S.Store c.keep_choice.new.tables.store) Always
+      (put_choice (summary.choices + 1) c.open_number.result name effects)
+      (saw_then
+      (saw_shared name stored c.in-Some.is c.deref.ensures.value c.in_ok-stored.ensures.looks
+      c.in_ok-sharing.ensures.looks)
+      (saw_found c.in_ok-effects.ensures.looks))
+      (λ book ready known. choose_is_event naming summary name _ book ready stored known.0.0
+      sharing known.0.1 many c.if-stored.false room (summary.choices + 1) c.open_number.result
+      effects refl c.open_number.ensures.number
+      (known.1 ∙ ap (λ (through : Option ℤ). choice_effects through
+      (option_map member_at (slice_get (charged_with (stored_entry stored).1.identity
+      (tables_of naming book).records) 0))
+      (member_at (stored_entry stored))) c.last_close.ensures))
+      c.in_err-keep_choice.ensures.commits));
+}
+
+-- the record is chosen
+pub returns : goal.returns
+returns g c = record {
+  tries =
+      λ naming.
+      let summary = c.args.summary.now in
+      let name = c.args.name in
+      let stored = c.in-Some.stored in
+      let sharing = c.in_ok-sharing.sharing.items in
+      let many : 2 ≤ length sharing = search rules in
+      let room : summary.choices < most_choices = search rules in
+      let effects = c.in_ok-effects.effects in
+      try_done view naming summary (choose_outcome naming name)
+      (state g.S.Store c.keep_choice.new.tables.store) Always
+      (put_choice (summary.choices + 1) c.open_number.result name effects)
+      (saw_then
+      (saw_shared name stored c.in-Some.is c.deref.ensures.value c.in_ok-stored.ensures.looks
+      c.in_ok-sharing.ensures.looks)
+      (saw_found c.in_ok-effects.ensures.looks))
+      (λ book ready known. choose_is_event naming summary name _ book ready stored known.0.0
+      sharing known.0.1 many c.if-stored.false room (summary.choices + 1) c.open_number.result
+      effects refl c.open_number.ensures.number
+      (known.1 ∙ ap (λ (through : Option ℤ). choice_effects through
+      (option_map member_at (slice_get (charged_with (stored_entry stored).1.identity
+      (tables_of naming book).records) 0))
+      (member_at (stored_entry stored))) c.last_close.ensures))
+      c.in_ok-keep_choice.ensures.commits
+      (λ book ready known. choose_done naming summary name _ book ready stored known.0.0 sharing
+      known.0.1 many c.if-stored.false room)
+      (λ book ready known. choose_remembers naming summary name _ book ready stored known.0.0
+      sharing known.0.1 many _ _ refl refl refl refl refl);
+}

@@ -1,0 +1,19 @@
+use Rattle.tree_tables.specs.States.{state}
+use Rattle.tree_tables.specs.Steps.{Always, Does}
+use Rattle.table_ledger.specs.Entries.{write_line, write_mark}
+use Rattle.table_ledger.proofs.StepLemmas.{does_then}
+use Rattle.table_ledger.proofs.choices.write_change.Goals as goal
+
+-- the charge row, the line and the mark
+pub returns : goal.returns
+returns g c = record {
+  does =
+      let effects = c.args.effects.now in
+      let rest : Does c.write_mark.result (state g.S.Store c.change_day.new.tables.store)
+      (state g.S.Store c.write_mark.new.tables.store) Always
+      (λ tables. write_mark effects.unmark (write_line c.args.period effects.line tables)) =
+      does_then c.write_mark.result c.in_ok-write_line.ensures.does c.write_mark.ensures.does
+      (λ tables when. (tt, tt)) in
+      does_then c.write_mark.result c.in_ok-change_day.ensures.does rest
+      (λ tables when. (tt, tt));
+}

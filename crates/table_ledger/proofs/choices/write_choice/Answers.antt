@@ -1,0 +1,45 @@
+use Rattle.std.proofs.Common.{◌≡◌, ℕ, Option, Some, None, refl}
+use Rattle.std.specs.FinMap.{insert}
+use Rattle.std.specs.Option.{option_map_or}
+use Rattle.book_core.specs.declared.effect_table.Effects.{Effects}
+use Rattle.kept_tables.specs.Steps.{put_choice_row}
+use Rattle.kept_tables.specs.TableChanges.{apply, charge_in}
+use Rattle.kept_tables.specs.Tables.{ChoiceTable, Tables}
+use Rattle.tree_tables.specs.States.{state}
+use Rattle.tree_tables.specs.Steps.{Always, Does}
+use Rattle.table_ledger.proofs.StepLemmas.{does_so, does_then}
+use Rattle.table_ledger.proofs.choices.write_choice.Goals as goal
+
+-- effects leave the choices alone
+same_choices : (period : ℕ) (withdrawn : Option Effects) (tables : Tables)
+    → (option_map_or (λ gone. apply period gone tables) withdrawn tables).choices ≡ tables.choices
+same_choices period None tables = refl
+same_choices period (Some gone) tables = refl
+
+-- the record before, the chosen one, and the row of the choice
+pub returns : goal.returns
+returns g c = record {
+  does =
+      let choice = c.args.choice.now in
+      let rest : Does c.put_choice.result (state g.S.Store c.withdraw.new.tables.store)
+      (state g.S.Store c.put_choice.new.self.store) Always
+      (λ tables. put_choice_row choice.number choice.name choice.period
+      (charge_in choice.period choice.name choice.effects.chosen tables)) =
+      does_then c.put_choice.result c.in_ok-charge.ensures.does c.put_choice.ensures.does
+      (λ tables when. (tt, tt)) in
+      does_so c.put_choice.result
+      (does_then {When = Always} c.put_choice.result c.in_ok-withdraw.ensures.does rest
+      (λ tables when. (tt, tt)))
+      (λ tables when. (
+        tt,
+        λ i.
+            let charged : Tables = charge_in choice.period choice.name choice.effects.chosen
+            (option_map_or (λ gone. apply choice.period gone tables) choice.effects.withdrawn
+            tables) in
+            record charged {
+              choices = insert
+                  (same_choices choice.period choice.effects.withdrawn tables i) choice.number
+                  (record { name = choice.name; period = choice.period });
+            },
+      ));
+}

@@ -1,0 +1,158 @@
+//! Choices among the records of an identity.
+
+ghost use Rattle.std.specs.Prelude.{◌≡◌, slice_get};
+ghost use Rattle.std.specs.Option.{option_map, option_map_or};
+ghost use Rattle.book_core.specs.Effects.{choice_effects};
+ghost use Rattle.book_model.specs.Words.{choose_outcome, Naming};
+ghost use Rattle.kept_tables.specs.TableChanges as change;
+ghost use Rattle.kept_tables.specs.Views.{member_at};
+ghost use Rattle.tree_tables.specs.Answers.{charged_with};
+ghost use Rattle.tree_tables.specs.States.{state};
+ghost use Rattle.tree_tables.specs.Steps.{Always, Does, Looks};
+ghost use Rattle.tree_tables.specs.Stored.{stored_entry};
+ghost use Rattle.table_ledger.specs.Commits.{CommitsOne};
+ghost use Rattle.table_ledger.specs.Tries.{Tries};
+
+use crate::commits::{change_day, write_line, write_mark};
+use crate::effects::member_of;
+use crate::summary::Summary;
+use book_core::{ChoiceEffects, Effects, LedgerFault, MAX_CHOICES, Ruled, plan_choice};
+use sqlite_trees::error::StoreError;
+use sqlite_trees::store::Store;
+use std::alloc::Global;
+use tree_tables::{StoredRecord, TreeTables};
+
+/// A choice as it is written: its number, the period that is open, the name of the record, and what
+/// it changes there.
+#[derive(Clone, Copy)]
+pub(crate) struct Choice {
+    pub(crate) number: u32,
+    pub(crate) period: u16,
+    pub(crate) name: [u8; 32],
+    pub(crate) effects: ChoiceEffects,
+}
+
+/// What the choice of a record changes, by the record of its identity that is charged until now.
+fn look_for_choice<S: Store>(
+    tables: &mut TreeTables<S>,
+    alloc: Global,
+    through: Option<i32>,
+    stored: &StoredRecord,
+) -> Result<ChoiceEffects, StoreError>
+    ensures looks { Looks result (state S.Store tables.old.store) (state S.Store tables.new.store)
+        (λ tables effects. effects ≡ choice_effects through
+        (option_map member_at (slice_get (charged_with stored.now.identity.items tables.records) 0))
+        (member_at (stored_entry stored.now))) }
+{
+    let current = tables.find_charged(alloc, &stored.identity)?;
+    let current = match &current {
+        Some(charged) => Some(member_of(charged)),
+        None => None,
+    };
+    Ok(plan_choice(through, current, &member_of(stored)))
+}
+
+/// Writes what a record changes in the open period that is charged, or charged no more.
+fn write_change<S: Store>(
+    tables: &mut TreeTables<S>,
+    period: u16,
+    effects: &Effects,
+) -> Result<(), StoreError>
+    ensures does { Does result (state S.Store tables.old.store) (state S.Store tables.new.store)
+        Always (change.apply period effects.now) }
+{
+    change_day(tables, period, &effects.day)?;
+    write_line(tables, period, &effects.line)?;
+    write_mark(tables, &effects.unmark)
+}
+
+/// The record that was charged until now, if one was, is charged no more.
+fn withdraw<S: Store>(
+    tables: &mut TreeTables<S>,
+    period: u16,
+    withdrawn: &Option<Effects>,
+) -> Result<(), StoreError>
+    ensures does { Does result (state S.Store tables.old.store) (state S.Store tables.new.store)
+        Always (λ tables. option_map_or (λ gone. change.apply period gone tables) withdrawn.now
+        tables) }
+{
+    match withdrawn {
+        Some(gone) => write_change(tables, period, gone),
+        None => Ok(()),
+    }
+}
+
+/// A record that is held is charged.
+fn charge<S: Store>(
+    tables: &mut TreeTables<S>,
+    period: u16,
+    name: &[u8; 32],
+    effects: &Effects,
+) -> Result<(), StoreError>
+    ensures does { Does result (state S.Store tables.old.store) (state S.Store tables.new.store)
+        Always (change.charge_in period name.now effects.now) }
+{
+    write_change(tables, period, effects)?;
+    tables.mark_record(name)
+}
+
+/// Writes a choice.
+fn write_choice<S: Store>(tables: &mut TreeTables<S>, choice: &Choice) -> Result<(), StoreError>
+    ensures does { Does result (state S.Store tables.old.store) (state S.Store tables.new.store)
+        Always (change.put_choice choice.now.number choice.now.period choice.now.name
+        choice.now.effects) }
+{
+    withdraw(tables, choice.period, &choice.effects.withdrawn)?;
+    charge(tables, choice.period, &choice.name, &choice.effects.chosen)?;
+    tables.put_choice(choice.number, &choice.name, choice.period)
+}
+
+/// Keeps a choice, in one commit.
+fn keep_choice<S: Store>(tables: &mut TreeTables<S>, choice: &Choice) -> Result<(), StoreError>
+    ensures commits { CommitsOne result (state S.Store tables.old.store)
+        (state S.Store tables.new.store) Always (change.put_choice choice.now.number
+        choice.now.period choice.now.name choice.now.effects) }
+{
+    write_choice(tables, choice)?;
+    tables.commit()
+}
+
+/// Answers the choice of a record by its name, and keeps it where the record is one of two or more
+/// of its identity and is not the one that is chosen now.
+pub(crate) fn try_choose<S: Store>(
+    tables: &mut TreeTables<S>,
+    alloc: Global,
+    summary: &mut Summary,
+    name: [u8; 32],
+) -> Result<Result<Ruled, LedgerFault>, StoreError>
+    ensures tries { (naming : Naming) → Tries (λ ruled. ruled) naming summary.old summary.new
+        (state S.Store tables.old.store) (state S.Store tables.new.store)
+        (choose_outcome naming name) result }
+{
+    let Some(stored) = tables.find_record(alloc, &name)? else {
+        return Ok(Err(LedgerFault::NoSuchRecord));
+    };
+    let sharing = tables.find_sharing(alloc, &stored.identity)?;
+    if sharing.len() < 2 {
+        return Ok(Err(LedgerFault::NotDisputed));
+    }
+    // Of two or more records of one identity, the one that is charged is the choice now.
+    if stored.charged {
+        return Ok(Ok(Ruled::Already));
+    }
+    if summary.choices as usize >= MAX_CHOICES {
+        return Ok(Err(LedgerFault::Full));
+    }
+    let effects = look_for_choice(tables, alloc, summary.last_close(), &stored)?;
+    keep_choice(
+        tables,
+        &Choice {
+            number: summary.choices + 1,
+            period: summary.open_number(),
+            name,
+            effects,
+        },
+    )?;
+    summary.choices += 1;
+    Ok(Ok(Ruled::Done))
+}

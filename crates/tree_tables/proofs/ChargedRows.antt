@@ -1,0 +1,334 @@
+-- The charged records of an identity, as the tree of marks has them.
+use Rattle.std.proofs.Common.{◌≡◌, ◌∙◌, ℕ, ◌&&◌, ◌||◌, List, [], ◌∷◌, Bool, true, false, cond}
+use Rattle.std.proofs.Common.{Some, None, Result, Ok, Err, map, pos}
+use Rattle.std.proofs.Common.{refl, sym, ap, ap₂, subst}
+use Rattle.std.specs.Prelude.{IfOk, T, filter, slice_get}
+use Rattle.std.specs.Cmp.{IsTotalOrder, nat_cmp_total, tied_itself}
+use Rattle.std.specs.Cmp.Lexicographic.{nat_list_cmp_total}
+use Rattle.std.specs.FinMap.{entries, entries_sorted, get, is_sorted, nat_cmp-IsAntisymmetric}
+use Rattle.std.specs.FinMap.Entries.{below_all}
+use Rattle.std.specs.List.{AllByRecursion, list_any}
+use Rattle.std.specs.Option.{option_map}
+use Rattle.std.specs.Ordering.{eq_by_cmp, is_eq, is_lt, nat_cmp, ordering_then}
+use Rattle.std.specs.declared.cmp.Ordering.{Ordering}
+use Rattle.std.proofs.lemmas.List.Elements.{All-filter, filter_agree, recursion_from_All}
+use Rattle.std.proofs.lemmas.Map.Views.{tells_apart}
+use Rattle.sqlite_trees.proofs.ListLemmas.{map-map}
+use Rattle.sqlite_trees.specs.View.{IsClean}
+use Rattle.sqlite_trees.specs.declared.error.StoreError.{StoreError}
+use Rattle.sqlite_trees.specs.declared.store.Store.{Ghosts}
+use Rattle.sqlite_value.proofs.OrderLemmas.{then-Equal, value_cmp-Blob, value_cmp-Int}
+use Rattle.sqlite_value.specs.Order.{Row, column, row_cmp}
+use Rattle.sqlite_value.specs.declared.value.Value.TheVariants.{Blob, Int}
+use Rattle.book_model.specs.Words.{same_bytes}
+use Rattle.book_model.proofs.SetLemmas.{same_bytes-by_cmp}
+use Rattle.kept_tables.specs.Tables.{RecordRow, RecordTable, Tables}
+use Rattle.kept_tables.specs.Views.{rows_with}
+use Rattle.tree_rows.specs.Indexes.{by_bytes, by_mark, by_parts, indexed_by}
+use Rattle.tree_rows.specs.Rows.{Finds, IsFirst, IsUnchanged}
+use Rattle.tree_rows.specs.Runs.{run_of}
+use Rattle.tree_rows.proofs.IndexLists.{both, index_in_order}
+use Rattle.tree_rows.proofs.IndexOrders.{by_bytes_exact, parts_exact, parts_total}
+use Rattle.tree_rows.proofs.Maps.{first, second, then_assoc}
+use Rattle.tree_rows.proofs.Runs.{finds_run, run_by_front}
+use Rattle.tree_tables.specs.Answers.{FindsCharged, FindsRecord, HasCharged, charged_with, is_charged}
+use Rattle.tree_tables.specs.Columns.{charged_part, flag, mark_columns}
+use Rattle.tree_tables.specs.Fits.{EachFits, HasHash}
+use Rattle.tree_tables.specs.Holds.{mark_key, marks}
+use Rattle.tree_tables.specs.States.{state}
+use Rattle.tree_tables.specs.Steps.{Looks}
+use Rattle.tree_tables.specs.declared.stored_record.StoredRecord.{StoredRecord}
+use Rattle.tree_tables.proofs.FoundNames.{Entry, entries_had}
+use Rattle.tree_tables.proofs.Layouts.{mark_layout, numbers}
+use Rattle.tree_tables.proofs.Looking.{Quiet, looks_found}
+use Rattle.tree_tables.proofs.RecordIndexes.{mark_named}
+use Rattle.tree_tables.proofs.RecordLists.{mark_rows}
+
+-- a key of the tree of marks, and its front: the mark and the identity
+abbrev Key : Type 0
+Key = ℕ × (List ℕ × List ℕ)
+
+abbrev Front : Type 0
+Front = ℕ × List ℕ
+
+abbrev front_of : Key → Front
+front_of key = (key.0, key.1.0)
+
+abbrev front_columns : Front → Row
+front_columns front = Int (pos front.0) ∷ Blob front.1 ∷ []
+
+-- fronts are ordered by the mark, then by the identity
+abbrev by_front : Front → Front → Ordering
+by_front = by_parts nat_cmp by_bytes
+
+by_front_total : IsTotalOrder by_front
+by_front_total = parts_total nat_cmp_total nat_list_cmp_total
+
+-- keys compare by their fronts, then by the names
+fronts_first : (k l : Key) → by_mark k l
+    ≡ ordering_then (by_front (front_of k) (front_of l)) (by_bytes k.1.1 l.1.1)
+fronts_first k l = then_assoc (nat_cmp k.0 l.0) (by_bytes k.1.0 l.1.0) (by_bytes k.1.1 l.1.1)
+
+-- and fronts as their columns do
+fronts_compare : (a b : Front) → row_cmp (front_columns a) (front_columns b) ≡ by_front a b
+fronts_compare a b =
+    ap₂ ordering_then (value_cmp-Int (pos a.0) (pos b.0) ∙ numbers a.0 b.0)
+    (then-Equal _ ∙ value_cmp-Blob a.1 b.1)
+
+-- Records with one front stand in the tree of marks as they stand by their names.
+module _ (given : Front) where
+  -- the key has the front
+  abbrev has_front : Key → Bool
+  has_front key = is_eq (by_front (front_of key) given)
+
+  only_given : (key : Key) → has_front key ≡ true → front_of key ≡ given
+  only_given key same =
+      tells_apart (parts_exact nat_cmp-IsAntisymmetric by_bytes_exact) (front_of key) given same
+
+  -- the keys of those entries that have the front
+  abbrev with_front : List Entry → List (Key × Unit {0})
+  with_front es = map (indexed_by mark_key) (filter (λ e. has_front (mark_key e)) es)
+
+  -- of two keys with the front the lesser has the lesser name
+  below_one : (name : List ℕ) (e : Entry) → front_of (mark_key e) ≡ given
+      → T (is_lt (by_bytes name e.0)) → T (is_lt (by_mark (given.0, (given.1, name)) (mark_key e)))
+  below_one name e is below =
+      subst (λ o. T (is_lt o))
+      (sym (fronts_first (given.0, (given.1, name)) (mark_key e)
+      ∙ ap (λ o. ordering_then o (by_bytes name e.0))
+      (ap (by_front given) is ∙ tied_itself by_front_total given))) below
+
+  -- the front with a name below all others is below all keys with the front
+  below_with_front : (name : List ℕ) (es : List Entry) → T (below_all by_bytes name es)
+      → T (below_all by_mark (given.0, (given.1, name)) (with_front es))
+  below_with_front name [] below = tt
+  below_with_front name (e ∷ es) below =
+      let rest = below_with_front name es (second _ _ below) in
+      elim (has_front (mark_key e)) as (λ b. has_front (mark_key e) ≡ b
+      → T (below_all by_mark (given.0, (given.1, name)) (map (indexed_by mark_key)
+      (cond b (e ∷ filter (λ e. has_front (mark_key e)) es)
+      (filter (λ e. has_front (mark_key e)) es))))) [
+        | true ↦ λ is. both _ _
+            (below_one name e (only_given (mark_key e) is) (first _ _ below)) rest
+        | false ↦ λ not_it. rest
+      ] refl
+
+  -- so keys with the front, of entries in the order of their names, are in the order of the tree
+  front_rises : (es : List Entry) → T (is_sorted by_bytes es)
+      → T (is_sorted by_mark (with_front es))
+  front_rises [] sorted = tt
+  front_rises (e ∷ es) sorted =
+      let rest = front_rises es (second _ _ sorted) in
+      elim (has_front (mark_key e)) as (λ b. has_front (mark_key e) ≡ b
+      → T (is_sorted by_mark (map (indexed_by mark_key)
+      (cond b (e ∷ filter (λ e. has_front (mark_key e)) es)
+      (filter (λ e. has_front (mark_key e)) es))))) [
+        | true ↦ λ is. both _ _
+            (subst (λ (front : Front). T (below_all by_mark (front.0, (front.1, e.0))
+            (with_front es))) (sym (only_given (mark_key e) is))
+            (below_with_front e.0 es (first _ _ sorted))) rest
+        | false ↦ λ not_it. rest
+      ] refl
+
+  -- the rows that begin with the front are those of the entries that have it
+  front_run : (records : RecordTable) → run_of (front_columns given) (mark_rows records)
+      ≡ map mark_columns (with_front (entries records))
+  front_run records =
+      run_by_front by_front_total mark_layout front_of front_columns (λ k. Blob k.1.1 ∷ [])
+      (λ k l. by_bytes k.1.1 l.1.1) fronts_first fronts_compare (λ a b. refl) (λ k. refl) given
+      (marks records)
+      ∙ ap (map mark_columns) (index_in_order mark_named has_front records
+      (front_rises (entries records) (entries_sorted records)))
+
+-- two tests, one after the other
+module _ {X : Type 0} (p q : X → Bool) where
+  -- what one test keeps of a list, where the other has decided on the front
+  again : (b c : Bool) (x : X) (both : List X) (rest : List X) → p x ≡ b → both ≡ filter p rest
+      → cond (b && c) (x ∷ both) both ≡ filter p (cond c (x ∷ rest) rest)
+  again true true x both rest one same =
+      ap (λ more. x ∷ more) same
+      ∙ sym (ap (λ b. cond b (x ∷ filter p rest) (filter p rest)) one)
+  again false true x both rest one same =
+      same ∙ sym (ap (λ b. cond b (x ∷ filter p rest) (filter p rest)) one)
+  again true false x both rest one same = same
+  again false false x both rest one same = same
+
+  filter_again : (xs : List X) → filter (λ x. p x && q x) xs ≡ filter p (filter q xs)
+  filter_again [] = refl
+  filter_again (x ∷ xs) =
+      again (p x) (q x) x (filter (λ x. p x && q x) xs) (filter q xs) refl (filter_again xs)
+
+-- whether a list has an element
+abbrev has_one : {X : Type 0} → List X → Bool
+has_one [] = false
+has_one (x ∷ xs) = true
+
+-- a test is passed where something is left of it
+any_is : {X : Type 0} (p : X → Bool) (xs : List X) → list_any p xs ≡ has_one (filter p xs)
+any_is p [] = refl
+any_is p (x ∷ xs) =
+    elim (p x) as (λ b. (b || list_any p xs)
+    ≡ has_one (cond b (x ∷ filter p xs) (filter p xs))) [
+      | true ↦ refl
+      | false ↦ any_is p xs
+    ]
+
+module _ (records : RecordTable) (identity : List ℕ) where
+  -- a key has the mark of charged records, and the identity
+  front_is : (e : Entry) → has_front (flag true, identity) (mark_key e)
+      ≡ (is_charged e && same_bytes e.1.identity identity)
+  front_is e =
+      by e.1.charged
+      ∙ ap (λ (same : List ℕ → List ℕ → Bool). is_charged e && same e.1.identity identity)
+      (sym same_bytes-by_cmp)
+    where
+      by : (charged : Bool)
+          → is_eq (ordering_then (nat_cmp (flag charged) (flag true))
+          (by_bytes e.1.identity identity))
+          ≡ (charged && eq_by_cmp by_bytes e.1.identity identity)
+      by true = refl
+      by false = refl
+
+  -- the row of the mark of a record
+  abbrev mark_row : Entry → Row
+  mark_row e = mark_columns (indexed_by mark_key e)
+
+  -- the marks of charged records that have the identity are those of the records that do
+  charged_run : run_of (charged_part identity) (mark_rows records)
+      ≡ map mark_row (charged_with identity records)
+  charged_run =
+      front_run (flag true, identity) records
+      ∙ map-map mark_columns (indexed_by mark_key)
+      (filter (λ e. has_front (flag true, identity) (mark_key e)) (entries records))
+      ∙ ap (map mark_row)
+      (filter_agree (λ e. has_front (flag true, identity) (mark_key e))
+      (λ e. is_charged e && same_bytes e.1.identity identity) front_is (entries records)
+      ∙ filter_again is_charged (λ e. same_bytes e.1.identity identity) (entries records))
+
+-- what the first mark of a charged record that has the identity says of the tables
+pub record NamesCharged (identity : List ℕ) (tables : Tables) (name : List ℕ) : Type 0 where
+  pub row : RecordRow
+  pub more : List Entry
+  pub first : charged_with identity tables.records ≡ (name, row) ∷ more
+  pub there : get tables.records name ≡ Some row
+
+module _ (tables : Tables) (identity : List ℕ) (row : Row) {rows : List Row}
+    (held : rows ≡ mark_rows tables.records) where
+  -- the marks that are found are those of the records
+  found_of : (there : Bool) → IsFirst (run_of (charged_part identity) rows) row there
+      → IsFirst (map (mark_row tables.records identity) (charged_with identity tables.records))
+      row there
+  found_of there begins =
+      subst (λ run. IsFirst run row there)
+      (ap (run_of (charged_part identity)) held ∙ charged_run tables.records identity) begins
+
+  -- of these entries one is there, or none
+  abbrev OneOf : List Entry → Bool → Type 0
+  OneOf es true = (e : Entry) × (more : List Entry) × (es ≡ e ∷ more)
+      × (row ≡ mark_row tables.records identity e)
+  OneOf es false = es ≡ []
+
+  one_of : (es : List Entry) (there : Bool)
+      → IsFirst (map (mark_row tables.records identity) es) row there → OneOf es there
+  one_of [] true begins = absurd (let e = begins.1 in cc)
+  one_of [] false begins = refl
+  one_of (e ∷ es) true begins = (e, es, refl, (let same = begins.1 in cc))
+  one_of (e ∷ es) false begins = absurd (let e = begins in cc)
+
+  -- whether a record of the identity is charged
+  pub has_charged_is : (there : Bool) → IsFirst (run_of (charged_part identity) rows) row there
+      → HasCharged identity tables there
+  has_charged_is there begins =
+      by there (one_of (charged_with identity tables.records) there (found_of there begins))
+      ∙ sym (any_is is_charged (rows_with identity tables.records))
+    where
+      by : (there : Bool) → OneOf (charged_with identity tables.records) there
+          → there ≡ has_one (charged_with identity tables.records)
+      by true one = ap has_one (sym one.2)
+      by false none = ap has_one (sym none)
+
+  -- where no mark is found, no record of the identity is charged
+  pub charged_none : IsFirst (run_of (charged_part identity) rows) row false
+      → FindsCharged identity tables None
+  charged_none begins =
+      ap (λ es. slice_get es 0)
+      (sym (one_of (charged_with identity tables.records) false (found_of false begins)))
+
+  -- a charged record is there
+  charged_had : AllByRecursion (λ (e : Entry). get tables.records e.0 ≡ Some e.1)
+      (charged_with identity tables.records)
+  charged_had =
+      let Had : Entry → Type 0 = λ e. get tables.records e.0 ≡ Some e.1 in
+      let same : Entry → Bool = λ e. same_bytes e.1.identity identity in
+      recursion_from_All Had (filter is_charged (filter same (entries tables.records)))
+      (All-filter is_charged Had (filter same (entries tables.records))
+      (All-filter same Had (entries tables.records)
+      (entries_had nat_list_cmp_total tables.records)))
+
+  -- the mark that is found ends in the name of the first
+  pub charged_names : IsFirst (run_of (charged_part identity) rows) row true
+      → (e : Entry) × NamesCharged identity tables e.0 × (column row 2 ≡ Blob e.0)
+  charged_names begins =
+      let one = one_of (charged_with identity tables.records) true (found_of true begins) in
+      let had : AllByRecursion (λ (e : Entry). get tables.records e.0 ≡ Some e.1)
+      (one.0 ∷ one.1) =
+      subst (AllByRecursion (λ (e : Entry). get tables.records e.0 ≡ Some e.1)) one.2 charged_had
+      in (
+        one.0,
+        record { row = one.0.1; more = one.1; first = one.2; there = had.0 },
+        ap (λ (r : Row). column r 2) one.3,
+      )
+
+  -- so it can be read
+  pub charged_fits : IsFirst (run_of (charged_part identity) rows) row true → EachFits tables
+      → HasHash (column row 2)
+  charged_fits begins fit =
+      let it = charged_names begins in
+      subst HasHash (sym it.2) (fit it.0.0 it.1.row it.1.there).name
+
+  -- what is read of it is the name
+  pub charged_named : (name : List ℕ) → IsFirst (run_of (charged_part identity) rows) row true
+      → column row 2 ≡ Blob name → NamesCharged identity tables name
+  charged_named name begins says =
+      let it = charged_names begins in
+      subst (NamesCharged identity tables) (same_name it.0.0 (sym it.2 ∙ says)) it.1
+    where
+      same_name : (other : List ℕ) → Blob other ≡ Blob name → other ≡ name
+      same_name other same = cc
+
+module _ (tables : Tables) (identity name : List ℕ) (names : NamesCharged identity tables name)
+  where
+    -- the record of the name is the first of the charged ones
+    pub charged_is : (stored : StoredRecord) → FindsRecord name tables (Some stored)
+        → FindsCharged identity tables (Some stored)
+    charged_is stored found =
+        found ∙ ap (option_map (λ (row : RecordRow). (name, row))) names.there
+        ∙ ap (λ es. slice_get es 0) (sym names.first)
+
+    -- and is not missed
+    pub never_lost : FindsRecord name tables None → ⊥
+    never_lost missed =
+        let both = missed ∙ ap (option_map (λ (row : RecordRow). (name, row))) names.there in
+        absurd (let e = both in cc)
+
+-- what a look-up of these columns shows, if it shows something
+pub mark_found : (Clean : Type 0) (key part row : Row) (rows : List Row)
+    (result : Result Bool StoreError) → key ≡ part
+    → IfOk result (λ hit. Clean → Finds key rows row hit)
+    → IfOk result (λ hit. Clean → IsFirst (run_of part rows) row hit)
+mark_found Clean key part row rows (Ok hit) is found = λ clean.
+    subst (λ some. IsFirst (run_of some rows) row hit) is
+    (finds_run key row rows hit (found clean))
+mark_found Clean key part row rows (Err error) is found = tt
+
+-- a look at the marks that has found one, of which the name was read
+pub name_looked : {S : Type 0} (ghosts : Ghosts S) (old new : S) (identity name : List ℕ)
+    (row : Row) → Quiet ghosts old new
+    → (IsClean (ghosts.view new) → IsUnchanged (ghosts.view old) (ghosts.view new))
+    → (IsClean (ghosts.view new)
+    → IsFirst (run_of (charged_part identity) ((ghosts.view old).trees 7)) row true)
+    → column row 2 ≡ Blob name
+    → Looks (Ok name) (state ghosts old) (state ghosts new) (NamesCharged identity)
+name_looked ghosts old new identity name row call same found says =
+    looks_found ghosts call same (λ clean tables holds.
+    charged_named tables identity row holds.marks name (found clean) says)

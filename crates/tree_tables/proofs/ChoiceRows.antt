@@ -1,0 +1,133 @@
+-- Choices: how one is written, what the last row of their tree shows, and which number the last of
+-- a book's has.
+use Rattle.std.proofs.Common.{◌≡◌, ◌∙◌, ◌<◌, ◌^◌, ℕ, pos, List, [], ◌∷◌, ◌++◌, Option, Some, None}
+use Rattle.std.proofs.Common.{◌+◌, false, true, suc, length, map, refl, reverse, sym, ap, arith}
+use Rattle.std.specs.Prelude.{unwrap_or}
+use Rattle.std.specs.Cmp.{nat_cmp_total}
+use Rattle.std.specs.FinMap.{entries, from_entries, insert, keys, nat_cmp-IsAntisymmetric}
+use Rattle.std.specs.List.{last_or}
+use Rattle.std.specs.Option.{option_map}
+use Rattle.std.proofs.lemmas.List.{map-append, reverse-append, reverse-reverse}
+use Rattle.sqlite_trees.proofs.ListLemmas.{map-map}
+use Rattle.sqlite_trees.specs.View.{View}
+use Rattle.sqlite_value.specs.Order.{Row, column}
+use Rattle.sqlite_value.specs.declared.value.Value.{Value}
+use Rattle.sqlite_value.specs.declared.value.Value.TheVariants.{Int}
+use Rattle.book_model.specs.Words.{Choice, Naming}
+use Rattle.book_model.proofs.FilterLemmas.{entries-sorted}
+use Rattle.book_model.proofs.ListLemmas.{last_or-behind}
+use Rattle.kept_tables.specs.Steps.{put_choice_row}
+use Rattle.kept_tables.specs.Tables.{ChoiceRow, ChoiceTable}
+use Rattle.kept_tables.specs.TablesOf.{choice_entries}
+use Rattle.kept_tables.proofs.ViewLemmas.{choices_rise}
+use Rattle.tree_rows.specs.Rows.{IsFirst, Puts}
+use Rattle.tree_rows.proofs.Keyed.{rows_put}
+use Rattle.tree_tables.specs.Answers.{last_number}
+use Rattle.tree_tables.specs.Columns.{choice_columns}
+use Rattle.tree_tables.specs.Fits.{HasNumber}
+use Rattle.tree_tables.specs.Steps.{Always, Changes}
+use Rattle.tree_tables.proofs.Holding.{with_choices}
+use Rattle.tree_tables.proofs.Layouts.{choice_layout}
+
+-- a choice that is put under its number is put into the table
+pub choice_put : {old new : View} {key row : Row} (number : ℕ) (name : List ℕ) (period : ℕ)
+    → Puts old new 8 key row → key ≡ Int (pos number) ∷ []
+    → row ≡ choice_columns (number, record { name = name; period = period })
+    → Changes old new Always (put_choice_row number name period)
+choice_put number name period puts key_is row_is = record {
+  only = puts.rewrites.only;
+  made = λ tables holds when.
+      let choice : ChoiceRow = record { name = name; period = period } in
+      with_choices holds (insert tables.choices number choice) puts.rewrites.others
+      (rows_put choice_layout tables.choices number choice puts holds.choices key_is row_is);
+}
+
+-- what is made of the last is the last of what is made
+last_made : {X Y : Type 0} (f : X → Y) (was : Option X) (xs : List X)
+    → last_or (option_map f was) (map f xs) ≡ option_map f (last_or was xs)
+last_made f was [] = refl
+last_made f was (x ∷ xs) = last_made f (Some x) xs
+
+-- a number as it stands in a column
+abbrev in_column : ℕ → Value
+in_column n = Int (pos n)
+
+-- numbers are told apart by their columns
+same_number : (m n : ℕ) → Int (pos m) ≡ Int (pos n) → m ≡ n
+same_number m n same = cc
+
+-- a list that ends in a row, by its rows from the last on
+ends_in : (rows more : List Row) (row : Row) → reverse rows ≡ row ∷ more
+    → rows ≡ reverse more ++ row ∷ []
+ends_in rows more row from =
+    sym (reverse-reverse rows) ∙ ap reverse from ∙ reverse-append (row ∷ []) more
+
+-- The last row of all has the number of the last choice in its first column.
+module _ (choices : ChoiceTable) (rows : List Row) (row : Row)
+    (held : rows ≡ map choice_columns (entries choices)) where
+  -- the first columns are the numbers
+  numbers_are : map (λ (r : Row). column r 0) rows ≡ map in_column (keys choices)
+  numbers_are =
+      ap (map (λ (r : Row). column r 0)) held
+      ∙ map-map (λ (r : Row). column r 0) choice_columns (entries choices)
+      ∙ sym (map-map in_column (λ (e : ℕ × ChoiceRow). e.0) (entries choices))
+
+  -- the last of them is that of the row
+  last_is : IsFirst (reverse rows) row true
+      → option_map in_column (last_or None (keys choices)) ≡ Some (column row 0)
+  last_is first =
+      sym (last_made in_column None (keys choices))
+      ∙ ap (last_or None) (sym numbers_are
+      ∙ ap (map (λ (r : Row). column r 0)) (ends_in rows first.0 row first.1)
+      ∙ map-append (λ (r : Row). column r 0) (reverse first.0) (row ∷ []))
+      ∙ last_or-behind None (map (λ (r : Row). column r 0) (reverse first.0)) (column row 0)
+
+  -- so that is its number
+  pub number_shown : IsFirst (reverse rows) row true
+      → column row 0 ≡ Int (pos (last_number choices))
+  number_shown first = by (last_or None (keys choices)) (last_is first)
+    where
+      by : (found : Option ℕ) → option_map in_column found ≡ Some (column row 0)
+          → column row 0 ≡ Int (pos (unwrap_or found 0))
+      by None is = absurd (let e = is in cc)
+      by (Some n) is = let e = is in cc
+
+  -- what is read of it is the number
+  pub number_read : (n : ℕ) → IsFirst (reverse rows) row true → column row 0 ≡ Int (pos n)
+      → n ≡ last_number choices
+  number_read n first says =
+      same_number n (last_number choices) (sym says ∙ number_shown first)
+
+  -- and where that is small it can be read
+  pub number_fits : IsFirst (reverse rows) row true → last_number choices < 2 ^ 32
+      → HasNumber (column row 0)
+  number_fits first small = (last_number choices, small, number_shown first)
+
+  -- where there is no row, there is no number
+  pub number_none : IsFirst (reverse rows) row false → 0 ≡ last_number choices
+  number_none none =
+      let empty : rows ≡ [] = sym (reverse-reverse rows) ∙ ap reverse none in
+      by (keys choices) (sym numbers_are ∙ ap (map (λ (r : Row). column r 0)) empty)
+    where
+      by : (numbers : List ℕ) → map in_column numbers ≡ []
+          → 0 ≡ unwrap_or (last_or None numbers) 0
+      by [] is = refl
+      by (n ∷ numbers) is = absurd (let e = is in cc)
+
+-- the last of numbers that go on from one is it and as many more as there are
+numbers_end : (naming : Naming) (n : ℕ) (choices : List Choice) (was : Option ℕ)
+    → unwrap_or was 0 ≡ n
+    → unwrap_or (last_or was (map (λ (e : ℕ × ChoiceRow). e.0)
+    (choice_entries naming (suc n) choices))) 0 ≡ n + length choices
+numbers_end naming n [] was is = is ∙ omega arith
+numbers_end naming n (choice ∷ choices) was is =
+    numbers_end naming (suc n) choices (Some (suc n)) refl ∙ omega arith
+
+-- So where the choices stand under their numbers from 1 on, the last number is how many they are.
+pub last_is_count : (naming : Naming) (choices : List Choice)
+    → last_number (from_entries (choice_entries naming 1 choices)) ≡ length choices
+last_is_count naming choices =
+    ap (λ es. unwrap_or (last_or None (map (λ (e : ℕ × ChoiceRow). e.0) es)) 0)
+    (entries-sorted nat_cmp_total nat_cmp-IsAntisymmetric (choice_entries naming 1 choices)
+    (choices_rise naming 1 choices))
+    ∙ numbers_end naming 0 choices None refl ∙ omega arith

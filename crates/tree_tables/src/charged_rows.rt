@@ -1,0 +1,99 @@
+//! The charged record of an identity, found by its mark.
+
+ghost use Rattle.std.specs.Prelude.{◌≡◌, IfErr, OnOk};
+ghost use Rattle.tree_tables.specs.Columns.{charged_part};
+
+use crate::cells::hash_at;
+use crate::keys::number_key;
+use crate::stored_record::StoredRecord;
+use crate::tables::TreeTables;
+use sqlite_trees::error::StoreError;
+use sqlite_trees::store::Store;
+use sqlite_value::row::Row;
+use sqlite_value::value::ValueRef;
+use std::alloc::Global;
+use tree_rows::find_row;
+
+/// The tree of the marks.
+const MARKS: u32 = 7;
+
+/// The mark of a charged record.
+const IS_CHARGED: i64 = 1;
+
+/// The column of a mark's row that has the name of the record.
+const NAME: usize = 2;
+
+/// The first columns of the marks of charged records that have an identity.
+fn charged_key(key: &mut Row, identity: &[u8]) -> Result<(), StoreError>
+    ensures made { OnOk result (key.new ≡ charged_part identity.now) }
+    ensures memory { IfErr result (λ error. error ≡ StoreError.OutOfMemory) }
+{
+    number_key(key, IS_CHARGED)?;
+    key.push(ValueRef::Blob(identity))?;
+    Ok(())
+}
+
+impl<S: Store> TreeTables<S> {
+    ghost use Rattle.std.specs.Prelude.{IfErr, IfOk, OnErr, OnOk};
+    ghost use Rattle.sqlite_disk.specs.Disk.{MoreFaults};
+    ghost use Rattle.sqlite_trees.specs.View.{HasCause, IsClean, IsQuiet, KeepsCommitted};
+    ghost use Rattle.tree_rows.specs.Rows.{IsFirst, IsUnchanged};
+    ghost use Rattle.tree_rows.specs.Runs.{run_of};
+    ghost use Rattle.tree_tables.specs.Answers.{FindsCharged, HasCharged};
+    ghost use Rattle.tree_tables.specs.Fits.{EachFits};
+    ghost use Rattle.tree_tables.specs.States.{state};
+    ghost use Rattle.tree_tables.specs.Steps.{Always, FailsByStore, Looks};
+
+    /// Writes the first mark of a charged record that has the identity over `row`, or answers that
+    /// there is none.
+    fn find_mark(&mut self, identity: &[u8]) -> Result<bool, StoreError>
+        ensures found { IfOk result (λ there. IsClean (S.Store.view self.new.store)
+            → IsFirst (run_of (charged_part identity.now)
+            ((S.Store.view self.old.store).trees MARKS)) self.new.row there) }
+        ensures same { OnOk result (IsClean (S.Store.view self.new.store)
+            → IsUnchanged (S.Store.view self.old.store) (S.Store.view self.new.store)) }
+        ensures kept { OnErr result (IsClean (S.Store.view self.new.store)
+            → KeepsCommitted (S.Store.view self.old.store) (S.Store.view self.new.store)) }
+        ensures cause { IfErr result (λ error. IsClean (S.Store.view self.new.store)
+            → HasCause (S.Store.view self.old.store)
+            (MoreFaults (S.Store.faults self.old.store) (S.Store.faults self.new.store)) ⊥ error) }
+        ensures quiet { IsQuiet S.Store.view S.Store.faults S.Store.recovers S.Store.is_shielded
+            self.old.store self.new.store }
+    {
+        charged_key(&mut self.key, identity)?;
+        find_row(&mut self.store, MARKS, &self.key, &mut self.row)
+    }
+
+    /// Whether a record of the identity is charged: one look, and no record is read.
+    pub fn has_charged(&mut self, identity: &[u8]) -> Result<bool, StoreError>
+        ensures looks { Looks result (state S.Store self.old.store) (state S.Store self.new.store)
+            (HasCharged identity.now) }
+        ensures cause { FailsByStore result (state S.Store self.old.store)
+            (state S.Store self.new.store) Always }
+    {
+        self.find_mark(identity)
+    }
+
+    /// The charged record of an identity, if there is one: one look for its name, and one for the
+    /// record, however many records have the identity.
+    pub fn find_charged(
+        &mut self,
+        alloc: Global,
+        identity: &[u8],
+    ) -> Result<Option<StoredRecord>, StoreError>
+        ensures looks { Looks result (state S.Store self.old.store) (state S.Store self.new.store)
+            (FindsCharged identity.now) }
+        ensures cause { FailsByStore result (state S.Store self.old.store)
+            (state S.Store self.new.store) EachFits }
+    {
+        if !self.find_mark(identity)? {
+            return Ok(None);
+        }
+        let name = hash_at(&self.row, NAME)?;
+        // A mark has its record, unless the disk lies.
+        let Some(record) = self.find_record(alloc, &name)? else {
+            return Err(StoreError::Corrupt);
+        };
+        Ok(Some(record))
+    }
+}
