@@ -9,6 +9,7 @@ LONGEST_BLOCK = 32760
 
 # Offsets in a record, its descriptor included: of what differs from record to record, and of what is spoiled.
 JOB, JOB_ID, BLOCKS, TCB_TIME = 72, 104, 148, 160
+INITIATION = 128
 TIME, DATE, IDENTIFICATION_COUNT, ACTIVITY_LENGTH, ACCOUNTING = 6, 10, 38, 44, 64
 
 SAMPLES_MAKE = pathlib.Path(__file__).resolve().parent.parent / "samples" / "make"
@@ -62,6 +63,13 @@ def usage(number, more_time=0):
     time = struct.pack(">I", number * 7919 % 60000 + more_time)
     front, program, sections, activity, rest = USAGE[number % len(USAGE)]
     return b"".join((front, name, program, name, sections, blocks, activity, time, rest))
+
+
+def begun_later(number, more_time=0):
+    """The usage record of that number, but for work that began a hundredth of a second later."""
+    record = usage(number, more_time)
+    begun, = struct.unpack_from(">I", record, INITIATION)
+    return record[:INITIATION] + struct.pack(">I", begun + 1) + record[INITIATION + 4:]
 
 
 def spanned(number):

@@ -8,8 +8,16 @@ import re
 import struct
 
 import office
+from rows import dump_of
 
 TURNS = 330
+
+# The turn at which the second rule of identity is adopted, and those at which that or the first one is asked for
+# otherwise.
+ADOPTED, ADOPTIONS = 200, {60: 1, 141: 1, 222: 1, 255: 2, 282: 1, 312: 2}
+
+# The time of initiation of a second run of a step, and of a third; that of the first is 002BDA90.
+LATER_STARTS = 0x2BDA91, 0x2BDA92
 LAST_OF_2023 = datetime.date(2023, 12, 31)
 
 # The name of a job, the hour at which it runs, and its accounting fields.
@@ -60,12 +68,17 @@ NEEDED += ["close " + answer for answer in ("DONE", "ALREADY", "ledger 9", "ledg
 NEEDED += ["choose " + answer for answer in (
     "DONE", "ALREADY", "ledger 12", "ledger 13", "a posted record", "a late record", "a record in time",
     "in place of a posted record", "in place of a late record", "in place of a record in time")]
+NEEDED += ["adopt " + answer for answer in (
+    "ALREADY", "ledger 14", "set free a posted record", "set free a late record", "set free a record in time",
+    "set free by an older choice", "a choice that is alone", "left in dispute")]
+NEEDED += ["import under the second rule " + kind for kind in (
+    "a run of its own", "variant behind a choice that was alone", "variant", "variant of a posted record")]
 
 
 class Numbers:
     """Numbers in no order that can be seen: each follows from the one before."""
     def __init__(self):
-        self.state = 2041
+        self.state = 2118
 
     def below(self, limit):
         self.state = (self.state * 1664525 + 1013904223) % 2**32
@@ -79,22 +92,6 @@ def packed(day):
 
 def day_of(day):
     return LAST_OF_2023 + datetime.timedelta(day)
-
-
-def dump_of(named, words):
-    """The dump of parts, as scripts name them."""
-    dump = bytearray()
-    for part in words.split():
-        if part.startswith("x:"):
-            dump += bytes.fromhex(part[2:])
-        elif ":" in part:
-            place, digits = part.split(":")
-            dump[int(place):int(place) + len(digits) // 2] = bytes.fromhex(digits)
-        else:
-            name, _, places = part.partition("/")
-            first, last = places.split("..") if places else (0, len(named[name]))
-            dump += named[name][int(first):int(last)]
-    return bytes(dump)
 
 
 def step_parts(numbers, today):
@@ -123,7 +120,7 @@ class History:
 
     def name_dump(self, name, words):
         self.ask("dump %s %s" % (name, words), ())
-        self.dumps[name] = dump_of(self.dumps, words)
+        self.dumps[name] = dump_of(self.dumps, words.split())
 
     def name_text(self, name, text):
         self.ask("text " + name, (), text.splitlines())
@@ -134,8 +131,12 @@ class History:
         return names[-1 - self.numbers.below(min(12, len(names)))]
 
     def variant_parts(self, today):
-        """A step that was handed in before: measured otherwise, or dated today."""
-        change = "10:" + packed(today) if self.numbers.below(4) == 0 else "160:%08X" % (1101 + self.numbers.below(3))
+        """A step that was handed in before: measured otherwise, dated today, or run once more."""
+        change, kind = "160:%08X" % (1101 + self.numbers.below(3)), self.numbers.below(4)
+        if kind == 0:
+            change = "10:" + packed(today)
+        elif kind == 1:
+            change += " 128:%08X" % LATER_STARTS[self.numbers.below(2)]
         steps = self.numbers.below(4) == 0 and self.contradicted()[-4:] or self.steps
         return "%s %s" % (self.earlier(steps), change)
 
@@ -189,6 +190,40 @@ class History:
             return "choose " + self.earlier(self.steps)
         return "choose " + self.earlier(self.contradicted()[-4:] or self.steps)
 
+    def step_of(self, name, words):
+        """Names a step."""
+        self.name_dump(name, words)
+        self.steps.append(name)
+
+    def runs(self, numbers, day):
+        """Names steps of a day that ran twice, and for each run a record that contradicts it."""
+        for number in numbers:
+            name = "run%d" % number
+            self.step_of(name, "sample 112:%04X 10:%s" % (number, packed(day)))
+            self.step_of(name + "_other", name + " 160:00000501")
+            self.step_of(name + "_again", name + " 128:%08X 160:00000502" % LATER_STARTS[0])
+            self.step_of(name + "_again_other", name + "_again 160:00000503")
+
+    def around_the_adoption(self, today):
+        """The commands of a day on which steps that ran twice come before a close and behind it, and some are chosen;
+        then the second rule is adopted, and more of them come."""
+        self.runs(range(801, 811), today)
+        self.runs(range(811, 814), today + 1)
+        yield "import run801 run802 run803 run804 run805 run806"
+        yield "import run803_other run803_again run804_other run804_again"
+        yield from ("choose run803", "choose run804")
+        yield "close %d %s" % (self.books.open, day_of(today))
+        yield from ("choose run803_again", "choose run804_again", "choose run803", "choose run804")
+        yield from ("choose run803_again", "choose run804_again")
+        yield "import run801_again run802_again run807 run808 run807_again run808_again run809 run809_other"
+        yield "import run811 run812 run811_again run812_again run813 run813_other"
+        yield from ("choose run813_other", "choose run813")
+        yield "adopt 2"
+        yield "import run803_again_other run804_again_other run805_again run806_again"
+        yield "choose run803_again_other"
+        yield "import run805_other run806_other run811_other run812_again_other"
+        yield from ("choose run801", "choose run804_again", "choose run812_again")
+
     def words(self, turn):
         """The command of a turn. A day has two turns; the first command is a tariff."""
         today, kind = 8 + turn // 2, self.numbers.below(16)
@@ -196,6 +231,8 @@ class History:
             self.name_text("t0", 'effective = "2024-01-05"\n[rates]\nstep_cpu = 20000\n')
             self.fronts.append("tariff t0 " + RULES[0])
             return self.fronts[0]
+        if turn in ADOPTIONS:
+            return "adopt %d" % ADOPTIONS[turn]
         if kind < 2:
             return self.tariff_words(today)
         if kind < 4:
@@ -219,18 +256,21 @@ class History:
         books, record = self.books, self.books.priced(data)
         if record is None or record.name in books.held:
             return "unpriced" if record is None else "repeated"
-        others = [held for held in books.held.values() if held.identity == record.identity]
-        is_late, posted = record.day <= books.before(books.open), books.charged(books.open - 1) if books.closes else ()
-        if record.identity in books.chosen():
-            return "variant behind a choice"
+        others = [held for held in books.held.values() if books.identity(held) == books.identity(record)]
+        is_late, posted = record.day <= books.before(books.open), books.posted()
+        if books.identity(record) in books.chosen():
+            return "variant behind a choice" + (" that was alone" if len(others) == 1 else "")
         if len(others) != 1:
-            return "third variant" if others else "late" if is_late else "in time"
+            runs = [held for held in books.held.values() if held.identity[:24] == record.identity[:24]]
+            return "third variant" if others else "a run of its own" if runs else "late" if is_late else "in time"
         if others[0].name in posted:
             return "variant of a posted record" if is_late else "later variant of a posted record"
         return "variant of a late record" if others[0].day <= books.before(books.open) else "variant"
 
     def take_one(self, data):
-        self.came["import " + self.kind_of(data)] += 1
+        kind = self.kind_of(data)
+        self.came["import " + kind] += 1
+        self.came["import under the second rule " + kind] += self.books.rule == 2
         return self.books.take_one(data)
 
     def close(self, period, through):
@@ -251,7 +291,7 @@ class History:
     def standing(self, name):
         """What a held record is to the open period."""
         books = self.books
-        if books.closes and name in books.charged(books.open - 1):
+        if name in books.posted():
             return "a posted record"
         return "a late record" if books.held[name].day <= books.before(books.open) else "a record in time"
 
@@ -264,16 +304,30 @@ class History:
                 self.came["choose in place of " + self.standing(other)] += 1
         return answer
 
+    def adopt(self, rule):
+        books, charged = self.books, self.books.undisputed()
+        was_chosen, answer = set(books.chosen().values()), books.adopt(rule)
+        if answer == ["DONE"]:
+            chosen = set(books.chosen().values())
+            for name in books.undisputed() - charged:
+                self.came["adopt set free " + self.standing(name)] += 1
+                self.came["adopt set free by an older choice"] += name in chosen - was_chosen
+            self.came["adopt a choice that is alone"] += sum(not books.rivals(name) for name in chosen)
+            self.came["adopt left in dispute"] += len(books.held) - len(books.undisputed())
+        return answer
+
     def answer(self, words):
         """The answer to a command."""
         verb, *rest = words.split()
         if verb == "import":
-            dump = dump_of(self.dumps, " ".join(rest))
+            dump = dump_of(self.dumps, rest)
             return [office.receipt(self.take_one(data) for data in office.joined(dump))]
         if verb == "close":
             answer = self.close(*rest)
         elif verb == "choose":
             answer = self.choose(*rest)
+        elif verb == "adopt":
+            answer = self.adopt(int(*rest))
         else:
             answer = self.tariff("".join(self.texts[name] for name in rest))
         self.came["%s %s" % (verb, re.sub("chargectl: |(?<=ledger 9) .*", "", answer[0]))] += 1
@@ -281,11 +335,7 @@ class History:
 
     def changes(self):
         """Each text of the books that is not as it was shown last."""
-        texts = {}
-        for period in range(1, self.books.open + 1):
-            texts["statement", period] = list(self.books.statement(period))
-            texts["adjustments", period] = list(self.books.adjustments(period))
-        texts["disputes"], texts["periods"] = list(self.books.disputes()), list(self.books.periods())
+        texts = office.texts(self.books)
         changed = [line for text, lines in texts.items() if self.shown.get(text) != lines for line in lines]
         self.shown = texts
         return changed
@@ -298,15 +348,22 @@ class History:
         self.ask("statement %d" % behind, books.of_period(books.statement, behind))
         self.ask("adjustments 0", books.of_period(books.adjustments, 0))
 
+    def ask_books(self, words, answer, body=()):
+        """A command, or a list of some, and what changed."""
+        self.ask(words, answer, body)
+        self.ask("changes", self.changes())
+
     def play(self, turn):
-        """One command, or now and then a list of some, and what changed."""
-        if turn % 9 == 8:
+        """One command, or now and then a list of some; those around the adoption one by one."""
+        if turn == ADOPTED:
+            for words in self.around_the_adoption(8 + turn // 2):
+                self.ask_books(words, self.answer(words))
+        elif turn % 9 == 8:
             commands = [self.words(turn) for _ in range(2 + self.numbers.below(3))]
-            self.ask("list", [line for words in commands for line in self.answer(words)], commands)
+            self.ask_books("list", [line for words in commands for line in self.answer(words)], commands)
         else:
             words = self.words(turn)
-            self.ask(words, self.answer(words))
-        self.ask("changes", self.changes())
+            self.ask_books(words, self.answer(words))
         if turn % 10 == 9:
             self.ask_more()
 

@@ -1,7 +1,8 @@
 """The office's rules once more, apart from the program: what its commands print of a dump, of a tariff file, of a
-close, of a choice among records in dispute, and as each report. `samples/make` writes by it what a month of commands
-has to print, and history.py the answers to a long history. Only what these need is here: no dump is torn, no books are
-full, and five faults of a tariff file are known."""
+close, of a choice among records in dispute, of the second rule of identity, and as each report. `samples/make` writes
+by it what a month of commands has to print, history.py the answers to a long history, and rows.py those to worked rows
+and the rows of their tables. Only what these need is here: no dump is torn, no books are full, and five faults of a
+tariff file are known."""
 import collections
 import datetime
 import hashlib
@@ -13,7 +14,10 @@ Record = collections.namedtuple(
     "Record", "name identity day minute job centre shift cpu blocks amount code job_id program")
 EPOCH = datetime.date(1970, 1, 1)
 RATES = ["%s_%s" % (kind, unit) for kind in ("step", "job") for unit in ("cpu", "excp", "record")]
-TARIFF_DATE, TARIFF_EXISTS, _, WRONG_PERIOD, NOT_LATER, NO_SUCH_PERIOD, NO_SUCH_RECORD, NOT_DISPUTED = range(6, 14)
+(TARIFF_DATE, TARIFF_EXISTS, _, WRONG_PERIOD, NOT_LATER, NO_SUCH_PERIOD, NO_SUCH_RECORD, NOT_DISPUTED,
+ OLD_RULE) = range(6, 15)
+# How many bytes say whose work a record measures, by the first rule of identity and by the second.
+IDENTITY_LENGTHS = {1: 24, 2: 32}
 
 
 def refused(fault, *more):
@@ -55,6 +59,11 @@ def receipt(kinds):
 
 def text(field):
     return field.decode("cp037").rstrip()
+
+
+def moment(word, field):
+    """A word, and a time and a date in digits."""
+    return "%s %s %s" % (word, field[:4].hex().upper(), field[4:].hex().upper())
 
 
 def day_of(packed):
@@ -122,6 +131,7 @@ class Tariff:
         shift, percent = self.shift(day.isoweekday(), minute)
         base = 10 * cpu * rates[prefix + "_cpu"] + blocks * rates[prefix + "_excp"] + 1000 * rates[prefix + "_record"]
         identity = data[10:14] + work[:8] + work[64:72] + subtype + (step if subtype == b"\0\4" else b"\0\0")
+        identity += work[56:64]
         code = "%s/%s" % (completion[:2].hex().upper(), completion[2:4].hex().upper())
         centre, amount = self.centre(job, list(fields_of(data))), (base * percent + 50000) // 100000
         return Record(hashlib.sha256(data).hexdigest(), identity, day, minute, job, centre, shift, cpu, blocks, amount,
@@ -138,6 +148,17 @@ class Books:
         self.tariffs, self.held, self.data, self.charged_at, self.closes = [], {}, {}, [], []
         # The names of the records that were chosen, each with the period that was open then.
         self.choices = []
+        # The period that was open when the second rule of identity was adopted.
+        self.adopted = None
+
+    @property
+    def rule(self):
+        """The rule of identity that is in force."""
+        return 1 if self.adopted is None else 2
+
+    def identity(self, record):
+        """Whose work a record measures, by the rule in force."""
+        return record.identity[:IDENTITY_LENGTHS[self.rule]]
 
     @property
     def open(self):
@@ -184,25 +205,35 @@ class Books:
 
     def rivals(self, name):
         """The other records of its identity."""
-        return {other for other, record in self.held.items() if record.identity == self.held[name].identity} - {name}
+        identity = self.identity(self.held[name])
+        return {other for other, record in self.held.items() if self.identity(record) == identity} - {name}
 
     def chosen(self):
         """The name that was chosen last of each identity of which some was."""
-        return {self.held[name].identity: name for name, _ in self.choices}
+        return {self.identity(self.held[name]): name for name, _ in self.choices}
 
     def undisputed(self):
-        count, chosen = collections.Counter(record.identity for record in self.held.values()), self.chosen()
+        count, chosen = collections.Counter(self.identity(record) for record in self.held.values()), self.chosen()
         return {name for name, record in self.held.items()
-                if count[record.identity] == 1 or chosen.get(record.identity) == name}
+                if count[self.identity(record)] == 1 or chosen.get(self.identity(record)) == name}
 
     def choose(self, name):
         if name not in self.held:
             return refused(NO_SUCH_RECORD)
         if not self.rivals(name):
             return refused(NOT_DISPUTED)
-        if self.chosen().get(self.held[name].identity) == name:
+        if self.chosen().get(self.identity(self.held[name])) == name:
             return ["ALREADY"]
         self.choices.append((name, self.open))
+        return ["DONE"]
+
+    def adopt(self, rule):
+        """From now on identities are those of this rule, of held records too. What closes charged stays."""
+        if rule == self.rule:
+            return ["ALREADY"]
+        if rule < self.rule:
+            return refused(OLD_RULE)
+        self.adopted = self.open
         return ["DONE"]
 
     def close(self, period, through):
@@ -251,10 +282,18 @@ class Books:
         for key, (count, cpu, blocks, amount) in self.rows(period):
             yield "%d,%s,%s,%s,%d,%s,%d,%s" % ((period,) + key + (count, decimals(cpu, 2), blocks, decimals(amount, 4)))
 
-    def adjustments(self, period):
+    def posted(self):
+        """At the last close."""
+        return self.charged_at[-1] if self.charged_at else set()
+
+    def changes(self, period):
+        """The names of what a period adds to closed ones, and of what it takes back."""
         before = self.charged(period - 1) if period > 1 else set()
         added = {name for name in self.charged(period) - before if self.held[name].day <= self.before(period)}
-        removed = before - self.charged(period)
+        return added, before - self.charged(period)
+
+    def adjustments(self, period):
+        added, removed = self.changes(period)
         lines = [(1, self.held[name]) for name in added] + [(-1, self.held[name]) for name in removed]
         yield "ADJUSTMENTS PERIOD %d %s" % (period, self.head(period))
         for sign, one in sorted(lines, key=lambda line: (line[1].day, line[1].name)):
@@ -274,14 +313,25 @@ class Books:
     def disputes(self):
         groups = collections.defaultdict(list)
         for record in self.held.values():
-            groups[record.identity].append(record)
+            groups[self.identity(record)].append(record)
         chosen = self.chosen()
         disputed = sorted(group for group in groups.items() if len(group[1]) > 1 and group[0] not in chosen)
         yield "DISPUTES %d" % len(disputed)
         for identity, members in disputed:
-            read = identity[12:20].hex().upper()
-            yield "%s %s READER %s %s SUBTYPE %d STEP %d" % (
-                (text(identity[:4]), text(identity[4:12]), read[:8], read[8:]) + struct.unpack(">HH", identity[20:]))
+            numbers = struct.unpack(">HH", identity[20:24])
+            yield "%s %s %s SUBTYPE %d STEP %d%s" % (
+                (text(identity[:4]), text(identity[4:12]), moment("READER", identity[12:20])) + numbers
+                + (" " + moment("START", identity[24:]) if identity[24:] else "",))
             for one in sorted(members):
                 yield "  %s %s %21s %s %s %s" % (
                     one.name, one.day, decimals(one.amount, 4), one.code, one.job_id, one.program)
+
+
+def texts(books):
+    """All texts of books but for tables, in the order in which changes are shown."""
+    shown = {}
+    for period in range(1, books.open + 1):
+        shown["statement", period] = list(books.statement(period))
+        shown["adjustments", period] = list(books.adjustments(period))
+    shown["disputes"], shown["periods"] = list(books.disputes()), list(books.periods())
+    return shown

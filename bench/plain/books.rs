@@ -94,6 +94,15 @@ pub fn identity(record: &[u8]) -> [u8; 24] {
     identity
 }
 
+/// The identity by the second rule: time and date of the initiation belong to it.
+#[cfg(books)]
+pub fn identity2(record: &[u8]) -> [u8; 32] {
+    let mut longer = [0; 32];
+    longer[..24].copy_from_slice(&identity(record));
+    longer[24..].copy_from_slice(&identification(record)[56..64]);
+    longer
+}
+
 #[derive(Default)]
 pub struct Books {
     pub known: HashSet<Rc<[u8]>>,

@@ -6,9 +6,11 @@
 //! its data. Here a record is known by the data itself, and only those of a dispute list are named.
 //!
 //! Built with `--cfg books`, `plain import BOOK FILE CPU EXCP RECORD` keeps books in a file, by SQLite's own
-//! library, `plain tariff BOOK FILE` puts a tariff in force there, and `plain serve BOOK PORT REQUESTS CPU EXCP RECORD`
-//! answers for them over HTTP.
+//! library, `plain tariff BOOK FILE` puts a tariff in force there, `plain adopt BOOK` adopts the second rule of
+//! identity, and `plain serve BOOK PORT REQUESTS CPU EXCP RECORD` answers for them over HTTP.
 
+#[cfg(books)]
+mod adopted;
 mod books;
 mod dumps;
 #[cfg(books)]
@@ -90,6 +92,16 @@ fn put_in_force(book: &str, file: &str) -> io::Result<ExitCode> {
     Ok(if answer.is_ok() { ExitCode::SUCCESS } else { ExitCode::from(3) })
 }
 
+/// Adopts the second rule of identity, and prints what is answered.
+#[cfg(books)]
+fn adopt(book: &str) -> ExitCode {
+    let db = filed::open(book);
+    let answer = adopted::adopt(&db);
+    db.close();
+    println!("{answer}");
+    ExitCode::SUCCESS
+}
+
 fn main() -> ExitCode {
     let words: Vec<String> = env::args().skip(1).collect();
     let words: Vec<&str> = words.iter().map(String::as_str).collect();
@@ -106,6 +118,8 @@ fn main() -> ExitCode {
         }
         #[cfg(books)]
         ["tariff", book, file] => return put_in_force(book, file).unwrap_or(ExitCode::FAILURE),
+        #[cfg(books)]
+        ["adopt", book] => return adopt(book),
         #[cfg(books)]
         ["serve", book, port, requests, cpu, excp, record] => {
             let rates = Rates { cpu: rate(cpu), excp: rate(excp), record: rate(record) };

@@ -14,17 +14,17 @@ const TARIFF_EXISTS: u8 = 7;
 
 /// How many rows are read before their prices are written. A write between two rows of a query would make SQLite look for its
 /// place again.
-const BATCH: usize = 1_000;
+pub const BATCH: usize = 1_000;
 
 /// A record as it lies in a dump, of which a row has the data. It is filled anew for each row.
-struct Joined(Vec<u8>);
+pub struct Joined(Vec<u8>);
 
 impl Joined {
-    fn new() -> Joined {
+    pub fn new() -> Joined {
         Joined(vec![0; DESCRIPTOR_LEN])
     }
 
-    fn with(&mut self, data: &[u8]) -> &[u8] {
+    pub fn with(&mut self, data: &[u8]) -> &[u8] {
         self.0.truncate(DESCRIPTOR_LEN);
         self.0.extend_from_slice(data);
         &self.0
@@ -34,11 +34,11 @@ impl Joined {
 /// What joins the charge rows of the open period, and leaves them: by day, centre and shift, how many records, and their CPU
 /// time, blocks and amount.
 #[derive(Default)]
-struct Changes(BTreeMap<(i64, String, String), [i64; 4]>);
+pub struct Changes(BTreeMap<(i64, String, String), [i64; 4]>);
 
 impl Changes {
     /// So many records of these sums join the row of a place.
-    fn add(&mut self, day: i64, centre: &str, shift: &str, sums: [i64; 4]) {
+    pub fn add(&mut self, day: i64, centre: &str, shift: &str, sums: [i64; 4]) {
         let row = self.0.entry((day, centre.to_string(), shift.to_string())).or_default();
         for (sum, more) in row.iter_mut().zip(sums) {
             *sum += more;
@@ -46,7 +46,7 @@ impl Changes {
     }
 
     /// Changes the charge rows so, and drops those that count no record any more.
-    fn write(&self, db: &Database, period: i64) {
+    pub fn write(&self, db: &Database, period: i64) {
         let change = db.prepare(
             "INSERT INTO day_sum VALUES (?1, ?2, ?3, ?4, ?5, ?6, ?7, ?8)
                 ON CONFLICT (period, day, centre, shift) DO UPDATE SET count = count + excluded.count,
@@ -70,7 +70,7 @@ impl Changes {
 }
 
 /// The number that a query finds in its first row.
-fn number(db: &Database, sql: &str, values: &[Value]) -> i64 {
+pub fn number(db: &Database, sql: &str, values: &[Value]) -> i64 {
     db.prepare(sql).query(values, |row| row.int(0))[0]
 }
 
@@ -84,7 +84,7 @@ fn cost_under(db: &Database, tariff: &Tariff) -> u128 {
     cost
 }
 
-fn text(row: &Statement, at: i32) -> &str {
+pub fn text(row: &Statement, at: i32) -> &str {
     std::str::from_utf8(row.lent(at)).expect("a name is ASCII")
 }
 

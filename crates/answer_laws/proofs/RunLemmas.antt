@@ -5,7 +5,7 @@ use Rattle.std.specs.Prelude.{All, string_bytes}
 use Rattle.std.proofs.lemmas.List.Elements.{All-head, All-tail}
 use Rattle.book_model.specs.declared.fault.LedgerFault.{LedgerFault}
 use Rattle.book_model.specs.Words.{front, Book, Event, after_all, Naming, Outcome, tariff_outcome}
-use Rattle.book_model.specs.Words.{close_outcome, choose_outcome}
+use Rattle.book_model.specs.Words.{close_outcome, choose_outcome, adopt_outcome}
 use Rattle.book_core.specs.Calls.{Calls}
 use Rattle.book_core.specs.Ledgers.{Seen, IsOpenAt}
 use Rattle.book_core.specs.Work.{IsWork}
@@ -15,7 +15,7 @@ use Rattle.book_import.specs.declared.receipt.Stop.{Stop}
 use Rattle.book_import.specs.Dumps.{stop_behind}
 use Rattle.book_import.specs.Imports.{Handles, whole, out_of_memory, store_failed}
 use Rattle.office.specs.declared.request.Asked.{Asked}
-use Rattle.office.specs.declared.request.Asked.TheVariants.{Tariff, Close, Choose, Import}
+use Rattle.office.specs.declared.request.Asked.TheVariants.{Tariff, Close, Choose, Adopt, Import}
 use Rattle.office.specs.declared.request.Asked.TheVariants.{ImportBytes, Report}
 use Rattle.office.specs.declared.request.Answer.{Answer}
 use Rattle.office.specs.Does.{Done, does, is_hindered}
@@ -69,6 +69,8 @@ asked_opened naming (Close period through) dump told was before events is made i
     is_open
 asked_opened naming (Choose name) dump told was before events is made is_open =
     call_opened (telling Ruling (choose_outcome naming name)) told was before events is made is_open
+asked_opened naming (Adopt rule) dump told was before events is made is_open =
+    call_opened (telling Ruling (adopt_outcome rule)) told was before events is made is_open
 asked_opened naming (Import layout) dump told was before events is made is_open =
     receipt_opened naming dump told was before events is made is_open
 asked_opened naming (ImportBytes layout bytes) dump told was before events is made is_open =

@@ -8,7 +8,7 @@ use Rattle.tree_rows.specs.Rows.{IsFirst, past_key}
 use Rattle.book_audit.specs.declared.finding.Tree.{Tree}
 use Rattle.book_audit.specs.declared.finding.Tree.TheVariants.{Book, Tariffs, Closes, Records}
 use Rattle.book_audit.specs.declared.finding.Tree.TheVariants.{Days, Lines, Identities, Marks}
-use Rattle.book_audit.specs.declared.finding.Tree.TheVariants.{Choices}
+use Rattle.book_audit.specs.declared.finding.Tree.TheVariants.{Choices, ChoiceNames}
 
 -- in the order in which a file lists them
 abbrev pub number_of : Tree → ℕ
@@ -21,6 +21,7 @@ number_of Lines = 5
 number_of Identities = 6
 number_of Marks = 7
 number_of Choices = 8
+number_of ChoiceNames = 9
 
 -- whether the row behind the first that has the key has it too
 pub record FindsTwo (key : Row) (rows : List Row) (row : Row) (two : Bool) : Type 0 where

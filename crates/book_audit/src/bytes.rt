@@ -4,8 +4,8 @@ ghost use Rattle.std.specs.Prelude.{◌≡◌, ◌≤◌, IfOk, None, OnOk, Some
 ghost use Rattle.sha2.specs.Sha256.{sha256};
 ghost use Rattle.smf_frames.specs.Framed as framed;
 ghost use Rattle.smf_type30.specs.Class.{IsUsage};
-ghost use Rattle.smf_type30.specs.Usage.{identity_of};
 ghost use Rattle.book_audit.specs.Data.{bytes_of, price_of};
+ghost use Rattle.book_audit.specs.Rules.{identity_by};
 
 use crate::finding::{Place, Wrong};
 use crate::rulings::Rulings;
@@ -34,11 +34,12 @@ fn record_with(alloc: Global, data_bytes: &[u8]) -> Result<Vec<u8>, AllocError>
 
 /// What is wrong with a record's identity and price, by its bytes and the tariffs.
 fn wrong_by_usage(rulings: &Rulings, stored: &StoredRecord, usage: &Type30<'_>) -> Option<Wrong>
-    ensures identity { result ≡ None → stored.now.identity.items ≡ identity_of usage.now }
+    ensures identity { result ≡ None
+        → stored.now.identity.items ≡ identity_by rulings.now.rule usage.now }
     ensures price { result ≡ None
         → price_of rulings.now.tariffs.items usage.now ≡ Some stored.now.priced }
 {
-    if usage.identity().as_slice() != stored.identity.as_slice() {
+    if !rulings.rule.is_identity(&stored.identity, usage) {
         return Some(Wrong::Identity);
     }
     let Some(tariff) = rulings.tariff_on(usage.moment().day) else {
@@ -60,7 +61,7 @@ fn wrong_by_data(
         → stored.now.name ≡ sha256 stored.now.data_bytes.items) }
     ensures usage { IfOk result (λ wrong. wrong ≡ None → IsUsage (bytes_of stored.now)) }
     ensures identity { IfOk result (λ wrong. wrong ≡ None
-        → stored.now.identity.items ≡ identity_of (bytes_of stored.now)) }
+        → stored.now.identity.items ≡ identity_by rulings.now.rule (bytes_of stored.now)) }
     ensures price { IfOk result (λ wrong. wrong ≡ None
         → price_of rulings.now.tariffs.items (bytes_of stored.now) ≡ Some stored.now.priced) }
 {
@@ -86,7 +87,8 @@ pub(crate) fn check_data(
 ) -> Result<(), Stop>
     ensures name { OnOk result (stored.now.name ≡ sha256 stored.now.data_bytes.items) }
     ensures usage { OnOk result (IsUsage (bytes_of stored.now)) }
-    ensures identity { OnOk result (stored.now.identity.items ≡ identity_of (bytes_of stored.now)) }
+    ensures identity { OnOk result
+        (stored.now.identity.items ≡ identity_by rulings.now.rule (bytes_of stored.now)) }
     ensures price { OnOk result (price_of rulings.now.tariffs.items (bytes_of stored.now)
         ≡ Some stored.now.priced) }
 {

@@ -2,7 +2,9 @@
 
 ghost use Rattle.std.specs.Prelude.{◌≡◌, ◌≤◌, ◌+◌, None};
 
+use crate::entries::check_entries;
 use crate::finding::{Place, Tree, Wrong};
+use crate::identity_rule::IdentityRule;
 use crate::stop::{Stop, met, unsound};
 use crate::trees::Trees;
 use crate::walk::Walk;
@@ -103,11 +105,38 @@ impl Chosen {
     }
 }
 
-/// A choice follows the one before, and names a record that is held and is not alone in its
-/// identity.
+/// The identity of the record that a choice names. It is held, and is not alone in its identity
+/// where no adoption can have parted it from the others.
+fn chosen_identity<S: Store>(
+    alloc: Global,
+    trees: &mut Trees<S>,
+    rule: IdentityRule,
+    choice: &Choice,
+) -> Result<Vec<u8>, Stop> {
+    let place = Place::Choice(choice.number);
+    let identity = trees
+        .identity_of(alloc, &choice.name)
+        .map_err(|error| met(Tree::Records, error))?;
+    let Some(identity) = identity else {
+        return Err(unsound(place, Wrong::NotHeld));
+    };
+    if rule.parts(choice.period) {
+        return Ok(identity);
+    }
+    if !trees
+        .is_shared(&identity)
+        .map_err(|error| met(Tree::Identities, error))?
+    {
+        return Err(unsound(place, Wrong::ChosenAlone));
+    }
+    Ok(identity)
+}
+
+/// A choice follows the one before, names a record that could be chosen, and is found by it.
 fn check_choice<S: Store>(
     alloc: Global,
     trees: &mut Trees<S>,
+    rule: IdentityRule,
     open_period: u16,
     chosen: &mut Chosen,
     choice: &Choice,
@@ -116,27 +145,24 @@ fn check_choice<S: Store>(
     if let Some(wrong) = chosen.wrong_with(choice, open_period) {
         return Err(unsound(place, wrong));
     }
-    let identity = trees
-        .identity_of(alloc, &choice.name)
-        .map_err(|error| met(Tree::Records, error))?;
-    let Some(identity) = identity else {
-        return Err(unsound(place, Wrong::NotHeld));
-    };
+    let identity = chosen_identity(alloc, trees, rule, choice)?;
     if !trees
-        .is_shared(&identity)
-        .map_err(|error| met(Tree::Identities, error))?
+        .has_choice_name(&choice.name, choice.number)
+        .map_err(|error| met(Tree::ChoiceNames, error))?
     {
-        return Err(unsound(place, Wrong::ChosenAlone));
+        return Err(unsound(place, Wrong::NoChoiceName));
     }
     chosen.put(identity, choice)?;
     Ok(())
 }
 
-/// Reads all choices, the last of which was made in the open period or before it. What is kept of
-/// them grows with the identities that were chosen among, and not with the records.
+/// Reads all choices, the last of which was made in the open period or before it, and the tree that
+/// finds them. What is kept of them grows with the identities that were chosen among, and not with
+/// the records.
 pub(crate) fn read_choices<S: Store, W: Watch>(
     alloc: Global,
     trees: &mut Trees<S>,
+    rule: IdentityRule,
     open_period: u16,
     watch: &mut W,
 ) -> Result<Chosen, Stop> {
@@ -146,10 +172,11 @@ pub(crate) fn read_choices<S: Store, W: Watch>(
     for count in 0..=MAX_CHOICES {
         watch.read(tree, count);
         if !walk.next(trees)? {
+            check_entries(alloc, trees, Tree::ChoiceNames, count, watch)?;
             return Ok(chosen);
         }
         let choice = choice_in(walk.row()).map_err(|error| met(tree, error))?;
-        check_choice(alloc, trees, open_period, &mut chosen, &choice)?;
+        check_choice(alloc, trees, rule, open_period, &mut chosen, &choice)?;
     }
     Err(unsound(Place::Tree(tree), Wrong::Choices))
 }

@@ -25,16 +25,16 @@ fn count_rows<S: Store, W: Watch>(
     Err(endless(tree))
 }
 
-/// A tree that finds records has an entry for each, which was looked up, and no other.
+/// A tree that finds the rows of a table has an entry for each, which was looked up, and no other.
 pub(crate) fn check_entries<S: Store, W: Watch>(
     alloc: Global,
     trees: &mut Trees<S>,
     tree: Tree,
-    records: u64,
+    rows: u64,
     watch: &mut W,
 ) -> Result<(), Stop> {
     let entries = count_rows(alloc, trees, tree, watch)?;
-    if entries == records {
+    if entries == rows {
         Ok(())
     } else {
         Err(unsound(Place::Tree(tree), Wrong::Entries))

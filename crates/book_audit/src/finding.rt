@@ -25,6 +25,8 @@ pub enum Tree {
     /// It finds records by their marks.
     Marks,
     Choices,
+    /// It finds choices by the records that they name.
+    ChoiceNames,
 }
 
 impl Tree {
@@ -43,6 +45,7 @@ impl Tree {
             Tree::Identities => 6,
             Tree::Marks => 7,
             Tree::Choices => 8,
+            Tree::ChoiceNames => 9,
         }
     }
 
@@ -58,6 +61,7 @@ impl Tree {
             Tree::Identities => "record_ident",
             Tree::Marks => "record_charged",
             Tree::Choices => "choice",
+            Tree::ChoiceNames => "choice_name",
         }
     }
 
@@ -65,7 +69,7 @@ impl Tree {
     pub(crate) fn key_columns(self) -> usize {
         match self {
             Tree::Book | Tree::Tariffs | Tree::Closes | Tree::Records | Tree::Choices => 1,
-            Tree::Lines | Tree::Identities => 2,
+            Tree::Lines | Tree::Identities | Tree::ChoiceNames => 2,
             Tree::Marks => 3,
             Tree::Days => 4,
         }
@@ -104,7 +108,8 @@ pub enum Wrong {
     Order,
     /// The tree has more rows than one.
     MoreRows,
-    /// The row of the book has another number or rule, or an adoption.
+    /// The row of the book has another number, a rule that no books have, or a period of adoption
+    /// that does not go with its rule or is still to come.
     Rule,
     /// It has another number of records.
     Held,
@@ -122,8 +127,10 @@ pub enum Wrong {
     ChoicePeriod,
     /// A choice's record is not held.
     NotHeld,
-    /// A choice's record is alone in its identity.
+    /// A choice's record is alone in its identity, and no rule was adopted since.
     ChosenAlone,
+    /// The choice is not found by the record that it names.
+    NoChoiceName,
     /// There are more choices than can be made.
     Choices,
     /// The name is not the digest of the data.
@@ -145,7 +152,7 @@ pub enum Wrong {
     Charged,
     /// The record is not posted as the last close charged it.
     Posted,
-    /// A tree that finds records has another number of entries.
+    /// A tree that finds the rows of a table has another number of entries.
     Entries,
     /// A line's record is not held.
     NoRecord,

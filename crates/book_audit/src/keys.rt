@@ -38,6 +38,15 @@ pub(crate) fn mark_key(key: &mut Row, stored: &StoredRecord) -> Result<(), Alloc
     key.push(ValueRef::Blob(&stored.name))
 }
 
+/// The key that finds a choice by the record that it names.
+pub(crate) fn choice_name_key(key: &mut Row, name: &[u8; 32], number: u32) -> Result<(), AllocError>
+    ensures { OnOk result (key.new ≡ Blob name.now ∷ Int (pos number) ∷ []) }
+{
+    key.clear();
+    key.push(ValueRef::Blob(name))?;
+    key.push(ValueRef::Int(i64::from(number)))
+}
+
 /// The key of a period's line for a record.
 pub(crate) fn line_key(key: &mut Row, period: u16, name: &[u8; 32]) -> Result<(), AllocError>
     ensures { OnOk result (key.new ≡ Int (pos period) ∷ Blob name.now ∷ []) }

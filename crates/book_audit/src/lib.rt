@@ -8,6 +8,7 @@ mod choices;
 mod day_sums;
 mod entries;
 mod finding;
+mod identity_rule;
 mod keys;
 mod lines;
 mod marks;

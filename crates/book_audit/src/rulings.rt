@@ -4,6 +4,7 @@ ghost use Rattle.std.specs.Prelude.{◌<◌, length};
 
 use crate::choices::{Chosen, read_choices};
 use crate::finding::{Place, Tree, Wrong};
+use crate::identity_rule::IdentityRule;
 use crate::stop::{Stop, met, unsound};
 use crate::trees::Trees;
 use crate::walk::{MOST_ROWS, Walk, endless};
@@ -23,6 +24,8 @@ const MAX_CLOSES: usize = 9_998;
 /// What the office ruled, and what the row of the book says of the records.
 #[derive(Drop)]
 pub(crate) struct Rulings {
+    /// The rule of identity that is in force.
+    pub(crate) rule: IdentityRule,
     /// In the order of their first days.
     pub(crate) tariffs: Vec<Tariff>,
     /// The days through which periods were closed, in order.
@@ -33,36 +36,43 @@ pub(crate) struct Rulings {
     ghost few: { length closes.items < 9999 },
 }
 
-/// The sums that the row of the book says.
+/// The number of the row of the book.
+const BOOK_NUMBER: u64 = 1;
+
+/// What the row of the book says.
 #[derive(Clone, Copy)]
-struct BookSums {
+struct BookRow {
+    rule: IdentityRule,
     held: u64,
     amount: u64,
 }
 
-/// What the row of the book says, and whether it is one of books under the first rule.
-fn sums_in(row: &Row) -> Result<(BookSums, bool), StoreError> {
-    let is_first = count_at(row, 0)? == 1 && count_at(row, 1)? == 1 && count_at(row, 2)? == 0;
+/// What the row of the book says. None where it has another number, or a rule that no books have.
+fn book_in(row: &Row) -> Result<Option<BookRow>, StoreError> {
+    let number = count_at(row, 0)?;
+    let rule = IdentityRule::of(count_at(row, 1)?, count_at(row, 2)?);
     let held = count_at(row, 3)?;
     let amount = count_at(row, 4)?;
-    Ok((BookSums { held, amount }, is_first))
+    Ok(match rule {
+        Some(rule) if number == BOOK_NUMBER => Some(BookRow { rule, held, amount }),
+        _ => None,
+    })
 }
 
 /// Reads the one row of the book. Trees without it hold no books.
-fn read_book<S: Store>(alloc: Global, trees: &mut Trees<S>) -> Result<BookSums, Stop> {
+fn read_book<S: Store>(alloc: Global, trees: &mut Trees<S>) -> Result<BookRow, Stop> {
     let tree = Tree::Book;
     let mut walk = Walk::over(alloc, tree);
     if !walk.next(trees)? {
         return Err(Stop::Fault(LedgerFault::NotBooks));
     }
-    let (sums, is_first) = sums_in(walk.row()).map_err(|error| met(tree, error))?;
-    if !is_first {
+    let Some(book) = book_in(walk.row()).map_err(|error| met(tree, error))? else {
         return Err(unsound(Place::Tree(tree), Wrong::Rule));
-    }
+    };
     if walk.next(trees)? {
         return Err(unsound(Place::Tree(tree), Wrong::MoreRows));
     }
-    Ok(sums)
+    Ok(book)
 }
 
 /// What the row of a tariff says.
@@ -138,17 +148,20 @@ pub(crate) fn read_rulings<S: Store, W: Watch>(
     trees: &mut Trees<S>,
     watch: &mut W,
 ) -> Result<Rulings, Stop> {
-    let sums = read_book(alloc, trees)?;
+    let book = read_book(alloc, trees)?;
     let tariffs = read_tariffs(alloc, trees)?;
     let closes = read_closes(alloc, trees)?;
     if closes.len() > MAX_CLOSES {
         return Err(unsound(Place::Tree(Tree::Closes), Wrong::Closes));
     }
     let open = closes.len() as u16 + 1;
-    let chosen = read_choices(alloc, trees, open, watch)?;
-    let held = sums.held;
-    let amount = sums.amount;
+    let BookRow { rule, held, amount } = book;
+    if !rule.is_by(open) {
+        return Err(unsound(Place::Tree(Tree::Book), Wrong::Rule));
+    }
+    let chosen = read_choices(alloc, trees, rule, open, watch)?;
     Ok(Rulings {
+        rule,
         tariffs,
         closes,
         chosen,

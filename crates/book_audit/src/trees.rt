@@ -4,7 +4,7 @@ ghost use Rattle.sqlite_trees.specs.View.{IsClean};
 ghost use Rattle.tree_tables.specs.Holds.{HasShapes};
 
 use crate::finding::Tree;
-use crate::keys::{bytes_key, identity_key, line_key, mark_key};
+use crate::keys::{bytes_key, choice_name_key, identity_key, line_key, mark_key};
 use sqlite_trees::error::StoreError;
 use sqlite_trees::store::Store;
 use sqlite_value::row::Row;
@@ -111,6 +111,22 @@ impl<S: Store> Trees<S> {
     {
         mark_key(&mut self.key, stored)?;
         self.finds(Tree::Marks)
+    }
+
+    /// Whether a choice is found by the record that it names.
+    pub(crate) fn has_choice_name(
+        &mut self,
+        name: &[u8; 32],
+        number: u32,
+    ) -> Result<bool, StoreError>
+        ensures found { IfOk result (λ hit. IsClean (S.Store.view self.new.store)
+            → Finds (Blob name.now ∷ Int (pos number) ∷ [])
+            ((S.Store.view self.old.store).trees 9) self.new.found hit) }
+        ensures same { OnOk result (IsClean (S.Store.view self.new.store)
+            → IsUnchanged (S.Store.view self.old.store) (S.Store.view self.new.store)) }
+    {
+        choice_name_key(&mut self.key, name, number)?;
+        self.finds(Tree::ChoiceNames)
     }
 
     /// Whether two entries or more have an identity: whether the row behind the first that has it

@@ -65,10 +65,10 @@ last_or-found (x ∷ xs) = last_or-is x xs ∙ ap (slice_get (x ∷ xs)) (omega 
 
 -- the day of the last close, by the last period that is closed
 pub last_close-by : (tariffs : List Tariffed) (closed : List ClosedPeriod)
-    (choices : List ChosenRecord)
-    → last_close (ruled_by tariffs closed choices)
+    (choices : List ChosenRecord) (adopted : Option ℕ)
+    → last_close (ruled_by tariffs closed choices adopted)
     ≡ option_map (λ period. period.through) (slice_get closed (length closed - 1))
-last_close-by tariffs closed choices =
+last_close-by tariffs closed choices adopted =
     let day : ClosedPeriod → ℤ = λ period. period.through in
     last_or-found (map day closed)
     ∙ ap (λ n. slice_get (map day closed) (n - 1)) (length-map closed day)
@@ -76,9 +76,9 @@ last_close-by tariffs closed choices =
 
 -- the number of the open period
 pub open_number-by : (tariffs : List Tariffed) (entries : List Entry) (posted : Names)
-    (closed : List ClosedPeriod) (choices : List ChosenRecord)
-    → open_number (book_with tariffs entries posted closed choices) ≡ length closed + 1
-open_number-by tariffs entries posted closed choices =
+    (closed : List ClosedPeriod) (choices : List ChosenRecord) (adopted : Option ℕ)
+    → open_number (book_with tariffs entries posted closed choices adopted) ≡ length closed + 1
+open_number-by tariffs entries posted closed choices adopted =
     ap (λ n. n + 1) (length-map closed (λ period. period.through))
 
 -- by the tests of its number, a period is the open one, or stands among those that are closed
@@ -127,33 +127,34 @@ is_next {X} xs number some most none =
 
 -- a period that is closed, by its number
 pub period_of-closed : (tariffs : List Tariffed) (entries : List Entry) (posted : Names)
-    (closed : List ClosedPeriod) (choices : List ChosenRecord) (number : ℕ) (one : ClosedPeriod)
+    (closed : List ClosedPeriod) (choices : List ChosenRecord) (adopted : Option ℕ)
+    (number : ℕ) (one : ClosedPeriod)
     → 1 ≤ number → slice_get closed (number - 1) ≡ Some one
-    → period_of (book_with tariffs entries posted closed choices) number
+    → period_of (book_with tariffs entries posted closed choices adopted) number
     ≡ Some (period_with (share_closed one) entries)
-period_of-closed tariffs entries posted closed choices number one some found =
+period_of-closed tariffs entries posted closed choices adopted number one some found =
     let read : ClosedPeriod → Period = λ period. period_with (share_closed period) entries in
-    period_by_tests (book_with tariffs entries posted closed choices) number false false
+    period_by_tests (book_with tariffs entries posted closed choices adopted) number false false
     (not_none number some)
-    (ap (λ n. number == n) (open_number-by tariffs entries posted closed choices)
+    (ap (λ n. number == n) (open_number-by tariffs entries posted closed choices adopted)
     ∙ not_next closed number one found)
     ∙ slice_get-map read closed (number - 1)
     ∙ ap (option_map read) found
 
 module _ {naming : Naming} (tariffs : List Tariffed) (closed : List ClosedPeriod)
-    (choices : List ChosenRecord) {entries : List Entry} {total : ℕ}
-    (kept : AreBooked naming (ruled_by tariffs closed choices) entries total)
+    (choices : List ChosenRecord) (adopted : Option ℕ) {entries : List Entry} {total : ℕ}
+    (kept : AreBooked naming (ruled_by tariffs closed choices adopted) entries total)
     (rising : IsStrictlySortedBy by_bytes (keys_of entries)) where
   -- the open period, by its number
   pub period_of-open : (posted : Names) (ending : Ending) (number : ℕ)
-      → IsEnding entries (ruled_by tariffs closed choices) None ending
+      → IsEnding entries (ruled_by tariffs closed choices adopted) None ending
       → 1 ≤ number → number ≤ length closed + 1 → slice_get closed (number - 1) ≡ None
-      → period_of (book_with tariffs entries posted closed choices) number
+      → period_of (book_with tariffs entries posted closed choices adopted) number
       ≡ Some (period_with (λ entry. share_at ending (is_named posted entry) entry.1) entries)
   period_of-open posted ending number ends some most none =
-      period_by_tests (book_with tariffs entries posted closed choices) number false true
+      period_by_tests (book_with tariffs entries posted closed choices adopted) number false true
       (not_none number some)
-      (ap (λ n. number == n) (open_number-by tariffs entries posted closed choices)
+      (ap (λ n. number == n) (open_number-by tariffs entries posted closed choices adopted)
       ∙ is_next closed number some most none)
       ∙ ap Some (sym (period-ends kept rising (is_named posted) None ending ends))
 
@@ -161,12 +162,12 @@ module _ {naming : Naming} (tariffs : List Tariffed) (closed : List ClosedPeriod
   -- period has
   pub book-closed : (posted after : Names) (ending : Ending) (one : ClosedPeriod)
       (all : List ClosedPeriod) (told day : ℤ) → all ≡ closed ++ one ∷ [] → told ≡ day
-      → IsEnding entries (ruled_by tariffs closed choices) (Some told) ending
+      → IsEnding entries (ruled_by tariffs closed choices adopted) (Some told) ending
       → NamesOf (λ entry. charges ending entry.1) entries after
       → SharesOf (λ entry. share_at ending (is_named posted entry) entry.1) entries one.shares
       → one.through ≡ told
-      → book_with tariffs entries after all choices
-      ≡ close day (book_with tariffs entries posted closed choices)
+      → book_with tariffs entries after all choices adopted
+      ≡ close day (book_with tariffs entries posted closed choices adopted)
   book-closed posted after ending one all told day is_all is_day ends names shares through =
       let charges_it : Entry → Bool = λ entry. charges ending entry.1 in
       let share : Entry → Option Share =
@@ -183,14 +184,14 @@ module _ {naming : Naming} (tariffs : List Tariffed) (closed : List ClosedPeriod
       ∙ period-ends kept rising (is_named posted) (Some told) ending ends in
       let past = map-append read closed (one ∷ [])
       ∙ ap (λ period. map read closed ++ period ∷ []) ended in
-      ap (λ all. book_with tariffs entries after all choices) is_all
+      ap (λ all. book_with tariffs entries after all choices adopted) is_all
       ∙ (λ i. record {
-        rulings = record (ruled_by tariffs closed choices) { closes = closes i };
+        rulings = record (ruled_by tariffs closed choices adopted) { closes = closes i };
         held = held_in entries;
         posted = now i;
         past = past i;
       })
-      ∙ ap (λ d. close d (book_with tariffs entries posted closed choices)) is_day
+      ∙ ap (λ d. close d (book_with tariffs entries posted closed choices adopted)) is_day
 
 -- a close that was asked for, by what it answered and by the event of that answer
 close_calls : (number : ℕ) (day : ℤ) (old new : Book) (result : Result Ruled LedgerFault)
@@ -210,57 +211,58 @@ early_by (Some close) day = refl
 
 -- the same by the tests in their order, on what the ledger keeps
 pub close_calls-by : (tariffs : List Tariffed) (entries : List Entry) (posted : Names)
-    (periods : List ClosedPeriod) (choices : List ChosenRecord) (number : ℕ) (day : ℤ) (new : Book)
-    (next : ℕ) (closed is_open late full : Bool)
+    (periods : List ClosedPeriod) (choices : List ChosenRecord) (adopted : Option ℕ)
+    (number : ℕ) (day : ℤ) (new : Book) (next : ℕ) (closed is_open late full : Bool)
     → next ≡ length periods + 1
-    → closed ≡ is_closed number day (ruled_by tariffs periods choices)
+    → closed ≡ is_closed number day (ruled_by tariffs periods choices adopted)
     → is_open ≡ (number == next)
     → late ≡ option_map_or (λ close. int_lt close day)
-    (last_close (ruled_by tariffs periods choices)) true
+    (last_close (ruled_by tariffs periods choices adopted)) true
     → full ≡ (number == last_period)
     → new ≡ after_any (close_event day (close_by next closed is_open (not late) full))
-    (book_with tariffs entries posted periods choices)
-    → IsBookCall (λ (value : Ruled). value) (book_with tariffs entries posted periods choices) new
+    (book_with tariffs entries posted periods choices adopted)
+    → IsBookCall (λ (value : Ruled). value)
+    (book_with tariffs entries posted periods choices adopted) new
     (close_by next closed is_open (not late) full) (close_outcome number day)
-close_calls-by tariffs entries posted periods choices number day new next closed is_open late full
-    is_next is_closed' is_open' is_late is_full changed =
-    let book = book_with tariffs entries posted periods choices in
-    let last = last_close (ruled_by tariffs periods choices) in
+close_calls-by tariffs entries posted periods choices adopted number day new next closed is_open
+    late full is_next is_closed' is_open' is_late is_full changed =
+    let book = book_with tariffs entries posted periods choices adopted in
+    let last = last_close (ruled_by tariffs periods choices adopted) in
     let same : next ≡ open_number book =
-    is_next ∙ sym (open_number-by tariffs entries posted periods choices) in
+    is_next ∙ sym (open_number-by tariffs entries posted periods choices adopted) in
     let early = ap not is_late ∙ early_by last day in
     close_calls number day book new _
     (λ i. close_by (sym same i) (sym is_closed' i) (sym (is_open' ∙ ap (λ n. number == n) same) i)
     (sym early i) (sym is_full i))
     changed
 
--- no close changes how the entries are kept, and no choice does
+-- no close changes how the entries are kept, no choice does, and no adoption
 pub kept-ruled : {naming : Naming} {tariffs : List Tariffed} (closed after : List ClosedPeriod)
-    (choices more : List ChosenRecord) {entries : List Entry} {total : ℕ}
-    → AreBooked naming (ruled_by tariffs closed choices) entries total
-    → AreBooked naming (ruled_by tariffs after more) entries total
-kept-ruled closed after choices more kept = record {
+    (choices more : List ChosenRecord) (adopted next : Option ℕ) {entries : List Entry} {total : ℕ}
+    → AreBooked naming (ruled_by tariffs closed choices adopted) entries total
+    → AreBooked naming (ruled_by tariffs after more next) entries total
+kept-ruled closed after choices more adopted next kept = record {
   named = kept.named;
   priced = kept.priced;
   summed = kept.summed;
   small = kept.small;
   few = kept.few;
   in_order = kept.in_order;
-  first_rule = refl;
 }
 
 -- the book with one entry more, under a name that none has
 pub book-kept : (tariffs : List Tariffed) (entries : List Entry) (posted : Names)
-    (closed : List ClosedPeriod) (choices : List ChosenRecord) (name : List ℕ) (h : HeldRecord)
+    (closed : List ClosedPeriod) (choices : List ChosenRecord) (adopted : Option ℕ)
+    (name : List ℕ) (h : HeldRecord)
     → under_name name entries ≡ None → AreNamed entries posted closed
-    → book_with tariffs (insert_entry by_bytes entries name h) posted closed choices
-    ≡ keep (record_of h) (book_with tariffs entries posted closed choices)
-book-kept tariffs entries posted closed choices name h missing named =
+    → book_with tariffs (insert_entry by_bytes entries name h) posted closed choices adopted
+    ≡ keep (record_of h) (book_with tariffs entries posted closed choices adopted)
+book-kept tariffs entries posted closed choices adopted name h missing named =
     let held = held_in-more entries name h missing in
     let stays = posted-kept entries name h missing posted closed named in
     let past = past-kept entries name h missing posted closed named in
     λ i. record {
-      rulings = ruled_by tariffs closed choices;
+      rulings = ruled_by tariffs closed choices adopted;
       held = held i;
       posted = stays i;
       past = past i;

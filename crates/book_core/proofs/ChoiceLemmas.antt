@@ -18,11 +18,12 @@ use Rattle.std.proofs.lemmas.List.{reverse-append, take_more}
 use Rattle.std.proofs.lemmas.List.Elements.{filter-append}
 use Rattle.std.proofs.lemmas.List.Folds.{find-append, list_any-append}
 use Rattle.std.proofs.lemmas.Simd.{map-map}
-use Rattle.book_model.specs.Words.{by_bytes, same_bytes, identity_of, is_chosen, is_settled, Choice}
+use Rattle.book_model.specs.Words.{by_bytes, same_bytes, identity_by, is_chosen, is_settled}
+use Rattle.book_model.specs.Words.{Choice, Rulings}
 use Rattle.book_model.proofs.ListLemmas.{filter-map, last_or-behind, list_any-map}
 use Rattle.book_core.specs.declared.chosen.ChosenRecord.{ChosenRecord}
 use Rattle.book_core.specs.declared.held.HeldRecord.{HeldRecord}
-use Rattle.book_core.specs.Choices.{AreLast, ByIdentity, choice_of, last_of}
+use Rattle.book_core.specs.Choices.{AreLast, ByIdentity, choice_of, is_of, last_of}
 use Rattle.book_core.specs.Plain.{record_of, ruled_by}
 
 -- the choices so far, and the next one
@@ -66,128 +67,129 @@ last_or-map f was (x ∷ xs) = last_or-map f (Some x) xs
 abbrev chosen_bytes : ChosenRecord → List ℕ
 chosen_bytes choice = rc_slice_items choice.bytes
 
--- a choice is of an identity
-abbrev pub is_of : List ℕ → ChosenRecord → Bool
-is_of identity choice = same_bytes identity choice.identity
-
--- the record that was chosen last of an identity is that of the last choice of the identity
-last_of-choice : (choices : List ChosenRecord) (identity : List ℕ)
-    → last_of (ruled_by [] [] choices) identity
-    ≡ option_map chosen_bytes (last_or None (filter (is_of identity) choices))
-last_of-choice choices identity =
-    let own : List ℕ → Bool = λ bytes. same_bytes identity (identity_of bytes) in
-    let chosen : Choice → List ℕ = λ choice. choice.chosen in
-    ap (λ all. last_or None (filter own all)) (map-map chosen choice_of choices)
-    ∙ ap (last_or None) (filter-map own chosen_bytes choices)
-    ∙ (λ i. last_or None (map chosen_bytes (filter (λ (choice : ChosenRecord).
-    same_bytes identity (sym choice.identity_is i)) choices)))
-    ∙ last_or-map chosen_bytes None (filter (is_of identity) choices)
-
--- so the last choice of a record's identity tells whether the record is chosen
-pub is_chosen-by : (choices : List ChosenRecord) (held : HeldRecord) (found : Option ChosenRecord)
-    → found ≡ find (is_of held.identity) (reverse choices)
-    → option_map_or (λ choice. same_bytes (record_of held) (chosen_bytes choice)) found false
-    ≡ is_chosen (ruled_by [] [] choices) (record_of held)
-is_chosen-by choices held found is =
-    let own = record_of held in
-    let last = last_or None (filter (is_of held.identity) choices) in
-    at_once found
-    ∙ ap (λ one. option_map_or (same_bytes own) (option_map chosen_bytes one) false)
-    (is ∙ sym (or-none (find (is_of held.identity) (reverse choices)))
-    ∙ sym (last-passing (is_of held.identity) None choices))
-    ∙ ap (λ one. option_map_or (same_bytes own) one false)
-    (sym (last_of-choice choices held.identity)
-    ∙ ap (last_of (ruled_by [] [] choices)) held.identity_is)
-  where
-    at_once : (found : Option ChosenRecord)
-        → option_map_or (λ choice. same_bytes (record_of held) (chosen_bytes choice)) found false
-        ≡ option_map_or (same_bytes (record_of held)) (option_map chosen_bytes found) false
-    at_once None = refl
-    at_once (Some choice) = refl
-
 -- a key of a map by identities is the identity that is looked for
 key_is : (identity key : List ℕ) → is_at (by_bytes key) identity ≡ same_bytes identity key
 key_is identity key = sym (texts_ties key identity) ∙ nat_list_eq_equiv.symm key identity
 
--- with one choice more, its record is the last of its identity
-last_of-more : (done : List ChosenRecord) (choice : ChosenRecord) (identity : List ℕ)
-    → last_of (ruled_by [] [] (done ++ choice ∷ [])) identity
-    ≡ cond (is_of identity choice) (Some (chosen_bytes choice))
-    (last_of (ruled_by [] [] done) identity)
-last_of-more done choice identity =
-    let before = filter (is_of identity) done in
-    last_of-choice (done ++ choice ∷ []) identity
-    ∙ ap (λ all. option_map chosen_bytes (last_or None all))
-    (filter-append (is_of identity) done (choice ∷ []))
-    ∙ elim (is_of identity choice) as (λ b. option_map chosen_bytes
-    (last_or None (before ++ cond b (choice ∷ []) []))
-    ≡ cond b (Some (chosen_bytes choice)) (option_map chosen_bytes (last_or None before))) [
-      | true ↦ ap (option_map chosen_bytes) (last_or-behind None before choice)
-      | false ↦ ap (λ all. option_map chosen_bytes (last_or None all)) (append-nil before)
-    ]
-    ∙ ap (cond (is_of identity choice) (Some (chosen_bytes choice)))
-    (sym (last_of-choice done identity))
+module _ (adopted : Option ℕ) where
+  -- the rulings of such choices, by the rule in force
+  abbrev pub ruled : List ChosenRecord → Rulings
+  ruled choices = ruled_by [] [] choices adopted
 
--- so a map of the last ones has it, once it was put there
-pub last-put : (done : List ChosenRecord) (choice : ChosenRecord) (copy : RcSlice ℕ Global)
-    (records next : ByIdentity)
-    → rc_slice_items copy ≡ chosen_bytes choice
-    → AreLast (ruled_by [] [] done) records
-    → ((identity : List ℕ) → get by_bytes next identity
-    ≡ cond (is_at (by_bytes choice.identity) identity) (Some copy) (get by_bytes records identity))
-    → AreLast (ruled_by [] [] (done ++ choice ∷ [])) next
-last-put done choice copy records next copied are put identity =
-    let items : RcSlice ℕ Global → List ℕ = λ bytes. rc_slice_items bytes in
-    ap (option_map items) (put identity)
-    ∙ ap (λ b. option_map items (cond b (Some copy) (get by_bytes records identity)))
-    (key_is identity choice.identity)
-    ∙ elim (is_of identity choice) as (λ b.
-    option_map items (cond b (Some copy) (get by_bytes records identity))
-    ≡ cond b (Some (chosen_bytes choice)) (last_of (ruled_by [] [] done) identity)) [
-      | true ↦ ap Some copied
-      | false ↦ are identity
-    ]
-    ∙ sym (last_of-more done choice identity)
+  -- a choice is of an identity
+  abbrev of_it : List ℕ → ChosenRecord → Bool
+  of_it identity choice = is_of (ruled []) identity choice
 
--- with one choice more, its identity is settled too
-settled-more : (done : List ChosenRecord) (choice : ChosenRecord) (identity : List ℕ)
-    → is_settled (ruled_by [] [] (done ++ choice ∷ [])) identity
-    ≡ (is_of identity choice || is_settled (ruled_by [] [] done) identity)
-settled-more done choice identity =
-    let own : ChosenRecord → Bool = λ one. same_bytes (identity_of (chosen_bytes one)) identity in
-    let test : Choice → Bool = λ one. same_bytes (identity_of one.chosen) identity in
-    list_any-map test choice_of (done ++ choice ∷ [])
-    ∙ list_any-append own done (choice ∷ [])
-    ∙ (λ i. sym (list_any-map test choice_of done) i || or-false (own choice) i)
-    ∙ (λ i. is_settled (ruled_by [] [] done) identity || its i)
-    ∙ either (is_settled (ruled_by [] [] done) identity) (is_of identity choice)
-  where
-    its : same_bytes (identity_of (chosen_bytes choice)) identity ≡ is_of identity choice
-    its =
-        ap (λ own. same_bytes own identity) (sym choice.identity_is)
-        ∙ nat_list_eq_equiv.symm choice.identity identity
+  -- the record that was chosen last of an identity is that of the last choice of the identity
+  last_of-choice : (choices : List ChosenRecord) (identity : List ℕ)
+      → last_of (ruled choices) identity
+      ≡ option_map chosen_bytes (last_or None (filter (of_it identity) choices))
+  last_of-choice choices identity =
+      let own : List ℕ → Bool = λ bytes. same_bytes identity (identity_by (ruled []) bytes) in
+      let chosen : Choice → List ℕ = λ choice. choice.chosen in
+      ap (λ all. last_or None (filter own all)) (map-map chosen choice_of choices)
+      ∙ ap (last_or None) (filter-map own chosen_bytes choices)
+      ∙ last_or-map chosen_bytes None (filter (of_it identity) choices)
 
-    either : (a b : Bool) → (a || b) ≡ (b || a)
-    either true b = sym (or-true b)
-    either false b = sym (or-false b)
+  -- so the last choice of a record's identity tells whether the record is chosen
+  pub is_chosen-by : (choices : List ChosenRecord) (held : HeldRecord) (identity : List ℕ)
+      (found : Option ChosenRecord)
+      → identity ≡ identity_by (ruled []) (record_of held)
+      → found ≡ find (of_it identity) (reverse choices)
+      → option_map_or (λ choice. same_bytes (record_of held) (chosen_bytes choice)) found false
+      ≡ is_chosen (ruled choices) (record_of held)
+  is_chosen-by choices held identity found own_is is =
+      let own = record_of held in
+      at_once found
+      ∙ ap (λ one. option_map_or (same_bytes own) (option_map chosen_bytes one) false)
+      (is ∙ sym (or-none (find (of_it identity) (reverse choices)))
+      ∙ sym (last-passing (of_it identity) None choices))
+      ∙ ap (λ one. option_map_or (same_bytes own) one false)
+      (sym (last_of-choice choices identity) ∙ ap (last_of (ruled choices)) own_is)
+    where
+      at_once : (found : Option ChosenRecord)
+          → option_map_or (λ choice. same_bytes (record_of held) (chosen_bytes choice)) found false
+          ≡ option_map_or (same_bytes (record_of held)) (option_map chosen_bytes found) false
+      at_once None = refl
+      at_once (Some choice) = refl
 
--- so a set of those that are not settled loses it
-pub unsettled-more : (shared : List ℕ → Bool) (done : List ChosenRecord) (choice : ChosenRecord)
-    (before after : BTreeSet (List ℕ))
-    → ((identity : List ℕ) → contains by_bytes before identity
-    ≡ (shared identity && not (is_settled (ruled_by [] [] done) identity)))
-    → ((identity : List ℕ) → contains by_bytes after identity
-    ≡ cond (is_at (by_bytes choice.identity) identity) false (contains by_bytes before identity))
-    → (identity : List ℕ) → contains by_bytes after identity
-    ≡ (shared identity && not (is_settled (ruled_by [] [] (done ++ choice ∷ [])) identity))
-unsettled-more shared done choice before after are dropped identity =
-    let settled = is_settled (ruled_by [] [] done) identity in
-    dropped identity
-    ∙ ap (λ b. cond b false (contains by_bytes before identity)) (key_is identity choice.identity)
-    ∙ ap (cond (is_of identity choice) false) (are identity)
-    ∙ elim (is_of identity choice) as (λ b. cond b false (shared identity && not settled)
-    ≡ (shared identity && not (b || settled))) [
-      | true ↦ sym (and-false (shared identity))
-      | false ↦ refl
-    ]
-    ∙ ap (λ b. shared identity && not b) (sym (settled-more done choice identity))
+  -- with one choice more, its record is the last of its identity
+  last_of-more : (done : List ChosenRecord) (choice : ChosenRecord) (identity : List ℕ)
+      → last_of (ruled (done ++ choice ∷ [])) identity
+      ≡ cond (of_it identity choice) (Some (chosen_bytes choice)) (last_of (ruled done) identity)
+  last_of-more done choice identity =
+      let before = filter (of_it identity) done in
+      last_of-choice (done ++ choice ∷ []) identity
+      ∙ ap (λ all. option_map chosen_bytes (last_or None all))
+      (filter-append (of_it identity) done (choice ∷ []))
+      ∙ elim (of_it identity choice) as (λ b. option_map chosen_bytes
+      (last_or None (before ++ cond b (choice ∷ []) []))
+      ≡ cond b (Some (chosen_bytes choice)) (option_map chosen_bytes (last_or None before))) [
+        | true ↦ ap (option_map chosen_bytes) (last_or-behind None before choice)
+        | false ↦ ap (λ all. option_map chosen_bytes (last_or None all)) (append-nil before)
+      ]
+      ∙ ap (cond (of_it identity choice) (Some (chosen_bytes choice)))
+      (sym (last_of-choice done identity))
+
+  -- with one choice more, its identity is settled too
+  settled-more : (done : List ChosenRecord) (choice : ChosenRecord) (identity : List ℕ)
+      → is_settled (ruled (done ++ choice ∷ [])) identity
+      ≡ (of_it identity choice || is_settled (ruled done) identity)
+  settled-more done choice identity =
+      let test : Choice → Bool = λ one. same_bytes (identity_by (ruled []) one.chosen) identity in
+      let own : ChosenRecord → Bool = λ one. test (choice_of one) in
+      list_any-map test choice_of (done ++ choice ∷ [])
+      ∙ list_any-append own done (choice ∷ [])
+      ∙ (λ i. sym (list_any-map test choice_of done) i || or-false (own choice) i)
+      ∙ ap (λ b. is_settled (ruled done) identity || b)
+      (nat_list_eq_equiv.symm (identity_by (ruled []) (chosen_bytes choice)) identity)
+      ∙ either (is_settled (ruled done) identity) (of_it identity choice)
+    where
+      either : (a b : Bool) → (a || b) ≡ (b || a)
+      either true b = sym (or-true b)
+      either false b = sym (or-false b)
+
+  -- one choice more, by the key of its record
+  module _ (done : List ChosenRecord) (choice : ChosenRecord) (key : List ℕ)
+      (is : key ≡ identity_by (ruled []) (chosen_bytes choice)) where
+    of_key : (identity : List ℕ) → is_at (by_bytes key) identity ≡ of_it identity choice
+    of_key identity = key_is identity key ∙ ap (same_bytes identity) is
+
+    -- a map of the last ones has it, once it was put there
+    pub last-put : (copy : RcSlice ℕ Global) (records next : ByIdentity)
+        → rc_slice_items copy ≡ chosen_bytes choice → AreLast (ruled done) records
+        → ((identity : List ℕ) → get by_bytes next identity
+        ≡ cond (is_at (by_bytes key) identity) (Some copy) (get by_bytes records identity))
+        → AreLast (ruled (done ++ choice ∷ [])) next
+    last-put copy records next copied are put identity =
+        let items : RcSlice ℕ Global → List ℕ = λ bytes. rc_slice_items bytes in
+        ap (option_map items) (put identity)
+        ∙ ap (λ b. option_map items (cond b (Some copy) (get by_bytes records identity)))
+        (of_key identity)
+        ∙ elim (of_it identity choice) as (λ b.
+        option_map items (cond b (Some copy) (get by_bytes records identity))
+        ≡ cond b (Some (chosen_bytes choice)) (last_of (ruled done) identity)) [
+          | true ↦ ap Some copied
+          | false ↦ are identity
+        ]
+        ∙ sym (last_of-more done choice identity)
+
+    -- a set of those that are not settled loses its identity
+    pub unsettled-more : (shared : List ℕ → Bool) (before after : BTreeSet (List ℕ))
+        → ((identity : List ℕ) → contains by_bytes before identity
+        ≡ (shared identity && not (is_settled (ruled done) identity)))
+        → ((identity : List ℕ) → contains by_bytes after identity
+        ≡ cond (is_at (by_bytes key) identity) false (contains by_bytes before identity))
+        → (identity : List ℕ) → contains by_bytes after identity
+        ≡ (shared identity && not (is_settled (ruled (done ++ choice ∷ [])) identity))
+    unsettled-more shared before after are dropped identity =
+        let settled = is_settled (ruled done) identity in
+        dropped identity
+        ∙ ap (λ b. cond b false (contains by_bytes before identity)) (of_key identity)
+        ∙ ap (cond (of_it identity choice) false) (are identity)
+        ∙ elim (of_it identity choice) as (λ b. cond b false (shared identity && not settled)
+        ≡ (shared identity && not (b || settled))) [
+          | true ↦ sym (and-false (shared identity))
+          | false ↦ refl
+        ]
+        ∙ ap (λ b. shared identity && not b) (sym (settled-more done choice identity))

@@ -113,38 +113,40 @@ module _ {naming : Naming} {rulings : Rulings} {entries : List Entry} {total : �
       ] refl
 
 module _ {naming : Naming} (tariffs : List Tariffed) (closed : List ClosedPeriod)
-    (choices : List ChosenRecord) {entries : List Entry} {total : ℕ}
-    (kept : AreBooked naming (ruled_by tariffs closed choices) entries total)
+    (choices : List ChosenRecord) (adopted : Option ℕ) {entries : List Entry} {total : ℕ}
+    (kept : AreBooked naming (ruled_by tariffs closed choices adopted) entries total)
     (rising : IsStrictlySortedBy by_bytes (keys_of entries)) where
   -- the call, where no record stands under the name
   pub choose_calls-missing : (posted : Names) (name : List ℕ) → under_name name entries ≡ None
-      → IsBookCall (λ (value : Ruled). value) (book_with tariffs entries posted closed choices)
-      (book_with tariffs entries posted closed choices) (Err NoSuchRecord)
+      → IsBookCall (λ (value : Ruled). value)
+      (book_with tariffs entries posted closed choices adopted)
+      (book_with tariffs entries posted closed choices adopted) (Err NoSuchRecord)
       (choose_outcome naming name)
   choose_calls-missing posted name missing =
-      let book = book_with tariffs entries posted closed choices in
+      let book = book_with tariffs entries posted closed choices adopted in
       choose_calls naming name book book None (Err NoSuchRecord)
       (named-missing kept rising name missing) refl refl
 
   -- and where one does, by the tests in their order
   pub choose_calls-found : (posted : Names) (name : List ℕ) (h : HeldRecord) (new : Book)
       (alone chosen full : Bool) → under_name name entries ≡ Some h
-      → alone ≡ is_alone entries (name, h)
-      → chosen ≡ is_chosen (ruled_by tariffs closed choices) (record_of h)
+      → alone ≡ is_alone (ruled_by tariffs closed choices adopted) entries (name, h)
+      → chosen ≡ is_chosen (ruled_by tariffs closed choices adopted) (record_of h)
       → full ≡ nat_le most_choices (length choices)
       → new ≡ after_any (choose_event (Some (record_of h)) (chosen_by alone chosen full))
-      (book_with tariffs entries posted closed choices)
-      → IsBookCall (λ (value : Ruled). value) (book_with tariffs entries posted closed choices) new
+      (book_with tariffs entries posted closed choices adopted)
+      → IsBookCall (λ (value : Ruled). value)
+      (book_with tariffs entries posted closed choices adopted) new
       (chosen_by alone chosen full) (choose_outcome naming name)
   choose_calls-found posted name h new alone chosen full found is_alone' is_chosen' is_full
       changed =
-      let rulings = ruled_by tariffs closed choices in
-      let book = book_with tariffs entries posted closed choices in
+      let rulings = ruled_by tariffs closed choices adopted in
+      let book = book_with tariffs entries posted closed choices adopted in
       let unrivalled : is_unrivalled rulings (held_in entries) (record_of h)
-      ≡ is_alone entries (name, h) =
+      ≡ is_alone rulings entries (name, h) =
       found_holds (λ entry. is_unrivalled rulings (held_in entries) (bytes_of entry)
-      ≡ is_alone entries entry) (is_at (by_bytes name)) name (tells_apart exact_bytes name) entries
-      h (each_unrivalled kept rising) found in
+      ≡ is_alone rulings entries entry) (is_at (by_bytes name)) name
+      (tells_apart exact_bytes name) entries h (each_unrivalled kept rising) found in
       let counted = length-map choices choice_of in
       choose_calls naming name book new (Some (record_of h)) (chosen_by alone chosen full)
       (named-found kept rising name h found)
@@ -154,20 +156,22 @@ module _ {naming : Naming} (tariffs : List Tariffed) (closed : List ClosedPeriod
 
 -- the book with one choice more
 pub book-chosen : (tariffs : List Tariffed) (entries : List Entry) (posted : Names)
-    (closed : List ClosedPeriod) (choices after : List ChosenRecord) (choice : ChosenRecord)
+    (closed : List ClosedPeriod) (choices after : List ChosenRecord) (adopted : Option ℕ)
+    (choice : ChosenRecord)
     (bytes : List ℕ) → after ≡ choices ++ choice ∷ []
     → rc_slice_items choice.bytes ≡ bytes → choice.period ≡ length closed + 1
-    → book_with tariffs entries posted closed after
-    ≡ choose bytes (book_with tariffs entries posted closed choices)
-book-chosen tariffs entries posted closed choices after choice bytes is_all is_bytes is_open =
+    → book_with tariffs entries posted closed after adopted
+    ≡ choose bytes (book_with tariffs entries posted closed choices adopted)
+book-chosen tariffs entries posted closed choices after adopted choice bytes is_all is_bytes
+    is_open =
     let all : map choice_of after ≡ map choice_of choices ++ choice_of choice ∷ [] =
     ap (map choice_of) is_all ∙ map-append choice_of choices (choice ∷ []) in
-    let rulings = ruled_by tariffs closed choices in
+    let rulings = ruled_by tariffs closed choices adopted in
     let number : choice.period ≡ open_by rulings =
     is_open ∙ ap (λ n. n + 1) (sym (length-map closed (λ (one : ClosedPeriod). one.through))) in
     let one : choice_of choice ≡ record { chosen = bytes; period = open_by rulings } =
     λ i. record { chosen = is_bytes i; period = number i } in
-    let book = book_with tariffs entries posted closed choices in
+    let book = book_with tariffs entries posted closed choices adopted in
     λ i. record book {
       rulings = record rulings {
         choices = (all ∙ ap (λ last. map choice_of choices ++ last ∷ []) one) i;

@@ -9,10 +9,12 @@ use Rattle.book_model.specs.Words.{close_answer, is_closed, is_early, last_perio
 use Rattle.book_model.specs.Words.{accept_event, tariff_event, close_event, tariff_outcome}
 use Rattle.book_model.specs.Words.{close_outcome, book_after, book_of, IsAnswered}
 use Rattle.book_model.specs.Words.{choose_answer, choose_event, choose_outcome, record_named}
+use Rattle.book_model.specs.Words.{adopt_answer, adopt_event, adopt_outcome, rule_by, second_rule}
 use Rattle.tariff_rules.specs.declared.fault.TariffFault.{TariffFault}
 use Rattle.book_model.specs.declared.fault.LedgerFault.{LedgerFault}
 use Rattle.book_model.specs.declared.fault.LedgerFault.TheVariants.{Memory, Store, Reopen}
 use Rattle.book_model.specs.declared.fault.LedgerFault.TheVariants.{WrongPeriod, NotLater, Full}
+use Rattle.book_model.specs.declared.fault.LedgerFault.TheVariants.{OldRule}
 use Rattle.book_model.specs.declared.answer.Accepted.{Accepted}
 use Rattle.book_model.specs.declared.answer.Accepted.TheVariants.{Kept, Known, Unpriced}
 use Rattle.book_model.specs.declared.answer.Ruled.{Ruled}
@@ -199,3 +201,35 @@ choose_answered naming view name result =
     choose_event-answered naming name history
     (record_named naming (book_after history).held name)
     (choose_answer naming (book_after history) name) refl refl)
+
+-- a rule that is adopted is the second one
+second_done : (rule : ℕ) (book : Book) → adopt_answer book rule ≡ Ok Done
+    → adopt_answer book second_rule ≡ Ok Done
+second_done rule book done =
+    subst (λ rule. adopt_answer book rule ≡ Ok Done)
+    (by_tests (rule == rule_by book.rulings) (rule == second_rule) refl done) done
+  where
+    by_tests : (same second : Bool) → (rule == second_rule) ≡ second
+        → (if same then Ok Already else if second then Ok Done else Err OldRule) ≡ Ok Done
+        → rule ≡ second_rule
+    by_tests true second is done = cc
+    by_tests false true is done = eqb-true rule second_rule is
+    by_tests false false is done = cc
+
+-- the event of the answer to a rule of identity
+adopt_event-answered : (naming : Naming) (rule : ℕ) (history : List Event)
+    (answer : Result Ruled LedgerFault)
+    → adopt_answer (book_after history) rule ≡ answer → IsAnswered naming history
+    → IsAnswered naming (listed (adopt_event answer) ++ history)
+adopt_event-answered naming rule history (Ok Done) is answered =
+    (second_done rule (book_after history) is, answered)
+adopt_event-answered naming rule history (Ok Already) is answered = answered
+adopt_event-answered naming rule history (Err fault) is answered = answered
+
+-- an adoption
+pub adopt_answered : {V : Type 0} (naming : Naming) (view : V → Ruled) (rule : ℕ)
+    (result : Result V LedgerFault)
+    → MakesAnswered naming (Calls view (adopt_outcome rule) result)
+adopt_answered naming view rule result =
+    calls_answered naming view (adopt_outcome rule) result (λ history.
+    adopt_event-answered naming rule history (adopt_answer (book_after history) rule) refl)

@@ -6,6 +6,7 @@ pub mod FollowLemmas
 pub mod EntryLemmas
 pub mod HeldLemmas
 pub mod RecallLemmas
+pub mod ForceLemmas
 pub mod AcceptLemmas
 pub mod ChoiceLemmas
 pub mod ChargedLemmas

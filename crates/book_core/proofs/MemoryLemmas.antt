@@ -9,7 +9,7 @@ use Rattle.book_model.specs.Words.{last_period, Outcome, Naming, price_in, has_t
 use Rattle.book_model.specs.Words.{is_later, is_too_dear, with_tariff, tariff_answer, is_closed}
 use Rattle.book_model.specs.Words.{is_early}
 use Rattle.book_model.specs.Words.{close_answer, has, chosen_answer, is_unrivalled, is_chosen}
-use Rattle.book_model.specs.Words.{most_choices}
+use Rattle.book_model.specs.Words.{most_choices, adopt_answer, second_rule, rule_by}
 use Rattle.tariff_rules.specs.declared.priced.Priced.{Priced}
 use Rattle.tariff_rules.specs.declared.fault.TariffFault.{TariffFault}
 use Rattle.book_model.specs.declared.answer.Accepted.{Accepted}
@@ -17,6 +17,8 @@ use Rattle.book_model.specs.declared.answer.Accepted.TheVariants.{Kept, Known}
 use Rattle.book_model.specs.declared.fault.LedgerFault.{LedgerFault}
 use Rattle.book_model.specs.declared.fault.LedgerFault.TheVariants.{Memory, Store, Reopen, Full}
 use Rattle.book_model.specs.declared.fault.LedgerFault.TheVariants.{DigestClash, NoSuchPeriod}
+use Rattle.book_model.specs.declared.fault.LedgerFault.TheVariants.{OldRule}
+use Rattle.book_model.specs.declared.answer.Ruled.TheVariants.{Done, Already}
 use Rattle.book_model.proofs.CallLemmas.{by_tests, close_by}
 use Rattle.book_core.proofs.ChosenLemmas.{chosen_by}
 use Rattle.book_model.specs.declared.naming.Naming.{Ghosts}
@@ -235,6 +237,17 @@ pub close-of_books : (book : Book) (number : ℕ) (day : ℤ) → IsOfBooks (clo
 close-of_books book number day =
     by_day (open_number book) (is_closed number day book.rulings) (number == open_number book)
     (is_early day book.rulings) (number == last_period)
+
+-- adopt
+
+by_rule : (same second : Bool)
+    → IsOfBooks (if same then Ok Already else if second then Ok Done else Err OldRule)
+by_rule true second = record { store = refl; reopen = refl }
+by_rule false true = record { store = refl; reopen = refl }
+by_rule false false = record { store = refl; reopen = refl }
+
+pub adopt-of_books : (book : Book) (rule : ℕ) → IsOfBooks (adopt_answer book rule)
+adopt-of_books book rule = by_rule (rule == rule_by book.rulings) (rule == second_rule)
 
 -- choose
 

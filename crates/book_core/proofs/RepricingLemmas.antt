@@ -107,11 +107,11 @@ module _ {terms : Terms} {entries anew : List Entry} (is : AreRepriced terms ent
 
   -- so the book changes nowhere but in what its records cost
   pub book_stays : (tariffs : List Tariffed) (posted : Names) (closed : List ClosedPeriod)
-      (choices : List ChosenRecord)
-      → book_with tariffs anew posted closed choices
-      ≡ book_with tariffs entries posted closed choices
-  book_stays tariffs posted closed choices = λ i. record {
-    rulings = ruled_by tariffs closed choices;
+      (choices : List ChosenRecord) (adopted : Option ℕ)
+      → book_with tariffs anew posted closed choices adopted
+      ≡ book_with tariffs entries posted closed choices adopted
+  book_stays tariffs posted closed choices adopted = λ i. record {
+    rulings = ruled_by tariffs closed choices adopted;
     held = held_stay i;
     posted = posted_stay posted i;
     past = past_stay closed i;

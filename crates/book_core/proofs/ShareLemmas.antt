@@ -1,5 +1,5 @@
 -- Periods by the shares that they have in entries: which sets of records these are.
-use Rattle.std.proofs.Common.{◌≡◌, ◌∙◌, ℕ, List, map, refl, sym, ap, subst, Bool}
+use Rattle.std.proofs.Common.{◌≡◌, ◌∙◌, ℕ, List, [], map, refl, sym, ap, subst, Bool}
 use Rattle.std.proofs.Common.{true, false, not, ◌&&◌, ◌||◌, Option, Some, None, get_or}
 use Rattle.std.specs.Prelude.{All, filter, sum_by, ℤ, int_lt}
 use Rattle.std.specs.BTreeSet.{contains}
@@ -13,21 +13,21 @@ use Rattle.std.proofs.lemmas.List.Elements.{All-filter}
 use Rattle.std.proofs.lemmas.Map.Lookups.{exact_bytes}
 use Rattle.tariff_rules.specs.declared.priced.Priced.{Priced}
 use Rattle.book_model.specs.Words.{is_chosen, is_undisputed, is_dated_by, is_dated_after}
-use Rattle.book_model.specs.Words.{charged_by, last_close}
+use Rattle.book_model.specs.Words.{charged_by, identity_by, last_close}
 use Rattle.book_model.specs.Words.{period_by, Records, Naming, by_bytes, same_bytes, rows_for}
 use Rattle.book_model.specs.Words.{rows_of, Rulings, price_in, set_of, members, has, those, without}
 use Rattle.book_model.proofs.ListLemmas.{filter-agree, filter-map, filter-filter, list_any-map}
 use Rattle.book_model.proofs.ListLemmas.{filter_map-map, filter_map-defined}
 use Rattle.book_model.proofs.RowLemmas.{rows_of-alike}
 use Rattle.book_model.proofs.SumsAlike.{SumsAlike, filter_map-alike}
-use Rattle.book_model.proofs.UnchosenLemmas.{identity_by-first}
 use Rattle.book_model.proofs.SetLemmas.{those-set_of, those-alike, has-texts, same_bytes-by_cmp}
 use Rattle.book_core.specs.declared.ending.Ending.{Ending}
 use Rattle.book_core.specs.declared.share.Share.{Share}
-use Rattle.book_core.specs.Plain.{Entry, entry_records, held_in, AreBooked, is_alone}
+use Rattle.book_core.specs.Plain.{Entry, entry_identity, entry_records, held_in, AreBooked}
+use Rattle.book_core.specs.Plain.{is_alone, ruled_by}
 use Rattle.book_core.specs.Shares.{share_of, is_counted, is_added, is_taken, charges, share_at}
 use Rattle.book_core.specs.Choices.{last_of}
-use Rattle.book_core.specs.Shares.{records_where, period_with, IsEnding, is_choice}
+use Rattle.book_core.specs.Shares.{records_where, period_with, IsEnding, identity_at, is_choice}
 use Rattle.book_core.proofs.HeldLemmas.{bytes_of, records_differ, held-alike, each_priced}
 use Rattle.book_core.proofs.ChargedLemmas.{each_unrivalled}
 use Rattle.book_core.proofs.TariffLemmas.{each_dated}
@@ -95,25 +95,35 @@ module _ {naming : Naming} {rulings : Rulings} {entries : List Entry} {total : �
       ∙ any-filter p (λ (other : Entry). same (bytes_of entry) (bytes_of other)) entries
       ∙ any_at_itself nat_list_eq_equiv bytes_of p entries apart k d within
 
+  -- at a period's end the rule of identity is the one in force
+  identity-held : (through : Option ℤ) (ending : Ending) → IsEnding entries rulings through ending
+      → (entry : Entry) → identity_at ending entry.1 ≡ entry_identity rulings entry
+  identity-held through ending ends entry =
+      ap (λ (adopted : Option ℕ). identity_by (ruled_by [] [] [] adopted) (bytes_of entry))
+      ends.adopted
+
   -- an entry's record is the choice of its identity where it is chosen
   choice-held : (through : Option ℤ) (ending : Ending) → IsEnding entries rulings through ending
       → (entry : Entry) → is_choice ending entry.1 ≡ is_chosen rulings (bytes_of entry)
   choice-held through ending ends entry =
       let own = bytes_of entry in
       ap (λ chosen. option_map_or (same_bytes own) chosen false)
-      (ends.chosen entry.1.identity
-      ∙ ap (last_of rulings)
-      (entry.1.identity_is ∙ sym (identity_by-first rulings kept.first_rule own)))
+      (ends.chosen (identity_at ending entry.1)
+      ∙ ap (last_of rulings) (identity-held through ending ends entry))
 
   -- its identity is shared by no other, or it is the choice, where it is undisputed
   undisputed-held : (through : Option ℤ) (ending : Ending) → IsEnding entries rulings through ending
       → All (λ (entry : Entry).
-      (not (contains by_bytes ending.shared entry.1.identity) || is_choice ending entry.1)
+      (not (contains by_bytes ending.shared (identity_at ending entry.1))
+      || is_choice ending entry.1)
       ≡ is_undisputed rulings (held_in entries) (bytes_of entry)) entries
   undisputed-held through ending ends k d within =
       let entry = get_or entries k d in
-      let alone = ap not (ends.shared entry.1.identity ∙ shared-not_alone entries k d within)
-      ∙ not-not (is_alone entries entry)
+      let alone = ap (λ own. not (contains by_bytes ending.shared own))
+      (identity-held through ending ends entry)
+      ∙ ap not (ends.shared (entry_identity rulings entry)
+      ∙ shared-not_alone rulings entries k d within)
+      ∙ not-not (is_alone rulings entries entry)
       ∙ sym (each_unrivalled kept rising k d within) in
       λ i. alone i || choice-held through ending ends entry i
 

@@ -1,6 +1,6 @@
 -- The choices of a plain ledger, which keeps the record that was chosen: which record was chosen
 -- last of an identity.
-use Rattle.std.specs.Prelude.{◌≡◌, ℕ, List, filter, map, Option, None}
+use Rattle.std.specs.Prelude.{◌≡◌, ℕ, Bool, List, filter, map, Option, None}
 use Rattle.std.specs.BTreeMap.{BTreeMap, get}
 use Rattle.std.specs.Global.{Global}
 use Rattle.std.specs.List.{last_or}
@@ -13,6 +13,11 @@ use Rattle.book_core.specs.declared.chosen.ChosenRecord.{ChosenRecord}
 -- a choice as a ruling: the record that was chosen, and the period that was open then
 abbrev pub choice_of : ChosenRecord → Choice
 choice_of choice = record { chosen = rc_slice_items choice.bytes; period = choice.period }
+
+-- it is of the identity, by the rule in force
+abbrev pub is_of : Rulings → List ℕ → ChosenRecord → Bool
+is_of rulings identity choice =
+    same_bytes identity (identity_by rulings (choice_of choice).chosen)
 
 -- the record that was chosen last of an identity, if one was chosen
 abbrev pub last_of : Rulings → List ℕ → Option (List ℕ)

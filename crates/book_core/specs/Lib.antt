@@ -5,6 +5,7 @@ pub mod Work
 pub mod Calls
 pub mod Follow
 pub mod Recalling
+pub mod Identities
 pub mod Choices
 pub mod Plain
 pub mod Repricing

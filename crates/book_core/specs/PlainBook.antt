@@ -1,5 +1,5 @@
 -- What is seen of a plain ledger.
-use Rattle.std.specs.Prelude.{◌≡◌, List, map, Result}
+use Rattle.std.specs.Prelude.{◌≡◌, ℕ, List, map, Option, Result}
 use Rattle.book_model.specs.declared.fault.LedgerFault.{LedgerFault}
 use Rattle.book_model.specs.declared.naming.Naming.{Ghosts}
 use Rattle.book_model.specs.Words.{Tariffed, Period, Book, Outcome, IsBookCall}
@@ -12,11 +12,12 @@ use Rattle.book_core.specs.Plain.{Entry, held_in, ruled_by}
 use Rattle.book_core.specs.Shares.{Names, records_where, is_named, period_with}
 use Rattle.book_core.specs.Shares.{share_closed, share_in}
 
--- the book of such tariffs, entries, posted names, closed periods and choices
+-- the book of such tariffs, entries, posted names, closed periods and choices, under the rule of
+-- identity in force
 abbrev pub book_with :
-    List Tariffed → List Entry → Names → List ClosedPeriod → List ChosenRecord → Book
-book_with tariffs entries posted closed choices = record {
-  rulings = ruled_by tariffs closed choices;
+    List Tariffed → List Entry → Names → List ClosedPeriod → List ChosenRecord → Option ℕ → Book
+book_with tariffs entries posted closed choices adopted = record {
+  rulings = ruled_by tariffs closed choices adopted;
   held = held_in entries;
   posted = records_where (is_named posted) entries;
   past = map (λ period. period_with (share_closed period) entries) closed;
@@ -29,7 +30,7 @@ module _ {N : Type 0} {names : Ghosts N} where
   abbrev pub book_in : PlainLedger N names → Book
   book_in ledger =
       book_with ledger.tariffs.items ledger.held.entries ledger.posted ledger.closed.items
-      ledger.choices.items
+      ledger.choices.items ledger.adopted
 
   -- what is seen of the ledger as one that is kept in memory
   abbrev pub seen_in : PlainLedger N names → Seen

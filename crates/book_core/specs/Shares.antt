@@ -1,13 +1,13 @@
 -- How a plain ledger keeps closed periods, and reads the open one: what a period does with each
 -- record that is held.
-use Rattle.std.specs.Prelude.{◌≡◌, Bool, true, false, not, ◌&&◌, ◌||◌, List, ℕ, ℤ, int_lt, filter}
-use Rattle.std.specs.Prelude.{All, Option, Some, None, nat_le, count_by}
+use Rattle.std.specs.Prelude.{◌≡◌, Bool, true, false, not, ◌&&◌, ◌||◌, List, [], ℕ, ℤ, int_lt}
+use Rattle.std.specs.Prelude.{filter, All, Option, Some, None, nat_le, count_by}
 use Rattle.std.specs.BTreeMap as map
 use Rattle.std.specs.BTreeSet as set
 use Rattle.std.specs.Map.{lookup}
 use Rattle.std.specs.Option.{option_map_or, option_and_then}
 use Rattle.book_model.specs.Words.{job_of, set_of, Records, by_bytes, same_bytes, Period}
-use Rattle.book_model.specs.Words.{Rulings, last_close}
+use Rattle.book_model.specs.Words.{Rulings, identity_by, last_close}
 use Rattle.book_model.specs.declared.line.Line.{Line}
 use Rattle.book_core.specs.declared.closed.ClosedPeriod.{ClosedPeriod}
 use Rattle.book_core.specs.declared.ending.Ending.{Ending}
@@ -17,7 +17,7 @@ use Rattle.book_core.specs.declared.period.Period.TheVariants.{Closed, Open}
 use Rattle.book_core.specs.declared.share.Share.{Share}
 use Rattle.book_core.specs.declared.share.Share.TheVariants.{Counted, Added, Taken}
 use Rattle.book_core.specs.Choices.{AreLast, record_at}
-use Rattle.book_core.specs.Plain.{Entry, entry_records, record_of}
+use Rattle.book_core.specs.Plain.{Entry, entry_records, has_identity, record_of, ruled_by}
 
 -- the names of some records
 abbrev pub Names : Type 0
@@ -59,17 +59,23 @@ line_at (Some Added) entry = Some (line_of true entry)
 line_at (Some Taken) entry = Some (line_of false entry)
 line_at share entry = None
 
+-- whose work the record measures, by the rule that is in force at the period's end
+abbrev pub identity_at : Ending → HeldRecord → List ℕ
+identity_at ending held = identity_by (ruled_by [] [] [] ending.adopted) (record_of held)
+
 -- the record is the one that was chosen last of its identity
 abbrev pub is_choice : Ending → HeldRecord → Bool
 is_choice ending held =
-    option_map_or (same_bytes (record_of held)) (record_at ending.chosen held.identity) false
+    option_map_or (same_bytes (record_of held))
+    (record_at ending.chosen (identity_at ending held)) false
 
 -- the record is charged at the end of a period: its identity is shared by none, or it was chosen
 -- last of that identity; and it is dated no later than the day through which the period ends, if it
 -- ends through one
 abbrev pub charges : Ending → HeldRecord → Bool
 charges ending held =
-    (not (set.contains by_bytes ending.shared held.identity) || is_choice ending held)
+    (not (set.contains by_bytes ending.shared (identity_at ending held))
+    || is_choice ending held)
     && option_map_or (λ through. not (int_lt through held.priced.day)) ending.through true
 
 -- the share of a record at the end of a period
@@ -127,13 +133,14 @@ pub record AreNamed (entries : List Entry) (names : Names) (closed : List Closed
   pub past : All (λ period. (name : List ℕ) → under_name name entries ≡ None
       → map.get by_bytes period.shares name ≡ None) closed
 
--- what decides how the open period ends over these entries by these rulings: the identities that
--- two or more of them have, the record that was chosen last of each identity, the day of the close
--- before, and the day through which it ends
+-- what decides how the open period ends over these entries by these rulings: the rule of identity
+-- in force, the identities that two or more of them have, the record that was chosen last of each
+-- identity, the day of the close before, and the day through which it ends
 pub record IsEnding (entries : List Entry) (rulings : Rulings) (day : Option ℤ) (ending : Ending)
     : Type 0 where
+  pub adopted : ending.adopted ≡ rulings.adopted
   pub shared : (identity : List ℕ) → set.contains by_bytes ending.shared identity
-      ≡ nat_le 2 (count_by (λ entry. same_bytes entry.1.identity identity) entries)
+      ≡ nat_le 2 (count_by (has_identity rulings identity) entries)
   pub chosen : AreLast rulings ending.chosen
   pub last : ending.last ≡ last_close rulings
   pub through : ending.through ≡ day

@@ -1,8 +1,9 @@
-ghost use Rattle.std.specs.Prelude.{◌≡◌};
+ghost use Rattle.std.specs.Prelude.{◌≡◌, take};
 ghost use Rattle.std.specs.Rc.{rc_slice_items};
-ghost use Rattle.book_model.specs.Words.{identity_of};
+ghost use Rattle.book_model.specs.Words.{identity_length, identity_of, identity2_of};
 
 use crate::held::HeldRecord;
+use crate::identity::Identity;
 use std::alloc::AllocError;
 use std::rc::RcSlice;
 
@@ -11,14 +12,17 @@ use std::rc::RcSlice;
 #[derive(Drop)]
 pub(crate) struct ChosenRecord {
     pub(crate) bytes: RcSlice<u8>,
-    pub(crate) identity: [u8; 24],
+    /// Whose work it measures, by the second rule. By the first rule it is the front of this.
+    pub(crate) identity: [u8; 32],
     pub(crate) period: u16,
-    ghost identity_is: { identity ≡ identity_of (rc_slice_items bytes) },
+    ghost first: { take identity_length identity ≡ identity_of (rc_slice_items bytes) },
+    ghost second: { identity ≡ identity2_of (rc_slice_items bytes) },
 }
 
 impl ChosenRecord {
-    ghost use Rattle.std.specs.Prelude.{◌≡◌, IfOk};
-    ghost use Rattle.book_core.specs.Plain.{record_of};
+    ghost use Rattle.std.specs.Prelude.{◌≡◌, [], IfOk};
+    ghost use Rattle.book_model.specs.Words.{identity_by};
+    ghost use Rattle.book_core.specs.Plain.{record_of, ruled_by};
 
     /// The choice of a record that is held, while a period is open.
     pub(crate) fn new(held: &HeldRecord, period: u16) -> Result<ChosenRecord, AllocError>
@@ -30,5 +34,13 @@ impl ChosenRecord {
             identity: held.identity,
             period,
         })
+    }
+
+    /// Whose work the record measures, by the rule in force.
+    pub(crate) fn identity_by(&self, adopted: Option<u16>) -> Identity
+        ensures { result
+            ≡ identity_by (ruled_by [] [] [] adopted) (rc_slice_items self.now.bytes) }
+    {
+        Identity::in_force(adopted, &self.identity)
     }
 }

@@ -105,13 +105,13 @@ pub fn plan_choice(through: Option<i32>, current: Option<Member>, chosen: &Membe
     };
     ChoiceEffects {
         withdrawn,
-        chosen: recharged(through, chosen),
+        chosen: plan_charge(through, chosen),
     }
 }
 
-/// A record that is held is charged from now on.
-fn recharged(through: Option<i32>, member: &Member) -> Effects
-    ensures { result ≡ charge_held through member.now }
+/// What it changes that a record which is held is charged from now on.
+pub fn plan_charge(through: Option<i32>, member: &Member) -> Effects
+    ensures effects { result ≡ charge_held through member.now }
 {
     if member.posted {
         Effects {

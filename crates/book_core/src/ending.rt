@@ -9,6 +9,7 @@ ghost use Rattle.book_core.specs.Shares as spec;
 ghost use Rattle.book_core.specs.Shares.{NamesOf, SharesOf};
 
 use crate::held::HeldRecord;
+use crate::identity::Identity;
 use crate::share::{Share, share_of};
 use std::alloc::{AllocError, Global};
 use std::collections::{BTreeMap, BTreeSet};
@@ -17,10 +18,12 @@ use std::rc::RcSlice;
 /// What decides how the open period has a record.
 #[derive(Drop)]
 pub(crate) struct Ending {
+    /// The period in which the second rule of identity was adopted, if it was.
+    pub(crate) adopted: Option<u16>,
     /// The identities that two or more records have.
-    pub(crate) shared: BTreeSet<[u8; 24]>,
+    pub(crate) shared: BTreeSet<Identity>,
     /// The record that was chosen last of each identity.
-    pub(crate) chosen: BTreeMap<[u8; 24], RcSlice<u8>>,
+    pub(crate) chosen: BTreeMap<Identity, RcSlice<u8>>,
     /// The day of the close before the period, if there was one.
     pub(crate) last: Option<i32>,
     /// The day through which it is closed; none where it stays open.
@@ -52,7 +55,7 @@ impl Ending {
     fn is_choice(&self, kept: &HeldRecord) -> bool
         ensures { result ≡ spec.is_choice self.now kept.now }
     {
-        match self.chosen.get(&kept.identity) {
+        match self.chosen.get(&kept.identity_by(self.adopted)) {
             Some(chosen) => kept.bytes.as_slice() == chosen.as_slice(),
             None => false,
         }
@@ -62,7 +65,8 @@ impl Ending {
     fn charges(&self, kept: &HeldRecord) -> bool
         ensures { result ≡ spec.charges self.now kept.now }
     {
-        let is_undisputed = !self.shared.contains(&kept.identity) || self.is_choice(kept);
+        let identity = kept.identity_by(self.adopted);
+        let is_undisputed = !self.shared.contains(&identity) || self.is_choice(kept);
         is_undisputed && is_by(self.through, kept.priced.day)
     }
 

@@ -3,6 +3,7 @@ ghost use Rattle.book_model.specs.Words.{IsDay, IsUsageRecord, AreRows, AreLines
 ghost use Rattle.book_model.specs.Words.{dispute_shown, accept_outcome, close_outcome};
 ghost use Rattle.book_model.specs.Words.{tariff_outcome, adjustments_outcome, charges_outcome};
 ghost use Rattle.book_model.specs.Words.{choose_outcome, disputes_outcome, periods_outcome};
+ghost use Rattle.book_model.specs.Words.{adopt_outcome};
 ghost use Rattle.book_core.specs.Ledgers.{IsSettled, Seen};
 ghost use Rattle.book_core.specs.Calls.{IsCall};
 
@@ -34,6 +35,13 @@ pub trait Ledger {
     fn choose(&mut self, name: [u8; 32]) -> Result<Ruled, LedgerFault>
         ensures { IsCall (λ ruled. ruled) (seen self.old) (seen self.new) result
             (choose_outcome (seen self.old).naming name) };
+
+    /// Adopts a rule of identity, 1 or 2: by the second one two records measure the same work only
+    /// where that began at the same moment. Books begin under the first rule, and adopt the second
+    /// once, for good; closed periods stay.
+    fn adopt_identity(&mut self, rule: u8) -> Result<Ruled, LedgerFault>
+        ensures { IsCall (λ ruled. ruled) (seen self.old) (seen self.new) result
+            (adopt_outcome rule) };
 
     /// Hands in a record, which is held from now on where it is new, a tariff is in force on its
     /// day, and there is room for it.

@@ -10,6 +10,7 @@ mod effect_table;
 mod ending;
 mod held;
 mod identities;
+mod identity;
 mod ledger;
 mod limits;
 mod lines;
@@ -28,7 +29,7 @@ pub use book_model::{
 // What a ledger of another crate needs to keep the same books.
 pub use accepted_tariff::{AcceptedTariff, are_before, has_day_of, has_text};
 pub use effect_table::{
-    ChoiceEffects, DayChange, Effects, LineChange, Member, View, plan, plan_choice,
+    ChoiceEffects, DayChange, Effects, LineChange, Member, View, plan, plan_charge, plan_choice,
 };
 pub use ending::is_after;
 pub use ledger::Ledger;

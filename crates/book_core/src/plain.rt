@@ -6,6 +6,7 @@ ghost use Rattle.book_model.specs.Words.{last_period, by_bytes, are_rising};
 ghost use Rattle.book_core.specs.Plain.{AreBooked, AreHeld, ruled_by};
 ghost use Rattle.book_core.specs.Shares.{AreNamed};
 
+mod adoption;
 mod choices;
 mod lists;
 mod records;
@@ -35,17 +36,19 @@ pub struct PlainLedger<N: Naming + Drop> {
     posted: BTreeSet<[u8; 32]>,
     closed: Vec<ClosedPeriod>,
     choices: Vec<ChosenRecord>,
+    /// The period that was open when the second rule of identity was adopted, if it was.
+    adopted: Option<u16>,
     alloc: Global,
     ghost rising: { IsStrictlySortedBy by_bytes (keys_of held.entries) } by { Prim.hlevel props },
     ghost kept: { AreBooked (N.name_of naming)
-        (ruled_by tariffs.items closed.items choices.items) held.entries total },
+        (ruled_by tariffs.items closed.items choices.items adopted) held.entries total },
     ghost recalls: { AreHeld held.entries recalled },
     ghost named: { AreNamed held.entries posted closed.items },
     ghost few: { length closed.items < last_period },
 }
 
 impl<N: Naming + Drop> PlainLedger<N> {
-    ghost use Rattle.std.specs.Prelude.{◌≡◌, [], IfOk};
+    ghost use Rattle.std.specs.Prelude.{◌≡◌, [], IfOk, None};
     ghost use Rattle.book_model.specs.Words.{flat_book, new_book};
     ghost use Rattle.book_core.specs.Ledgers.{IsOpenAt};
 
@@ -71,7 +74,7 @@ impl<N: Naming + Drop> PlainLedger<N> {
     fn under(alloc: Global, naming: N, tariffs: Vec<AcceptedTariff>) -> PlainLedger<N>
         requires { are_rising tariffs.items ≡ true }
         ensures { IsOpenAt (N.name_of naming)
-            (record new_book { rulings = ruled_by tariffs.items [] [] })
+            (record new_book { rulings = ruled_by tariffs.items [] [] None })
             (⟦<PlainLedger<N> as Ledger>⟧.seen result) }
     {
         PlainLedger {
@@ -83,6 +86,7 @@ impl<N: Naming + Drop> PlainLedger<N> {
             posted: BTreeSet::new(alloc),
             closed: Vec::new(alloc),
             choices: Vec::new(alloc),
+            adopted: None,
             alloc,
         }
     }
@@ -103,6 +107,10 @@ impl<N: Naming + Drop> Ledger for PlainLedger<N> {
 
     fn choose(&mut self, name: [u8; 32]) -> Result<Ruled, LedgerFault> {
         self.choose_named(name)
+    }
+
+    fn adopt_identity(&mut self, rule: u8) -> Result<Ruled, LedgerFault> {
+        self.adopt_rule(rule)
     }
 
     fn accept(&mut self, bytes: &[u8]) -> Result<Accepted, LedgerFault> {

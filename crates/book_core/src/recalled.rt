@@ -9,7 +9,7 @@ use std::rc::RcSlice;
 /// here may have come all the same.
 #[derive(Drop)]
 pub(crate) struct Recalled {
-    by_identity: HashMap<[u8; 24], RcSlice<u8>>,
+    by_identity: HashMap<[u8; 32], RcSlice<u8>>,
 }
 
 impl Recalled {
@@ -27,7 +27,7 @@ impl Recalled {
     }
 
     /// The record that came last of this identity has these bytes.
-    pub(crate) fn has(&self, identity: &[u8; 24], bytes: &[u8]) -> bool
+    pub(crate) fn has(&self, identity: &[u8; 32], bytes: &[u8]) -> bool
         ensures { result ≡ true → (test : _) → AllPass test self.now → test bytes.now ≡ true }
     {
         match self.by_identity.get(identity) {
@@ -38,7 +38,7 @@ impl Recalled {
 
     /// Recalls a record from now on, in place of another of its identity. Want of memory costs time
     /// later, and nothing else: a record that is not recalled is found by its name.
-    pub(crate) fn recall(&mut self, identity: [u8; 24], bytes: RcSlice<u8>)
+    pub(crate) fn recall(&mut self, identity: [u8; 32], bytes: RcSlice<u8>)
         ensures { (test : _) → AllPass test self.old → test (rc_slice_items bytes) ≡ true
             → AllPass test self.new }
     {

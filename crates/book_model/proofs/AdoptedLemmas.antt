@@ -149,7 +149,7 @@ identities_split a b usage_a usage_b same =
 none_adopted : (was : Option ℕ)
     → ◌≡◌ {A = Result Ruled LedgerFault} (if second_rule == (if is_some was then second_rule
     else first_rule) then Ok Already
-    else if second_rule == first_rule then Err OldRule else Ok Done) (Ok Done)
+    else if second_rule == second_rule then Ok Done else Err OldRule) (Ok Done)
     → was ≡ None
 none_adopted None done = refl
 none_adopted (Some period) done = cc

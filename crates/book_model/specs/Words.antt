@@ -49,7 +49,7 @@ pub use Rattle.book_model.specs.RulingAnswers.{adopt_answer, choose_answer, chos
 pub use Rattle.book_model.specs.RulingAnswers.{close_answer, first_rule, has_text, is_closed}
 pub use Rattle.book_model.specs.RulingAnswers.{is_early, is_effective, is_later, is_too_dear}
 pub use Rattle.book_model.specs.RulingAnswers.{record_named, rule_by, second_rule, tariff_answer}
-pub use Rattle.book_model.specs.RulingAnswers.{terms_answer}
+pub use Rattle.book_model.specs.RulingAnswers.{IsRule, terms_answer}
 pub use Rattle.book_model.specs.Outcomes.{Outcome, accept_event, accept_outcome}
 pub use Rattle.book_model.specs.Outcomes.{adjustments_outcome, adopt_event, adopt_outcome}
 pub use Rattle.book_model.specs.Outcomes.{charges_outcome, choose_event, choose_outcome}

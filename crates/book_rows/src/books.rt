@@ -90,6 +90,7 @@ impl BookLines {
                 push_ruled(out, ledger.close(period, day.number))
             }
             ("choose", [word]) => push_ruled(out, ledger.choose(name_in(named, word)?)),
+            ("adopt", [word]) => push_ruled(out, ledger.adopt_identity(word.parse::<u8>()?)),
             ("closes", [periods, day]) => close_each(ledger, periods, Day::of(day)?, out),
             ("import", parts) => read_in(alloc, ledger, reading, &named.read_dump(parts)?, out),
             ("accept", parts) => accept_each(alloc, ledger, &named.read_dump(parts)?, out),

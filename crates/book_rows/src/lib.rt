@@ -8,9 +8,10 @@
 //! | `close PERIOD DAY` | the same |
 //! | `closes FROM..END DAY`: a period a day | how many were done, behind the first other answer |
 //! | `choose RECORD`, or 64 hexadecimal digits | `DONE`, `ALREADY` or the fault's line |
+//! | `adopt RULE`: the number of a rule of identity | the same |
 //! | `import PARTS..` | the receipt |
 //! | `accept PARTS..` | `KEPT`, `KNOWN`, `UNPRICED` or the fault's line, of each usage record |
-//! | `list`, with a body of `tariff`, `import`, `close`, `choose` | the answer to each |
+//! | `list`, with a body of `tariff`, `import`, `close`, `choose`, `adopt` | the answer to each |
 //! | `statement PERIOD`, `table PERIOD`, `adjustments PERIOD`, `disputes`, `periods` | the text |
 //! | `changes` | each text, but for tables, that is not as at the last `changes` of the row |
 //!

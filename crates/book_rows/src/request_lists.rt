@@ -28,6 +28,7 @@ fn asked_by(named: &Named, layout: Layout, line: &str) -> Answered<Asked>
             Ok(Asked::Close { period, through })
         }
         ["choose", word] => Ok(Asked::Choose(name_in(named, word)?)),
+        ["adopt", word] => Ok(Asked::Adopt(word.parse::<u8>()?)),
         _ => Err(LineFault::Unread),
     }
 }

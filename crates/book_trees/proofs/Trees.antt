@@ -27,7 +27,7 @@ is_book_tree : {tree : ℕ} → shape_at books_schema tree ≡ Index plain
 is_book_tree wanted shape = record { wanted = wanted; shape = shape }
 
 -- each tree of the schema is one
-book_tree : (tree : ℕ) → tree < 9 → IsBookTree tree
+book_tree : (tree : ℕ) → tree < 10 → IsBookTree tree
 unfolding all_shapes books_schema
 book_tree zero small = is_book_tree refl refl
 book_tree (suc zero) small = is_book_tree refl refl
@@ -38,7 +38,9 @@ book_tree (suc (suc (suc (suc (suc zero))))) small = is_book_tree refl refl
 book_tree (suc (suc (suc (suc (suc (suc zero)))))) small = is_book_tree refl refl
 book_tree (suc (suc (suc (suc (suc (suc (suc zero))))))) small = is_book_tree refl refl
 book_tree (suc (suc (suc (suc (suc (suc (suc (suc zero)))))))) small = is_book_tree refl refl
-book_tree (suc (suc (suc (suc (suc (suc (suc (suc (suc tree))))))))) small = absurd (omega arith)
+book_tree (suc (suc (suc (suc (suc (suc (suc (suc (suc zero))))))))) small = is_book_tree refl refl
+book_tree (suc (suc (suc (suc (suc (suc (suc (suc (suc (suc tree)))))))))) small =
+    absurd (omega arith)
 
 -- each tree of the schema of books is an index
 pub book_indexes : (tree : ℕ) → tree < length books_schema
@@ -52,7 +54,7 @@ pub has_trees : {D : Type 0} {g : Ghosts D} (store : FileStore D g)
 has_trees store schema unaltered =
     let kept : kept_schema store.saved (schema_of store) ≡ schema_of store =
     ap (λ saved. kept_schema saved (schema_of store)) unaltered in
-    let sorted : (tree : ℕ) → tree < 9 → (view store).shape tree ≡ Index plain =
+    let sorted : (tree : ℕ) → tree < 10 → (view store).shape tree ≡ Index plain =
     λ tree small. ap (λ s. all_shapes s tree) schema ∙ (book_tree tree small).shape in
     record {
       book = sorted 0 (omega arith);
@@ -64,6 +66,7 @@ has_trees store schema unaltered =
       identities = sorted 6 (omega arith);
       marks = sorted 7 (omega arith);
       choices = sorted 8 (omega arith);
+      choice_names = sorted 9 (omega arith);
       committed = ap all_shapes kept;
     }
 
@@ -80,6 +83,7 @@ same_trees old new trees shape committed = record {
   identities = ap (λ f. f 6) shape ∙ trees.identities;
   marks = ap (λ f. f 7) shape ∙ trees.marks;
   choices = ap (λ f. f 8) shape ∙ trees.choices;
+  choice_names = ap (λ f. f 9) shape ∙ trees.choice_names;
   committed = committed;
 }
 

@@ -6,7 +6,7 @@ use Rattle.sqlite_value.specs.Keys.{plain}
 use Rattle.sqlite_value.specs.declared.value.Value.TheVariants.{Text}
 use Rattle.book_trees.specs.Texts.{book_text, tariff_text, closed_text, record_text}
 use Rattle.book_trees.specs.Texts.{day_sum_text, line_text, record_ident_text}
-use Rattle.book_trees.specs.Texts.{record_charged_text, choice_text}
+use Rattle.book_trees.specs.Texts.{record_charged_text, choice_text, choice_name_text}
 
 -- a tree in the order of its entries, of this kind and name, over this table
 abbrev pub sorted : List ℕ → List ℕ → List ℕ → List ℕ → Wanted
@@ -20,9 +20,9 @@ sorted kind name table sql = record {
 abbrev pub table_of : List ℕ → List ℕ → Wanted
 table_of name sql = sorted (codes "table") name name sql
 
--- an index on records
-abbrev pub index_of : List ℕ → List ℕ → Wanted
-index_of name sql = sorted (codes "index") name (codes "record") sql
+-- an index on a table
+abbrev pub index_of : List ℕ → List ℕ → List ℕ → Wanted
+index_of name table sql = sorted (codes "index") name table sql
 
 -- The tables and indexes of books. The first is tree 0.
 unfoldable pub books_schema : List Wanted
@@ -33,7 +33,8 @@ books_schema =
     ∷ table_of (codes "record") record_text
     ∷ table_of (codes "day_sum") day_sum_text
     ∷ table_of (codes "line") line_text
-    ∷ index_of (codes "record_ident") record_ident_text
-    ∷ index_of (codes "record_charged") record_charged_text
+    ∷ index_of (codes "record_ident") (codes "record") record_ident_text
+    ∷ index_of (codes "record_charged") (codes "record") record_charged_text
     ∷ table_of (codes "choice") choice_text
+    ∷ index_of (codes "choice_name") (codes "choice") choice_name_text
     ∷ []

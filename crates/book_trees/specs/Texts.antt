@@ -55,3 +55,7 @@ record_ident_text = codes "CREATE INDEX record_ident ON record (ident)"
 -- the names of records, by whether they are charged, and then by their identities
 abbrev pub record_charged_text : List ℕ
 record_charged_text = codes "CREATE INDEX record_charged ON record (charged, ident)"
+
+-- the choices, by the names of the records that were chosen
+abbrev pub choice_name_text : List ℕ
+choice_name_text = codes "CREATE INDEX choice_name ON choice (name)"

@@ -1,4 +1,4 @@
-//! The tables of books, each a tree in the order of its key, and the indexes on records.
+//! The tables of books, each a tree in the order of its key, and the indexes on them.
 
 ghost use Rattle.std.specs.Prelude.{◌≡◌, map};
 ghost use Rattle.sqlite_store.specs.Catalog.{wanted_of};
@@ -22,22 +22,22 @@ fn table(name: &'static str, sql: &'static str) -> Object<'static>
     }
 }
 
-/// An index on records.
-fn index(name: &'static str, sql: &'static str) -> Object<'static>
-    ensures { wanted_of result ≡ index_of name.now sql.now }
+/// An index on a table.
+fn index(name: &'static str, table: &'static str, sql: &'static str) -> Object<'static>
+    ensures { wanted_of result ≡ index_of name.now table.now sql.now }
 {
     Object {
         shape: Shape::Index(Order::PLAIN),
         kind: "index",
         name,
-        table: "record",
+        table,
         reals: 0,
         sql: Some(sql),
     }
 }
 
 /// What a file of books lists. The tables are numbered in this order, from 0.
-pub fn books_objects() -> [Object<'static>; 9]
+pub fn books_objects() -> [Object<'static>; 10]
     ensures { map wanted_of result ≡ books_schema }
 {
     [
@@ -78,16 +78,23 @@ pub fn books_objects() -> [Object<'static>; 9]
         ),
         index(
             "record_ident",
+            "record",
             "CREATE INDEX record_ident ON record (ident)",
         ),
         index(
             "record_charged",
+            "record",
             "CREATE INDEX record_charged ON record (charged, ident)",
         ),
         table(
             "choice",
             "CREATE TABLE choice (number INT NOT NULL PRIMARY KEY, name BLOB NOT NULL, \
              period INT NOT NULL) STRICT, WITHOUT ROWID",
+        ),
+        index(
+            "choice_name",
+            "choice",
+            "CREATE INDEX choice_name ON choice (name)",
         ),
     ]
 }

@@ -18,6 +18,9 @@ use std::io::{IsTerminal, Read, Write};
 use std::{fs, io};
 use tariff_rules::{MAX_TEXT, TariffFault};
 
+/// The rule of identity that can be adopted: books begin under the other one.
+const LATER_RULE: u8 = 2;
+
 /// A request to the office, with the reader of its dump and the writer of its answer.
 #[derive(Drop)]
 struct Question<R: Read + Drop, W: Write + Drop> {
@@ -122,6 +125,19 @@ pub(crate) fn choose<S: Shelf, O: Write + Drop>(
     };
     shelf.expect(book)?;
     let asked = Asked::Choose(name);
+    ask_books(rt, shelf, book, asked, io::empty(), output)?;
+    Ok(())
+}
+
+/// Adopts the later rule of identity.
+pub(crate) fn adopt<S: Shelf, O: Write + Drop>(
+    rt: &HostRuntime,
+    shelf: &S,
+    book: &str,
+    output: O,
+) -> Result<(), Trouble> {
+    shelf.expect(book)?;
+    let asked = Asked::Adopt(LATER_RULE);
     ask_books(rt, shelf, book, asked, io::empty(), output)?;
     Ok(())
 }

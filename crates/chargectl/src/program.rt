@@ -1,6 +1,6 @@
 //! What the program does with its words and streams.
 
-use crate::book_commands::{audit, choose, close, import_dump, report, tariff};
+use crate::book_commands::{adopt, audit, choose, close, import_dump, report, tariff};
 use crate::explained::explained;
 use crate::progress::Watched;
 use crate::serve::serve;
@@ -76,6 +76,7 @@ fn run_on_books<S: AuditedShelf, O: Write + Drop>(
         BookRequest::Import(dump) => import_dump(rt, shelf, book, dump, output),
         BookRequest::Close { period, date } => close(rt, shelf, book, period, date, output),
         BookRequest::Choose { name } => choose(rt, shelf, book, name, output),
+        BookRequest::Adopt => adopt(rt, shelf, book, output),
         BookRequest::Print(asked) => report(rt, shelf, book, asked, output),
         BookRequest::Audit { quiet } => audit(rt, shelf, book, quiet, output),
         BookRequest::Serve { port, requests } => serve(rt, shelf, book, port, requests, output),

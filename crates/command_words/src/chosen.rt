@@ -58,6 +58,7 @@ fn asked_in<'a>(name: &str, found: &ArgMatches<'a>) -> Option<BookRequest<'a>> {
         "import" => Some(BookRequest::Import(dump_in(found)?)),
         "close" => close_in(found),
         "choose" => choice_in(found),
+        "adopt" => Some(BookRequest::Adopt),
         "audit" => Some(audit_in(found)),
         "serve" => serve_in(found),
         _ => Some(BookRequest::Print(report_in(name, found)?)),

@@ -172,7 +172,7 @@ const NUMBER: Word = Word::InPlace(Valued {
 });
 
 /// The commands in the order of the program's help.
-pub(crate) static KNOWN: [Known; 13] = [
+pub(crate) static KNOWN: [Known; 14] = [
     Known {
         name: "trial",
         about: "Prices a dump: standard input into new books, their statement to standard output",
@@ -207,6 +207,11 @@ pub(crate) static KNOWN: [Known; 13] = [
         name: "choose",
         about: "Charges one of the records in dispute with each other, and none of the others",
         words: &[BOOK, SHA256],
+    },
+    Known {
+        name: "adopt",
+        about: "Adopts identity rule 2 for good",
+        words: &[BOOK],
     },
     Known {
         name: "statement",

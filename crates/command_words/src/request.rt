@@ -49,6 +49,8 @@ pub enum BookRequest<'a> {
         /// Its name, as 64 hexadecimal digits.
         name: &'a str,
     },
+    /// Identity rule 2 adopted for good.
+    Adopt,
     /// A report printed.
     Print(Report),
     /// The whole file looked through.

@@ -303,11 +303,11 @@ module _ (naming : Naming) (book : Book) (sound : IsSound naming book) (usage : 
       still.priced q there)))
 
 -- tables with another row of the book
-abbrev with_row : BookRow → Tables → Tables
+abbrev pub with_row : BookRow → Tables → Tables
 with_row row tables = record tables { book = row }
 
 -- the walk leaves it
-row_stays : (period : ℕ) (last : Option ℤ) (is_due : List ℕ → Bool) (row : BookRow)
+pub row_stays : (period : ℕ) (last : Option ℤ) (is_due : List ℕ → Bool) (row : BookRow)
     (names : List (List ℕ)) (tables : Tables)
     → walk (settle_step period last is_due) names (with_row row tables)
     ≡ with_row row (walk (settle_step period last is_due) names tables)

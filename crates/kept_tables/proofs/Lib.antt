@@ -37,6 +37,8 @@ pub mod WalkLemmas
 pub mod TariffChanges
 pub mod SumRead
 pub mod AdoptChanges
+pub mod AdoptionSteps
+pub mod DueStays
 pub mod KeepingLemmas
 pub mod PeriodReading
 pub mod PeriodPlaces

@@ -75,6 +75,13 @@ module _ {N : Type 0} {R : N → N → Ordering} (o : IsTotalOrder R) (exact : I
         | false ↦ find-updated g q es
       ]
 
+  -- so each value of a map is found with its change
+  pub get-updated : (g : V → V) (m : FinMap R V) (q : N)
+      → get (updated g m) q ≡ option_map g (get m q)
+  get-updated g m q =
+      get-from_entries o (map {B = N × V} (λ (e : N × V). (e.0, g e.1)) (entries m)) q
+      ∙ find-updated g q (entries m) ∙ ap (option_map g) (sym (get-entries m q))
+
   -- to change each row of a map is to change each entry of the list that made it
   pub updated-from_entries : (g : V → V) (es : List (N × V))
       → updated g (from_entries {R = R} es)

@@ -1,5 +1,5 @@
 -- The laws of the kept tables: after each event they are the tables of the book.
-use Rattle.std.specs.Prelude.{◌≡◌, ℕ, ◌+◌, true, List, length, sum_by, Some, Ok, ℤ}
+use Rattle.std.specs.Prelude.{◌≡◌, ℕ, ◌+◌, true, List, length, sum_by, Some, Ok, ℤ, Bool, Option}
 use Rattle.std.specs.FinMap.{get, values}
 use Rattle.book_model.specs.Words.{Terms, accept_answer, total_of, IsAnswered, Book, open_number}
 use Rattle.book_model.specs.Words.{Event, keep, put_in_force, close, choose, adopt, book_after}
@@ -15,8 +15,8 @@ use Rattle.kept_tables.specs.Differing.{DifferInAtMost}
 use Rattle.kept_tables.specs.Keeping.{tables_after}
 use Rattle.kept_tables.specs.Reading.{AreFramed, AreUsage}
 use Rattle.kept_tables.specs.TableChanges.{put_new, close_tables, put_tariff, put_choice}
-use Rattle.kept_tables.specs.Steps.{reprice_by_steps, tariff_by_steps}
-use Rattle.kept_tables.specs.TableChanges.{adopt_tables, amount_under, reprice}
+use Rattle.kept_tables.specs.Steps.{adoption_by_steps, reprice_by_steps, tariff_by_steps}
+use Rattle.kept_tables.specs.TableChanges.{adopt_tables, amount_under, reprice, settle_step, walk}
 use Rattle.kept_tables.specs.Tables.{RecordRow, Tables}
 use Rattle.kept_tables.specs.TablesOf.{tables_of}
 use Rattle.kept_tables.specs.Views.{view_of, view_in, member_of, member_in, current_of, current_in}
@@ -101,6 +101,20 @@ AdoptionFollows =
     → adopt_answer book second_rule ≡ Ok Done
     → tables_of naming (adopt book)
     ≡ adopt_tables (open_number book) (last_close book.rulings) is_due_in (tables_of naming book)
+
+-- An adoption by steps is the adoption.
+abbrev pub AdoptionIsSteps : Type 0
+AdoptionIsSteps =
+    (period : ℕ) (last : Option ℤ) (is_due : Tables → List ℕ → Bool) (tables : Tables)
+    → adoption_by_steps period last is_due tables ≡ adopt_tables period last is_due tables
+
+-- Whether a record is to be charged stays as it was before the walk that charges records: that
+-- changes neither identities nor choices.
+abbrev pub DueStays : Type 0
+DueStays =
+    (period : ℕ) (last : Option ℤ) (is_due : List ℕ → Bool) (names : List (List ℕ))
+    (tables : Tables) (name : List ℕ)
+    → is_due_in (walk (settle_step period last is_due) names tables) name ≡ is_due_in tables name
 
 -- what a ledger looks at for a new record stands in the tables alone
 abbrev pub ViewFollows : Type 0

@@ -1,7 +1,8 @@
 //! Laws of the kept tables, which hold over their definitions alone. Each stands on a function that
 //! does nothing.
 
-ghost use Rattle.kept_tables.specs.Laws.{AdoptionFollows, AtMostFiveDiffer, AtMostFourDiffer};
+ghost use Rattle.kept_tables.specs.Laws.{AdoptionFollows, AdoptionIsSteps, AtMostFiveDiffer};
+ghost use Rattle.kept_tables.specs.Laws.{AtMostFourDiffer, DueStays};
 ghost use Rattle.kept_tables.specs.Laws.{ChoiceFollows, ChoiceReads, CloseFollows, KeptFollows};
 ghost use Rattle.kept_tables.specs.Laws.{RepriceIsSteps, SumIsRead, TablesFollow, TariffFollows};
 ghost use Rattle.kept_tables.specs.Laws.{TariffIsSteps, ViewFits, ViewFollows};
@@ -49,6 +50,16 @@ pub fn choice_follows()
 /// its new identity, and each that is undisputed now is charged.
 pub fn adoption_follows()
     ensures { AdoptionFollows }
+{}
+
+/// An adoption by steps of one table each is the adoption.
+pub fn adoption_is_steps()
+    ensures { AdoptionIsSteps }
+{}
+
+/// Whether a record is to be charged at an adoption stays as it was before the walk that charges.
+pub fn due_stays()
+    ensures { DueStays }
 {}
 
 /// The record that a choice withdraws stands in the tables alone, and so does the chosen one.

@@ -12,7 +12,7 @@ use Rattle.book_core.specs.Work.{IsWork}
 use Rattle.book_core.proofs.WorkLemmas.{work_as}
 use Rattle.book_reports.specs.BookTexts.{shown_by}
 use Rattle.office.specs.declared.request.Asked.{Asked}
-use Rattle.office.specs.declared.request.Asked.TheVariants.{Tariff, Close, Choose, Import}
+use Rattle.office.specs.declared.request.Asked.TheVariants.{Tariff, Close, Choose, Adopt, Import}
 use Rattle.office.specs.declared.request.Asked.TheVariants.{ImportBytes, Report}
 use Rattle.office.specs.declared.request.Answer.{Answer}
 use Rattle.office.specs.Requests.{Dump, Told, telling, told_by, IsAskable, IsAskableAnew, Gives, Asks}
@@ -78,6 +78,7 @@ pub askable_once : (asked : Asked) → IsProp (IsAskableAnew asked)
 askable_once (Tariff text) = hlevel props
 askable_once (Close period through) = hlevel props
 askable_once (Choose name) = hlevel props
+askable_once (Adopt rule) = hlevel props
 askable_once (Import layout) = hlevel props
 askable_once (ImportBytes layout bytes) = hlevel props
 askable_once (Report report) = hlevel props
@@ -88,6 +89,7 @@ pub askable_anew : (asked : Asked) (reader : ReaderSeen) → IsAskableAnew asked
 askable_anew (Tariff text) reader may reads failed ended = tt
 askable_anew (Close period through) reader may reads failed ended = may
 askable_anew (Choose name) reader may reads failed ended = tt
+askable_anew (Adopt rule) reader may reads failed ended = tt
 askable_anew (Import layout) reader may reads failed ended =
     record { reads = omega arith; failed = failed; ended = ended }
 askable_anew (ImportBytes layout bytes) reader may reads failed ended = tt
@@ -99,6 +101,7 @@ pub askable_with : (asked : Asked) (reader : ReaderSeen) → IsAskableAlone aske
 askable_with (Tariff text) reader alone = tt
 askable_with (Close period through) reader alone = alone
 askable_with (Choose name) reader alone = tt
+askable_with (Adopt rule) reader alone = tt
 askable_with (Import layout) reader alone = absurd alone
 askable_with (ImportBytes layout bytes) reader alone = tt
 askable_with (Report report) reader alone = tt
@@ -116,6 +119,9 @@ asked_alone (Close period through) {answer = answer} {books = books} alone asked
 asked_alone (Choose name) {answer = answer} {books = books} alone asked =
     subst (λ dump. IsWork books.old books.new
     (Asks books.old.naming (Choose name) dump (told_by answer))) asked.given.is asked.work
+asked_alone (Adopt rule) {answer = answer} {books = books} alone asked =
+    subst (λ dump. IsWork books.old books.new
+    (Asks books.old.naming (Adopt rule) dump (told_by answer))) asked.given.is asked.work
 asked_alone (Import layout) alone asked = absurd alone
 asked_alone (ImportBytes layout bytes) {answer = answer} {books = books} alone asked =
     subst (λ dump. IsWork books.old books.new

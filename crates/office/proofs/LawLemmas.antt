@@ -6,13 +6,13 @@ use Rattle.book_model.specs.declared.fault.LedgerFault.{LedgerFault}
 use Rattle.book_model.specs.declared.fault.LedgerFault.TheVariants.{Memory, Store, Reopen}
 use Rattle.book_model.specs.Words.{front, IsAnswered, Book, new_book, Event, book_after}
 use Rattle.book_model.specs.Words.{book_of, Outcome, tariff_outcome, close_outcome}
-use Rattle.book_model.specs.Words.{choose_outcome, Naming}
+use Rattle.book_model.specs.Words.{choose_outcome, adopt_outcome, Naming}
 use Rattle.book_model.proofs.OrderLemmas.{order_is_free}
 use Rattle.book_model.proofs.StepLemmas.{books_follow_history}
 use Rattle.book_core.specs.Calls.{Calls, listed}
 use Rattle.book_core.specs.Ledgers.{Seen, IsOpenAt}
 use Rattle.book_core.proofs.FollowLemmas.{MakesAnswered, calls_answered, tariff_answered}
-use Rattle.book_core.proofs.FollowLemmas.{close_answered}
+use Rattle.book_core.proofs.FollowLemmas.{adopt_answered, choose_answered, close_answered}
 use Rattle.book_core.proofs.WorkLemmas.{after_all-append}
 use Rattle.book_import.specs.Dumps.{stop_behind}
 use Rattle.book_import.proofs.RepeatLemmas.{is_whole}
@@ -20,14 +20,13 @@ use Rattle.book_import.proofs.EventLemmas.{import_answered}
 use Rattle.book_reports.specs.declared.report.Report as report
 use Rattle.book_reports.specs.BookTexts.{report_outcome}
 use Rattle.office.specs.declared.request.Asked.{Asked}
-use Rattle.office.specs.declared.request.Asked.TheVariants.{Tariff, Close, Choose, Import}
+use Rattle.office.specs.declared.request.Asked.TheVariants.{Tariff, Close, Choose, Adopt, Import}
 use Rattle.office.specs.declared.request.Asked.TheVariants.{ImportBytes, Report}
 use Rattle.office.specs.Requests.{Dump, Told, Ruling, Count, Text, told_by, telling}
 use Rattle.office.specs.Requests.{Receives, Asks}
 use Rattle.office.specs.Does.{Done, events_by, done_by, import_done, does, is_hindering, is_hindered}
 use Rattle.office.specs.Laws.{Exchange, ledger_after, AreAnswered}
 use Rattle.office.specs.Laws.{AnswersFollowHistory, AnswersAreFree, IsStillOpen, DiffersAsAllowed}
-use Rattle.office.proofs.ChoiceLemmas.{choose_answered}
 use Rattle.office.proofs.LeavingLemmas.{work_leaves, open_earlier}
 
 -- the event of an outcome is answered, where calls with it make answered events only
@@ -75,6 +74,9 @@ asks_answered naming (Close period through) dump told =
 asks_answered naming (Choose name) dump told =
     told_answered naming Ruling (choose_outcome naming name) told
     (choose_answered naming (λ value. value) name (Err Store))
+asks_answered naming (Adopt rule) dump told =
+    told_answered naming Ruling (adopt_outcome rule) told
+    (adopt_answered naming (λ value. value) rule (Err Store))
 asks_answered naming (Import layout) dump told = receives_answered naming dump told
 asks_answered naming (ImportBytes layout bytes) dump told = receives_answered naming dump told
 asks_answered naming (Report report) dump told = report_answered naming report told
@@ -129,6 +131,8 @@ asks_done naming (Close period through) dump told book events made free =
     calls_done (telling Ruling (close_outcome period through)) told book events made free
 asks_done naming (Choose name) dump told book events made free =
     calls_done (telling Ruling (choose_outcome naming name)) told book events made free
+asks_done naming (Adopt rule) dump told book events made free =
+    calls_done (telling Ruling (adopt_outcome rule)) told book events made free
 asks_done naming (Import layout) dump told book events made free =
     receives_done naming dump told book events made free
 asks_done naming (ImportBytes layout bytes) dump told book events made free =

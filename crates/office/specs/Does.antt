@@ -3,7 +3,7 @@ use Rattle.std.specs.Prelude.{Bool, true, false, List, [], Option, Result, Ok, E
 use Rattle.book_model.specs.declared.fault.LedgerFault.{LedgerFault}
 use Rattle.book_model.specs.declared.fault.LedgerFault.TheVariants.{Memory, Store}
 use Rattle.book_model.specs.Words.{front, Book, Event, Outcome, tariff_outcome, close_outcome}
-use Rattle.book_model.specs.Words.{choose_outcome, Naming}
+use Rattle.book_model.specs.Words.{choose_outcome, adopt_outcome, Naming}
 use Rattle.book_core.specs.Calls.{listed}
 use Rattle.book_import.specs.declared.receipt.Stop.{Stop}
 use Rattle.book_import.specs.declared.receipt.Stop.TheVariants.{Ledger}
@@ -11,7 +11,7 @@ use Rattle.book_import.specs.Dumps.{stop_behind}
 use Rattle.book_import.specs.Laws.{import_of_records}
 use Rattle.book_reports.specs.BookTexts.{report_outcome}
 use Rattle.office.specs.declared.request.Asked.{Asked}
-use Rattle.office.specs.declared.request.Asked.TheVariants.{Tariff, Close, Choose, Import}
+use Rattle.office.specs.declared.request.Asked.TheVariants.{Tariff, Close, Choose, Adopt, Import}
 use Rattle.office.specs.declared.request.Asked.TheVariants.{ImportBytes, Report}
 use Rattle.office.specs.Requests.{Dump, Told, Ruling, Count, Text, telling}
 
@@ -42,6 +42,7 @@ does naming (Close period through) dump book =
     done_by (telling Ruling (close_outcome period through) book)
 does naming (Choose name) dump book =
     done_by (telling Ruling (choose_outcome naming name) book)
+does naming (Adopt rule) dump book = done_by (telling Ruling (adopt_outcome rule) book)
 does naming (Import layout) dump book = import_done naming dump book
 does naming (ImportBytes layout bytes) dump book = import_done naming dump book
 does naming (Report report) dump book = done_by (telling Text (report_outcome naming report) book)

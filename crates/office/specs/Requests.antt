@@ -10,7 +10,7 @@ use Rattle.book_model.specs.declared.answer.Ruled as ruled
 use Rattle.book_model.specs.declared.fault.LedgerFault.{LedgerFault}
 use Rattle.book_model.specs.declared.fault.LedgerFault.TheVariants.{Memory}
 use Rattle.book_model.specs.Words.{IsDay, Book, Outcome, tariff_outcome, close_outcome}
-use Rattle.book_model.specs.Words.{choose_outcome, Naming}
+use Rattle.book_model.specs.Words.{choose_outcome, adopt_outcome, Naming}
 use Rattle.book_core.specs.Calls.{Calls}
 use Rattle.book_core.specs.Work.{Work, IsWork}
 use Rattle.book_core.specs.Ledgers.{Books}
@@ -21,7 +21,7 @@ use Rattle.book_import.specs.Imports.{Imports}
 use Rattle.book_import.specs.Reading.{most_reads}
 use Rattle.book_reports.specs.BookTexts.{shown_by, report_outcome}
 use Rattle.office.specs.declared.request.Asked.{Asked}
-use Rattle.office.specs.declared.request.Asked.TheVariants.{Tariff, Close, Choose, Import}
+use Rattle.office.specs.declared.request.Asked.TheVariants.{Tariff, Close, Choose, Adopt, Import}
 use Rattle.office.specs.declared.request.Asked.TheVariants.{ImportBytes, Report}
 use Rattle.office.specs.declared.request.Answer.{Answer}
 use Rattle.office.specs.declared.request.Answer.TheVariants as answer
@@ -130,6 +130,8 @@ Asks naming (Close period through) dump told =
     Calls (λ told. told) (telling Ruling (close_outcome period through)) told
 Asks naming (Choose name) dump told =
     Calls (λ told. told) (telling Ruling (choose_outcome naming name)) told
+Asks naming (Adopt rule) dump told =
+    Calls (λ told. told) (telling Ruling (adopt_outcome rule)) told
 Asks naming (Import layout) dump told = Receives naming dump told
 Asks naming (ImportBytes layout bytes) dump told = Receives naming dump told
 Asks naming (Report report) dump told =

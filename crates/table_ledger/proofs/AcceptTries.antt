@@ -10,20 +10,17 @@ use Rattle.sqlite_trees.specs.declared.error.StoreError.{StoreError}
 use Rattle.book_model.specs.Words.{data_of, IsPriced, accept_answer, Book, RecordKept, keep}
 use Rattle.book_model.specs.Words.{most_held, most_cost, accept_outcome, accept_event, Naming}
 use Rattle.book_model.specs.Words.{IsUsageRecord, name_of, same_bytes, price_in, price_under}
-use Rattle.book_model.specs.Words.{identity_of, Tariffed, Rulings, open_by}
+use Rattle.book_model.specs.Words.{Tariffed, Rulings}
 use Rattle.tariff_rules.specs.declared.priced.Priced.{Priced}
 use Rattle.book_model.specs.declared.answer.Accepted.{Accepted}
 use Rattle.book_model.specs.declared.answer.Accepted.TheVariants.{Kept, Known, Unpriced}
 use Rattle.book_model.specs.declared.fault.LedgerFault.{LedgerFault}
 use Rattle.book_model.specs.declared.fault.LedgerFault.TheVariants.{Full, DigestClash}
 use Rattle.book_core.specs.Calls.{Makes}
-use Rattle.book_core.specs.Effects.{effects_of}
-use Rattle.book_core.specs.declared.effect_table.View.{View as Rivals}
-use Rattle.kept_tables.specs.TableChanges.{put_new}
 use Rattle.kept_tables.specs.Tables.{BookRow, RecordRow, Tables}
 use Rattle.kept_tables.specs.TablesOf.{tables_of}
 use Rattle.table_readings.specs.AcceptRead.{row_answer, new_answer, keep_read}
-use Rattle.table_readings.proofs.AcceptLemmas.{accept_follows, view_is_of_rows}
+use Rattle.table_readings.proofs.AcceptLemmas.{accept_follows}
 use Rattle.table_readings.proofs.CallsLemmas.{calls_stay}
 use Rattle.table_readings.proofs.ReadableLemmas.{calls_read}
 use Rattle.table_readings.proofs.RulingsReading.{closes_back}
@@ -35,7 +32,6 @@ use Rattle.table_ledger.specs.Commits.{Saw, CommitsOne}
 use Rattle.table_ledger.specs.Entries.{AreRemembered, IsNew}
 use Rattle.table_ledger.specs.Keepings.{keep_as}
 use Rattle.table_ledger.specs.Ready.{IsReadyAt, Remembers}
-use Rattle.table_ledger.specs.Summaries.{ruled_in}
 use Rattle.table_ledger.specs.Tries.{IsPlain, Tries}
 use Rattle.table_ledger.specs.declared.summary.Summary.{Summary}
 use Rattle.table_ledger.proofs.Answering.{makes_answer, makes_refused}
@@ -252,7 +248,6 @@ module _ (naming : Naming) (was : Summary) (bytes name : List ℕ) (usage : IsUs
         let kept = accept_kept book ready known in
         let cost = book_price book ready.remembers in
         let tables = tables_of naming book in
-        let whole = calls_read naming book ready.kept.calls in
         record {
           event = RecordKept bytes;
           is = ap (accept_event bytes) kept;
@@ -265,11 +260,8 @@ module _ (naming : Naming) (was : Summary) (bytes name : List ℕ) (usage : IsUs
               }) kept;
           tables =
               ap (λ name. keep_as was name bytes priced tables) named
-              ∙ ap (λ (view : Rivals). put_new naming (ruled_in was) (open_by (ruled_in was)) bytes
-              priced (effects_of view (name_of naming bytes) priced) tables)
-              (sym (view_is_of_rows naming book (identity_of bytes) whole))
               ∙ ap (λ (rulings : Rulings). keep_read naming rulings bytes priced tables)
-              (sym (rulings_are whole ready.remembers))
+              (sym (rulings_are ready.remembers))
               ∙ sym (tables_kept book ready known);
         }
 
@@ -277,12 +269,13 @@ module _ (naming : Naming) (was : Summary) (bytes name : List ℕ) (usage : IsUs
     pub accept_remembers : (is : Summary) {view : View} (book : Book)
         → IsReadyAt naming was view book → FindsRecord name (tables_of naming book) None
         → is.tariffs.items ≡ was.tariffs.items → is.closes.items ≡ was.closes.items
-        → is.choices ≡ was.choices → is.held ≡ was.held + 1 → is.total ≡ was.total + priced.amount
-        → Remembers is (keep bytes book)
-    accept_remembers is book ready known tariffs closes choices held total = record {
+        → is.choices ≡ was.choices → is.adopted ≡ was.adopted → is.held ≡ was.held + 1
+        → is.total ≡ was.total + priced.amount → Remembers is (keep bytes book)
+    accept_remembers is book ready known tariffs closes choices adopted held total = record {
       tariffs = tariffs ∙ ready.remembers.tariffs;
       closes = closes ∙ ready.remembers.closes;
       choices = choices ∙ ready.remembers.choices;
+      adopted = adopted ∙ ready.remembers.adopted;
       held = held ∙ ap (λ count. count + 1) ready.remembers.held
           ∙ sym (ap (λ (tables : Tables). tables.book.held) (tables_kept book ready known));
       total = total ∙ ap (λ sum. sum + priced.amount) ready.remembers.total
@@ -311,14 +304,16 @@ module _ (naming : Naming) (was : Summary) (bytes name : List ℕ) (usage : IsUs
         → CommitsOne (Ok done) middle new
         (λ tables. AreRemembered was tables × IsNew name tables) (keep_as was name bytes priced)
         → is.tariffs.items ≡ was.tariffs.items → is.closes.items ≡ was.closes.items
-        → is.choices ≡ was.choices → is.held ≡ was.held + 1 → is.total ≡ was.total + priced.amount
+        → is.choices ≡ was.choices → is.adopted ≡ was.adopted → is.held ≡ was.held + 1
+        → is.total ≡ was.total + priced.amount
         → Tries (λ (accepted : Accepted). accepted) naming was is old new
         (accept_outcome naming bytes) (Ok (Ok Kept))
     unfolding accept_is_event
-    try_kept {new = new} is is_priced saw commit tariffs closes choices held total =
+    try_kept {new = new} is is_priced saw commit tariffs closes choices adopted held total =
         try_done (λ (accepted : Accepted). accepted) naming was (accept_outcome naming bytes)
         new (λ tables. AreRemembered was tables × IsNew name tables)
         (keep_as was name bytes priced) saw
         (λ book ready known. accept_is_event is_priced book ready known) commit
         (λ book ready known. accept_kept book ready known)
-        (λ book ready known. accept_remembers is book ready known tariffs closes choices held total)
+        (λ book ready known. accept_remembers is book ready known tariffs closes choices adopted held
+        total)

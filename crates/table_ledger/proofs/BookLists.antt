@@ -86,7 +86,7 @@ module _ {naming : Naming} {summary : Summary} {view : View} {book : Book}
   -- a period that there is by what is remembered, there is
   there_is : (number : ℕ) → is_period number (ruled_in summary) ≡ true
       → is_period number book.rulings ≡ true
-  there_is number is = ap (is_period number) (rulings_are whole ready.remembers) ∙ is
+  there_is number is = ap (is_period number) (rulings_are ready.remembers) ∙ is
 
   -- its charge rows fit
   pub own_days : (number : ℕ) → is_period number (ruled_in summary) ≡ true

@@ -27,11 +27,10 @@ use Rattle.book_model.specs.Sets.{Set}
 use Rattle.book_model.specs.declared.row.ChargeRow.{ChargeRow}
 use Rattle.book_model.specs.declared.row.RowKey.{RowKey}
 use Rattle.book_model.proofs.RecordSets.{has_those, same_records}
-use Rattle.smf_type30.proofs.IdentityLength.{identity-long}
+use Rattle.table_readings.proofs.IdentityLengths.{identity_by-long}
 use Rattle.book_model.proofs.RowLemmas.{by_key_total}
 use Rattle.book_model.proofs.SetLemmas.{members-those}
 use Rattle.book_model.proofs.SumsAlike.{length-sum_by}
-use Rattle.book_model.proofs.UnchosenLemmas.{identity_by-first}
 use Rattle.kept_tables.specs.Numbered.{rows_under, under}
 use Rattle.kept_tables.specs.Tables.{RecordRow}
 use Rattle.kept_tables.specs.TablesOf.{line_entries, signed_names, tables_of}
@@ -182,8 +181,7 @@ module _ (naming : Naming) (book : Book) (whole : IsReadable naming book) where
           usage = subst IsUsage usage.framed.is usage.usage;
         };
         shown = record {
-          identity = ap length (identity_by-first book.rulings whole.first_rule bytes)
-              ∙ identity-long bytes usage.usage;
+          identity = identity_by-long book.rulings bytes usage.usage;
           day = cost.day;
         };
       }

@@ -1,10 +1,12 @@
 -- A choice that is tried: what it answers, and what it writes.
-use Rattle.std.proofs.Common.{◌≡◌, ◌≢◌, ◌∙◌, ℕ, ◌+◌, ◌≤◌, ◌<◌, List, [], ◌∷◌, ◌++◌, length, refl}
+use Rattle.std.proofs.Common.{◌≡◌, ◌≢◌, ◌∙◌, ℕ, ◌+◌, ◌≤◌, ◌<◌, List, [], ◌∷◌, length, refl}
 use Rattle.std.proofs.Common.{sym, ap, subst, Bool, true, false, Result, Ok, Err, Option, None, Some}
-use Rattle.std.proofs.Common.{map, take, arith, true≢false, slice_get, cond}
+use Rattle.std.proofs.Common.{take, arith, true≢false, slice_get, cond, suc}
+use Rattle.std.specs.Ordering.{is_eq, nat_cmp}
 use Rattle.std.specs.Global.{Global}
 use Rattle.std.specs.Prelude.{Vec, filter, nat_le, if◌then◌else◌, ◌==◌}
-use Rattle.std.specs.FinMap.{entries, get, get-entries, values}
+use Rattle.std.specs.Cmp.{nat_cmp_total}
+use Rattle.std.specs.FinMap.{entries, find, get, get-entries, get-from_entries, values}
 use Rattle.std.specs.List.{AllByRecursion, last_or}
 use Rattle.std.specs.Option.{option_map}
 use Rattle.std.proofs.lemmas.Bool.Decides.{nat_tests}
@@ -15,20 +17,19 @@ use Rattle.sqlite_trees.specs.View.{View}
 use Rattle.book_core.specs.Calls.{Makes}
 use Rattle.book_core.specs.Effects.{choice_effects}
 use Rattle.book_core.specs.declared.effect_table.ChoiceEffects.{ChoiceEffects}
-use Rattle.book_core.specs.declared.effect_table.Member.{Member}
 use Rattle.book_model.specs.Words.{Book, Naming, RecordChosen, by_bytes, same_bytes, choose}
-use Rattle.book_model.specs.Words.{choose_answer, choose_event}
+use Rattle.book_model.specs.Words.{Choice, choose_answer, choose_event, name_of}
 use Rattle.book_model.specs.Words.{choose_outcome, chosen_answer, most_choices, record_named}
 use Rattle.book_model.specs.declared.answer.Ruled.{Ruled}
 use Rattle.book_model.specs.declared.answer.Ruled.TheVariants.{Done, Already}
 use Rattle.book_model.specs.declared.fault.LedgerFault.{LedgerFault}
 use Rattle.book_model.specs.declared.fault.LedgerFault.TheVariants.{Full, NoSuchRecord, NotDisputed}
 use Rattle.kept_tables.specs.TableChanges.{put_choice}
-use Rattle.kept_tables.specs.Tables.{RecordRow, RecordTable, Tables}
-use Rattle.kept_tables.specs.TablesOf.{tables_of}
+use Rattle.kept_tables.specs.Tables.{ChoiceRow, RecordRow, RecordTable, Tables}
+use Rattle.kept_tables.specs.TablesOf.{choice_entries, tables_of}
 use Rattle.kept_tables.specs.Views.{member_at, rows_with}
 use Rattle.table_readings.specs.Readable.{IsReadable}
-use Rattle.table_readings.specs.RulingsRead.{choice_put, choices_made, choose_read, choose_row}
+use Rattle.table_readings.specs.RulingsRead.{choices_made, choose_row}
 use Rattle.table_readings.specs.RulingsRead.{is_lone}
 use Rattle.table_readings.proofs.CallsLemmas.{calls_stay}
 use Rattle.table_readings.proofs.ChoiceLemmas.{choices_follow}
@@ -38,7 +39,8 @@ use Rattle.table_readings.proofs.ReadableLemmas.{calls_read}
 use Rattle.table_readings.proofs.RulingsReading.{closes_back}
 use Rattle.tree_tables.specs.Answers.{FindsRecord, FindsSharing, charged_with}
 use Rattle.tree_tables.specs.States.{State}
-use Rattle.tree_tables.specs.Steps.{Always, Looks}
+use Rattle.tree_tables.specs.Steps.{Looks}
+use Rattle.table_ledger.specs.Entries.{IsNext}
 use Rattle.tree_tables.specs.Stored.{stored_entry}
 use Rattle.tree_tables.specs.declared.stored_record.StoredRecord.{StoredRecord}
 use Rattle.table_ledger.specs.Ready.{IsReadyAt, Remembers}
@@ -60,7 +62,7 @@ found_row name stored (Some row) is =
     )
 
 -- none was found
-none_row : (name : List ℕ) (found : Option RecordRow)
+pub none_row : (name : List ℕ) (found : Option RecordRow)
     → option_map stored_entry None ≡ option_map (λ (row : RecordRow). (name, row)) found
     → found ≡ None
 none_row name None is = refl
@@ -124,6 +126,28 @@ chosen_one naming book name done = by_found (record_named naming book.held name)
     by_found None is =
         let none : Err NoSuchRecord ≡ Ok Done = sym (ap (chosen_answer book) is) ∙ done in cc
     by_found (Some bytes) is = (bytes, is)
+
+-- the numbers of choices are below the one behind them
+numbers_below : (naming : Naming) (number n : ℕ) (choices : List Choice)
+    → n + length choices ≤ number → find nat_cmp number (choice_entries naming n choices) ≡ None
+numbers_below naming number n [] past = refl
+numbers_below naming number n (choice ∷ choices) past =
+    let rest = numbers_below naming number (suc n) choices (omega (arith, past)) in
+    let row : ChoiceRow =
+    record { name = name_of naming choice.chosen; period = choice.period } in
+    ap (λ b. cond b (Some row) (find nat_cmp number (choice_entries naming (suc n) choices)))
+    (other number n (omega (arith, past)))
+    ∙ rest
+  where
+    other : (number n : ℕ) → n < number → is_eq (nat_cmp number n) ≡ false
+    other number n less = grind (arith, nat_tests)
+
+-- so no choice has that
+pub next_is_new : (naming : Naming) (book : Book) (number : ℕ)
+    → number ≡ length book.rulings.choices + 1 → IsNext number (tables_of naming book)
+next_is_new naming book number is =
+    get-from_entries nat_cmp_total (choice_entries naming 1 book.rulings.choices) number
+    ∙ numbers_below naming number 1 book.rulings.choices (omega (arith, is))
 
 -- an answer that is not Done makes no event
 pub choose_makes : (answer : Result Ruled LedgerFault) (naming : Naming) (name : List ℕ)
@@ -233,8 +257,8 @@ module _ (naming : Naming) (was : Summary) (name : List ℕ) (view : View) (book
             → effects ≡ choice_effects (last_or None was.closes.items)
             (option_map member_at (slice_get (charged_with row.identity tables.records) 0))
             (member_at (stored_entry stored))
-            → IsEvent (λ (ruled : Ruled). ruled) naming was (choose_outcome naming name) Always
-            (put_choice number period name effects) book
+            → IsEvent (λ (ruled : Ruled). ruled) naming was (choose_outcome naming name)
+            (IsNext number) (put_choice number period name effects) book
         choose_is_event charged room number period effects number_is period_is effects_are =
             let done = choose_done charged room in
             let one = chosen_one naming book name done in
@@ -246,7 +270,8 @@ module _ (naming : Naming) (was : Summary) (name : List ℕ) (view : View) (book
               event = RecordChosen one.0;
               is = ap (choose_event (record_named naming book.held name)) done
                   ∙ ap (λ found. choose_event found (Ok Done)) one.1;
-              when = tt;
+              when = next_is_new naming book number
+                  (number_is ∙ ap (λ n. n + 1) ready.remembers.choices);
               calls = calls_stay.choose naming book name one.0 ready.kept.calls done one.1;
               tables =
                   (λ i. put_choice (number_is i) (period_is i) name (effects_are i) tables)
@@ -259,13 +284,15 @@ module _ (naming : Naming) (was : Summary) (name : List ℕ) (view : View) (book
         -- and one more choice is remembered
         pub choose_remembers : (is : Summary) (bytes : List ℕ)
             → is.tariffs.items ≡ was.tariffs.items → is.closes.items ≡ was.closes.items
-            → is.choices ≡ was.choices + 1 → is.held ≡ was.held → is.total ≡ was.total
+            → is.choices ≡ was.choices + 1 → is.adopted ≡ was.adopted → is.held ≡ was.held
+            → is.total ≡ was.total
             → Remembers is (choose bytes book)
-        choose_remembers is bytes tariffs closes choices held total = record {
+        choose_remembers is bytes tariffs closes choices adopted held total = record {
           tariffs = tariffs ∙ ready.remembers.tariffs;
           closes = closes ∙ ready.remembers.closes;
           choices = choices ∙ ap (λ n. n + 1) ready.remembers.choices
               ∙ sym (length-append book.rulings.choices _);
+          adopted = adopted ∙ ready.remembers.adopted;
           held = held ∙ ready.remembers.held;
           total = total ∙ ready.remembers.total;
         }

@@ -1,9 +1,9 @@
 -- Rows that join disputes, and that such disputes can be shown.
 use Rattle.std.proofs.Common.{◌≡◌, ◌∙◌, Bool, true, false, List, [], ◌∷◌, ◌++◌, refl, sym, ap, map, append_assoc}
-use Rattle.std.proofs.Common.{inl, subst, ℕ, ◌+◌, ◌<◌, not, cond, take, length, append-nil}
+use Rattle.std.proofs.Common.{subst, ℕ, ◌+◌, ◌<◌, not, cond, take, length, append-nil}
 use Rattle.std.proofs.Common.{slice_index_or}
 use Rattle.std.proofs.lemmas.List.{map-append, take_more}
-use Rattle.std.specs.Prelude.{All, filter, if◌then◌else◌}
+use Rattle.std.specs.Prelude.{filter, if◌then◌else◌}
 use Rattle.std.specs.List.{AllByRecursion}
 use Rattle.std.proofs.lemmas.List.Elements.{All-push, All-from_recursion, filter-append}
 use Rattle.std.proofs.lemmas.List.Elements.{recursion_from_All}
@@ -82,7 +82,7 @@ joined_other olds news last one row is differ made =
 -- a dispute of one row that can be shown
 one_shows : (row : NamedRow) → IsShownRow row → IsDispute (of_one row)
 one_shows row shown = record {
-  identity = inl shown.identity;
+  identity = shown.identity;
   days = All-from_recursion (λ (member : Variant). IsDay member.priced.day) (variant_read row ∷ [])
       (shown.day, tt);
 }

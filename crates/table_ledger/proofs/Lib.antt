@@ -16,6 +16,11 @@ mod CodeDays
 mod TariffTries
 mod CloseTries
 mod ChoiceTries
+mod KeptNames
+mod WalksOf
+mod Settling
+mod AdoptTries
+mod Inserting
 mod DayLooks
 mod Repriced
 mod NewEntries

@@ -78,7 +78,7 @@ answer_is : {A : Type 0} {naming : Naming} {summary : Summary} (number : ℕ) (l
     → IsReadable naming book → Remembers summary book
     → of_period number book.rulings list ≡ (if found then Ok list else Err NoSuchPeriod)
 answer_is number list found book is whole remembers =
-    ap (λ (rulings : Rulings). of_period number rulings list) (rulings_are whole remembers)
+    ap (λ (rulings : Rulings). of_period number rulings list) (rulings_are remembers)
     ∙ ap (λ (there : Bool). if there then Ok list else Err NoSuchPeriod) is
 
 module _ {V A : Type 0} {view : V → A} {naming : Naming} {summary : Summary}

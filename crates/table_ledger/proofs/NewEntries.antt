@@ -11,7 +11,7 @@ use Rattle.std.proofs.lemmas.Map.Lookups.{exact_bytes}
 use Rattle.book_model.specs.Words.{by_bytes}
 use Rattle.tree_tables.specs.States.{State}
 use Rattle.sqlite_trees.specs.declared.error.StoreError.{StoreError}
-use Rattle.book_model.specs.Words.{data_of, identity_of, last_close}
+use Rattle.book_model.specs.Words.{data_of, identity_by, last_close}
 use Rattle.tariff_rules.specs.declared.priced.Priced.{Priced}
 use Rattle.book_core.specs.Effects.{effects_of}
 use Rattle.book_core.specs.declared.effect_table.Effects.{Effects}
@@ -49,10 +49,10 @@ kept_by row held amount period effects day tables =
 -- what is written are the tables with the record and its effects
 pub entry_kept : (summary : Summary) (name bytes identity behind : List ℕ) (priced : Priced)
     (period : ℕ) (effects : Effects) (day : DayWrite) (tables : Tables)
-    → identity ≡ identity_of bytes → behind ≡ data_of bytes
+    → identity ≡ identity_by (ruled_in summary) bytes → behind ≡ data_of bytes
     → period ≡ length summary.closes.items + 1 → AreRemembered summary tables
-    → effects ≡ effects_of (view_with (last_close (ruled_in summary))
-    (rows_with (identity_of bytes) tables.records)) name priced
+    → effects ≡ effects_of (view_with (last_close (ruled_in summary)) tables.choices
+    (rows_with (identity_by (ruled_in summary) bytes) tables.records)) name priced
     → Writes period effects.day tables day
     → kept_by (
       name,
@@ -89,7 +89,7 @@ entry_kept summary name bytes identity behind priced period effects day tables o
         amount = tables.book.amount + priced.amount;
       };
       records = insert marked name (record {
-        identity = identity_of bytes;
+        identity = identity_by (ruled_in summary) bytes;
         data_bytes = data_of bytes;
         priced = priced;
         charged = effects.charged;
@@ -100,8 +100,9 @@ entry_kept summary name bytes identity behind priced period effects day tables o
     })
     ∙ ap (λ effects. keep_with summary name bytes priced effects tables)
     (planned
-    ∙ ap (λ closes. effects_of (view_with (last_or None closes)
-    (rows_with (identity_of bytes) tables.records)) name priced) (sym remembered.closes))
+    ∙ ap (λ closes. effects_of (view_with (last_or None closes) tables.choices
+    (rows_with (identity_by (ruled_in summary) bytes) tables.records)) name priced)
+    (sym remembered.closes))
 
 -- a commit may be told in other words
 pub commit_so : {T : Type 0} {old new : State} {When Other : Tables → Type 0}

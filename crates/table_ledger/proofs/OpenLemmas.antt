@@ -73,6 +73,7 @@ created naming state summary last clean keeping none choices held total =
       tariffs = ap (λ ruled. ruled.tariffs) none;
       closes = ap (λ ruled. ruled.closes) none;
       choices = choices;
+      adopted = ap (λ ruled. ruled.adopted) none;
       held = held ∙ ap (λ (tables : Tables). tables.book.held) (new_follow naming);
       total = total ∙ ap (λ (tables : Tables). tables.book.amount) (new_follow naming);
     })

@@ -2,7 +2,7 @@
 use Rattle.std.proofs.Common.{◌≡◌, ◌∙◌, ℕ, ℤ, zero, suc, List, [], ◌∷◌, ◌++◌, ap, arith, map, refl}
 use Rattle.std.proofs.Common.{subst, sym, None, Option, Some, slice_index_or, take, ◌<◌, inl, inr}
 use Rattle.std.proofs.Common.{Err, Ok, Result, false, length}
-use Rattle.std.specs.Prelude.{All, IfErr, IfOk, IsErrAnd}
+use Rattle.std.specs.Prelude.{All, IfErr, IfOk, IsErrAnd, ◌==◌, if◌then◌else◌}
 use Rattle.std.specs.FinMap.{entries}
 use Rattle.std.specs.List.{AllZip, cons_option, filter_map}
 use Rattle.std.specs.Option.{option_map}
@@ -10,13 +10,13 @@ use Rattle.std.proofs.lemmas.List.Elements.{All-cons}
 use Rattle.std.proofs.lemmas.Result.{err_from_is_err_and}
 use Rattle.tree_tables.specs.States.{State, HasCleanDisk, Survives}
 use Rattle.sqlite_trees.specs.declared.error.StoreError.{StoreError}
-use Rattle.book_model.specs.Words.{IsDay, Book, Naming, Rulings, Tariffed}
+use Rattle.book_model.specs.Words.{IsDay, Book, Naming, Rulings, Tariffed, second_rule}
 use Rattle.book_model.specs.declared.fault.LedgerFault.{LedgerFault}
 use Rattle.book_model.specs.declared.fault.LedgerFault.TheVariants.{NotBooks, Store}
 use Rattle.book_core.specs.Ledgers.{IsOpenAt}
 use Rattle.kept_tables.specs.Tables.{BookRow, Tables}
 use Rattle.kept_tables.specs.TablesOf.{tables_of}
-use Rattle.table_readings.specs.BookIn.{tariff_read}
+use Rattle.table_readings.specs.BookIn.{adopted_read, tariff_read}
 use Rattle.table_readings.specs.FromCalls.{IsFromCalls}
 use Rattle.table_readings.proofs.BookLemmas.{book_follows}
 use Rattle.table_readings.proofs.ReadableLemmas.{calls_read}
@@ -29,7 +29,7 @@ use Rattle.tree_tables.specs.declared.tariff_rows.StoredTariff.{StoredTariff}
 use Rattle.table_ledger.specs.Commits.{Keeping, Saw}
 use Rattle.table_ledger.specs.Ready.{Remembers}
 use Rattle.table_ledger.specs.Recalled.{AreRowsOf, HasDay, IsRecalled, IsStoreFault, Reads, Recalls}
-use Rattle.table_ledger.specs.Recalled.{SaysTariff, Shows}
+use Rattle.table_ledger.specs.Recalled.{SaysRule, SaysTariff, Shows}
 use Rattle.table_ledger.specs.Shelf.{seen_on}
 use Rattle.table_ledger.specs.Told.{LeavesTheLast}
 use Rattle.table_ledger.specs.declared.summary.Summary.{Summary}
@@ -91,6 +91,14 @@ all_days (row ∷ rows) [] had = absurd had
 all_days (row ∷ rows) (day ∷ days) had =
     All-cons IsDay day days had.0.1 (all_days rows days had.1)
 
+-- the rule that a row says is the one that is read of it
+said_rule : (row : Stored) (closes : ℕ) (adopted : Option ℕ) → SaysRule closes row adopted
+    → adopted ≡ adopted_read (book_of row)
+said_rule row closes None says =
+    ap (λ rule. if rule == second_rule then Some row.adopted else None) (sym says.0)
+said_rule row closes (Some period) says =
+    λ i. if sym says.0 i == second_rule then Some (sym says.1 i) else None
+
 -- a summary that rows show is that of the tables that they are the rows of
 pub recalled : (summary : Summary) (tables : Tables) (row : Stored) (tariffs : List StoredTariff)
     (closes : List Close) (choices : ℕ) → Shows row tariffs closes choices summary
@@ -106,6 +114,8 @@ recalled summary tables row tariffs closes choices shows book texts days last =
       tariffs = ruled;
       closes = closed;
       choices = shows.made ∙ last;
+      adopted = said_rule row (length summary.closes.items) summary.adopted shows.adopted
+          ∙ ap adopted_read book;
       held = shows.held ∙ ap (λ (kept : BookRow). kept.held) book;
       total = shows.total ∙ ap (λ (kept : BookRow). kept.amount) book;
     }
@@ -141,6 +151,7 @@ remembered naming book summary calls recalls =
       tariffs = recalls.tariffs ∙ ap (λ (rulings : Rulings). rulings.tariffs) back;
       closes = recalls.closes ∙ ap (λ (rulings : Rulings). rulings.closes) back;
       choices = recalls.choices ∙ last_counts naming book whole;
+      adopted = recalls.adopted ∙ ap (λ (rulings : Rulings). rulings.adopted) back;
       held = recalls.held;
       total = recalls.total;
     }

@@ -1,18 +1,16 @@
 -- What a ledger remembers of the rulings of its book: all but which records were chosen.
 use Rattle.std.proofs.Common.{◌≡◌, sym}
-use Rattle.book_model.specs.Words.{Book, Naming}
-use Rattle.table_readings.specs.Readable.{IsReadable}
+use Rattle.book_model.specs.Words.{Book}
 use Rattle.table_ledger.specs.Ready.{Remembers}
 use Rattle.table_ledger.specs.Summaries.{ruled_in}
 use Rattle.table_ledger.specs.declared.summary.Summary.{Summary}
 
--- the rulings of the book are what is remembered, with its choices; no call adopts a rule
-pub rulings_are : {naming : Naming} {summary : Summary} {book : Book} → IsReadable naming book
-    → Remembers summary book
+-- the rulings of the book are what is remembered, with its choices
+pub rulings_are : {summary : Summary} {book : Book} → Remembers summary book
     → book.rulings ≡ record (ruled_in summary) { choices = book.rulings.choices }
-rulings_are {book = book} whole remembers = λ i. record {
+rulings_are {book = book} remembers = λ i. record {
   tariffs = sym remembers.tariffs i;
   closes = sym remembers.closes i;
   choices = book.rulings.choices;
-  adopted = whole.first_rule i;
+  adopted = sym remembers.adopted i;
 }

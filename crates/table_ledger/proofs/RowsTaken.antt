@@ -28,7 +28,8 @@ use Rattle.tree_tables.specs.declared.book_row.StoredBook.{StoredBook as Stored}
 use Rattle.tree_tables.specs.declared.closed_rows.Close.{Close}
 use Rattle.tree_tables.specs.declared.tariff_rows.StoredTariff.{StoredTariff}
 use Rattle.table_ledger.proofs.LastChoice.{last_counts}
-use Rattle.table_ledger.specs.Recalled.{AreCloses, AreRowsOf, HasDay, IsNextClose, SaysTariff, TellsTariff}
+use Rattle.table_ledger.specs.Recalled.{AreCloses, AreRowsOf, HasDay, IsNextClose, SaysRule}
+use Rattle.table_ledger.specs.Recalled.{SaysTariff, TellsTariff}
 
 -- a place within a list has its element, whatever stands for none
 pub index_again : {A : Type 0} (rows : List A) (at : ℕ) (row other : A) → at < length rows
@@ -210,6 +211,17 @@ texts_tell (row ∷ rows) (tariff ∷ tariffs) texted same =
       texts_tell rows tariffs (All-tail IsTexted tariff tariffs texted) rest,
     )
 
+-- the row of a book says its rule
+rule_said : (row : Stored) (adopted : Option ℕ) (closes : ℕ)
+    → row.rule ≡ (if is_some adopted then second_rule else first_rule)
+    → row.adopted ≡ unwrap_or adopted never_adopted
+    → ((period : ℕ) → adopted ≡ Some period → (0 < period) × (period ≤ closes + 1))
+    → SaysRule closes row adopted
+rule_said row None closes rule since begun = (rule, since)
+rule_said row (Some period) closes rule since begun =
+    let bounds = begun period refl in
+    (rule, since, bounds.0, bounds.1)
+
 -- rows of the tables of a book that calls made are those of its rulings, within the limits
 pub rows_of : (naming : Naming) (book : Book) (row : Stored) (texts : List StoredTariff)
     (days : List Close) (choices : ℕ) → IsFromCalls naming book
@@ -225,11 +237,6 @@ rows_of naming book row texts days choices calls kept said had last =
     let cost : row.amount ≡ total_of rulings book.held = ap (λ (it : BookRow). it.amount) kept in
     record {
       book = record {
-        rule = ap (λ (it : BookRow). it.rule) kept
-            ∙ ap (λ (adopted : Option ℕ). if is_some adopted then second_rule else first_rule)
-            whole.first_rule;
-        adopted = ap (λ (it : BookRow). it.adopted) kept
-            ∙ ap (λ (adopted : Option ℕ). unwrap_or adopted never_adopted) whole.first_rule;
         held = subst (λ n. n ≤ most_held) (sym held) whole.limits.held;
         amount = subst (λ n. n ≤ most_cost) (sym cost) whole.limits.cost;
       };
@@ -242,6 +249,11 @@ rows_of naming book row texts days choices calls kept said had last =
         in_order = whole.in_order;
       };
       few = whole.limits.closes;
+      adopted = rule_said row rulings.adopted (length rulings.closes)
+          (ap (λ (it : BookRow). it.rule) kept) (ap (λ (it : BookRow). it.adopted) kept)
+          (λ period is.
+          let begun = whole.adopted period is in
+          (begun.numbered, begun.begun));
       chosen = subst (λ n. n ≤ most_choices) (sym (last ∙ last_counts naming book whole))
           whole.limits.choices;
     }

@@ -150,7 +150,7 @@ module _ (summary : Summary) (text : List ℕ) (terms : Terms) where
 
     -- the rulings that are remembered, with the choices
     pub same : record (ruled_in summary) { choices = book.rulings.choices } ≡ book.rulings
-    same = sym (rulings_are readable ready.remembers)
+    same = sym (rulings_are ready.remembers)
 
     -- the answer to the text
     pub told : (tariff_outcome text book).answer ≡ answer_by book.rulings much
@@ -249,13 +249,14 @@ module _ (summary : Summary) (text : List ℕ) (terms : Terms) where
           → is.tariffs.items
           ≡ summary.tariffs.items ++ record { text = Some text; terms = terms } ∷ []
           → is.closes.items ≡ summary.closes.items → is.choices ≡ summary.choices
-          → is.held ≡ summary.held → is.total ≡ amount
+          → is.adopted ≡ summary.adopted → is.held ≡ summary.held → is.total ≡ amount
           → Remembers is (put_in_force (Some text) terms book)
-      tariff_remembered is tariffs closes choices held total = record {
+      tariff_remembered is tariffs closes choices adopted held total = record {
         tariffs = tariffs ∙ ap (λ own. own ++ record { text = Some text; terms = terms } ∷ [])
             ready.remembers.tariffs;
         closes = closes ∙ ready.remembers.closes;
         choices = choices ∙ ready.remembers.choices;
+        adopted = adopted ∙ ready.remembers.adopted;
         held = held ∙ ready.remembers.held;
         total = total ∙ sum_is;
       }

@@ -21,6 +21,10 @@ pub record AreRemembered (summary : Summary) (tables : Tables) : Type 0 where
 abbrev pub IsNew : List ℕ → Tables → Type 0
 IsNew name tables = get tables.records name ≡ None
 
+-- no choice has the number
+abbrev pub IsNext : ℕ → Tables → Type 0
+IsNext number tables = get tables.choices number ≡ None
+
 -- the charge rows are written
 abbrev pub write_days : ℕ → DayWrite → Tables → Tables
 write_days period write tables = record tables { days = day_written period write tables.days }

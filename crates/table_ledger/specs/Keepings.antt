@@ -1,15 +1,12 @@
 -- How the tables change by a new record, by what a ledger remembers.
-use Rattle.std.specs.Prelude.{ℕ, ◌+◌, List, length, None}
-use Rattle.std.specs.FinMap.{values}
-use Rattle.std.specs.List.{last_or}
-use Rattle.book_model.specs.Words.{identity_of}
+use Rattle.std.specs.Prelude.{ℕ, ◌+◌, List, length}
+use Rattle.book_model.specs.Words.{identity_by}
 use Rattle.tariff_rules.specs.declared.priced.Priced.{Priced}
 use Rattle.book_core.specs.Effects.{effects_of}
 use Rattle.book_core.specs.declared.effect_table.Effects.{Effects}
 use Rattle.kept_tables.specs.TableChanges.{put_record, new_row, apply}
 use Rattle.kept_tables.specs.Tables.{Tables}
-use Rattle.kept_tables.specs.Views.{rows_with}
-use Rattle.table_readings.specs.AcceptRead.{view_with}
+use Rattle.kept_tables.specs.Views.{view_in}
 use Rattle.table_ledger.specs.Summaries.{ruled_in}
 use Rattle.table_ledger.specs.declared.summary.Summary.{Summary}
 
@@ -23,5 +20,4 @@ keep_with summary name bytes priced effects tables =
 abbrev pub keep_as : Summary → List ℕ → List ℕ → Priced → Tables → Tables
 keep_as summary name bytes priced tables =
     keep_with summary name bytes priced
-    (effects_of (view_with (last_or None (values tables.closes))
-    (rows_with (identity_of bytes) tables.records)) name priced) tables
+    (effects_of (view_in tables (identity_by (ruled_in summary) bytes)) name priced) tables

@@ -13,6 +13,7 @@ pub mod Entries
 pub mod Repricing
 pub mod Keepings
 pub mod Closings
+pub mod Adoptions
 pub mod Unread
 pub mod TotalsFit
 pub mod RecordReads

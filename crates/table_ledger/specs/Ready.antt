@@ -15,6 +15,7 @@ pub record Remembers (summary : Summary) (book : Book) : Type 0 where
   pub tariffs : summary.tariffs.items ≡ book.rulings.tariffs
   pub closes : summary.closes.items ≡ book.rulings.closes
   pub choices : summary.choices ≡ length book.rulings.choices
+  pub adopted : summary.adopted ≡ book.rulings.adopted
   pub held : summary.held ≡ length (members book.held)
   pub total : summary.total ≡ total_of book.rulings book.held
 

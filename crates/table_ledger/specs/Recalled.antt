@@ -1,5 +1,5 @@
 -- What is read of a store when its books are opened.
-use Rattle.std.specs.Prelude.{◌≡◌, ◌≢◌, ◌⊎◌, ◌≤◌, ◌<◌, ◌+◌, ◌^◌, All, IfErr, IfOk, Some, None, Result, Ok}
+use Rattle.std.specs.Prelude.{◌≡◌, ◌≢◌, ◌⊎◌, ◌≤◌, ◌<◌, ◌+◌, ◌^◌, All, IfErr, IfOk, Option, Some, None, Result, Ok}
 use Rattle.std.specs.Prelude.{Err, List, ℕ, ℤ, int_lt, length, map, false, true}
 use Rattle.std.specs.List.{AllZip, last_or}
 use Rattle.std.specs.List.Sorted.{IsStrictlySortedBy}
@@ -10,7 +10,7 @@ use Rattle.std.specs.Str.{IsUtf8}
 use Rattle.sqlite_disk.specs.Disk.{MoreFaults}
 use Rattle.tree_tables.specs.States.{State, HasCleanDisk, Survives}
 use Rattle.book_model.specs.Words.{IsDay, Tariffed, Rulings, Book, Naming, are_rising, last_period}
-use Rattle.book_model.specs.Words.{most_choices, most_cost, most_held}
+use Rattle.book_model.specs.Words.{most_choices, most_cost, most_held, second_rule}
 use Rattle.book_model.specs.declared.fault.LedgerFault.{LedgerFault}
 use Rattle.book_model.specs.declared.fault.LedgerFault.TheVariants.{Memory, NoSuchPeriod, NotBooks}
 use Rattle.book_model.specs.declared.fault.LedgerFault.TheVariants.{Store}
@@ -58,13 +58,17 @@ pub record IsNextClose (days : List ℤ) (row : Close) : Type 0 where
   pub later : option_map_or (λ last. int_lt last row.through) (last_or None days) true ≡ true
   pub day : IsDay row.through
 
--- a row is one of a book: of the rule of identity that this product knows, which was never adopted
--- anew, and within the office's limits
+-- the sums of a row are within the office's limits
 pub record IsBookRow (row : Stored) : Type 0 where
-  pub rule : row.rule ≡ first_rule
-  pub adopted : row.adopted ≡ never_adopted
   pub held : row.held ≤ most_held
   pub amount : row.amount ≤ most_cost
+
+-- A row says the rule of identity of a book with so many closes: the first rule, which was never
+-- adopted; or the second one, which was adopted in a period that has begun.
+abbrev pub SaysRule : ℕ → Stored → Option ℕ → Type 0
+SaysRule closes row None = (row.rule ≡ first_rule) × (row.adopted ≡ never_adopted)
+SaysRule closes row (Some period) =
+    (row.rule ≡ second_rule) × (row.adopted ≡ period) × (0 < period) × (period ≤ closes + 1)
 
 -- rows are those of closes through some days: from period 1 on, each day later than the one before
 pub record AreCloses (rows : List Close) (closes : List ℤ) : Type 0 where
@@ -80,6 +84,7 @@ pub record AreRowsOf (row : Stored) (texts : List StoredTariff) (days : List Clo
   pub rising : are_rising rulings.tariffs ≡ true
   pub closes : AreCloses days rulings.closes
   pub few : length rulings.closes < last_period
+  pub adopted : SaysRule (length rulings.closes) row rulings.adopted
   pub chosen : choices ≤ most_choices
 
 -- the summary is what the rows show
@@ -88,6 +93,7 @@ pub record Shows (row : Stored) (texts : List StoredTariff) (days : List Close) 
   pub tariffs : AllZip SaysTariff texts summary.tariffs.items
   pub closes : AllZip HasDay days summary.closes.items
   pub made : summary.choices ≡ choices
+  pub adopted : SaysRule (length summary.closes.items) row summary.adopted
   pub held : summary.held ≡ row.held
   pub total : summary.total ≡ row.amount
 
@@ -96,6 +102,7 @@ pub record Recalls (summary : Summary) (tables : Tables) : Type 0 where
   pub tariffs : summary.tariffs.items ≡ (rulings_in tables).tariffs
   pub closes : summary.closes.items ≡ (rulings_in tables).closes
   pub choices : summary.choices ≡ last_number tables.choices
+  pub adopted : summary.adopted ≡ (rulings_in tables).adopted
   pub held : summary.held ≡ tables.book.held
   pub total : summary.total ≡ tables.book.amount
 

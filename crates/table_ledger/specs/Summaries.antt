@@ -9,10 +9,14 @@ use Rattle.book_model.specs.declared.fault.LedgerFault.{LedgerFault}
 use Rattle.book_model.specs.declared.fault.LedgerFault.TheVariants.{TariffDate, TariffExists}
 use Rattle.table_ledger.specs.declared.summary.Summary.{Summary}
 
--- The tariffs and the closes that a ledger remembers. Of the choices it remembers how many were made.
+-- The tariffs, the closes and the rule of identity that a ledger remembers. Of the choices it
+-- remembers how many were made.
 abbrev pub ruled_in : Summary → Rulings
-ruled_in summary =
-    record no_rulings { tariffs = summary.tariffs.items; closes = summary.closes.items }
+ruled_in summary = record no_rulings {
+  tariffs = summary.tariffs.items;
+  closes = summary.closes.items;
+  adopted = summary.adopted;
+}
 
 -- what is answered to a tariff by some rulings, where the books hold what the records cost under it
 abbrev pub terms_ruled : Rulings → List ℕ → Terms → Result Ruled LedgerFault

@@ -1,6 +1,7 @@
 //! Records that are handed in.
 
 ghost use Rattle.std.specs.Prelude.{◌≡◌, Ok, Err, false, if◌then◌else◌};
+ghost use Rattle.std.specs.Option.{option_map_or};
 ghost use Rattle.tree_tables.specs.States.{state};
 ghost use Rattle.book_model.specs.Words.{data_of, IsPriced, accept_outcome, IsUsageRecord};
 ghost use Rattle.book_model.specs.Words.{same_bytes};
@@ -35,6 +36,17 @@ fn known_or_clash(stored: &StoredRecord, bytes: &[u8]) -> Result<Accepted, Ledge
     }
 }
 
+/// Whose work a record measures, by the rule in force, where this is so by the first and by the
+/// second.
+fn in_force<'a>(adopted: Option<u16>, first: &'a [u8; 24], second: &'a [u8; 32]) -> &'a [u8]
+    ensures { result.now ≡ option_map_or (λ period. second.now) adopted first.now }
+{
+    match adopted {
+        None => first,
+        Some(_) => second,
+    }
+}
+
 /// Keeps a new record at a price, with its effects.
 fn keep_new<S: Store>(
     tables: &mut TreeTables<S>,
@@ -49,15 +61,17 @@ fn keep_new<S: Store>(
     ensures commits { CommitsOne result (state S.Store tables.old.store) (state S.Store tables.new.store)
         (λ tables. AreRemembered summary.now tables × IsNew name tables) (keep_as summary.now name bytes.now priced.now) }
 {
-    let identity = Type30::of_usage(bytes).identity();
+    let usage = Type30::of_usage(bytes);
+    let (first, second) = (usage.identity(), usage.identity2());
+    let identity = in_force(summary.adopted, &first, &second);
     let period = summary.open_number();
-    let effects = look_for_effects(tables, alloc, summary.last_close(), &identity, name, priced)?;
+    let effects = look_for_effects(tables, alloc, summary.last_close(), identity, name, priced)?;
     let day = look_for_day(tables, period, &effects.day)?;
     let (_, data) = bytes.split_at(4);
     let entry = Entry {
         record: NewRecord {
             name: &name,
-            identity: &identity,
+            identity,
             data_bytes: data,
             priced: *priced,
             charged: effects.charged,

@@ -11,6 +11,7 @@ ghost use Rattle.tree_tables.specs.States.{state};
 ghost use Rattle.tree_tables.specs.Steps.{Always, Does, Looks};
 ghost use Rattle.tree_tables.specs.Stored.{stored_entry};
 ghost use Rattle.table_ledger.specs.Commits.{CommitsOne};
+ghost use Rattle.table_ledger.specs.Entries.{IsNext};
 ghost use Rattle.table_ledger.specs.Tries.{Tries};
 
 use crate::commits::{change_day, write_line, write_mark};
@@ -83,7 +84,7 @@ fn withdraw<S: Store>(
 }
 
 /// A record that is held is charged.
-fn charge<S: Store>(
+pub(crate) fn charge<S: Store>(
     tables: &mut TreeTables<S>,
     period: u16,
     name: &[u8; 32],
@@ -99,8 +100,8 @@ fn charge<S: Store>(
 /// Writes a choice.
 fn write_choice<S: Store>(tables: &mut TreeTables<S>, choice: &Choice) -> Result<(), StoreError>
     ensures does { Does result (state S.Store tables.old.store) (state S.Store tables.new.store)
-        Always (change.put_choice choice.now.number choice.now.period choice.now.name
-        choice.now.effects) }
+        (IsNext choice.now.number) (change.put_choice choice.now.number choice.now.period
+        choice.now.name choice.now.effects) }
 {
     withdraw(tables, choice.period, &choice.effects.withdrawn)?;
     charge(tables, choice.period, &choice.name, &choice.effects.chosen)?;
@@ -110,8 +111,9 @@ fn write_choice<S: Store>(tables: &mut TreeTables<S>, choice: &Choice) -> Result
 /// Keeps a choice, in one commit.
 fn keep_choice<S: Store>(tables: &mut TreeTables<S>, choice: &Choice) -> Result<(), StoreError>
     ensures commits { CommitsOne result (state S.Store tables.old.store)
-        (state S.Store tables.new.store) Always (change.put_choice choice.now.number
-        choice.now.period choice.now.name choice.now.effects) }
+        (state S.Store tables.new.store) (IsNext choice.now.number)
+        (change.put_choice choice.now.number choice.now.period choice.now.name
+        choice.now.effects) }
 {
     write_choice(tables, choice)?;
     tables.commit()

@@ -21,16 +21,20 @@ use sqlite_trees::store::Store;
 use std::alloc::Global;
 use tree_tables::{StoredRecord, TreeTables};
 
-/// The bytes of an identity.
+/// The bytes of an identity by the first rule.
 const IDENTITY_LENGTH: usize = 24;
 
-/// The record can be shown: its identity has the length that its parts need, and it is dated on a
-/// day.
+/// The bytes of an identity by the second rule.
+const IDENTITY2_LENGTH: usize = 32;
+
+/// The record can be shown: its identity has the length that its parts need by one of the two rules,
+/// and it is dated on a day.
 fn is_shown(row: &StoredRecord) -> bool
     ensures shown { IsTrue result → IsShownRow (stored_entry row.now) }
     ensures refused { result ≡ false → ¬ IsShownRow (stored_entry row.now) }
 {
-    row.identity.len() == IDENTITY_LENGTH && is_day(row.priced.day)
+    let len = row.identity.len();
+    (len == IDENTITY_LENGTH || len == IDENTITY2_LENGTH) && is_day(row.priced.day)
 }
 
 /// All of the records can be shown.

@@ -1,6 +1,6 @@
 //! What a new record changes beside its own row, by the records that share its identity.
 
-ghost use Rattle.std.specs.Prelude.{◌≡◌, false, map};
+ghost use Rattle.std.specs.Prelude.{◌≡◌, IfOk, map};
 ghost use Rattle.tree_tables.specs.States.{state};
 ghost use Rattle.book_core.specs.Effects.{HasOnly, effects_of};
 ghost use Rattle.tree_tables.specs.Stored.{stored_entry};
@@ -27,20 +27,39 @@ pub(crate) fn member_of(stored: &StoredRecord) -> Member
     }
 }
 
+/// What a record that is alone in its identity counts where it was chosen: no new record changes
+/// that it is charged.
+const CHOSEN_MEMBERS: u64 = 2;
+
 /// The view of records that share an identity, two at most.
-fn view(through: Option<i32>, sharing: &[StoredRecord]) -> View
-    ensures view { result ≡ view_with through (map stored_entry sharing.now) }
-    ensures only { HasOnly result }
+fn look_for_view<S: Store>(
+    tables: &mut TreeTables<S>,
+    through: Option<i32>,
+    sharing: &[StoredRecord],
+) -> Result<View, StoreError>
+    ensures looks { Looks result (state S.Store tables.old.store) (state S.Store tables.new.store)
+        (λ tables view. view ≡ view_with through tables.choices (map stored_entry sharing.now)) }
+    ensures only { IfOk result HasOnly }
 {
-    let only = match sharing {
-        [member] => Some(member_of(member)),
-        _ => None,
+    let [member] = sharing else {
+        return Ok(View {
+            through,
+            members: sharing.len() as u64,
+            only: None,
+        });
     };
-    View {
-        through,
-        members: sharing.len() as u64,
-        only,
+    if tables.is_named(&member.name)? {
+        return Ok(View {
+            through,
+            members: CHOSEN_MEMBERS,
+            only: None,
+        });
     }
+    Ok(View {
+        through,
+        members: 1,
+        only: Some(member_of(member)),
+    })
 }
 
 /// What a record of this identity changes, by its name and its price.
@@ -48,14 +67,15 @@ pub(crate) fn look_for_effects<S: Store>(
     tables: &mut TreeTables<S>,
     alloc: Global,
     through: Option<i32>,
-    identity: &[u8; 24],
+    identity: &[u8],
     name: [u8; 32],
     priced: &Priced,
 ) -> Result<Effects, StoreError>
     ensures looks { Looks result (state S.Store tables.old.store) (state S.Store tables.new.store)
-        (λ tables effects. effects ≡ effects_of (view_with through
+        (λ tables effects. effects ≡ effects_of (view_with through tables.choices
         (rows_with identity.now tables.records)) name priced.now) }
 {
     let sharing = tables.find_sharing(alloc, identity)?;
-    Ok(plan(&view(through, &sharing), name, priced))
+    let view = look_for_view(tables, through, &sharing)?;
+    Ok(plan(&view, name, priced))
 }

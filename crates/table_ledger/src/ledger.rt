@@ -5,6 +5,7 @@ mod opening;
 
 use crate::accept::try_accept;
 use crate::adjustments::try_adjustments;
+use crate::adoption::try_adopt;
 use crate::charges::try_charges;
 use crate::choices::try_choose;
 use crate::close::try_close;
@@ -66,6 +67,14 @@ impl<S: Store, N: Naming + Drop> Ledger for TableLedger<S, N> {
             return Err(LedgerFault::Reopen);
         }
         let tried = try_choose(&mut self.tables, self.alloc, &mut self.summary, name);
+        settle(&mut self.tables, &mut self.must_reopen, tried)
+    }
+
+    fn adopt_identity(&mut self, rule: u8) -> Result<Ruled, LedgerFault> {
+        if self.must_reopen {
+            return Err(LedgerFault::Reopen);
+        }
+        let tried = try_adopt(&mut self.tables, self.alloc, &mut self.summary, rule);
         settle(&mut self.tables, &mut self.must_reopen, tried)
     }
 

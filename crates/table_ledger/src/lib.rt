@@ -4,8 +4,10 @@
 
 mod accept;
 mod adjustments;
+mod adoption;
 mod charges;
 mod choices;
+mod chosen;
 mod close;
 mod commits;
 mod day_write;

@@ -1,7 +1,7 @@
 //! The summary of a book, read from its tables.
 
 ghost use Rattle.std.specs.Prelude.{◌≡◌, ◌⊎◌, ◌<◌, ◌≤◌, IfErr, IfOk, IsTrue, List, None, false, length};
-ghost use Rattle.std.specs.Prelude.{true, ℤ};
+ghost use Rattle.std.specs.Prelude.{true, ℕ, ℤ, IfSome, Option};
 ghost use Rattle.std.specs.List.{AllZip, last_or};
 ghost use Rattle.tree_tables.specs.States.{state};
 ghost use Rattle.book_model.specs.Words.{Rulings, Tariffed, are_rising, last_period, most_cost};
@@ -9,7 +9,8 @@ ghost use Rattle.book_model.specs.Words.{most_choices, most_held};
 ghost use Rattle.tree_tables.specs.Steps.{FailsByStore, Looks};
 ghost use Rattle.table_ledger.specs.Recalled.{AreCloses, AreRowsOf, CanBeListed, HasDay, IsBookRow};
 ghost use Rattle.table_ledger.specs.Recalled.{IsNextClose, IsOpenFault, IsRecalled, IsStoreFault};
-ghost use Rattle.table_ledger.specs.Recalled.{Reads, ReadsItsOwn, SaysTariff, Shows, TellsTariff};
+ghost use Rattle.table_ledger.specs.Recalled.{Reads, ReadsItsOwn, SaysRule, SaysTariff, Shows};
+ghost use Rattle.table_ledger.specs.Recalled.{TellsTariff};
 
 use crate::settle::fault_of;
 use crate::summary::Summary;
@@ -23,8 +24,14 @@ use std::alloc::Global;
 use tariff_rules::{Tariff, TariffFault};
 use tree_tables::{Close, StoredBook, StoredTariff, TreeTables};
 
-/// The rule of identity that this product knows.
+/// The rule of identity under which books begin.
 const FIRST_RULE: u64 = 1;
+
+/// The rule of identity that they adopt.
+const SECOND_RULE: u64 = 2;
+
+/// The period of adoption where no rule was adopted.
+const NEVER_ADOPTED: u64 = 0;
 
 /// The tariff of a row, where its text is one and says the row's day.
 fn tariff_at(alloc: Global, row: &StoredTariff) -> Result<AcceptedTariff, LedgerFault>
@@ -113,17 +120,30 @@ fn days_of(alloc: Global, rows: &[Close]) -> Result<Vec<i32>, LedgerFault>
     Ok(days)
 }
 
-/// The row is one of the rule that this product knows, and within the office's limits.
+/// The period of adoption that a row says, where it is under one of the two rules: the first was
+/// never adopted, and the second in a period that has begun.
+fn adopted_by(row: &StoredBook, closes: usize) -> Option<Option<u16>>
+    requires { closes < last_period }
+    ensures says { IfSome result (SaysRule closes row.now) }
+    ensures refused { result ≡ None → (adopted : Option ℕ) → ¬ SaysRule closes row.now adopted }
+{
+    if row.rule == FIRST_RULE && row.adopted == NEVER_ADOPTED {
+        return Some(None);
+    }
+    if row.rule == SECOND_RULE && 1 <= row.adopted && row.adopted <= closes as u64 + 1 {
+        return Some(Some(row.adopted as u16));
+    }
+    None
+}
+
+/// The sums of the row are within the office's limits.
 fn is_kept(row: &StoredBook) -> bool
     ensures held { IsTrue result → row.now.held ≤ most_held }
     ensures amount { IsTrue result → row.now.amount ≤ most_cost }
     ensures kept { result ≡ true → IsBookRow row.now }
     ensures refused { result ≡ false → ¬ IsBookRow row.now }
 {
-    row.rule == FIRST_RULE
-        && row.adopted == 0
-        && row.held <= MAX_HELD as u64
-        && row.amount <= MAX_COST
+    row.held <= MAX_HELD as u64 && row.amount <= MAX_COST
 }
 
 /// There are fewer closes than there may be periods, and no more choices than there may be.
@@ -154,10 +174,14 @@ fn summary_of(
     if !is_kept(row) || !are_few(&closes, choices) {
         return Err(LedgerFault::Store);
     }
+    let Some(adopted) = adopted_by(row, closes.len()) else {
+        return Err(LedgerFault::Store);
+    };
     Ok(Summary {
         tariffs,
         closes,
         choices,
+        adopted,
         held: row.held as usize,
         total: row.amount,
     })

@@ -9,8 +9,8 @@ use book_core::{
 };
 use tariff_rules::Tariff;
 
-/// The office's tariffs and closes, how many choices it made, and the sums of the records that are
-/// held.
+/// The office's tariffs and closes, how many choices it made, its rule of identity, and the sums of
+/// the records that are held.
 #[derive(Drop)]
 pub(crate) struct Summary {
     /// In the order of their first days.
@@ -19,6 +19,8 @@ pub(crate) struct Summary {
     pub(crate) closes: Vec<i32>,
     /// How many choices were made.
     pub(crate) choices: u32,
+    /// The period that was open when the second rule of identity was adopted, if it was.
+    pub(crate) adopted: Option<u16>,
     /// How many records are held.
     pub(crate) held: usize,
     /// What they cost together.
@@ -30,6 +32,12 @@ pub(crate) struct Summary {
     ghost room: { held ≤ most_held },
     ghost small: { total ≤ most_cost },
 }
+
+/// The rule of identity under which books begin.
+const FIRST_RULE: u8 = 1;
+
+/// The rule by which the moment of initiation is part of an identity.
+const SECOND_RULE: u8 = 2;
 
 /// The answer is that the ruling is done.
 pub(crate) fn is_done(answer: &Result<Ruled, LedgerFault>) -> bool
@@ -44,7 +52,7 @@ pub(crate) fn is_done(answer: &Result<Ruled, LedgerFault>) -> bool
 
 impl Summary {
     ghost use Rattle.std.specs.Prelude.{◌≡◌, ◌+◌, ◌≤◌, length};
-    ghost use Rattle.book_model.specs.Words.{IsDay};
+    ghost use Rattle.book_model.specs.Words.{IsDay, rule_by};
     ghost use Rattle.book_model.specs.RulingAnswers as answer;
     ghost use Rattle.book_model.specs.Rulings as ruling;
     ghost use Rattle.table_readings.specs.ListsRead.{is_period};
@@ -127,5 +135,28 @@ impl Summary {
             return Err(LedgerFault::Full);
         }
         Ok(Ruled::Done)
+    }
+
+    /// The rule of identity that is in force.
+    fn rule(&self) -> u8
+        ensures { result ≡ rule_by (ruled_in self.now) }
+    {
+        match self.adopted {
+            None => FIRST_RULE,
+            Some(_) => SECOND_RULE,
+        }
+    }
+
+    /// What is answered to a rule of identity that is adopted.
+    pub(crate) fn adopt_answer(&self, rule: u8) -> Result<Ruled, LedgerFault>
+        ensures { result ≡ answer.adopt_answer (book_ruled self.now) rule }
+    {
+        if rule == self.rule() {
+            return Ok(Ruled::Already);
+        }
+        if rule == SECOND_RULE {
+            return Ok(Ruled::Done);
+        }
+        Err(LedgerFault::OldRule)
     }
 }

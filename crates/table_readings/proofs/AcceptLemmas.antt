@@ -1,49 +1,38 @@
 -- A record is answered by the rows of its name and of the book.
 use Rattle.std.proofs.Common.{◌≡◌, ℕ, List, [], ◌∷◌, refl, sym, ap, ◌∙◌, true, false, true≢false}
-use Rattle.std.proofs.Common.{Option, Some, None, Result, Ok, Err, length, subst, arith, ◌||◌}
-use Rattle.std.specs.Prelude.{◌==◌, if◌then◌else◌}
-use Rattle.std.specs.FinMap.{get, get-from_entries, values}
-use Rattle.std.specs.List.{cons_option, filter_map, last_or, list_any}
-use Rattle.std.specs.List.Sorted.{IsPermutation}
-use Rattle.std.specs.Option.{option_map}
-use Rattle.std.proofs.lemmas.List.Elements.{All-weaker}
+use Rattle.std.proofs.Common.{Bool, Option, Some, None, Result, Ok, Err}
+use Rattle.std.specs.Prelude.{if◌then◌else◌, ℤ}
+use Rattle.std.specs.FinMap.{get, get-from_entries}
 use Rattle.std.proofs.lemmas.Cmp.{nat_list_cmp_total}
 use Rattle.std.proofs.lemmas.Map.Lookups.{exact_bytes}
 use Rattle.std.proofs.lemmas.Map.Views.{tells_apart}
 use Rattle.book_model.specs.Words.{data_of, record_with, IsFramed, accept_answer, accept_priced}
 use Rattle.book_model.specs.Words.{clashes, Book, open_number, charged_of, Naming, name_of}
-use Rattle.book_model.specs.Words.{same_bytes, price_in, identity_by, has, is_unrivalled}
+use Rattle.book_model.specs.Words.{same_bytes, price_in, identity_by, has}
 use Rattle.tariff_rules.specs.declared.priced.Priced.{Priced}
 use Rattle.book_model.specs.declared.answer.Accepted.{Accepted}
 use Rattle.book_model.specs.declared.answer.Accepted.TheVariants.{Known}
 use Rattle.book_model.specs.declared.fault.LedgerFault.{LedgerFault}
 use Rattle.book_model.specs.declared.fault.LedgerFault.TheVariants.{DigestClash}
-use Rattle.book_model.proofs.ChosenLemmas.{all_chosen}
-use Rattle.book_model.proofs.FilterLemmas.{permuted_one}
-use Rattle.book_model.proofs.RecordSets.{is, is_itself, first_of, second_of}
+use Rattle.book_model.proofs.RecordSets.{is, is_itself}
 use Rattle.book_model.proofs.SetChanges.{is_back, IsUnnamed}
 use Rattle.book_model.proofs.SetLemmas.{fails_too}
 use Rattle.book_core.specs.Effects.{effects_of}
 use Rattle.kept_tables.specs.TableChanges.{put_new}
-use Rattle.kept_tables.specs.Tables.{RecordRow, ChoiceTable, Tables}
+use Rattle.kept_tables.specs.Tables.{RecordRow, Tables}
 use Rattle.kept_tables.specs.TablesOf.{record_row, record_entries, tables_of}
-use Rattle.kept_tables.specs.Views.{is_named, lone_members, member_at, only_of, only_row}
-use Rattle.kept_tables.specs.Views.{rows_count, rows_with}
+use Rattle.kept_tables.specs.Views.{is_named, lone_members, member_at}
 use Rattle.kept_tables.proofs.KeptLemmas.{kept_follows}
 use Rattle.kept_tables.proofs.LineReading.{found_row}
 use Rattle.kept_tables.proofs.RecordChanges.{no_row}
 use Rattle.kept_tables.proofs.TableParts.{what_is}
-use Rattle.kept_tables.proofs.ViewLemmas.{choices_named, view_follows}
-use Rattle.table_readings.specs.AcceptRead.{row_answer, new_answer, accept_read}
-use Rattle.table_readings.specs.AnswerLaws.{AcceptFollows, TwoAreEnough, ViewIsOfRows}
+use Rattle.kept_tables.proofs.ViewLemmas.{view_follows}
+use Rattle.table_readings.specs.AcceptRead.{row_answer, new_answer, accept_read, view_told}
+use Rattle.table_readings.specs.AnswerLaws.{AcceptFollows, TwoAreEnough, ViewIsTold}
 use Rattle.table_readings.specs.DisputesRead.{NamedRow}
-use Rattle.table_readings.specs.Readable.{IsContested, IsReadable}
-use Rattle.table_readings.proofs.IdentityRows.{its_records, its_rows, its_rows_are, its_rows_count}
-use Rattle.table_readings.proofs.IdentityRows.{lone_where}
-use Rattle.table_readings.proofs.RecordReading.{entry, entry_at}
-use Rattle.table_readings.proofs.Rivals.{chosen_rivalled, having}
-use Rattle.table_readings.proofs.SetReading.{among-filter, one_passes}
-use Rattle.table_readings.proofs.Texts.{same_is, same_text}
+use Rattle.table_readings.specs.Readable.{IsReadable}
+use Rattle.table_readings.proofs.SetReading.{one_passes}
+use Rattle.table_readings.proofs.Texts.{same_is}
 
 module _ (naming : Naming) (book : Book) (whole : IsReadable naming book) (bytes : List ℕ)
     (framed : IsFramed bytes) where
@@ -164,94 +153,23 @@ accept_follows = record {
 
 -- two rows are enough
 pub two_are_enough : TwoAreEnough
-two_are_enough through [] name priced = refl
-two_are_enough through (one ∷ []) name priced = refl
-two_are_enough through (one ∷ other ∷ rows) name priced = refl
+two_are_enough through choices [] name priced = refl
+two_are_enough through choices (one ∷ []) name priced = refl
+two_are_enough through choices (one ∷ other ∷ rows) name priced = refl
 
--- where no choice names a row that is alone, each row of an identity is a member
-count_unnamed : (choices : ChoiceTable) (rows : List NamedRow)
-    → ((one : NamedRow) → rows ≡ one ∷ [] → is_named choices one.0 ≡ false)
-    → rows_count choices rows ≡ length rows
-count_unnamed choices [] unnamed = refl
-count_unnamed choices (one ∷ []) unnamed = ap lone_members (unnamed one refl)
-count_unnamed choices (one ∷ other ∷ rows) unnamed = refl
-
--- and a lone one is the only one
-only_unnamed : (choices : ChoiceTable) (rows : List NamedRow)
-    → ((one : NamedRow) → rows ≡ one ∷ [] → is_named choices one.0 ≡ false)
-    → only_row choices rows ≡ option_map member_at (only_of rows)
-only_unnamed choices [] unnamed = refl
-only_unnamed choices (one ∷ []) unnamed =
-    ap (λ named. if named then None else Some (member_at one)) (unnamed one refl)
-only_unnamed choices (one ∷ other ∷ rows) unnamed = refl
-
-module _ (naming : Naming) (book : Book) (whole : IsReadable naming book) where
-  -- no choice names a record that has no rival
-  lone_unnamed : (one : List ℕ) → has book.held one ≡ true
-      → is_unrivalled book.rulings book.held one ≡ true
-      → is_named (tables_of naming book).choices (name_of naming one) ≡ false
-  lone_unnamed one there lone =
-      choices_named naming book whole.sound one there
-      ∙ elim (list_any (is one) (all_chosen book.rulings)) as
-      (λ b. list_any (is one) (all_chosen book.rulings) ≡ b → b ≡ false) [
-        | true ↦ λ chosen. absurd (true≢false (sym lone
-            ∙ chosen_rivalled book.rulings book.held book.rulings.choices
-            (All-weaker (IsContested book)
-            (λ choice. is_unrivalled book.rulings book.held choice.chosen ≡ false)
-            (λ choice was. was.rivalled) book.rulings.choices whole.contested) one chosen))
-        | false ↦ λ unchosen. refl
-      ] refl
-
-  module _ (id : List ℕ) (one : NamedRow)
-      (only : its_rows naming book whole.sound id ≡ one ∷ []) where
-    -- the records that have the identity
-    abbrev own : List (List ℕ)
-    own = its_records naming book whole.sound id
-
-    -- there is one
-    one_record : length own ≡ 1
-    one_record = sym (its_rows_count naming book whole.sound id) ∙ ap length only
-
-    -- and no choice names it
-    unnamed_by : (ks : List (List ℕ)) → own ≡ ks
-        → is_named (tables_of naming book).choices one.0 ≡ false
-    unnamed_by [] listed = let count = sym (ap length listed) ∙ one_record in absurd (omega arith)
-    unnamed_by (a ∷ b ∷ rest) listed =
-        let count = sym (ap length listed) ∙ one_record in absurd (omega arith)
-    unnamed_by (k ∷ []) listed =
-        let its = sym (among-filter (having book.rulings book.held id) book.held k)
-        ∙ ap (list_any (is k)) listed ∙ ap (λ b. b || false) (is_itself k) in
-        let there = second_of (having book.rulings book.held id k) (has book.held k) its in
-        let same : identity_by book.rulings k ≡ id = same_text (identity_by book.rulings k) id
-        (first_of (having book.rulings book.held id k) (has book.held k) its) in
-        let cost = what_is (price_in book.rulings k) (whole.sound.priced k there) in
-        let made : filter_map (entry naming book whole.sound) own
-        ≡ entry_at naming book whole.sound k cost.0 ∷ [] =
-        ap (filter_map (entry naming book whole.sound)) listed
-        ∙ ap (λ price. cons_option (option_map {T = Priced} {U = NamedRow}
-        (entry_at naming book whole.sound k) price) []) cost.1 in
-        let row = permuted_one (its_rows naming book whole.sound id)
-        (entry_at naming book whole.sound k cost.0)
-        (subst (IsPermutation (its_rows naming book whole.sound id)) made
-        (its_rows_are naming book whole.sound id)) in
-        let both : one ∷ [] ≡ entry_at naming book whole.sound k cost.0 ∷ [] = sym only ∙ row in
-        let is_one : one ≡ entry_at naming book whole.sound k cost.0 = cc in
-        let lone = sym (lone_where naming book whole.sound k there)
-        ∙ ap (λ id. length (its_rows naming book whole.sound id) == 1) same
-        ∙ ap (λ (rows : List NamedRow). length rows == 1) only in
-        ap (λ (row : NamedRow). is_named (tables_of naming book).choices row.0) is_one
-        ∙ lone_unnamed k there lone
-
--- the law of it
-pub view_is_of_rows : ViewIsOfRows
-view_is_of_rows naming book identity whole =
-    let tables : Tables = tables_of naming book in
-    let rows : List NamedRow = rows_with identity tables.records in
-    let unnamed = λ (one : NamedRow) (only : rows ≡ one ∷ []).
-    unnamed_by naming book whole identity one only
-    (its_records naming book whole.sound identity) refl in
-    λ i. record {
-      through = last_or None (values tables.closes);
-      members = count_unnamed tables.choices rows unnamed i;
-      only = only_unnamed tables.choices rows unnamed i;
+-- the view of one row, by whether a choice names it
+one_told : (through : Option ℤ) (one : NamedRow) (named : Bool)
+    → view_told through named (one ∷ [])
+    ≡ record {
+      through = through;
+      members = lone_members named;
+      only = if named then None else Some (member_at one);
     }
+one_told through one true = refl
+one_told through one false = refl
+
+-- only of one row it hangs on that
+pub view_is_told : ViewIsTold
+view_is_told through choices [] = refl
+view_is_told through choices (one ∷ []) = one_told through one (is_named choices one.0)
+view_is_told through choices (one ∷ other ∷ rows) = refl

@@ -17,7 +17,7 @@ use Rattle.table_readings.specs.Readable.{IsReadable, chained}
 use Rattle.table_readings.proofs.ChoiceReading.{choices_back}
 use Rattle.table_readings.proofs.LineSides.{added_back, taken_back}
 use Rattle.table_readings.proofs.RecordReading.{held_back, posted_back}
-use Rattle.table_readings.proofs.RulingsReading.{tariffs_back, closes_back}
+use Rattle.table_readings.proofs.RulingsReading.{adopted_back, tariffs_back, closes_back}
 use Rattle.table_readings.proofs.SetReading.{before_back}
 
 module _ (closes : List ℤ) (charged : ℕ → Records) where
@@ -113,7 +113,7 @@ module _ (naming : Naming) (book : Book) (whole : IsReadable naming book) where
         tariffs = tariffs i;
         closes = closes i;
         choices = choices i;
-        adopted = sym whole.first_rule i;
+        adopted = adopted_back book.rulings book.held i;
       })
       (held_back naming book whole.sound whole.lines.framed)
       posted

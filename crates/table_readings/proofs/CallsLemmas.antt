@@ -4,7 +4,8 @@ use Rattle.std.specs.Prelude.{ℤ}
 use Rattle.book_model.specs.Words.{IsDay, Terms, accept_answer, Book, open_number, RecordKept}
 use Rattle.book_model.specs.Words.{TariffAccepted, PeriodClosed, RecordChosen, keep, put_in_force}
 use Rattle.book_model.specs.Words.{close, choose, choose_answer, record_named, name_of, Naming}
-use Rattle.book_model.specs.Words.{terms_answer, close_answer, Rulings, with_tariff}
+use Rattle.book_model.specs.Words.{terms_answer, close_answer, Rulings, with_tariff, adopt}
+use Rattle.book_model.specs.Words.{adopt_answer, second_rule, SecondRuleAdopted}
 use Rattle.book_model.specs.declared.answer.Accepted.TheVariants.{Kept}
 use Rattle.book_model.specs.declared.answer.Ruled.TheVariants.{Done}
 use Rattle.book_model.proofs.AnsweredLemmas.{rulings_are}
@@ -87,6 +88,17 @@ choose_made naming book name bytes made done found =
       left = ap (choose bytes) made.left;
     }
 
+-- the second rule of identity that is adopted
+adopt_made : (naming : Naming) (book : Book) → IsFromCalls naming book
+    → adopt_answer book second_rule ≡ Ok Done → IsFromCalls naming (adopt book)
+adopt_made naming book made done = record {
+  history = SecondRuleAdopted ∷ made.history;
+  answered =
+      (subst (λ before. adopt_answer before second_rule ≡ Ok Done) made.left done, made.answered);
+  handed_in = made.handed_in;
+  left = ap adopt made.left;
+}
+
 -- the law of it
 pub calls_stay : CallsStay
 calls_stay = record {
@@ -95,4 +107,5 @@ calls_stay = record {
   tariff = tariff_made;
   close = close_made;
   choose = choose_made;
+  adopt = adopt_made;
 }

@@ -1,7 +1,8 @@
 -- 64 bits with a sign hold the numbers of the tables.
 use Rattle.std.proofs.Common.{◌≡◌, ℕ, suc, ◌+◌, List, [], ◌∷◌, map, length, refl, sym, ap}
-use Rattle.std.proofs.Common.{◌∙◌, subst, true, Bool, ◌||◌, Option, Some, None, is_some, arith}
-use Rattle.std.specs.Prelude.{◌<◌, ◌≤◌, slice_get, sum_by, All, ℤ}
+use Rattle.std.proofs.Common.{◌∙◌, subst, true, Bool, ◌||◌, Option, Some, None, is_some, inl}
+use Rattle.std.proofs.Common.{inr, arith}
+use Rattle.std.specs.Prelude.{◌<◌, ◌≤◌, if◌then◌else◌, slice_get, sum_by, unwrap_or, All, ℤ}
 use Rattle.std.specs.FinMap.{get, find, get-from_entries, int_cmp-IsAntisymmetric}
 use Rattle.std.specs.FinMap as fin
 use Rattle.std.specs.FinMap.{nat_cmp-IsAntisymmetric}
@@ -19,14 +20,15 @@ use Rattle.std.proofs.lemmas.Option.{slice_get_within}
 use Rattle.book_model.specs.Words.{IsDay, IsName, IsPriced, Book, all_periods, open_period}
 use Rattle.book_model.specs.Words.{last_period, Period, Naming, by_bytes, IsUsageRecord, key_of}
 use Rattle.book_model.specs.Words.{by_key, same_key, charged_at, Tariffed, price_in, members, has}
-use Rattle.book_model.specs.Words.{AreAmong, AreHeld, Choice, IsChoiceOf, most_choices}
+use Rattle.book_model.specs.Words.{AreAmong, AreHeld, Choice, IsChoiceOf, most_choices, IsRule}
+use Rattle.book_model.specs.Words.{first_rule, second_rule}
 use Rattle.tariff_rules.specs.declared.priced.Priced.{Priced}
 use Rattle.book_model.specs.declared.row.ChargeRow.{ChargeRow}
 use Rattle.book_model.specs.declared.row.RowKey.{RowKey}
 use Rattle.book_model.proofs.RecordSets.{is, is_itself}
 use Rattle.book_model.proofs.RowLemmas.{by_key_total, by_key_exact, same_key_ties}
 use Rattle.kept_tables.specs.Numbered.{numbered}
-use Rattle.kept_tables.specs.Tables.{ChoiceRow, RecordRow}
+use Rattle.kept_tables.specs.Tables.{ChoiceRow, RecordRow, never_adopted}
 use Rattle.kept_tables.specs.TablesOf.{tariff_entries, choice_entries, close_entries, day_entries}
 use Rattle.kept_tables.specs.TablesOf.{line_entries, tables_of}
 use Rattle.kept_tables.proofs.DayChanges.{row_of, days-found, found_at}
@@ -37,7 +39,7 @@ use Rattle.kept_tables.proofs.TableParts.{what_is}
 use Rattle.table_readings.specs.AnswerLaws.{NumbersFit}
 use Rattle.table_readings.specs.BookIn.{record_of}
 use Rattle.table_readings.specs.Fits.{IsPeriod, RecordFits, ChoiceFits, DayFits, TablesFit}
-use Rattle.table_readings.specs.Readable.{IsContested, IsTexted, IsReadable}
+use Rattle.table_readings.specs.Readable.{IsBegun, IsTimely, IsTexted, IsReadable}
 use Rattle.table_readings.proofs.ChoiceReading.{choices_count}
 use Rattle.table_readings.proofs.Finding.{find_one, find_numbered, one_mapped, first_passes}
 use Rattle.table_readings.proofs.PriceSums.{part_within, FitSigned, costs, all_priced, some_within}
@@ -117,12 +119,12 @@ module _ (naming : Naming) (book : Book) (whole : IsReadable naming book) where
 
   -- choices have numbers, names that have records, and periods
   choices_fit : (n : ℕ) (choices : List Choice) → 0 < n → n + length choices ≤ most_choices + 1
-      → All (IsContested book) choices → All (IsChoiceOf book.held) choices
+      → All (IsTimely book) choices → All (IsChoiceOf book.held) choices
       → AllByRecursion (λ (row : ℕ × ChoiceRow).
       ChoiceFits (tables_of naming book).records row.0 row.1) (choice_entries naming n choices)
-  choices_fit n [] some few contested held = tt
-  choices_fit n (choice ∷ choices) some few contested held =
-      let was = All-head (IsContested book) choice choices contested in
+  choices_fit n [] some few timely held = tt
+  choices_fit n (choice ∷ choices) some few timely held =
+      let was = All-head (IsTimely book) choice choices timely in
       let there = All-head (IsChoiceOf book.held) choice choices held in
       let cost = what_is (price_in book.rulings choice.chosen)
       (whole.sound.priced choice.chosen there) in
@@ -138,7 +140,7 @@ module _ (naming : Naming) (book : Book) (whole : IsReadable naming book) where
           period = record { numbered = numbered; early = omega arith };
         },
         choices_fit (suc n) choices (omega arith) (omega arith)
-            (All-tail (IsContested book) choice choices contested)
+            (All-tail (IsTimely book) choice choices timely)
             (All-tail (IsChoiceOf book.held) choice choices held),
       )
 
@@ -240,6 +242,21 @@ module _ (naming : Naming) (book : Book) (whole : IsReadable naming book) where
       (numbered 1 (map its all)) place)
       ∙ found)
 
+  -- the rule of identity is one of the two
+  is_rule : (adopted : Option ℕ) → IsRule (if is_some adopted then second_rule else first_rule)
+  is_rule None = inl refl
+  is_rule (Some period) = inr refl
+
+  -- and its adoption has a period, or none
+  adopted_fits : (adopted : Option ℕ)
+      → ((period : ℕ) → adopted ≡ Some period → IsBegun book period)
+      → unwrap_or adopted never_adopted ≤ last_period
+  adopted_fits None begun = omega arith
+  adopted_fits (Some period) begun =
+      let was = (begun period refl).begun in
+      let few = whole.limits.closes in
+      omega arith
+
   -- all tables
   tables_fit : TablesFit (tables_of naming book)
   tables_fit =
@@ -249,6 +266,8 @@ module _ (naming : Naming) (book : Book) (whole : IsReadable naming book) where
       let few = whole.limits.closes in
       let some = whole.limits.choices in
       record {
+        rule = is_rule book.rulings.adopted;
+        adopted = adopted_fits book.rulings.adopted whole.adopted;
         held = whole.limits.held;
         amount = whole.limits.cost;
         chosen = subst (λ n. n ≤ most_choices) (sym (choices_count naming book)) some;
@@ -264,7 +283,7 @@ module _ (naming : Naming) (book : Book) (whole : IsReadable naming book) where
         choices = λ number row found.
             find_one nat_cmp nat_cmp-IsAntisymmetric (ChoiceFits (tables_of naming book).records)
             number row (choice_entries naming 1 choices)
-            (choices_fit 1 choices (omega arith) (omega arith) whole.contested whole.sound.chosen)
+            (choices_fit 1 choices (omega arith) (omega arith) whole.timely whole.sound.chosen)
             (sym (get-from_entries nat_cmp_total (choice_entries naming 1 choices) number) ∙ found);
         records = rows_fit;
         days = days_fit;

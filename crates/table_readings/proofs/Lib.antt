@@ -2,8 +2,8 @@
 -- lists; records that have rivals; books that calls made, what their calls passed, and that they
 -- can be read back; the rulings, the records, the choices and the lines that are read, and the
 -- book; the rows of an identity; the answers to records, choices and other rulings, and the lists
--- of a period; rows in groups and in order, and the disputes; the numbers that fit, and the lists
--- that can be shown.
+-- of a period; rows in groups and in order, and the disputes; the numbers that fit; how long an
+-- identity is; the tables under the second rule of it; and the lists that can be shown.
 pub mod Texts
 pub mod ListOrder
 pub mod Finding
@@ -32,5 +32,7 @@ pub mod DisputedRows
 pub mod DisputeLemmas
 pub mod PriceSums
 pub mod FitsLemmas
+pub mod IdentityLengths
+pub mod AdoptionLemmas
 pub mod ShownLemmas
 pub mod ShownDisputes

@@ -1,7 +1,7 @@
 -- Books that calls made can be read back.
 use Rattle.std.proofs.Common.{◌≡◌, ℕ, ◌+◌, List, [], ◌∷◌, length, refl, sym, ap, ◌∙◌, subst, true}
-use Rattle.std.proofs.Common.{false, true≢false, Some, None, Ok, Err, arith}
-use Rattle.std.specs.Prelude.{◌≤◌, ◌<◌, ◌==◌, nat_le, if◌then◌else◌, All, sum_by, ℤ}
+use Rattle.std.proofs.Common.{true≢false, Option, Some, None, Ok, Err, arith}
+use Rattle.std.specs.Prelude.{◌≤◌, ◌<◌, ◌==◌, nat_le, if◌then◌else◌, All, sum_by, unwrap_or, ℤ}
 use Rattle.std.specs.List.{filter_map, list_any}
 use Rattle.std.specs.List.Sorted.{IsStrictlySortedBy}
 use Rattle.std.specs.Ordering.{int_cmp}
@@ -12,7 +12,7 @@ use Rattle.std.proofs.lemmas.List.Elements.{All-nil, All-push, All-weaker}
 use Rattle.book_model.specs.Words.{IsDay, IsPriced, Terms, accept_answer, accept_priced, clashes}
 use Rattle.book_model.specs.Words.{is_full, total_of, IsAnswered, Book, new_book, open_number}
 use Rattle.book_model.specs.Words.{Event, RecordKept, TariffAccepted, PeriodClosed, RecordChosen}
-use Rattle.book_model.specs.Words.{SecondRuleAdopted, keep, has_text, is_effective, is_later}
+use Rattle.book_model.specs.Words.{SecondRuleAdopted, adopt, keep, has_text, is_effective, is_later}
 use Rattle.book_model.specs.Words.{is_too_dear, with_tariff}
 use Rattle.book_model.specs.Words.{put_in_force, close, book_after, most_held, most_cost}
 use Rattle.book_model.specs.Words.{last_period, Naming, IsUsageRecord, by_bytes, terms_answer}
@@ -38,12 +38,11 @@ use Rattle.kept_tables.proofs.LinesStay.{lines_stay}
 use Rattle.kept_tables.proofs.RecordChanges.{book_row-with}
 use Rattle.table_readings.specs.FromCalls.{ArePriced, IsHandedIn, IsReadFrom, AreHandedIn}
 use Rattle.table_readings.specs.Laws.{CallsRead}
-use Rattle.table_readings.specs.Readable.{IsTexted, IsChain, IsContested, IsWithinLimits}
-use Rattle.table_readings.specs.Readable.{IsReadable}
+use Rattle.table_readings.specs.Readable.{IsBegun, IsTexted, IsTimely, IsChain}
+use Rattle.table_readings.specs.Readable.{IsReadable, IsWithinLimits}
 use Rattle.table_readings.proofs.ChainLemmas.{chain_of}
 use Rattle.table_readings.proofs.CloseOrder.{rise_behind}
 use Rattle.table_readings.proofs.PassedTests.{choice_tests, has_room, kept_tests, room_behind}
-use Rattle.table_readings.proofs.Rivals.{rivalled_with}
 
 -- What each event keeps of a book that can be read back, beside its soundness.
 record IsGrown (book : Book) : Type 0 where
@@ -54,8 +53,8 @@ record IsGrown (book : Book) : Type 0 where
   texts : All IsTexted book.rulings.tariffs
   days : All IsDay book.rulings.closes
   in_order : IsStrictlySortedBy int_cmp book.rulings.closes
-  contested : All (IsContested book) book.rulings.choices
-  first_rule : book.rulings.adopted ≡ None
+  timely : All (IsTimely book) book.rulings.choices
+  adopted : (period : ℕ) → book.rulings.adopted ≡ Some period → IsBegun book period
   limits : IsWithinLimits book
 
 -- new books hold no record
@@ -78,8 +77,8 @@ start_grown = record {
   texts = All-nil IsTexted;
   days = All-nil IsDay;
   in_order = tt;
-  contested = All-nil (IsContested new_book);
-  first_rule = refl;
+  timely = All-nil (IsTimely new_book);
+  adopted = λ period none. cc;
   limits = record {
     held = subst (λ n. n ≤ most_held) (sym no_records) (omega arith);
     cost = subst (λ n. n ≤ most_cost) (sym no_cost) (omega arith);
@@ -88,20 +87,19 @@ start_grown = record {
   };
 }
 
--- choices stay contested where rivals do, and periods that have begun
-still_contested : {book : Book} (after : Book) (choices : List Choice)
-    → ((one : List ℕ) → is_unrivalled book.rulings book.held one ≡ false
-    → is_unrivalled after.rulings after.held one ≡ false)
+-- a period that has begun has begun in all books after
+still_begun : {book : Book} (after : Book) (period : ℕ) → open_number book ≤ open_number after
+    → IsBegun book period → IsBegun after period
+still_begun {book} after period later was =
+    let begun = was.begun in record { numbered = was.numbered; begun = omega arith }
+
+-- so do the periods of choices
+still_timely : {book : Book} (after : Book) (choices : List Choice)
     → open_number book ≤ open_number after
-    → All (IsContested book) choices → All (IsContested after) choices
-still_contested {book} after choices rivals later all =
-    All-weaker (IsContested book) (IsContested after) (λ choice was.
-    let begun = was.begun in
-    record {
-      rivalled = rivals choice.chosen was.rivalled;
-      numbered = was.numbered;
-      begun = omega arith;
-    }) choices all
+    → All (IsTimely book) choices → All (IsTimely after) choices
+still_timely {book} after choices later =
+    All-weaker (IsTimely book) (IsTimely after)
+    (λ choice. still_begun {book = book} after choice.period later) choices
 
 module _ (naming : Naming) (book : Book) (sound : IsSound naming book) (grown : IsGrown book) where
   -- a record that is kept
@@ -135,10 +133,10 @@ module _ (naming : Naming) (book : Book) (sound : IsSound naming book) (grown : 
         texts = grown.texts;
         days = grown.days;
         in_order = grown.in_order;
-        contested = still_contested (keep bytes book) book.rulings.choices
-            (λ one. rivalled_with book.rulings book.held bytes one) (omega arith)
-            grown.contested;
-        first_rule = grown.first_rule;
+        timely = still_timely {book = book} (keep bytes book) book.rulings.choices (omega arith)
+            grown.timely;
+        adopted = λ period is. still_begun {book = book} (keep bytes book) period (omega arith)
+            (grown.adopted period is);
         limits = record {
           held = subst (λ n. n ≤ most_held) (sym count) room.0;
           cost = subst (λ n. n ≤ most_cost) (sym amount) room.1;
@@ -165,9 +163,10 @@ module _ (naming : Naming) (book : Book) (sound : IsSound naming book) (grown : 
             grown.texts (record { text = text; is = refl; said = said.said; day = said.day });
         days = grown.days;
         in_order = grown.in_order;
-        contested = still_contested (put_in_force (Some text) terms book) book.rulings.choices
-            (λ one rivalled. rivalled) (omega arith) grown.contested;
-        first_rule = grown.first_rule;
+        timely = still_timely {book = book} (put_in_force (Some text) terms book)
+            book.rulings.choices (omega arith) grown.timely;
+        adopted = λ period is. still_begun {book = book} (put_in_force (Some text) terms book)
+            period (omega arith) (grown.adopted period is);
         limits = record {
           held = grown.limits.held;
           cost = ltb-false most_cost (total_of ruled book.held) fits;
@@ -194,9 +193,10 @@ module _ (naming : Naming) (book : Book) (sound : IsSound naming book) (grown : 
         days = All-push IsDay book.rulings.closes day grown.days on;
         in_order = rise_behind book.rulings.closes day grown.in_order
             (calls_go_forward.close book number day done);
-        contested = still_contested (close day book) book.rulings.choices
-            (λ one rivalled. rivalled) (omega arith) grown.contested;
-        first_rule = grown.first_rule;
+        timely = still_timely {book = book} (close day book) book.rulings.choices (omega arith)
+            grown.timely;
+        adopted = λ period is. still_begun {book = book} (close day book) period (omega arith)
+            (grown.adopted period is);
         limits = record {
           held = grown.limits.held;
           cost = grown.limits.cost;
@@ -223,11 +223,12 @@ module _ (naming : Naming) (book : Book) (sound : IsSound naming book) (grown : 
         texts = grown.texts;
         days = grown.days;
         in_order = grown.in_order;
-        contested = All-push (IsContested (choose bytes book)) book.rulings.choices choice
-            (still_contested (choose bytes book) book.rulings.choices
-            (λ one rivalled. rivalled) (omega arith) grown.contested)
-            (record { rivalled = tests.0; numbered = omega arith; begun = omega arith });
-        first_rule = grown.first_rule;
+        timely = All-push (IsTimely (choose bytes book)) book.rulings.choices choice
+            (still_timely {book = book} (choose bytes book) book.rulings.choices (omega arith)
+            grown.timely)
+            (record { numbered = omega arith; begun = omega arith });
+        adopted = λ period is. still_begun {book = book} (choose bytes book) period (omega arith)
+            (grown.adopted period is);
         limits = record {
           held = grown.limits.held;
           cost = grown.limits.cost;
@@ -235,6 +236,34 @@ module _ (naming : Naming) (book : Book) (sound : IsSound naming book) (grown : 
           choices = omega arith;
         };
       }
+
+  -- the second rule of identity that is adopted: in a period before, or in the open one
+  adopt_grown : IsGrown (adopt book)
+  adopt_grown = record {
+    lines = lines_stay.adopt book grown.lines;
+    usage = grown.usage;
+    priced = grown.priced;
+    texts = grown.texts;
+    days = grown.days;
+    in_order = grown.in_order;
+    timely = still_timely {book = book} (adopt book) book.rulings.choices (omega arith)
+        grown.timely;
+    adopted = λ period is. still_begun {book = book} (adopt book) period (omega arith)
+        (adopted_in book.rulings.adopted refl period is);
+    limits = record {
+      held = grown.limits.held;
+      cost = grown.limits.cost;
+      closes = grown.limits.closes;
+      choices = grown.limits.choices;
+    };
+  }
+    where
+      adopted_in : (before : Option ℕ) → book.rulings.adopted ≡ before → (period : ℕ)
+          → Some (unwrap_or before (open_number book)) ≡ Some period → IsBegun book period
+      adopted_in None none period is =
+          let same : open_number book ≡ period = cc in
+          record { numbered = omega arith; begun = omega arith }
+      adopted_in (Some other) was period is = grown.adopted period (was ∙ is)
 
 -- the book of a history
 grown_after : (naming : Naming) (history : List Event) → IsAnswered naming history
@@ -256,7 +285,9 @@ grown_after naming (PeriodClosed day ∷ older) answered handed =
 grown_after naming (RecordChosen bytes ∷ older) answered handed =
     choose_grown naming (book_after older) (sound_after naming older answered.1)
     (grown_after naming older answered.1 handed) (name_of naming bytes) bytes answered.0 answered.2
-grown_after naming (SecondRuleAdopted ∷ older) answered handed = absurd handed
+grown_after naming (SecondRuleAdopted ∷ older) answered handed =
+    adopt_grown naming (book_after older) (sound_after naming older answered.1)
+    (grown_after naming older answered.1 handed)
 
 -- it can be read back
 readable_after : (naming : Naming) (history : List Event) → IsAnswered naming history
@@ -274,8 +305,8 @@ readable_after naming history answered handed =
           ∙ latest_is_last.rising naming history answered;
       days = grown.days;
       in_order = grown.in_order;
-      contested = grown.contested;
-      first_rule = grown.first_rule;
+      timely = grown.timely;
+      adopted = grown.adopted;
       past = subst IsChain (sym (books_follow_history history)) (chain_of history);
       limits = grown.limits;
     }

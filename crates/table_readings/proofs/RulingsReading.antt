@@ -1,7 +1,7 @@
--- The tariffs and the closes are read back from their tables.
+-- The tariffs, the closes and the rule of identity are read back from their tables.
 use Rattle.std.proofs.Common.{◌≡◌, ℕ, List, [], ◌∷◌, map, refl, sym, ap, ◌∙◌, true, false, Bool}
-use Rattle.std.proofs.Common.{◌&&◌, T, Some, arith, subst}
-use Rattle.std.specs.Prelude.{All, ℤ, int_lt, ◌<ℤ◌}
+use Rattle.std.proofs.Common.{◌&&◌, T, Option, Some, None, arith, subst}
+use Rattle.std.specs.Prelude.{All, ℤ, int_lt, ◌<ℤ◌, ◌==◌, if◌then◌else◌, is_some, unwrap_or}
 use Rattle.std.specs.Cmp.{int_cmp_is, int_cmp_total, nat_cmp_total}
 use Rattle.std.specs.FinMap.{from_entries, entries, values, int_cmp-IsAntisymmetric}
 use Rattle.std.specs.FinMap.{nat_cmp-IsAntisymmetric}
@@ -12,12 +12,14 @@ use Rattle.std.specs.Ordering.{int_cmp, nat_cmp, is_lt}
 use Rattle.std.specs.declared.cmp.Ordering.TheVariants.{Less}
 use Rattle.std.proofs.lemmas.Int.{ints}
 use Rattle.std.proofs.lemmas.List.Elements.{All-head, All-tail}
-use Rattle.book_model.specs.Words.{terms_in, Tariffed, are_rising}
+use Rattle.book_model.specs.Words.{terms_in, Records, Rulings, Tariffed, are_rising}
+use Rattle.book_model.specs.Words.{first_rule, second_rule}
 use Rattle.book_model.proofs.FilterLemmas.{entries-sorted}
 use Rattle.book_model.proofs.RecordSets.{first_of, second_of}
-use Rattle.kept_tables.specs.TablesOf.{tariff_entries, close_entries}
+use Rattle.kept_tables.specs.Tables.{never_adopted}
+use Rattle.kept_tables.specs.TablesOf.{book_row, tariff_entries, close_entries}
 use Rattle.kept_tables.proofs.ViewLemmas.{closes_rise, closes_days}
-use Rattle.table_readings.specs.BookIn.{tariff_read, tariff_saying}
+use Rattle.table_readings.specs.BookIn.{adopted_read, tariff_read, tariff_saying}
 use Rattle.table_readings.specs.Readable.{IsTexted}
 
 -- both of two tests that hold
@@ -94,3 +96,14 @@ pub closes_back : (closes : List ℤ)
     → values (from_entries {R = nat_cmp} (close_entries 1 closes)) ≡ closes
 closes_back closes =
     ap (map (λ (e : ℕ × ℤ). e.1)) (closes_kept closes) ∙ closes_days 1 closes
+
+-- the second rule of identity is read back from the row of the book
+pub adopted_back : (rulings : Rulings) (held : Records)
+    → adopted_read (book_row rulings held) ≡ rulings.adopted
+adopted_back rulings held =
+    elim rulings.adopted as (λ (adopted : Option ℕ).
+    (if (if is_some adopted then second_rule else first_rule) == second_rule
+    then Some (unwrap_or adopted never_adopted) else None) ≡ adopted) [
+      | None ↦ refl
+      | Some period ↦ refl
+    ]

@@ -1,15 +1,13 @@
 -- The disputes that are answered from the tables can be shown.
-use Rattle.std.proofs.Common.{◌≡◌, ℕ, Bool, List, [], ◌∷◌, length, sym, ap, ◌∙◌, subst, true, arith}
-use Rattle.std.proofs.Common.{inl}
-use Rattle.std.specs.Prelude.{◌<◌, All}
+use Rattle.std.proofs.Common.{◌≡◌, ℕ, Bool, List, [], ◌∷◌, length, sym, subst, true, arith}
+use Rattle.std.specs.Prelude.{◌<◌, ◌⊎◌, All}
 use Rattle.std.specs.List.{AllByRecursion}
 use Rattle.std.proofs.lemmas.Bool.Decides.{nat_tests}
 use Rattle.std.proofs.lemmas.List.Elements.{All-from_recursion, All-map}
-use Rattle.book_model.specs.Words.{IsDay, identity_length, Book, IsDispute, AreDisputes, dispute_at}
+use Rattle.book_model.specs.Words.{IsDay, identity_length, identity2_length, Book}
+use Rattle.book_model.specs.Words.{IsDispute, AreDisputes, dispute_at}
 use Rattle.book_model.specs.Words.{identities, is_in_dispute, Naming, identity_by}
-use Rattle.smf_type30.proofs.IdentityLength.{identity-long}
 use Rattle.book_model.specs.declared.dispute.Variant.{Variant}
-use Rattle.book_model.proofs.UnchosenLemmas.{identity_by-first}
 use Rattle.kept_tables.specs.TablesOf.{tables_of}
 use Rattle.table_readings.specs.DisputesRead.{NamedRow, disputes_read, variant_read}
 use Rattle.table_readings.specs.Readable.{IsReadable}
@@ -19,18 +17,20 @@ use Rattle.table_readings.proofs.DisputedIdentities.{disputed, is_shared}
 use Rattle.table_readings.proofs.DisputedRecords.{block, block_own}
 use Rattle.table_readings.proofs.DisputedRows.{AreListed, first_listed, listed_entries, each_entry}
 use Rattle.table_readings.proofs.DisputedRows.{all_shown}
+use Rattle.table_readings.proofs.IdentityLengths.{identity_by-long}
 use Rattle.table_readings.proofs.ListOrder.{all_passing, all_so}
 use Rattle.table_readings.proofs.ShownLemmas.{rows_show, lines_show}
 
 module _ (naming : Naming) (book : Book) (whole : IsReadable naming book) where
-  -- an identity that records have has the length that its parts need
+  -- an identity that records have has the length that its parts need by the rule in force
   long_identity : (id : List ℕ) (ks : List (List ℕ)) → AreListed naming book whole.sound ks
       → AllByRecursion (λ bytes. identity_by book.rulings bytes ≡ id) ks → 0 < length ks
-      → length id ≡ identity_length
+      → (length id ≡ identity_length) ⊎ (length id ≡ identity2_length)
   long_identity id [] held own some = absurd (omega arith)
   long_identity id (k ∷ ks) held own some =
-      ap length (sym own.0 ∙ identity_by-first book.rulings whole.first_rule k)
-      ∙ identity-long k (whole.usage k (first_listed naming book whole.sound k ks held)).usage
+      subst (λ id. (length id ≡ identity_length) ⊎ (length id ≡ identity2_length)) own.0
+      (identity_by-long book.rulings k
+      (whole.usage k (first_listed naming book whole.sound k ks held)).usage)
 
   -- so the dispute of one that two or more have can be shown
   dispute_shows : (id : List ℕ) → is_shared naming book.rulings book.held id ≡ true
@@ -45,7 +45,7 @@ module _ (naming : Naming) (book : Book) (whole : IsReadable naming book) where
       (λ bytes priced there price its. (whole.priced bytes priced there price).day) ks held
       (block_own naming book.rulings book.held id) in
       record {
-        identity = inl (long_identity id ks held (block_own naming book.rulings book.held id) some);
+        identity = long_identity id ks held (block_own naming book.rulings book.held id) some;
         days =
             subst (All (λ (member : Variant). IsDay member.priced.day))
             (all_shown naming book whole.sound whole.lines.framed ks held)

@@ -1,8 +1,8 @@
 -- What is answered to a record, by the tables.
-use Rattle.std.specs.Prelude.{ℕ, Bool, ◌+◌, ◌||◌, nat_lt, nat_le, if◌then◌else◌, List, length}
-use Rattle.std.specs.Prelude.{Option, Some, None, Result, Ok, Err, ℤ}
+use Rattle.std.specs.Prelude.{ℕ, Bool, true, false, ◌+◌, ◌||◌, nat_lt, nat_le, if◌then◌else◌}
+use Rattle.std.specs.Prelude.{List, length, Option, Some, None, Result, Ok, Err, ℤ}
 use Rattle.std.specs.FinMap.{get}
-use Rattle.std.specs.Option.{option_map}
+use Rattle.std.specs.Option.{option_map, option_map_or}
 use Rattle.book_model.specs.Words.{data_of, most_held, most_cost, Naming, name_of, same_bytes}
 use Rattle.book_model.specs.Words.{Rulings, open_by, price_in, identity_by}
 use Rattle.tariff_rules.specs.declared.priced.Priced.{Priced}
@@ -13,8 +13,9 @@ use Rattle.book_model.specs.declared.fault.LedgerFault.TheVariants.{Full, Digest
 use Rattle.book_core.specs.Effects.{effects_of}
 use Rattle.book_core.specs.declared.effect_table.View.{View}
 use Rattle.kept_tables.specs.TableChanges.{put_new}
-use Rattle.kept_tables.specs.Tables.{BookRow, RecordRow, Tables}
-use Rattle.kept_tables.specs.Views.{only_of, member_at, view_in}
+use Rattle.kept_tables.specs.Tables.{BookRow, ChoiceTable, RecordRow, Tables}
+use Rattle.kept_tables.specs.Views.{is_named, lone_members, member_at, only_of, only_row}
+use Rattle.kept_tables.specs.Views.{rows_count, view_in}
 
 -- by the row of the book, no record of this price can be held too
 abbrev pub has_no_room : BookRow → ℕ → Bool
@@ -44,10 +45,25 @@ keep_read naming rulings bytes priced tables =
     put_new naming rulings (open_by rulings) bytes priced
     (effects_of (view_in tables (identity_by rulings bytes)) (name_of naming bytes) priced) tables
 
--- the view by some rows of an identity: the first two are enough
-abbrev pub view_with : Option ℤ → List (List ℕ × RecordRow) → View
-view_with through rows = record {
+-- The view by some rows of an identity: the first two are enough. Of all of them it is the view in
+-- the tables.
+abbrev pub view_with : Option ℤ → ChoiceTable → List (List ℕ × RecordRow) → View
+view_with through choices rows = record {
   through = through;
-  members = length rows;
-  only = option_map member_at (only_of rows);
+  members = rows_count choices rows;
+  only = only_row choices rows;
+}
+
+-- there is one row alone, and some choice names it
+abbrev pub is_one_named : ChoiceTable → List (List ℕ × RecordRow) → Bool
+is_one_named choices rows =
+    option_map_or {T = List ℕ × RecordRow} (λ one. is_named choices one.0) (only_of rows) false
+
+-- The view, once it is known whether there is one row alone that some choice names: that stands for
+-- two.
+abbrev pub view_told : Option ℤ → Bool → List (List ℕ × RecordRow) → View
+view_told through named rows = record {
+  through = through;
+  members = if named then lone_members true else length rows;
+  only = if named then None else option_map member_at (only_of rows);
 }

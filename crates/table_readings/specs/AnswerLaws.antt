@@ -1,24 +1,27 @@
 -- The laws of answers: of a book that can be read back, each is what its tables say.
 use Rattle.std.specs.Prelude.{◌≡◌, ℕ, ◌≤◌, ◌==◌, false, filter, length, List, Some, None, Ok, ℤ}
 use Rattle.std.specs.Prelude.{int_lt, slice_get, take, unwrap_or, Option}
-use Rattle.std.specs.FinMap.{get, keys, values}
+use Rattle.std.specs.FinMap.{get, keys}
 use Rattle.std.specs.List.{last_or}
 use Rattle.std.specs.Option.{option_map}
 use Rattle.book_model.specs.Words.{Terms, accept_answer, Book, open_number, keep, put_in_force}
 use Rattle.book_model.specs.Words.{choose, choose_answer, close, Naming, IsUsageRecord}
 use Rattle.book_model.specs.Words.{terms_answer, close_answer, record_named}
-use Rattle.book_model.specs.Words.{price_in, price_by, IsPriced, with_tariff}
+use Rattle.book_model.specs.Words.{price_in, price_by, IsPriced, with_tariff, last_close}
+use Rattle.book_model.specs.Words.{adopt, adopt_answer, first_rule, second_rule, identity2_length}
 use Rattle.tariff_rules.specs.declared.priced.Priced.{Priced}
 use Rattle.book_model.specs.declared.answer.Accepted.TheVariants.{Kept}
 use Rattle.book_model.specs.declared.answer.Ruled.TheVariants.{Done}
 use Rattle.book_core.specs.Effects.{effects_of}
 use Rattle.kept_tables.specs.MapChanges.{updated}
-use Rattle.kept_tables.specs.TableChanges.{close_tables, put_tariff, post}
-use Rattle.kept_tables.specs.Tables.{RecordRow, RecordTable}
+use Rattle.kept_tables.specs.TableChanges.{adopt_tables, by_second_rule, close_tables}
+use Rattle.kept_tables.specs.TableChanges.{put_tariff, post}
+use Rattle.kept_tables.specs.Tables.{ChoiceTable, RecordRow, RecordTable, never_adopted}
 use Rattle.kept_tables.specs.TablesOf.{tables_of}
-use Rattle.kept_tables.specs.Views.{current_in, member_at, rows_with, view_in}
-use Rattle.table_readings.specs.AcceptRead.{accept_read, keep_read, view_with}
-use Rattle.table_readings.specs.BookIn.{record_of}
+use Rattle.kept_tables.specs.Views.{current_in, is_due_in, member_at, rows_with}
+use Rattle.table_readings.specs.AcceptRead.{accept_read, is_one_named, keep_read, view_told}
+use Rattle.table_readings.specs.AcceptRead.{view_with}
+use Rattle.table_readings.specs.BookIn.{adopted_read, record_of}
 use Rattle.table_readings.specs.Fits.{TablesFit}
 use Rattle.table_readings.specs.FromCalls.{ArePriced}
 use Rattle.table_readings.specs.Readable.{IsReadable}
@@ -41,21 +44,19 @@ pub record AcceptFollows : Type 0 where
       → tables_of naming (keep bytes book)
       ≡ keep_read naming book.rulings bytes priced (tables_of naming book)
 
--- as a record that was chosen is never alone in its identity, what a ledger looks at for a new one
--- are the rows of its identity
-abbrev pub ViewIsOfRows : Type 0
-ViewIsOfRows =
-    (naming : Naming) (book : Book) (identity : List ℕ) → IsReadable naming book
-    → view_in (tables_of naming book) identity
-    ≡ view_with (last_or None (values (tables_of naming book).closes))
-    (rows_with identity (tables_of naming book).records)
-
 -- the effects of a record hang on no more than two rows of its identity
 abbrev pub TwoAreEnough : Type 0
 TwoAreEnough =
-    (through : Option ℤ) (rows : List (List ℕ × RecordRow)) (name : List ℕ) (priced : Priced)
-    → effects_of (view_with through (take 2 rows)) name priced
-    ≡ effects_of (view_with through rows) name priced
+    (through : Option ℤ) (choices : ChoiceTable) (rows : List (List ℕ × RecordRow))
+    (name : List ℕ) (priced : Priced)
+    → effects_of (view_with through choices (take 2 rows)) name priced
+    ≡ effects_of (view_with through choices rows) name priced
+
+-- only where an identity has one row, the view hangs on whether a choice names it
+abbrev pub ViewIsTold : Type 0
+ViewIsTold =
+    (through : Option ℤ) (choices : ChoiceTable) (rows : List (List ℕ × RecordRow))
+    → view_told through (is_one_named choices rows) rows ≡ view_with through choices rows
 
 -- A tariff is answered by the rulings and by what the records' rows will cost; and where the rows
 -- that are dated on its first day or later have prices that can be, so have all records.
@@ -122,6 +123,31 @@ pub record ChoicesFollow : Type 0 where
       (slice_get (filter (λ row. row.1.charged)
       (rows_with identity (tables_of naming book).records)) 0)
       ≡ current_in (tables_of naming book) identity
+
+-- The tables under the second rule of identity are made of those before it, by a walk that gives
+-- each row its new identity, of that rule's length, and by one that charges. The row of the book
+-- tells the rule, and under the second one the period of its adoption.
+pub record AdoptionsFollow : Type 0 where
+  pub done :
+      (naming : Naming) (book : Book) → IsReadable naming book
+      → adopt_answer book second_rule ≡ Ok Done
+      → tables_of naming (adopt book)
+      ≡ adopt_tables (open_number book) (last_close book.rulings) is_due_in (tables_of naming book)
+  pub renamed :
+      (naming : Naming) (book : Book) (name : List ℕ) (row : RecordRow) → IsReadable naming book
+      → get (tables_of naming book).records name ≡ Some row
+      → length (by_second_rule row).identity ≡ identity2_length
+  pub first :
+      (naming : Naming) (book : Book) → book.rulings.adopted ≡ None
+      → ((tables_of naming book).book.rule ≡ first_rule)
+      × ((tables_of naming book).book.adopted ≡ never_adopted)
+  pub second :
+      (naming : Naming) (book : Book) (period : ℕ) → book.rulings.adopted ≡ Some period
+      → ((tables_of naming book).book.rule ≡ second_rule)
+      × ((tables_of naming book).book.adopted ≡ period)
+  pub told :
+      (naming : Naming) (book : Book)
+      → adopted_read (tables_of naming book).book ≡ book.rulings.adopted
 
 -- 64 bits with a sign hold the numbers of the tables
 abbrev pub NumbersFit : Type 0

@@ -1,15 +1,17 @@
 -- The book that tables tell, without the naming of its records.
-use Rattle.std.specs.Prelude.{ℕ, zero, suc, Bool, true, not, List, [], ◌∷◌, ◌++◌, map, filter}
-use Rattle.std.specs.Prelude.{length, Option, Some, None, Result, Ok, Err, ℤ, slice_get}
+use Rattle.std.specs.Prelude.{ℕ, zero, suc, ◌==◌, Bool, true, not, if◌then◌else◌, List, [], ◌∷◌}
+use Rattle.std.specs.Prelude.{◌++◌, map, filter, length, Option, Some, None, Result, Ok, Err, ℤ}
+use Rattle.std.specs.Prelude.{slice_get}
 use Rattle.std.specs.FinMap.{get, entries, values}
 use Rattle.std.specs.List.{filter_map}
 use Rattle.std.specs.Option.{option_map, option_and_then}
 use Rattle.book_model.specs.Words.{record_with, terms_in, Terms, Book, is_dated_after, Period}
-use Rattle.book_model.specs.Words.{Records, by_bytes, Rulings, Tariffed, no_rulings, set_of}
+use Rattle.book_model.specs.Words.{Records, by_bytes, Rulings, Tariffed, second_rule, set_of}
 use Rattle.book_model.specs.Words.{Choice, members, those, without}
 use Rattle.tariff_rules.specs.declared.fault.TariffFault.{TariffFault}
 use Rattle.kept_tables.specs.Numbered.{rows_under}
-use Rattle.kept_tables.specs.Tables.{ChoiceRow, RecordRow, RecordTable, Tables}
+use Rattle.kept_tables.specs.Tables.{BookRow, ChoiceRow, RecordRow, RecordTable}
+use Rattle.kept_tables.specs.Tables.{Tables}
 
 -- a tariff of this text, where it says terms
 abbrev pub tariff_saying : List ℕ → Result Terms TariffFault → Option Tariffed
@@ -30,13 +32,18 @@ choice_read records row =
     option_map (λ found. record { chosen = record_of found; period = row.period })
     (get records row.name)
 
--- The rulings: the tariffs in order of their first days, the closes in order of their periods, and
--- the choices in order of their numbers. No call adopts a rule.
+-- the period that was open when the second rule of identity was adopted, where that is in force
+abbrev pub adopted_read : BookRow → Option ℕ
+adopted_read row = if row.rule == second_rule then Some row.adopted else None
+
+-- The rulings: the tariffs in order of their first days, the closes in order of their periods, the
+-- choices in order of their numbers, and the rule of identity by the row of the book.
 abbrev pub rulings_in : Tables → Rulings
-rulings_in tables = record no_rulings {
+rulings_in tables = record {
   tariffs = filter_map tariff_read (entries tables.tariffs);
   closes = values tables.closes;
   choices = filter_map (choice_read tables.records) (values tables.choices);
+  adopted = adopted_read tables.book;
 }
 
 -- the records of the rows that pass a test

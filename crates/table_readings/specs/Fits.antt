@@ -3,7 +3,7 @@ use Rattle.std.specs.Prelude.{◌≡◌, ℕ, ◌≤◌, ◌<◌, ◌^◌, Bool,
 use Rattle.std.specs.Prelude.{ℤ}
 use Rattle.std.specs.FinMap.{get, values}
 use Rattle.book_model.specs.Words.{IsDay, IsName, IsPriced, most_held, most_cost, last_period}
-use Rattle.book_model.specs.Words.{IsUsageRecord, most_choices}
+use Rattle.book_model.specs.Words.{IsRule, IsUsageRecord, most_choices}
 use Rattle.book_model.specs.declared.row.ChargeRow.{ChargeRow}
 use Rattle.book_model.specs.declared.row.RowKey.{RowKey}
 use Rattle.kept_tables.specs.Tables.{ChoiceRow, RecordRow, RecordTable, Tables}
@@ -48,6 +48,8 @@ pub record DayFits (place : ℕ × RowKey) (row : ChargeRow) : Type 0 where
 
 -- all rows
 pub record TablesFit (tables : Tables) : Type 0 where
+  pub rule : IsRule tables.book.rule
+  pub adopted : tables.book.adopted ≤ last_period
   pub held : tables.book.held ≤ most_held
   pub amount : tables.book.amount ≤ most_cost
   pub chosen : length (values tables.choices) ≤ most_choices

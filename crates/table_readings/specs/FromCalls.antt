@@ -23,8 +23,8 @@ ArePriced rulings held =
     → price_in rulings bytes ≡ Some priced → IsPriced priced
 
 -- Each event is one of what calls hand in: no tariff comes without its text, nor makes a price that
--- can't be of a record that is held; periods are closed through days; and no rule is adopted. Of
--- the choice of a record nothing more is asked than that it was answered so.
+-- can't be of a record that is held; and periods are closed through days. Of the choice of a record
+-- and of the adoption of a rule nothing more is asked than that they were answered so.
 abbrev pub AreHandedIn : List Event → Type 0
 AreHandedIn [] = Unit {0}
 AreHandedIn (RecordKept bytes ∷ older) = IsHandedIn (rulings older) bytes × AreHandedIn older
@@ -34,7 +34,7 @@ AreHandedIn (TariffAccepted (Some text) terms ∷ older) =
 AreHandedIn (TariffAccepted None terms ∷ older) = ⊥
 AreHandedIn (PeriodClosed day ∷ older) = IsDay day × AreHandedIn older
 AreHandedIn (RecordChosen bytes ∷ older) = AreHandedIn older
-AreHandedIn (SecondRuleAdopted ∷ older) = ⊥
+AreHandedIn (SecondRuleAdopted ∷ older) = AreHandedIn older
 
 -- The book is the one that a history of calls leaves, from new books on.
 pub record IsFromCalls (naming : Naming) (book : Book) : Type 0 where

@@ -3,7 +3,7 @@
 use Rattle.std.specs.Prelude.{◌≡◌, ℕ, List, Some, Ok, ℤ}
 use Rattle.book_model.specs.Words.{IsDay, Terms, accept_answer, Book, new_book, keep, put_in_force}
 use Rattle.book_model.specs.Words.{close, choose, Naming, terms_answer, close_answer, with_tariff}
-use Rattle.book_model.specs.Words.{choose_answer, record_named}
+use Rattle.book_model.specs.Words.{adopt, adopt_answer, choose_answer, record_named, second_rule}
 use Rattle.book_model.specs.declared.answer.Accepted.TheVariants.{Kept}
 use Rattle.book_model.specs.declared.answer.Ruled.TheVariants.{Done}
 use Rattle.kept_tables.specs.TablesOf.{tables_of}
@@ -32,6 +32,9 @@ pub record CallsStay : Type 0 where
       (naming : Naming) (book : Book) (name bytes : List ℕ) → IsFromCalls naming book
       → choose_answer naming book name ≡ Ok Done
       → record_named naming book.held name ≡ Some bytes → IsFromCalls naming (choose bytes book)
+  pub adopt :
+      (naming : Naming) (book : Book) → IsFromCalls naming book
+      → adopt_answer book second_rule ≡ Ok Done → IsFromCalls naming (adopt book)
 
 -- books that calls made can be read back
 abbrev pub CallsRead : Type 0

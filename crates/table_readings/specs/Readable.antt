@@ -1,12 +1,12 @@
 -- What reading a book back from its tables rests on. Books that calls made have it.
-use Rattle.std.specs.Prelude.{◌≡◌, ℕ, zero, suc, ◌≤◌, ◌<◌, true, false, List, [], ◌∷◌, ◌++◌, length}
-use Rattle.std.specs.Prelude.{All, Some, None, Ok, ℤ}
+use Rattle.std.specs.Prelude.{◌≡◌, ℕ, zero, suc, ◌≤◌, ◌<◌, true, List, [], ◌∷◌, ◌++◌, length}
+use Rattle.std.specs.Prelude.{All, Some, Ok, ℤ}
 use Rattle.std.specs.List.Sorted.{IsStrictlySortedBy}
 use Rattle.std.specs.Ordering.{int_cmp}
 use Rattle.book_model.specs.Words.{IsDay, IsPriced, terms_in, total_of, Book, most_held, most_cost}
 use Rattle.book_model.specs.Words.{last_period, Period, period_by, Records, Naming, IsUsageRecord}
 use Rattle.book_model.specs.Words.{Tariffed, price_in, are_rising, members, has, IsSound}
-use Rattle.book_model.specs.Words.{AreDatedBy, Choice, is_unrivalled, most_choices, open_number}
+use Rattle.book_model.specs.Words.{AreDatedBy, Choice, most_choices, open_number}
 use Rattle.tariff_rules.specs.declared.priced.Priced.{Priced}
 use Rattle.kept_tables.specs.Reading.{HasLines}
 use Rattle.table_readings.specs.BookIn.{close_after}
@@ -34,12 +34,14 @@ pub record IsChain (book : Book) : Type 0 where
   pub dated : (k : ℕ) → k ≤ length book.rulings.closes
       → AreDatedBy (close_after k book.rulings.closes) (charged k)
 
--- A choice was one among records that contradict each other, which they do for ever; and it was
--- made in a period that has begun.
-pub record IsContested (book : Book) (choice : Choice) : Type 0 where
-  pub rivalled : is_unrivalled book.rulings book.held choice.chosen ≡ false
-  pub numbered : 0 < choice.period
-  pub begun : choice.period ≤ open_number book
+-- the number is that of a period which has begun: of the open one, or of one before it
+pub record IsBegun (book : Book) (period : ℕ) : Type 0 where
+  pub numbered : 0 < period
+  pub begun : period ≤ open_number book
+
+-- a choice was made in a period that has begun
+abbrev pub IsTimely : Book → Choice → Type 0
+IsTimely book choice = IsBegun book choice.period
 
 -- the books are within the office's limits
 pub record IsWithinLimits (book : Book) : Type 0 where
@@ -49,9 +51,9 @@ pub record IsWithinLimits (book : Book) : Type 0 where
   pub choices : length book.rulings.choices ≤ most_choices
 
 -- The book is sound and its lines can be read; the records measure work and have prices that can
--- be; the tariffs are known by their texts and in order; the closes are days and in order; whatever
--- was chosen has a rival; the second rule of identity was not adopted; the closed periods hang
--- together; and the book is within the limits.
+-- be; the tariffs are known by their texts and in order; the closes are days and in order; choices
+-- were made, and the second rule of identity was adopted, if it was, in periods that have begun;
+-- the closed periods hang together; and the book is within the limits.
 pub record IsReadable (naming : Naming) (book : Book) : Type 0 where
   pub sound : IsSound naming book
   pub lines : HasLines book
@@ -62,7 +64,7 @@ pub record IsReadable (naming : Naming) (book : Book) : Type 0 where
   pub rising : are_rising book.rulings.tariffs ≡ true
   pub days : All IsDay book.rulings.closes
   pub in_order : IsStrictlySortedBy int_cmp book.rulings.closes
-  pub contested : All (IsContested book) book.rulings.choices
-  pub first_rule : book.rulings.adopted ≡ None
+  pub timely : All (IsTimely book) book.rulings.choices
+  pub adopted : (period : ℕ) → book.rulings.adopted ≡ Some period → IsBegun book period
   pub past : IsChain book
   pub limits : IsWithinLimits book

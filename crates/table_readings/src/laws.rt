@@ -1,9 +1,9 @@
 //! Laws of what is read back from kept tables, which hold over their definitions alone. Each stands
 //! on a function that does nothing.
 
-ghost use Rattle.table_readings.specs.AnswerLaws.{AcceptFollows, ChoicesFollow, ClosingFollows};
-ghost use Rattle.table_readings.specs.AnswerLaws.{NumbersFit, TermsFollow, TwoAreEnough};
-ghost use Rattle.table_readings.specs.AnswerLaws.{ViewIsOfRows};
+ghost use Rattle.table_readings.specs.AnswerLaws.{AcceptFollows, AdoptionsFollow, ChoicesFollow};
+ghost use Rattle.table_readings.specs.AnswerLaws.{ClosingFollows, NumbersFit, TermsFollow};
+ghost use Rattle.table_readings.specs.AnswerLaws.{TwoAreEnough, ViewIsTold};
 ghost use Rattle.table_readings.specs.Laws.{BookFollows, CallsRead, CallsStay, TablesTell};
 ghost use Rattle.table_readings.specs.ListLaws.{DisputesFollow, ListsFollow, ListsShow};
 
@@ -33,9 +33,10 @@ pub fn accept_follows()
     ensures { AcceptFollows }
 {}
 
-/// What a ledger looks at for a new record are the rows of its identity.
-pub fn view_is_of_rows()
-    ensures { ViewIsOfRows }
+/// Only where an identity has one row, what a ledger looks at for a new record hangs on whether a
+/// choice names it.
+pub fn view_is_told()
+    ensures { ViewIsTold }
 {}
 
 /// The effects of a record hang on no more than two rows of its identity.
@@ -52,6 +53,12 @@ pub fn terms_follow()
 /// choices; and where it is done, the tables after it are made of those before it.
 pub fn choices_follow()
     ensures { ChoicesFollow }
+{}
+
+/// The tables under the second rule of identity are made of those before it, and their row of the
+/// book tells the rule.
+pub fn adoptions_follow()
+    ensures { AdoptionsFollow }
 {}
 
 /// The tables after a close are made of those before it; and to post records is to update the rows

@@ -5,7 +5,7 @@
 mod laws;
 
 pub use laws::{
-    accept_follows, book_follows, calls_read, calls_stay, choices_follow, closing_follows,
-    disputes_follow, lists_follow, lists_show, numbers_fit, tables_tell, terms_follow,
-    two_are_enough, view_is_of_rows,
+    accept_follows, adoptions_follow, book_follows, calls_read, calls_stay, choices_follow,
+    closing_follows, disputes_follow, lists_follow, lists_show, numbers_fit, tables_tell,
+    terms_follow, two_are_enough, view_is_told,
 };

@@ -1,15 +1,19 @@
--- Choices: how one is written, what the last row of their tree shows, and which number the last of
--- a book's has.
+-- Choices: how one is written into the two trees, what the last row of their own shows, and which
+-- number the last of a book's has.
 use Rattle.std.proofs.Common.{◌≡◌, ◌∙◌, ◌<◌, ◌^◌, ℕ, pos, List, [], ◌∷◌, ◌++◌, Option, Some, None}
-use Rattle.std.proofs.Common.{◌+◌, false, true, suc, length, map, refl, reverse, sym, ap, arith}
+use Rattle.std.proofs.Common.{◌+◌, false, true, suc, length, map, refl, reverse, sym, ap, ap₂}
+use Rattle.std.proofs.Common.{arith}
 use Rattle.std.specs.Prelude.{unwrap_or}
 use Rattle.std.specs.Cmp.{nat_cmp_total}
-use Rattle.std.specs.FinMap.{entries, from_entries, insert, keys, nat_cmp-IsAntisymmetric}
+use Rattle.std.specs.FinMap.{entries, from_entries, get, insert, keys, nat_cmp-IsAntisymmetric}
 use Rattle.std.specs.List.{last_or}
+use Rattle.std.specs.Ordering.{nat_cmp}
 use Rattle.std.specs.Option.{option_map}
 use Rattle.std.proofs.lemmas.List.{map-append, reverse-append, reverse-reverse}
 use Rattle.sqlite_trees.proofs.ListLemmas.{map-map}
+use Rattle.sqlite_trees.specs.Tree.{insert_entry}
 use Rattle.sqlite_trees.specs.View.{View}
+use Rattle.sqlite_value.specs.Keys.{plain}
 use Rattle.sqlite_value.specs.Order.{Row, column}
 use Rattle.sqlite_value.specs.declared.value.Value.{Value}
 use Rattle.sqlite_value.specs.declared.value.Value.TheVariants.{Int}
@@ -17,30 +21,52 @@ use Rattle.book_model.specs.Words.{Choice, Naming}
 use Rattle.book_model.proofs.FilterLemmas.{entries-sorted}
 use Rattle.book_model.proofs.ListLemmas.{last_or-behind}
 use Rattle.kept_tables.specs.Steps.{put_choice_row}
-use Rattle.kept_tables.specs.Tables.{ChoiceRow, ChoiceTable}
+use Rattle.kept_tables.specs.Tables.{ChoiceRow, ChoiceTable, Tables}
 use Rattle.kept_tables.specs.TablesOf.{choice_entries}
 use Rattle.kept_tables.proofs.ViewLemmas.{choices_rise}
-use Rattle.tree_rows.specs.Rows.{IsFirst, Puts}
-use Rattle.tree_rows.proofs.Keyed.{rows_put}
+use Rattle.tree_rows.specs.Indexes.{IsIndexKey}
+use Rattle.tree_rows.specs.Rows.{IsFirst, Rewrites}
+use Rattle.tree_rows.proofs.Maps.{inserted}
 use Rattle.tree_tables.specs.Answers.{last_number}
-use Rattle.tree_tables.specs.Columns.{choice_columns}
+use Rattle.tree_tables.specs.Columns.{choice_columns, choice_name_columns}
 use Rattle.tree_tables.specs.Fits.{HasNumber}
-use Rattle.tree_tables.specs.Steps.{Always, Changes}
-use Rattle.tree_tables.proofs.Holding.{with_choices}
-use Rattle.tree_tables.proofs.Layouts.{choice_layout}
+use Rattle.tree_tables.specs.Holds.{Holds, by_chosen, choice_name_key}
+use Rattle.tree_tables.proofs.Holding.{apart, with_choices}
+use Rattle.tree_tables.proofs.Layouts.{by_chosen_exact, by_chosen_total}
+use Rattle.tree_tables.proofs.Layouts.{choice_layout, choice_name_layout}
+use Rattle.tree_tables.proofs.RecordIndexes.{index_row_added}
 
--- a choice that is put under its number is put into the table
-pub choice_put : {old new : View} {key row : Row} (number : ℕ) (name : List ℕ) (period : ℕ)
-    → Puts old new 8 key row → key ≡ Int (pos number) ∷ []
-    → row ≡ choice_columns (number, record { name = name; period = period })
-    → Changes old new Always (put_choice_row number name period)
-choice_put number name period puts key_is row_is = record {
-  only = puts.rewrites.only;
-  made = λ tables holds when.
-      let choice : ChoiceRow = record { name = name; period = period } in
-      with_choices holds (insert tables.choices number choice) puts.rewrites.others
-      (rows_put choice_layout tables.choices number choice puts holds.choices key_is row_is);
+-- the index key of a choice by the name of its record
+pub chosen_named :
+    IsIndexKey {V = ChoiceRow} nat_cmp by_chosen choice_name_key (λ (q : List ℕ × ℕ). q.1)
+chosen_named = record {
+  named = λ e. refl;
+  total = nat_cmp_total;
+  exact = nat_cmp-IsAntisymmetric;
+  index_total = by_chosen_total;
+  index_exact = by_chosen_exact;
 }
+
+-- The row of a new choice joins the choices, and its key the tree that finds them.
+pub choice_added : {old mid new : View} {tables : Tables} (number : ℕ) (name : List ℕ)
+    (period : ℕ) {made found : Row}
+    → Rewrites old mid 8 (insert_entry plain made (old.trees 8))
+    → Rewrites mid new 9 (insert_entry plain found (mid.trees 9))
+    → made ≡ choice_columns (number, record { name = name; period = period })
+    → found ≡ choice_name_columns ((name, number), tt)
+    → Holds old.trees tables → get tables.choices number ≡ None
+    → Holds new.trees (put_choice_row number name period tables)
+choice_added {old} {mid} {new} {tables} number name period first second made_is found_is holds
+    none =
+    let choice : ChoiceRow = record { name = name; period = period } in
+    with_choices holds (insert tables.choices number choice)
+    (λ other choices names. second.others other names ∙ first.others other choices)
+    (second.others 8 (apart 8 9 refl) ∙ first.rows_now
+    ∙ ap₂ (insert_entry plain) made_is holds.choices
+    ∙ inserted choice_layout tables.choices number choice none)
+    (second.rows_now
+    ∙ ap₂ (insert_entry plain) found_is (first.others 9 (apart 9 8 refl) ∙ holds.choice_names)
+    ∙ index_row_added chosen_named choice_name_layout tables.choices number choice none)
 
 -- what is made of the last is the last of what is made
 last_made : {X Y : Type 0} (f : X → Y) (was : Option X) (xs : List X)

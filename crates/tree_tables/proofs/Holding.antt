@@ -10,7 +10,8 @@ use Rattle.kept_tables.specs.Tables.{LineTable, RecordTable, Tables}
 use Rattle.tree_tables.specs.Columns.{book_columns, tariff_columns, closed_columns}
 use Rattle.tree_tables.specs.Columns.{record_columns, day_columns, line_columns}
 use Rattle.tree_tables.specs.Columns.{identity_columns, mark_columns, choice_columns}
-use Rattle.tree_tables.specs.Holds.{ArePlaced, Holds, identities, marks}
+use Rattle.tree_tables.specs.Columns.{choice_name_columns}
+use Rattle.tree_tables.specs.Holds.{ArePlaced, Holds, choice_names, identities, marks}
 
 -- each tree but one has the rows that it had
 abbrev pub SameBut : Trees → Trees → ℕ → Type 0
@@ -20,6 +21,10 @@ SameBut old new tree = (other : ℕ) → other ≢ tree → new other ≡ old ot
 abbrev pub SameButRecords : Trees → Trees → Type 0
 SameButRecords old new =
     (other : ℕ) → other ≢ 3 → other ≢ 6 → other ≢ 7 → new other ≡ old other
+
+-- each tree but the two of the choices
+abbrev pub SameButChoices : Trees → Trees → Type 0
+SameButChoices old new = (other : ℕ) → other ≢ 8 → other ≢ 9 → new other ≡ old other
 
 -- numbers that are written otherwise are others
 pub apart : (m n : ℕ) → (m == n) ≡ false → m ≢ n
@@ -39,6 +44,7 @@ module _ {old new : Trees} {tables : Tables} (holds : Holds old tables) where
     identities = same 6 (apart 6 0 refl) ∙ holds.identities;
     marks = same 7 (apart 7 0 refl) ∙ holds.marks;
     choices = same 8 (apart 8 0 refl) ∙ holds.choices;
+    choice_names = same 9 (apart 9 0 refl) ∙ holds.choice_names;
   }
 
   pub with_tariffs : (rows : TariffTable) → SameBut old new 1
@@ -54,6 +60,7 @@ module _ {old new : Trees} {tables : Tables} (holds : Holds old tables) where
     identities = same 6 (apart 6 1 refl) ∙ holds.identities;
     marks = same 7 (apart 7 1 refl) ∙ holds.marks;
     choices = same 8 (apart 8 1 refl) ∙ holds.choices;
+    choice_names = same 9 (apart 9 1 refl) ∙ holds.choice_names;
   }
 
   pub with_closes : (rows : ClosedTable) → SameBut old new 2
@@ -69,6 +76,7 @@ module _ {old new : Trees} {tables : Tables} (holds : Holds old tables) where
     identities = same 6 (apart 6 2 refl) ∙ holds.identities;
     marks = same 7 (apart 7 2 refl) ∙ holds.marks;
     choices = same 8 (apart 8 2 refl) ∙ holds.choices;
+    choice_names = same 9 (apart 9 2 refl) ∙ holds.choice_names;
   }
 
   pub with_days : (rows : DayTable) → ArePlaced rows → SameBut old new 4
@@ -84,6 +92,7 @@ module _ {old new : Trees} {tables : Tables} (holds : Holds old tables) where
     identities = same 6 (apart 6 4 refl) ∙ holds.identities;
     marks = same 7 (apart 7 4 refl) ∙ holds.marks;
     choices = same 8 (apart 8 4 refl) ∙ holds.choices;
+    choice_names = same 9 (apart 9 4 refl) ∙ holds.choice_names;
   }
 
   pub with_lines : (rows : LineTable) → SameBut old new 5
@@ -99,6 +108,7 @@ module _ {old new : Trees} {tables : Tables} (holds : Holds old tables) where
     identities = same 6 (apart 6 5 refl) ∙ holds.identities;
     marks = same 7 (apart 7 5 refl) ∙ holds.marks;
     choices = same 8 (apart 8 5 refl) ∙ holds.choices;
+    choice_names = same 9 (apart 9 5 refl) ∙ holds.choice_names;
   }
 
   pub with_records : (rows : RecordTable) → SameButRecords old new
@@ -117,19 +127,23 @@ module _ {old new : Trees} {tables : Tables} (holds : Holds old tables) where
     identities = identities_now;
     marks = marks_now;
     choices = same 8 (apart 8 3 refl) (apart 8 6 refl) (apart 8 7 refl) ∙ holds.choices;
+    choice_names = same 9 (apart 9 3 refl) (apart 9 6 refl) (apart 9 7 refl) ∙ holds.choice_names;
   }
 
-  pub with_choices : (rows : ChoiceTable) → SameBut old new 8
-      → new 8 ≡ map choice_columns (entries rows) → Holds new (record tables { choices = rows })
-  with_choices rows same now = record {
-    book = same 0 (apart 0 8 refl) ∙ holds.book;
-    tariffs = same 1 (apart 1 8 refl) ∙ holds.tariffs;
-    closes = same 2 (apart 2 8 refl) ∙ holds.closes;
-    records = same 3 (apart 3 8 refl) ∙ holds.records;
-    days = same 4 (apart 4 8 refl) ∙ holds.days;
+  pub with_choices : (rows : ChoiceTable) → SameButChoices old new
+      → new 8 ≡ map choice_columns (entries rows)
+      → new 9 ≡ map choice_name_columns (entries (choice_names rows))
+      → Holds new (record tables { choices = rows })
+  with_choices rows same now names_now = record {
+    book = same 0 (apart 0 8 refl) (apart 0 9 refl) ∙ holds.book;
+    tariffs = same 1 (apart 1 8 refl) (apart 1 9 refl) ∙ holds.tariffs;
+    closes = same 2 (apart 2 8 refl) (apart 2 9 refl) ∙ holds.closes;
+    records = same 3 (apart 3 8 refl) (apart 3 9 refl) ∙ holds.records;
+    days = same 4 (apart 4 8 refl) (apart 4 9 refl) ∙ holds.days;
     placed = holds.placed;
-    lines = same 5 (apart 5 8 refl) ∙ holds.lines;
-    identities = same 6 (apart 6 8 refl) ∙ holds.identities;
-    marks = same 7 (apart 7 8 refl) ∙ holds.marks;
+    lines = same 5 (apart 5 8 refl) (apart 5 9 refl) ∙ holds.lines;
+    identities = same 6 (apart 6 8 refl) (apart 6 9 refl) ∙ holds.identities;
+    marks = same 7 (apart 7 8 refl) (apart 7 9 refl) ∙ holds.marks;
     choices = now;
+    choice_names = names_now;
   }

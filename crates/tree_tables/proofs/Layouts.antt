@@ -4,7 +4,8 @@ use Rattle.std.proofs.Common.{arith}
 use Rattle.std.proofs.lemmas.Bool.Decides.{nat_tests}
 use Rattle.std.proofs.lemmas.Int.{ints}
 use Rattle.std.specs.Cmp.{nat_cmp_total}
-use Rattle.std.specs.FinMap.{int_cmp-IsAntisymmetric, nat_cmp-IsAntisymmetric}
+use Rattle.std.specs.Cmp.{IsTotalOrder}
+use Rattle.std.specs.FinMap.{IsAntisymmetric, int_cmp-IsAntisymmetric, nat_cmp-IsAntisymmetric}
 use Rattle.std.specs.Ordering.{int_cmp, nat_cmp, ordering_then}
 use Rattle.std.proofs.lemmas.Cmp.{nat_list_cmp_total, int_cmp_total}
 use Rattle.std.proofs.lemmas.Map.Lookups.{exact_bytes}
@@ -21,7 +22,9 @@ use Rattle.kept_tables.proofs.NumberedLemmas.{by_period_total, by_period_exact}
 use Rattle.tree_rows.specs.Indexes.{by_both, by_mark}
 use Rattle.tree_rows.specs.Layouts.{Layout}
 use Rattle.tree_rows.proofs.IndexOrders.{by_both_total, by_both_exact, by_mark_total, by_mark_exact}
+use Rattle.tree_rows.proofs.IndexOrders.{by_bytes_exact, parts_exact, parts_total}
 use Rattle.tree_tables.specs.Columns.{flag, text_of, place_columns}
+use Rattle.tree_tables.specs.Holds.{by_chosen}
 
 -- tariffs by their first days
 abbrev pub tariff_layout : Layout ℤ (Option (List ℕ)) int_cmp
@@ -105,6 +108,25 @@ choice_layout = record {
   exact = nat_cmp-IsAntisymmetric;
   alike = λ k l. refl;
   ordered = λ k l. then-Equal _ ∙ value_cmp-Int (pos k) (pos l) ∙ numbers k l;
+}
+
+-- names that choices name, and the numbers of the choices, are ordered
+pub by_chosen_total : IsTotalOrder by_chosen
+by_chosen_total = parts_total nat_list_cmp_total nat_cmp_total
+
+pub by_chosen_exact : IsAntisymmetric by_chosen
+by_chosen_exact = parts_exact by_bytes_exact nat_cmp-IsAntisymmetric
+
+-- the names of chosen records with the numbers of the choices, which stand in keys alone
+abbrev pub choice_name_layout : Layout (List ℕ × ℕ) (Unit {0}) by_chosen
+choice_name_layout = record {
+  key = λ place. Blob place.0 ∷ Int (pos place.1) ∷ [];
+  rest = λ nothing. [];
+  total = by_chosen_total;
+  exact = by_chosen_exact;
+  alike = λ k l. refl;
+  ordered = λ k l. ap₂ ordering_then (value_cmp-Blob k.0 l.0)
+      (then-Equal _ ∙ value_cmp-Int (pos k.1) (pos l.1) ∙ numbers k.1 l.1);
 }
 
 -- identities with the names that have them, which stand in keys alone

@@ -8,14 +8,16 @@ pub mod RowsRead
 pub mod TheBook
 pub mod NewTables
 pub mod Rulings
-pub mod ChoiceRows
 pub mod RecordIndexes
+pub mod ChoiceRows
+pub mod ChosenNames
 pub mod Records
 pub mod FoundNames
 pub mod RecordLists
 pub mod ChargedRows
 pub mod Posting
 pub mod Prices
+pub mod Renamed
 pub mod WalkNames
 pub mod Walked
 pub mod DayRows

@@ -4,7 +4,7 @@ use Rattle.std.proofs.Common.{ap, subst, true≢false, arith, rules}
 use Rattle.std.specs.Prelude.{IfErr, IsErr, IfOk, OnErr, OnOk}
 use Rattle.sqlite_disk.specs.Disk.{MoreFaults}
 use Rattle.sqlite_trees.specs.Tree.{Trees}
-use Rattle.sqlite_trees.specs.View.{View, IsClean, IsQuiet, KeepsCommitted}
+use Rattle.sqlite_trees.specs.View.{View, IsClean, IsFailure, IsQuiet, KeepsCommitted}
 use Rattle.sqlite_trees.specs.View.{OnlyWrites}
 use Rattle.sqlite_value.specs.Order.{Row}
 use Rattle.sqlite_trees.specs.declared.error.StoreError.{StoreError}
@@ -87,6 +87,13 @@ pub err_so : {A : Type 0} {One Other : StoreError → Type 0} (result : Result A
     → IfErr result One → ((error : StoreError) → One error → Other error) → IfErr result Other
 err_so (Ok answer) one so = tt
 err_so (Err error) one so = so error one
+
+-- a call that fails leaves what was committed
+pub kept_failed : {A : Type 0} (old new : View) (result : Result A StoreError)
+    → IfErr result (λ error. IsClean new → IsFailure old new error)
+    → OnErr result (IsClean new → KeepsCommitted old new)
+kept_failed old new (Ok answer) failed = tt
+kept_failed old new (Err error) failed = λ clean. (failed clean).kept
 
 -- a look alone leaves what was committed
 pub kept_same : {old new : View} → IsUnchanged old new → KeepsCommitted old new

@@ -12,14 +12,14 @@ use Rattle.sqlite_trees.specs.declared.store.Shape.TheVariants.{Index, Table}
 use Rattle.sqlite_value.specs.Keys.{plain}
 use Rattle.tree_tables.specs.Holds.{HasShapes}
 
--- nine trees of one kind
-abbrev nine : Object → List Object
-nine one = one ∷ one ∷ one ∷ one ∷ one ∷ one ∷ one ∷ one ∷ one ∷ []
+-- ten trees of one kind
+abbrev ten : Object → List Object
+ten one = one ∷ one ∷ one ∷ one ∷ one ∷ one ∷ one ∷ one ∷ one ∷ one ∷ []
 
--- a store with nine trees that are sorted by their rows has the trees of books
+-- a store with ten trees that are sorted by their rows has the trees of books
 pub has_shapes : (one : Object) (result : Result MemStore AllocError) → one.shape ≡ Index plain
     → IfOk result (λ store. (memory_view store).shape
-    ≡ set_at (set_at (shapes_of (nine one)) catalog_tree Table) version_tree Table)
+    ≡ set_at (set_at (shapes_of (ten one)) catalog_tree Table) version_tree Table)
     → IfOk result (λ store. (memory_view store).trees ≡ (memory_view store).committed)
     → IfOk result (λ store. HasShapes (memory_view store))
 has_shapes one (Err error) sorted shape clean = tt
@@ -33,5 +33,6 @@ has_shapes one (Ok store) sorted shape clean = record {
   identities = ap (λ s. s 6) shape ∙ sorted;
   marks = ap (λ s. s 7) shape ∙ sorted;
   choices = ap (λ s. s 8) shape ∙ sorted;
+  choice_names = ap (λ s. s 9) shape ∙ sorted;
   committed = sym (memory_is_unaltered store (ap (λ (t : Trees). t catalog_tree) clean)).0;
 }

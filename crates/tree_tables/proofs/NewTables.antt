@@ -17,10 +17,11 @@ use Rattle.tree_rows.specs.Indexes.{index_of, indexed_by}
 use Rattle.tree_rows.proofs.IndexOrders.{by_both_total, by_both_exact, by_mark_total, by_mark_exact}
 use Rattle.tree_tables.specs.Columns.{book_columns, tariff_columns, closed_columns, record_columns}
 use Rattle.tree_tables.specs.Columns.{day_columns, line_columns, identity_columns, mark_columns}
-use Rattle.tree_tables.specs.Columns.{choice_columns}
-use Rattle.tree_tables.specs.Holds.{Holds, identity_key, mark_key}
+use Rattle.tree_tables.specs.Columns.{choice_columns, choice_name_columns}
+use Rattle.tree_tables.specs.Holds.{Holds, choice_name_key, identity_key, mark_key}
 use Rattle.tree_tables.specs.States.{state}
 use Rattle.tree_tables.specs.Steps.{HasNoRows, Makes}
+use Rattle.tree_tables.proofs.Layouts.{by_chosen_exact, by_chosen_total}
 use Rattle.tree_tables.proofs.Looking.{Quiet, survives}
 
 -- a list of no length has nothing
@@ -53,7 +54,7 @@ module _ {old new : Trees} (order : Order) (row : Row) (none : HasNoRows old)
     (now : new ≡ with_tree old 0 (insert_entry order row (old 0)))
     (is : row ≡ book_columns new_tables.book) where
   -- each tree but that of the book has no rows still
-  still : (tree : ℕ) → tree < 9 → with_tree old 0 (insert_entry order row (old 0)) tree ≡ old tree
+  still : (tree : ℕ) → tree < 10 → with_tree old 0 (insert_entry order row (old 0)) tree ≡ old tree
       → new tree ≡ []
   still tree within other = ap (λ (trees : Trees). trees tree) now ∙ other ∙ none.empty tree within
 
@@ -75,6 +76,10 @@ module _ {old new : Trees} (order : Order) (row : Row) (none : HasNoRows old)
         ∙ sym (ap (λ m. map mark_columns (entries m))
         (no_index _ _ by_mark_total by_mark_exact mark_key) ∙ no_rows _ mark_columns);
     choices = still 8 (omega arith) refl ∙ sym (no_rows _ choice_columns);
+    choice_names = still 9 (omega arith) refl
+        ∙ sym (ap (λ m. map choice_name_columns (entries m))
+        (no_index _ _ by_chosen_total by_chosen_exact choice_name_key)
+        ∙ no_rows _ choice_name_columns);
   }
     where
       no_value : {V : Type 0} (value : V) → Some value ≡ None → ⊥

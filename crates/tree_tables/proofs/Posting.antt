@@ -67,6 +67,7 @@ with_indexed holds rows same now same_identities same_marks = record {
   marks = same 7 (apart 7 3 refl) ∙ holds.marks
       ∙ ap (λ places. map mark_columns (entries places)) (sym same_marks);
   choices = same 8 (apart 8 3 refl) ∙ holds.choices;
+  choice_names = same 9 (apart 9 3 refl) ∙ holds.choice_names;
 }
 
 -- the first row behind a walk's key is that of the first entry that is still to come

@@ -59,6 +59,10 @@ book_changed rows book row is =
     ∙ ap (λ b. insert_entry plain row (cond b (book_columns book ∷ []) []))
     (ap (λ o. not (is_eq o)) (tied_itself (entry_cmp_total plain) (book_columns book)))
 
+-- numbers that one column says are one
+same_number : (m n : ℕ) → Int (pos m) ≡ Int (pos n) → m ≡ n
+same_number m n e = cc
+
 -- columns that say the book's numbers make its row with other sums
 pub book_said : (row : Row) (book : BookRow) (rule adopted : ℕ) → row ≡ book_columns book
     → column row 1 ≡ Int (pos rule) → column row 2 ≡ Int (pos adopted)
@@ -67,9 +71,15 @@ book_said row book rule adopted is one two = (
   same_number rule book.rule (sym one ∙ ap (λ r. column r 1) is),
   same_number adopted book.adopted (sym two ∙ ap (λ r. column r 2) is),
 )
-  where
-    same_number : (m n : ℕ) → Int (pos m) ≡ Int (pos n) → m ≡ n
-    same_number m n e = cc
+
+-- and so are its sums
+pub sums_said : (row : Row) (book : BookRow) (held amount : ℕ) → row ≡ book_columns book
+    → column row 3 ≡ Int (pos held) → column row 4 ≡ Int (pos amount)
+    → (held ≡ book.held) × (amount ≡ book.amount)
+sums_said row book held amount is one two = (
+  same_number held book.held (sym one ∙ ap (λ r. column r 3) is),
+  same_number amount book.amount (sym two ∙ ap (λ r. column r 4) is),
+)
 
 -- the row of a book that says these numbers
 pub book_row_is : (row : Row) (one : BookRow) (other : StoredBook) (held amount : ℕ)
@@ -79,3 +89,12 @@ pub book_row_is : (row : Row) (one : BookRow) (other : StoredBook) (held amount 
 book_row_is row one other held amount is rule adopted held_is amount_is =
     is ∙ λ i. Int (pos 1) ∷ Int (pos (rule i)) ∷ Int (pos (adopted i)) ∷ Int (pos (held_is i))
     ∷ Int (pos (amount_is i)) ∷ []
+
+-- the row of a book under another rule
+pub book_ruled : (row : Row) (one : BookRow) (other : StoredBook) (rule adopted : ℕ)
+    → row ≡ book_columns (book_of other) → other.rule ≡ rule → other.adopted ≡ adopted
+    → other.held ≡ one.held → other.amount ≡ one.amount
+    → row ≡ book_columns (record one { rule = rule; adopted = adopted })
+book_ruled row one other rule adopted is rule_is adopted_is held amount =
+    is ∙ λ i. Int (pos 1) ∷ Int (pos (rule_is i)) ∷ Int (pos (adopted_is i)) ∷ Int (pos (held i))
+    ∷ Int (pos (amount i)) ∷ []

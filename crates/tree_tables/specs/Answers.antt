@@ -13,10 +13,12 @@ use Rattle.book_model.specs.declared.row.RowKey.{RowKey}
 use Rattle.kept_tables.specs.Numbered.{rows_under}
 use Rattle.kept_tables.specs.Reading.{rows_read}
 use Rattle.kept_tables.specs.Tables.{ChoiceTable, RecordRow, RecordTable, Tables}
-use Rattle.kept_tables.specs.Views.{rows_with}
+use Rattle.kept_tables.specs.Views.{is_named, rows_with}
 use Rattle.tree_rows.specs.Changes.{above}
-use Rattle.tree_tables.specs.Stored.{book_of, tariff_of, close_of, stored_entry, signed_name}
+use Rattle.tree_tables.specs.Stored.{book_of, choice_of, close_of, signed_name, stored_entry}
+use Rattle.tree_tables.specs.Stored.{tariff_of}
 use Rattle.tree_tables.specs.declared.book_row.StoredBook.{StoredBook}
+use Rattle.tree_tables.specs.declared.choice_rows.StoredChoice.{StoredChoice}
 use Rattle.tree_tables.specs.declared.closed_rows.Close.{Close}
 use Rattle.tree_tables.specs.declared.found_names.FoundName.{FoundName}
 use Rattle.tree_tables.specs.declared.line_rows.StoredLine.{StoredLine}
@@ -90,6 +92,14 @@ FindsCharged identity tables found =
 -- the number of the last choice, or 0 where there is none
 abbrev pub last_number : ChoiceTable → ℕ
 last_number choices = unwrap_or (last_or None (keys choices)) 0
+
+-- whether some choice names the record
+abbrev pub IsNamed : List ℕ → Tables → Bool → Type 0
+IsNamed name tables found = found ≡ is_named tables.choices name
+
+-- all choices, by their numbers
+abbrev pub ListsChoices : Tables → List StoredChoice → Type 0
+ListsChoices tables list = map choice_of list ≡ entries tables.choices
 
 -- the charge row of a period at a place, if there is one
 abbrev pub FindsDay : ℕ → RowKey → Tables → Option ChargeRow → Type 0

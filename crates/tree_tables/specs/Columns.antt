@@ -60,6 +60,10 @@ line_columns line = Int (pos line.0.0) ∷ Blob line.0.1 ∷ Int (pos (flag line
 abbrev pub choice_columns : ℕ × ChoiceRow → Row
 choice_columns choice = Int (pos choice.0) ∷ Blob choice.1.name ∷ Int (pos choice.1.period) ∷ []
 
+-- the name of a record that was chosen, and the number of the choice
+abbrev pub choice_name_columns : (List ℕ × ℕ) × Unit {0} → Row
+choice_name_columns entry = Blob entry.0.0 ∷ Int (pos entry.0.1) ∷ []
+
 -- an identity and the name of a record that has it
 abbrev pub identity_columns : (List ℕ × List ℕ) × Unit {0} → Row
 identity_columns entry = Blob entry.0.0 ∷ Blob entry.0.1 ∷ []

@@ -9,7 +9,8 @@ use Rattle.sqlite_value.specs.declared.value.Value.TheVariants.{Blob, Int, Text}
 use Rattle.book_model.specs.Words.{IsDay, IsName}
 use Rattle.kept_tables.specs.Numbered.{rows_under}
 use Rattle.kept_tables.specs.Tables.{RecordRow, Tables}
-use Rattle.tree_tables.specs.Columns.{day_columns, flag, line_columns, record_columns}
+use Rattle.tree_tables.specs.Columns.{choice_columns, day_columns, flag, line_columns}
+use Rattle.tree_tables.specs.Columns.{record_columns}
 use Rattle.tree_tables.specs.declared.found_names.FoundName.{FoundName}
 
 -- a column has a number that is not below 0
@@ -65,6 +66,12 @@ pub record CloseFits (row : Row) : Type 0 where
   pub period : HasPeriod (column row 0)
   pub through : HasDay (column row 1)
 
+-- a row has the number, the name and the period of a choice
+pub record ChoiceFits (row : Row) : Type 0 where
+  pub number : HasNumber (column row 0)
+  pub name : HasHash (column row 1)
+  pub period : HasPeriod (column row 2)
+
 -- a row has the place and the sums of a charge row
 pub record ChargeFits (row : Row) : Type 0 where
   pub day : HasDay (column row 1)
@@ -106,6 +113,10 @@ EndsInName row = HasHash (column row (length row - 1))
 pub record RowsFit (Fits : Row → Type 0) (rows : List Row) : Type 0 where
   pub fit : AllByRecursion Fits rows
   pub few : length rows ≤ 2 ^ 32
+
+-- the choices fit
+abbrev pub ChoicesFit : Tables → Type 0
+ChoicesFit tables = RowsFit ChoiceFits (map choice_columns (entries tables.choices))
 
 -- the charge rows of a period fit
 abbrev pub DaysFit : ℕ → Tables → Type 0

@@ -1,19 +1,24 @@
--- The trees that hold the tables: one a table, in the order of its key, and two more that find
--- records, by their identities and by their marks.
+-- The trees that hold the tables: one a table, in the order of its key, two more that find records,
+-- by their identities and by their marks, and one more that finds choices, by the names of the
+-- records that were chosen.
 use Rattle.std.specs.Prelude.{◌≡◌, ℕ, List, [], ◌∷◌, map, Some}
 use Rattle.std.specs.FinMap.{FinMap, entries, get}
+use Rattle.std.specs.Ordering.{nat_cmp}
+use Rattle.std.specs.declared.cmp.Ordering.{Ordering}
 use Rattle.sqlite_trees.specs.Tree.{Trees}
 use Rattle.sqlite_trees.specs.View.{View}
 use Rattle.sqlite_trees.specs.declared.store.Shape.TheVariants.{Index}
 use Rattle.sqlite_value.specs.Keys.{plain}
 use Rattle.book_model.specs.declared.row.ChargeRow.{ChargeRow}
 use Rattle.book_model.specs.declared.row.RowKey.{RowKey}
-use Rattle.kept_tables.specs.Tables.{DayTable, RecordRow, RecordTable, Tables}
+use Rattle.kept_tables.specs.Tables.{ChoiceRow, ChoiceTable, DayTable, RecordRow, RecordTable}
+use Rattle.kept_tables.specs.Tables.{Tables}
 use Rattle.kept_tables.specs.TablesOf.{place_of}
-use Rattle.tree_rows.specs.Indexes.{index_of, by_both, by_mark}
+use Rattle.tree_rows.specs.Indexes.{index_of, by_both, by_bytes, by_mark, by_parts}
 use Rattle.tree_tables.specs.Columns.{flag, book_columns, tariff_columns, closed_columns}
 use Rattle.tree_tables.specs.Columns.{record_columns, day_columns, line_columns}
 use Rattle.tree_tables.specs.Columns.{identity_columns, mark_columns, choice_columns}
+use Rattle.tree_tables.specs.Columns.{choice_name_columns}
 
 -- an identity with a name that has it
 abbrev pub identity_key : List ℕ × RecordRow → List ℕ × List ℕ
@@ -28,6 +33,17 @@ mark_key entry = (flag entry.1.charged, (entry.1.identity, entry.0))
 
 abbrev pub marks : RecordTable → FinMap by_mark (Unit {0})
 marks records = index_of mark_key records
+
+-- a name and a number, by the name and then by the number
+abbrev pub by_chosen : List ℕ × ℕ → List ℕ × ℕ → Ordering
+by_chosen = by_parts by_bytes nat_cmp
+
+-- the name of a record that was chosen, with the number of the choice
+abbrev pub choice_name_key : ℕ × ChoiceRow → List ℕ × ℕ
+choice_name_key entry = (entry.1.name, entry.0)
+
+abbrev pub choice_names : ChoiceTable → FinMap by_chosen (Unit {0})
+choice_names choices = index_of choice_name_key choices
 
 -- each charge row stands under its own place
 abbrev pub ArePlaced : DayTable → Type 0
@@ -46,6 +62,7 @@ pub record Holds (trees : Trees) (tables : Tables) : Type 0 where
   pub identities : trees 6 ≡ map identity_columns (entries (identities tables.records))
   pub marks : trees 7 ≡ map mark_columns (entries (marks tables.records))
   pub choices : trees 8 ≡ map choice_columns (entries tables.choices)
+  pub choice_names : trees 9 ≡ map choice_name_columns (entries (choice_names tables.choices))
 
 -- each of the trees is sorted by its whole rows, in this transaction and in the last commit
 pub record HasShapes (view : View) : Type 0 where
@@ -58,4 +75,5 @@ pub record HasShapes (view : View) : Type 0 where
   pub identities : view.shape 6 ≡ Index plain
   pub marks : view.shape 7 ≡ Index plain
   pub choices : view.shape 8 ≡ Index plain
+  pub choice_names : view.shape 9 ≡ Index plain
   pub committed : view.committed_shape ≡ view.shape

@@ -57,7 +57,7 @@ Always tables = Unit {0}
 
 -- none of the trees has a row
 pub record HasNoRows (trees : Trees) : Type 0 where
-  pub empty : (tree : ℕ) → tree < 9 → trees tree ≡ []
+  pub empty : (tree : ℕ) → tree < 10 → trees tree ≡ []
 
 -- New books are made where there are no rows; where the store fails, its last commit stands.
 pub record Makes {T : Type 0} (result : Result T StoreError) (old new : State) : Type 0 where

@@ -6,10 +6,11 @@ use Rattle.sqlite_value.specs.declared.value.Value.TheVariants.{Blob, Int}
 use Rattle.book_model.specs.declared.row.ChargeRow.{ChargeRow}
 use Rattle.book_model.specs.declared.row.RowKey.{RowKey}
 use Rattle.tariff_rules.specs.declared.priced.Priced.{Priced}
-use Rattle.kept_tables.specs.Tables.{BookRow, RecordRow, Tables}
+use Rattle.kept_tables.specs.Tables.{BookRow, ChoiceRow, RecordRow, Tables}
 use Rattle.kept_tables.specs.TablesOf.{place_of}
 use Rattle.tree_tables.specs.Columns.{flag}
 use Rattle.tree_tables.specs.declared.book_row.StoredBook.{StoredBook}
+use Rattle.tree_tables.specs.declared.choice_rows.StoredChoice.{StoredChoice}
 use Rattle.tree_tables.specs.declared.closed_rows.Close.{Close}
 use Rattle.tree_tables.specs.declared.line_rows.StoredLine.{StoredLine}
 use Rattle.tree_tables.specs.declared.record_rows.NewRecord.{NewRecord}
@@ -32,6 +33,16 @@ tariff_of tariff = (tariff.day, Some (string_bytes tariff.body))
 -- a close as an entry of its table
 abbrev pub close_of : Close → ℕ × ℤ
 close_of close = (close.period, close.through)
+
+-- a choice as an entry of its table
+abbrev pub choice_of : StoredChoice → ℕ × ChoiceRow
+choice_of choice = (choice.number, record { name = choice.name; period = choice.period })
+
+-- the columns are those of the choice
+pub record SaysChoice (row : Row) (choice : StoredChoice) : Type 0 where
+  pub number : column row 0 ≡ Int (pos choice.number)
+  pub name : column row 1 ≡ Blob choice.name
+  pub period : column row 2 ≡ Int (pos choice.period)
 
 -- a record that is to be written
 abbrev pub new_entry : NewRecord → List ℕ × RecordRow
@@ -63,6 +74,11 @@ stored_entry stored = (
 abbrev pub priced_entry : StoredRecord → Priced → List ℕ × RecordRow
 priced_entry stored priced =
     (stored.name, record (stored_entry stored).1 { priced = priced })
+
+-- it, where it has this identity
+abbrev pub renamed_entry : StoredRecord → List ℕ → List ℕ × RecordRow
+renamed_entry stored identity =
+    (stored.name, record (stored_entry stored).1 { identity = identity })
 
 -- it stands in the tables as it was read
 abbrev pub IsAsRead : StoredRecord → Tables → Type 0

@@ -63,6 +63,7 @@ fn read_book(row: &Row) -> Result<StoredBook, StoreError>
     ensures held { IfOk result (λ book. column row.now 3 ≡ Int (pos book.held)) }
     ensures amount { IfOk result (λ book. column row.now 4 ≡ Int (pos book.amount)) }
     ensures small { IfOk result (λ book. (book.rule < 2 ^ 63) × (book.adopted < 2 ^ 63)) }
+    ensures few { IfOk result (λ book. (book.held < 2 ^ 63) × (book.amount < 2 ^ 63)) }
     ensures taken { IfErr result (λ error. ¬ BookFits row.now) }
 {
     Ok(StoredBook {
@@ -85,6 +86,21 @@ fn with_sums(book: &StoredBook, sums: &Sums) -> StoredBook
         adopted: book.adopted,
         held: sums.held,
         amount: sums.amount,
+    }
+}
+
+/// The row under another rule of identity.
+fn with_rule(book: &StoredBook, rule: u64, period: u16) -> StoredBook
+    ensures rule { result.rule ≡ rule }
+    ensures adopted { result.adopted ≡ period }
+    ensures held { result.held ≡ book.now.held }
+    ensures amount { result.amount ≡ book.now.amount }
+{
+    StoredBook {
+        rule,
+        adopted: u64::from(period),
+        held: book.held,
+        amount: book.amount,
     }
 }
 
@@ -135,6 +151,21 @@ impl<S: Store> TreeTables<S> {
             return Err(StoreError::Corrupt);
         }
         let book = with_sums(&read_book(&self.before)?, sums);
+        book_row(&mut self.row, &book)?;
+        change_row(&mut self.store, BOOK, &self.before, &self.row)
+    }
+
+    /// The book is under this rule of identity, since a period.
+    pub fn set_rule(&mut self, rule: u64, period: u16) -> Result<(), StoreError>
+        requires { rule < 2 ^ 63 }
+        ensures does { Does result (state S.Store self.old.store) (state S.Store self.new.store)
+            Always (step.set_rule rule period) }
+    {
+        number_key(&mut self.key, FIRST)?;
+        if !find_row(&mut self.store, BOOK, &self.key, &mut self.before)? {
+            return Err(StoreError::Corrupt);
+        }
+        let book = with_rule(&read_book(&self.before)?, rule, period);
         book_row(&mut self.row, &book)?;
         change_row(&mut self.store, BOOK, &self.before, &self.row)
     }

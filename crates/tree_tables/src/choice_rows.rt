@@ -1,19 +1,33 @@
-//! Choices by their numbers.
+//! Choices by their numbers, and the tree that finds them by the names of the records.
 
-ghost use Rattle.std.specs.Prelude.{◌≡◌, OnOk};
-ghost use Rattle.tree_tables.specs.Columns.{choice_columns};
+ghost use Rattle.std.specs.Prelude.{◌≡◌, IfErr, IfOk, OnOk};
+ghost use Rattle.tree_tables.specs.Columns.{choice_columns, choice_name_columns};
+ghost use Rattle.tree_tables.specs.Fits.{ChoiceFits};
+ghost use Rattle.tree_tables.specs.Stored.{SaysChoice};
 
-use crate::cells::number_at;
-use crate::keys::choice_key;
+use crate::cells::{hash_at, number_at, period_at};
+use crate::keys::{bytes_key, choice_key};
 use crate::tables::TreeTables;
 use sqlite_trees::error::StoreError;
 use sqlite_trees::store::Store;
 use sqlite_value::row::Row;
 use sqlite_value::value::ValueRef;
-use tree_rows::{last_row, put_row};
+use std::alloc::Global;
+use tree_rows::{ReadRow, add_row, find_row, last_row, list_run};
 
 /// The tree of choices.
 const CHOICES: u32 = 8;
+
+/// The tree of the names that choices name.
+const CHOICE_NAMES: u32 = 9;
+
+/// A choice: its number, the name of the record that was chosen, and the period that was open then.
+#[derive(Clone, Copy, Drop)]
+pub struct StoredChoice {
+    pub number: u32,
+    pub name: [u8; 32],
+    pub period: u16,
+}
 
 /// Makes the row of a choice.
 fn choice_row(row: &mut Row, number: u32, name: &[u8], period: u16) -> Result<(), StoreError>
@@ -26,28 +40,81 @@ fn choice_row(row: &mut Row, number: u32, name: &[u8], period: u16) -> Result<()
     Ok(())
 }
 
+/// Makes the row that finds a choice by the name of its record.
+fn choice_name_row(row: &mut Row, name: &[u8], number: u32) -> Result<(), StoreError>
+    ensures { OnOk result (row.new ≡ choice_name_columns ((name.now, number), tt)) }
+{
+    bytes_key(row, name)?;
+    row.push(ValueRef::Int(i64::from(number)))?;
+    Ok(())
+}
+
+/// What the row of a choice says.
+fn read_choice(row: &Row) -> Result<StoredChoice, StoreError>
+    ensures says { IfOk result (SaysChoice row.now) }
+    ensures taken { IfErr result (λ error. ¬ ChoiceFits row.now) }
+{
+    Ok(StoredChoice {
+        number: number_at(row, 0)?,
+        name: hash_at(row, 1)?,
+        period: period_at(row, 2)?,
+    })
+}
+
+impl ReadRow for StoredChoice {
+    ghost says = { SaysChoice };
+
+    ghost fits = { ChoiceFits };
+
+    fn read(row: &Row, _alloc: Global) -> Result<StoredChoice, StoreError> {
+        read_choice(row)
+    }
+}
+
 impl<S: Store> TreeTables<S> {
-    ghost use Rattle.std.specs.Prelude.{◌≡◌, ◌<◌, ◌^◌};
+    ghost use Rattle.std.specs.Prelude.{◌≡◌, ◌<◌, ◌^◌, None};
+    ghost use Rattle.std.specs.FinMap.{get};
     ghost use Rattle.kept_tables.specs.Steps as step;
-    ghost use Rattle.tree_tables.specs.Answers.{last_number};
+    ghost use Rattle.tree_tables.specs.Answers.{IsNamed, ListsChoices, last_number};
+    ghost use Rattle.tree_tables.specs.Fits.{ChoicesFit};
     ghost use Rattle.tree_tables.specs.States.{state};
     ghost use Rattle.tree_tables.specs.Steps.{Always, Does, FailsByStore, Looks};
 
     /// A record that was chosen, by its name, and the period that was open then stand under the
-    /// number of the choice.
+    /// number of the choice, which is new, and the choice is found by the name. What is under the
+    /// number, if anything is, is not looked at.
     pub fn put_choice(&mut self, number: u32, name: &[u8], period: u16) -> Result<(), StoreError>
         ensures does { Does result (state S.Store self.old.store) (state S.Store self.new.store)
-            Always (step.put_choice_row number name.now period) }
+            (λ tables. get tables.choices number ≡ None)
+            (step.put_choice_row number name.now period) }
     {
-        choice_key(&mut self.key, number)?;
         choice_row(&mut self.row, number, name, period)?;
-        put_row(
-            &mut self.store,
-            CHOICES,
-            &self.key,
-            &self.row,
-            &mut self.before,
-        )
+        add_row(&mut self.store, CHOICES, &self.row)?;
+        choice_name_row(&mut self.row, name, number)?;
+        add_row(&mut self.store, CHOICE_NAMES, &self.row)
+    }
+
+    /// Whether some choice names the record of a name: one look, and no choice is read, however
+    /// many there are.
+    pub fn is_named(&mut self, name: &[u8]) -> Result<bool, StoreError>
+        ensures looks { Looks result (state S.Store self.old.store) (state S.Store self.new.store)
+            (IsNamed name.now) }
+        ensures cause { FailsByStore result (state S.Store self.old.store)
+            (state S.Store self.new.store) Always }
+    {
+        bytes_key(&mut self.key, name)?;
+        find_row(&mut self.store, CHOICE_NAMES, &self.key, &mut self.row)
+    }
+
+    /// All choices, by their numbers.
+    pub fn list_choices(&mut self, alloc: Global) -> Result<Vec<StoredChoice>, StoreError>
+        ensures looks { Looks result (state S.Store self.old.store) (state S.Store self.new.store)
+            (λ tables list. ListsChoices tables list.items) }
+        ensures cause { FailsByStore result (state S.Store self.old.store)
+            (state S.Store self.new.store) ChoicesFit }
+    {
+        self.key.clear();
+        list_run(&mut self.store, CHOICES, &self.key, &mut self.row, alloc)
     }
 
     /// The number of the last choice, or 0 where there is none: one look at the end of the tree,

@@ -23,6 +23,7 @@ pub use book_row::{StoredBook, Sums};
 pub use cells::{
     bytes_at, count_at, day_at, hash_at, mark_at, name_at, number_at, period_at, text_at,
 };
+pub use choice_rows::StoredChoice;
 pub use closed_rows::Close;
 pub use day_rows::{DayPlace, DayRow};
 pub use line_rows::{LinePlace, StoredLine};

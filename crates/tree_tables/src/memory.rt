@@ -35,5 +35,5 @@ pub fn trees_in_memory(alloc: Global) -> Result<MemStore, AllocError>
     ensures sound { IfOk result (λ store. (memory_view store).is_broken ≡ false) }
 {
     let one = tree();
-    MemStore::new(alloc, &[one, one, one, one, one, one, one, one, one])
+    MemStore::new(alloc, &[one, one, one, one, one, one, one, one, one, one])
 }

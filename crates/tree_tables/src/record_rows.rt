@@ -4,7 +4,7 @@ ghost use Rattle.std.specs.Prelude.{◌≡◌, ◌∷◌, ◌++◌, [], OnOk, po
 ghost use Rattle.sqlite_value.specs.Value.{owned};
 ghost use Rattle.sqlite_value.specs.declared.value.Value.TheVariants.{Blob, Int, Text};
 ghost use Rattle.tree_tables.specs.Columns.{flag, record_columns};
-ghost use Rattle.tree_tables.specs.Stored.{new_entry, priced_entry};
+ghost use Rattle.tree_tables.specs.Stored.{new_entry, priced_entry, renamed_entry};
 
 use crate::cells::with_column;
 use crate::keys::{bytes_key, number_key};
@@ -103,6 +103,20 @@ fn with_price<'a>(stored: &'a StoredRecord, priced: &Priced) -> NewRecord<'a>
         identity: &stored.identity,
         data_bytes: &stored.data_bytes,
         priced: *priced,
+        charged: stored.charged,
+        posted: stored.posted,
+    }
+}
+
+/// A record that was read, as its row is written where it has this identity.
+fn with_identity<'a>(stored: &'a StoredRecord, identity: &'a [u8]) -> NewRecord<'a>
+    ensures { new_entry result ≡ renamed_entry stored.now identity.now }
+{
+    NewRecord {
+        name: &stored.name,
+        identity,
+        data_bytes: &stored.data_bytes,
+        priced: stored.priced,
         charged: stored.charged,
         posted: stored.posted,
     }
@@ -233,6 +247,30 @@ impl<S: Store> TreeTables<S> {
         record_row(&mut self.before, &with_price(stored, &stored.priced))?;
         record_row(&mut self.row, &with_price(stored, priced))?;
         change_row(&mut self.store, RECORDS, &self.before, &self.row)
+    }
+
+    /// A record, which stands as it was read, has this identity from now on, and is found by it. Its
+    /// rows are not looked for: they are what was read.
+    pub fn set_identity(&mut self, stored: &StoredRecord, identity: &[u8]) -> Result<(), StoreError>
+        ensures does { Does result (state S.Store self.old.store) (state S.Store self.new.store)
+            (IsAsRead stored.now) (step.put_identity_row stored.now.name identity.now) }
+    {
+        let name = ValueRef::Blob(&stored.name);
+        let charged = mark_value(stored.charged);
+        record_row(&mut self.before, &with_price(stored, &stored.priced))?;
+        record_row(&mut self.row, &with_identity(stored, identity))?;
+        change_row(&mut self.store, RECORDS, &self.before, &self.row)?;
+        identity_row(&mut self.before, &stored.identity, &stored.name)?;
+        identity_row(&mut self.row, identity, &stored.name)?;
+        change_row(&mut self.store, IDENTITIES, &self.before, &self.row)?;
+        mark_row(
+            &mut self.before,
+            charged,
+            ValueRef::Blob(&stored.identity),
+            name,
+        )?;
+        mark_row(&mut self.row, charged, ValueRef::Blob(identity), name)?;
+        change_row(&mut self.store, MARKS, &self.before, &self.row)
     }
 
     /// The record of a name, if there is one, is charged from now on.

@@ -9,8 +9,8 @@ use sqlite_value::row::Row;
 use std::alloc::Global;
 
 /// The tables of books in the trees of a store, one a table: 0 the book, 1 tariffs, 2 closes,
-/// 3 records, 4 charge rows, 5 adjustment lines, 8 choices; and two more that find records, 6 by
-/// identity and 7 by mark.
+/// 3 records, 4 charge rows, 5 adjustment lines, 8 choices; two more that find records, 6 by
+/// identity and 7 by mark; and 9, which finds choices by the names of their records.
 #[derive(Drop)]
 pub struct TreeTables<S: Store> {
     pub(crate) store: S,

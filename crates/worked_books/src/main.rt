@@ -22,6 +22,8 @@
 //! | A line | Is answered with |
 //! |---|---|
 //! | `rows`, `lines`, `marks`, `closed`, `choices`, `tariffs`, `book` | the rows of a table, in the order of their keys |
+//! | `identities` | of each record its name and its identity |
+//! | `index NAME` | the rows of a tree that finds others, by its name in the file |
 //! | `set day_sum.COLUMN NUMBER` | how many charge rows were changed behind the books' back |
 //! | `empty TABLE` | how many rows were taken away behind the books' back |
 //! | `stops log`, `stops database` | what was found when the disk stopped at each call of that file, and lost what was not synced |

@@ -25,8 +25,17 @@ const CHARGES: u32 = 4;
 /// That of the adjustment lines.
 const LINES: u32 = 5;
 
-/// That of the choices, the last.
+/// That which finds records by their identities.
+const IDENTITIES: u32 = 6;
+
+/// That which finds them by their marks.
+const MARKS: u32 = 7;
+
+/// That of the choices.
 const CHOICES: u32 = 8;
+
+/// That which finds choices by the records that they name, the last.
+const CHOICE_NAMES: u32 = 9;
 
 /// The columns of a record that an adjustment line shows: day, centre, shift, CPU, blocks, amount.
 const CHARGED: [usize; 6] = [3, 5, 4, 6, 7, 8];
@@ -85,6 +94,13 @@ fn push_marks(alloc: Global, out: &mut Vec<u8>, row: &Row) -> Result<(), AllocEr
     Ok(out.push(b'\n')?)
 }
 
+/// Adds a record's name, and its identity.
+fn push_identity(alloc: Global, out: &mut Vec<u8>, row: &Row) -> Result<(), AllocError> {
+    push_columns(alloc, out, row, &[0])?;
+    push_value(alloc, out, row.get(1))?;
+    Ok(out.push(b'\n')?)
+}
+
 /// Adds an adjustment line: its period, 1 for plus or 0 for minus, what its record is charged, and
 /// the record's name.
 fn push_line(
@@ -118,6 +134,7 @@ enum Showing {
     Whole,
     Tariffs,
     Marks,
+    Identities,
 }
 
 /// Adds a row.
@@ -131,6 +148,7 @@ fn push_row(
         Showing::Whole => push_whole(alloc, out, row),
         Showing::Tariffs => push_tariff(alloc, out, row),
         Showing::Marks => push_marks(alloc, out, row),
+        Showing::Identities => push_identity(alloc, out, row),
     }
 }
 
@@ -158,6 +176,16 @@ fn shown_lines<S: Store + Drop>(alloc: Global, trees: &mut Trees<S>) -> Option<V
     Some(text)
 }
 
+/// The tree that finds rows of a table, by its name in the file.
+fn index_of(name: &str) -> Option<u32> {
+    match name {
+        "record_ident" => Some(IDENTITIES),
+        "record_charged" => Some(MARKS),
+        "choice_name" => Some(CHOICE_NAMES),
+        _ => None,
+    }
+}
+
 /// What a line shows: `None` where it shows no table, and none within where the table can't be read.
 pub(crate) fn shown_table<S: Store + Drop>(
     alloc: Global,
@@ -170,7 +198,9 @@ pub(crate) fn shown_table<S: Store + Drop>(
         ("rows", []) => Some(shown(alloc, trees, CHARGES, Showing::Whole)),
         ("tariffs", []) => Some(shown(alloc, trees, TARIFFS, Showing::Tariffs)),
         ("marks", []) => Some(shown(alloc, trees, RECORDS, Showing::Marks)),
+        ("identities", []) => Some(shown(alloc, trees, RECORDS, Showing::Identities)),
         ("choices", []) => Some(shown(alloc, trees, CHOICES, Showing::Whole)),
+        ("index", [name]) => Some(shown(alloc, trees, index_of(name)?, Showing::Whole)),
         ("lines", []) => Some(shown_lines(alloc, trees)),
         _ => None,
     }
@@ -179,7 +209,7 @@ pub(crate) fn shown_table<S: Store + Drop>(
 /// All rows of all trees, an empty line behind those of each; none where one can't be read.
 pub(crate) fn all_rows<S: Store + Drop>(alloc: Global, trees: &mut Trees<S>) -> Option<Vec<u8>> {
     let mut text = Vec::new(alloc);
-    for tree in 0..=CHOICES {
+    for tree in 0..=CHOICE_NAMES {
         for row in &trees.rows(alloc, tree)? {
             push_whole(alloc, &mut text, &row.0).ok()?;
         }

@@ -20,10 +20,10 @@ impl<N: Naming + Drop> PlainLedger<N> {
         let Some(held) = self.held.get(&name) else {
             return Err(LedgerFault::NoSuchRecord);
         };
-        if is_lone(&self.held, &held.identity) {
+        if is_lone(&self.held, self.adopted, &held.identity_by(self.adopted)) {
             return Err(LedgerFault::NotDisputed);
         }
-        if is_chosen(&self.choices, held) {
+        if is_chosen(&self.choices, self.adopted, held) {
             return Ok(Ruled::Already);
         }
         if self.choices.len() >= MAX_CHOICES {

@@ -1,6 +1,6 @@
 //! The lists that are read of a plain ledger.
 
-ghost use Rattle.std.specs.Prelude.{◌≡◌, [], IfOk, map};
+ghost use Rattle.std.specs.Prelude.{◌≡◌, [], IfOk, None, map};
 ghost use Rattle.book_model.specs.Rulings.{last_close as day_of_last};
 ghost use Rattle.book_core.specs.Plain.{ruled_by};
 
@@ -17,7 +17,7 @@ use std::alloc::{AllocError, Global};
 
 /// The day of the last close, if there was one.
 pub(super) fn last_close(closed: &[ClosedPeriod]) -> Option<i32>
-    ensures { result ≡ day_of_last (ruled_by [] closed.now []) }
+    ensures { result ≡ day_of_last (ruled_by [] closed.now [] None) }
 {
     let last = closed.last()?;
     Some(last.through)
@@ -47,8 +47,9 @@ impl<N: Naming + Drop> PlainLedger<N> {
         ensures { IfOk result (IsEnding self.now.held.entries (book_in self.now).rulings through) }
     {
         Ok(Ending {
-            shared: shared_identities(self.alloc, &self.held)?,
-            chosen: last_chosen(self.alloc, &self.choices)?,
+            adopted: self.adopted,
+            shared: shared_identities(self.alloc, &self.held, self.adopted)?,
+            chosen: last_chosen(self.alloc, &self.choices, self.adopted)?,
             last: last_close(&self.closed),
             through,
         })
@@ -98,7 +99,7 @@ impl<N: Naming + Drop> PlainLedger<N> {
             (disputes_outcome (N.name_of (naming_in self.now)) (book_in self.now)).answer }
         ensures shown { IfOk result (λ found. AreDisputes (map dispute_shown found.items)) }
     {
-        Ok(disputes(self.alloc, &self.held, &self.choices)?)
+        Ok(disputes(self.alloc, &self.held, &self.choices, self.adopted)?)
     }
 
     /// The days of the closes.

@@ -36,7 +36,7 @@ impl<N: Naming + Drop> PlainLedger<N> {
             (accept_outcome (N.name_of (naming_in self.old)) bytes.now) }
     {
         let usage = Type30::of_usage(bytes);
-        if self.recalled.has(&usage.identity(), bytes) {
+        if self.recalled.has(&usage.identity2(), bytes) {
             return Ok(Accepted::Known);
         }
         self.keep_named(&usage, bytes)

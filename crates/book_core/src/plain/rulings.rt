@@ -1,6 +1,6 @@
 //! Rulings that a plain ledger is handed: tariffs and closes.
 
-ghost use Rattle.std.specs.Prelude.{◌≡◌, []};
+ghost use Rattle.std.specs.Prelude.{◌≡◌, [], None};
 ghost use Rattle.book_model.specs.RulingAnswers as spec;
 ghost use Rattle.book_core.specs.Plain.{ruled_by};
 
@@ -17,14 +17,15 @@ use tariff_rules::Tariff;
 
 /// A tariff begins later than every other one, and after the last close.
 fn is_later(tariffs: &[AcceptedTariff], closed: &[ClosedPeriod], tariff: &Tariff) -> bool
-    ensures { result ≡ spec.is_later tariff.now.effective (ruled_by tariffs.now closed.now []) }
+    ensures { result
+        ≡ spec.is_later tariff.now.effective (ruled_by tariffs.now closed.now [] None) }
 {
     are_before(tariffs, tariff) && is_after(last_close(closed), tariff.effective())
 }
 
 /// The period is closed, through this day.
 fn is_closed(closed: &[ClosedPeriod], period: u16, through: i32) -> bool
-    ensures { result ≡ spec.is_closed period through (ruled_by [] closed.now []) }
+    ensures { result ≡ spec.is_closed period through (ruled_by [] closed.now [] None) }
 {
     if period == 0 {
         return false;

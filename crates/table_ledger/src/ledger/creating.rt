@@ -85,6 +85,7 @@ impl<S: Store, N: Naming + Drop> TableLedger<S, N> {
                     tariffs: Vec::new(alloc),
                     closes: Vec::new(alloc),
                     choices: 0,
+                    adopted: None,
                     held: 0,
                     total: 0,
                 },

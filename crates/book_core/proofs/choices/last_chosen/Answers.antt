@@ -7,8 +7,9 @@ use Rattle.book_core.proofs.choices.last_chosen.Goals as goal
 pub loop-choice-preserved : goal.loop-choice-preserved
 loop-choice-preserved c =
     let choice = c.choice-item.result in
-    subst (λ choices. AreLast (ruled_by [] [] choices) c.insert.new.self)
+    subst (λ choices. AreLast (ruled_by [] [] choices c.args.adopted) c.insert.new.self)
     (sym (next_choices c.args.choices.now c.loop-choice.choice-index choice c.loop-choice-test.true
     c.choice-item.is))
-    (last-put _ choice c.in_ok-clone.field-0 c.loop-choice.records c.insert.new.self
+    (last-put c.args.adopted _ choice _ c.identity_by.ensures c.in_ok-clone.field-0
+    c.loop-choice.records c.insert.new.self
     c.in_ok-clone.ensures.cases c.loop-choice.invariant c.in_ok-insert.ensures.updates.0)

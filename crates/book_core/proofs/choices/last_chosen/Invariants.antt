@@ -5,4 +5,5 @@ use Rattle.book_core.proofs.choices.last_chosen.Given as goal
 
 -- the records are those that the choices so far chose last
 abbrev pub invariant-loop-choice : goal.invariant-loop-choice
-invariant-loop-choice l = AreLast (ruled_by [] [] (take l.choice-index l.choices)) l.records
+invariant-loop-choice l =
+    AreLast (ruled_by [] [] (take l.choice-index l.choices) l.adopted) l.records

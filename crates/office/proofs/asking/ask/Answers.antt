@@ -9,7 +9,7 @@ use Rattle.book_core.specs.Work.{IsWork}
 use Rattle.book_import.specs.Imports.{Imports}
 use Rattle.book_import.specs.Reading.{cut_of}
 use Rattle.office.specs.declared.request.Asked.{Asked}
-use Rattle.office.specs.declared.request.Asked.TheVariants.{Tariff, Close, Choose, Import}
+use Rattle.office.specs.declared.request.Asked.TheVariants.{Tariff, Close, Choose, Adopt, Import}
 use Rattle.office.specs.declared.request.Asked.TheVariants.{ImportBytes, Report}
 use Rattle.office.specs.Requests.{Ruling, Text, IsAskable, no_dump, whole_dump}
 use Rattle.office.proofs.AskLemmas.{work_told, unread, as_asked}
@@ -45,6 +45,12 @@ returns-in-Choose g c =
     as_asked (Choose c.in-Choose.name) c.in-Choose.is
     (unread no_dump (record { is = refl; same = refl })
     (work_told Ruling c.ruled-in-Choose.ensures c.choose.ensures.work))
+
+pub returns-in-Adopt : goal.returns-in-Adopt
+returns-in-Adopt g c =
+    as_asked (Adopt c.in-Adopt.rule) c.in-Adopt.is
+    (unread no_dump (record { is = refl; same = refl })
+    (work_told Ruling c.ruled-in-Adopt.ensures c.adopt_identity.ensures.work))
 
 pub returns-in-Import : goal.returns-in-Import
 returns-in-Import g c =

@@ -1,5 +1,7 @@
-use Rattle.std.proofs.Common.{◌≡◌, ◌∙◌, ap}
-use Rattle.book_model.specs.Words.{identity_of}
+use Rattle.std.proofs.Common.{◌≡◌, ◌∙◌, ℕ, ap}
+use Rattle.std.specs.Option.{option_map_or}
+use Rattle.book_model.specs.Words.{identity_by, identity_of, identity2_of}
+use Rattle.table_ledger.specs.Summaries.{ruled_in}
 use Rattle.book_core.specs.Effects.{effects_of}
 use Rattle.kept_tables.specs.Views.{rows_with}
 use Rattle.table_readings.specs.AcceptRead.{view_with}
@@ -31,8 +33,10 @@ returns g c = record {
       let name = c.args.name in
       let bytes = c.args.bytes.now in
       let priced = c.args.priced.now in
-      let identity : c.identity-identity.result ≡ identity_of bytes =
-      c.identity-identity.ensures.value ∙ ap identity_of c.of_usage.ensures in
+      let identity : c.in_force-identity.result.now ≡ identity_by (ruled_in summary) bytes =
+      c.in_force-identity.ensures
+      ∙ (λ i. option_map_or (λ (period : ℕ). (c.identity2-second.ensures.value ∙ ap identity2_of c.of_usage-usage.ensures) i)
+      summary.adopted ((c.identity-first.ensures.value ∙ ap identity_of c.of_usage-usage.ensures) i)) in
       commit_seen
       (saw_then (saw_found c.in_ok-effects.ensures.looks) (saw_found c.in_ok-day.ensures.looks))
       (commit_so c.keep_entry.ensures.commits (λ tables given. (
@@ -40,7 +44,7 @@ returns g c = record {
         entry_kept summary name bytes _ _ priced c.open_number-period.result c.in_ok-effects.effects
             c.in_ok-day.day tables identity c.split_at.ensures.back c.open_number-period.ensures.number
             given.0.0
-            (given.1.0 ∙ (λ i. effects_of (view_with (c.last_close.ensures i)
+            (given.1.0 ∙ (λ i. effects_of (view_with (c.last_close.ensures i) tables.choices
             (rows_with (identity i) tables.records)) name priced)) given.1.1,
       )));
 }

@@ -66,5 +66,5 @@ returns g c = record {
       c.in-Some-price_in.priced price (sym c.is_full.ensures ∙ c.if-is_full.false) _
       c.in-Some-price_in.ensures.bounds
       (saw_as c.name_of-name.result c.in_default.is c.in_ok-stored.ensures.looks)
-      c.in_ok-keep_new.ensures.commits refl refl refl refl refl;
+      c.in_ok-keep_new.ensures.commits refl refl refl refl refl refl;
 }

@@ -11,8 +11,8 @@ use Rattle.kept_tables.specs.TablesOf.{tables_of}
 use Rattle.kept_tables.specs.Views.{member_at}
 use Rattle.tree_tables.specs.Answers.{charged_with}
 use Rattle.tree_tables.specs.States.{state}
-use Rattle.tree_tables.specs.Steps.{Always}
 use Rattle.tree_tables.specs.Stored.{stored_entry}
+use Rattle.table_ledger.specs.Entries.{IsNext}
 use Rattle.table_ledger.proofs.AcceptTries.{saw_as}
 use Rattle.table_ledger.proofs.ChoiceTries.{choose_again, choose_alone, choose_done, choose_full}
 use Rattle.table_ledger.proofs.ChoiceTries.{choose_is_event, choose_makes, choose_none}
@@ -143,7 +143,7 @@ returns-in_err-keep_choice g c = record {
       c.from_residual-in_err-keep_choice.ensures.0
       (λ error. tries_told view naming summary outcome
       (try_undone view naming summary outcome
-      (state g.S.Store c.keep_choice.new.tables.store) Always
+      (state g.S.Store c.keep_choice.new.tables.store) (IsNext (summary.choices + 1))
       (put_choice (summary.choices + 1) c.open_number.result name effects)
       (saw_then
       (saw_shared name stored c.in-Some.is c.deref.ensures.value c.in_ok-stored.ensures.looks
@@ -172,7 +172,7 @@ returns g c = record {
       let room : summary.choices < most_choices = search rules in
       let effects = c.in_ok-effects.effects in
       try_done view naming summary (choose_outcome naming name)
-      (state g.S.Store c.keep_choice.new.tables.store) Always
+      (state g.S.Store c.keep_choice.new.tables.store) (IsNext (summary.choices + 1))
       (put_choice (summary.choices + 1) c.open_number.result name effects)
       (saw_then
       (saw_shared name stored c.in-Some.is c.deref.ensures.value c.in_ok-stored.ensures.looks
@@ -189,5 +189,5 @@ returns g c = record {
       (λ book ready known. choose_done naming summary name _ book ready stored known.0.0 sharing
       known.0.1 many c.if-stored.false room)
       (λ book ready known. choose_remembers naming summary name _ book ready stored known.0.0
-      sharing known.0.1 many _ _ refl refl refl refl refl);
+      sharing known.0.1 many _ _ refl refl refl refl refl refl);
 }

@@ -1,12 +1,13 @@
-use Rattle.std.proofs.Common.{◌≡◌, ℕ, Option, Some, None, refl}
-use Rattle.std.specs.FinMap.{insert}
+use Rattle.std.proofs.Common.{◌≡◌, ◌∙◌, ℕ, Option, Some, None, ap, refl}
+use Rattle.std.specs.FinMap.{get, insert}
 use Rattle.std.specs.Option.{option_map_or}
 use Rattle.book_core.specs.declared.effect_table.Effects.{Effects}
 use Rattle.kept_tables.specs.Steps.{put_choice_row}
 use Rattle.kept_tables.specs.TableChanges.{apply, charge_in}
 use Rattle.kept_tables.specs.Tables.{ChoiceTable, Tables}
 use Rattle.tree_tables.specs.States.{state}
-use Rattle.tree_tables.specs.Steps.{Always, Does}
+use Rattle.tree_tables.specs.Steps.{Does}
+use Rattle.table_ledger.specs.Entries.{IsNext}
 use Rattle.table_ledger.proofs.StepLemmas.{does_so, does_then}
 use Rattle.table_ledger.proofs.choices.write_choice.Goals as goal
 
@@ -22,16 +23,21 @@ returns g c = record {
   does =
       let choice = c.args.choice.now in
       let rest : Does c.put_choice.result (state g.S.Store c.withdraw.new.tables.store)
-      (state g.S.Store c.put_choice.new.self.store) Always
+      (state g.S.Store c.put_choice.new.self.store) (IsNext choice.number)
       (λ tables. put_choice_row choice.number choice.name choice.period
       (charge_in choice.period choice.name choice.effects.chosen tables)) =
       does_then c.put_choice.result c.in_ok-charge.ensures.does c.put_choice.ensures.does
-      (λ tables when. (tt, tt)) in
+      (λ tables next. (tt, next)) in
       does_so c.put_choice.result
-      (does_then {When = Always} c.put_choice.result c.in_ok-withdraw.ensures.does rest
-      (λ tables when. (tt, tt)))
-      (λ tables when. (
+      (does_then {When = IsNext choice.number} c.put_choice.result c.in_ok-withdraw.ensures.does
+      rest
+      (λ tables next. (
         tt,
+        ap (λ (choices : ChoiceTable). get choices choice.number)
+            (same_choices choice.period choice.effects.withdrawn tables) ∙ next,
+      )))
+      (λ tables next. (
+        next,
         λ i.
             let charged : Tables = charge_in choice.period choice.name choice.effects.chosen
             (option_map_or (λ gone. apply choice.period gone tables) choice.effects.withdrawn

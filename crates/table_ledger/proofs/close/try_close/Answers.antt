@@ -64,6 +64,7 @@ returns-in_err-push g c = record {
         tariffs = remembers.tariffs;
         closes = c.in_err-push.ensures.items ∙ remembers.closes;
         choices = remembers.choices;
+        adopted = remembers.adopted;
         held = remembers.held;
         total = remembers.total;
       }));
@@ -94,6 +95,7 @@ returns-in-Err g c = record {
             (c.in_ok-push.ensures.items ∙ ap (λ day. summary.closes.items ++ day ∷ []) (kept_day day c.requires.day))
             ∙ popped summary.closes.items day ∙ remembers.closes;
         choices = remembers.choices;
+        adopted = remembers.adopted;
         held = remembers.held;
         total = remembers.total;
       });
@@ -120,6 +122,7 @@ returns g c = record {
             ∙ ap (λ day. summary.closes.items ++ day ∷ []) (kept_day day c.requires.day)
             ∙ ap (λ closes. closes ++ day ∷ []) ready.remembers.closes;
         choices = ready.remembers.choices;
+        adopted = ready.remembers.adopted;
         held = ready.remembers.held;
         total = ready.remembers.total;
       });

@@ -1,11 +1,12 @@
 use Rattle.std.proofs.Common.{◌∙◌, ap, map}
 use Rattle.book_core.specs.Effects.{effects_of}
+use Rattle.book_core.specs.declared.effect_table.Effects.{Effects}
 use Rattle.tree_tables.specs.Stored.{stored_entry}
 use Rattle.kept_tables.specs.Views.{rows_with}
 use Rattle.table_readings.specs.AcceptRead.{view_with}
 use Rattle.table_readings.proofs.AcceptLemmas.{two_are_enough}
 use Rattle.table_ledger.proofs.Refusals.{looks_failed}
-use Rattle.table_ledger.proofs.TryLemmas.{looks_known, saw_found}
+use Rattle.table_ledger.proofs.TryLemmas.{looks_known, looks_refused, saw_found, saw_then}
 use Rattle.table_ledger.proofs.effects.look_for_effects.Goals as goal
 
 pub returns-in_err-sharing : goal.returns-in_err-sharing
@@ -15,17 +16,27 @@ returns-in_err-sharing g c = record {
       c.in_err-sharing.ensures.looks;
 }
 
+pub returns-in_err-view : goal.returns-in_err-view
+returns-in_err-view g c = record {
+  looks =
+      looks_failed {B = Effects} {Others = λ tables effects. Unit {0}}
+      c.from_residual-in_err-view.result c.from_residual-in_err-view.ensures.0
+      (looks_refused {A = Effects} (saw_found c.in_ok-sharing.ensures.looks) c.in_err-view.ensures.looks);
+}
+
 pub returns : goal.returns
 returns g c = record {
   looks =
       let through = c.args.through in
       let name = c.args.name in
       let priced = c.args.priced.now in
-      looks_known (saw_found c.in_ok-sharing.ensures.looks)
-      (λ tables shared.
+      looks_known
+      (saw_then (saw_found c.in_ok-sharing.ensures.looks) (saw_found c.in_ok-view.ensures.looks))
+      (λ tables known.
       c.plan.ensures.effects
-      ∙ ap (λ view. effects_of view name priced) (c.view.ensures.view
-      ∙ ap (λ list. view_with through (map stored_entry list)) c.deref.ensures.value
-      ∙ ap (view_with through) shared)
-      ∙ two_are_enough through (rows_with c.args.identity.now tables.records) name priced);
+      ∙ ap (λ view. effects_of view name priced) (known.1
+      ∙ ap (λ list. view_with through tables.choices (map stored_entry list)) c.deref.ensures.value
+      ∙ ap (view_with through tables.choices) known.0)
+      ∙ two_are_enough through tables.choices (rows_with c.args.identity.now tables.records) name
+      priced);
 }

@@ -1,4 +1,5 @@
-use Rattle.std.proofs.Common.{◌⊎◌, ◌≤◌, ◌<◌, arith, inl, inr, length, rules}
+use Rattle.std.proofs.Common.{◌≡◌, ◌∙◌, ◌⊎◌, ◌≤◌, ◌<◌, arith, inl, inr, length, rules, subst, sym}
+use Rattle.table_ledger.specs.Recalled.{SaysRule}
 use Rattle.book_model.specs.Words.{last_period, most_choices}
 use Rattle.table_ledger.proofs.RecallLemmas.{all_days}
 use Rattle.table_ledger.proofs.RowsTaken.{as_many}
@@ -28,3 +29,13 @@ returns-then-not-is_kept-clause-refused c = λ store rulings are.
                 absurd (omega (arith, most, more))
           ]
     ]
+
+-- the row says no rule, as that of a book does
+pub returns-in_default-clause-refused : goal.returns-in_default-clause-refused
+returns-in_default-clause-refused c = λ store rulings are.
+    let closes = c.in_ok-closes.closes.items in
+    let same : length closes ≡ length rulings.closes =
+    as_many c.args.closes.now closes rulings.closes c.in_ok-closes.ensures.have are.closes in
+    let len : c.len.result ≡ length closes = search rules in
+    c.adopted_by.ensures.refused c.in_default.is rulings.adopted
+    (subst (λ n. SaysRule n c.args.row.now rulings.adopted) (sym (len ∙ same)) are.adopted)

@@ -104,6 +104,7 @@ returns-in_err-keep_tariff g c = record {
         tariffs = c.in_ok-reserve.ensures.items ∙ remembers.tariffs;
         closes = remembers.closes;
         choices = remembers.choices;
+        adopted = remembers.adopted;
         held = remembers.held;
         total = remembers.total;
       })));
@@ -139,7 +140,7 @@ returns g c = record {
       ∙ ap (λ items. items ++ record { text = Some c.in_ok-from_str.field-0.bytes.items; terms = terms } ∷ [])
       c.in_ok-reserve.ensures.items)
       c.in_ok-from_str.ensures.ok)
-      refl refl refl refl);
+      refl refl refl refl refl);
 }
 
 pub invariant_of-summary-2-clause-rising : goal.invariant_of-summary-2-clause-rising

@@ -4,7 +4,7 @@ use Rattle.std.specs.Prelude.{nat_le}
 use Rattle.book_model.specs.declared.answer.Ruled.{Ruled}
 use Rattle.book_model.specs.Words.{Book, IsBookCall, after_any, choose_event, choose_outcome}
 use Rattle.book_model.specs.Words.{is_chosen, most_choices}
-use Rattle.book_core.specs.Plain.{record_of, ruled_by}
+use Rattle.book_core.specs.Plain.{is_alone, is_lone, record_of, ruled_by}
 use Rattle.book_core.specs.PlainBook.{book_in}
 use Rattle.book_core.proofs.ChosenLemmas.{at_least, below, book-chosen, chosen_by}
 use Rattle.book_core.proofs.ChosenLemmas.{choose_calls-found, choose_calls-missing}
@@ -18,9 +18,19 @@ returns-in_default g c =
     let ledger = c.args.self.now in
     record {
       call = choose_calls-missing ledger.tariffs.items ledger.closed.items ledger.choices.items
-          ledger.kept ledger.rising ledger.posted c.args.name (sym c.in_default.ensures.value);
+          ledger.adopted ledger.kept ledger.rising ledger.posted c.args.name
+          (sym c.in_default.ensures.value);
       naming = refl;
     }
+
+-- the test of the identity, on the entries
+alone_is : (g : Over) (c : After-is_lone g) → c.is_lone.result
+    ≡ is_alone (book_in c.args.self.now).rulings c.args.self.now.held.entries
+    (c.args.name, c.in-Some.held.now)
+alone_is g c =
+    c.is_lone.ensures
+    ∙ ap (is_lone (book_in c.args.self.now).rulings c.args.self.now.held.entries)
+    c.identity_by.ensures
 
 -- the call where a record stands under the name, by the tests that come
 found_call : (g : Over) (c : After-is_lone g) (new : Book) (alone chosen full : Bool)
@@ -34,16 +44,17 @@ found_call : (g : Over) (c : After-is_lone g) (new : Book) (alone chosen full : 
     (choose_outcome (g.N.Naming.name_of c.args.self.now.naming) c.args.name)
 found_call g c new alone chosen full is_alone' is_chosen' is_full changed =
     let ledger = c.args.self.now in
-    choose_calls-found ledger.tariffs.items ledger.closed.items ledger.choices.items ledger.kept
-    ledger.rising ledger.posted c.args.name c.in-Some.held.now new alone chosen full
-    (sym c.in-Some.ensures.value) (sym is_alone' ∙ c.is_lone.ensures) is_chosen' is_full changed
+    choose_calls-found ledger.tariffs.items ledger.closed.items ledger.choices.items
+    ledger.adopted ledger.kept ledger.rising ledger.posted c.args.name c.in-Some.held.now new alone
+    chosen full (sym c.in-Some.ensures.value) (sym is_alone' ∙ alone_is g c) is_chosen' is_full changed
 
 -- the test of the choice, on the rulings
 chosen_is : (g : Over) (c : After-is_chosen g) → c.is_chosen.result
     ≡ is_chosen (book_in c.args.self.now).rulings (record_of c.in-Some.held.now)
 chosen_is g c =
     c.is_chosen.ensures
-    ∙ ap (λ choices. is_chosen (ruled_by [] [] choices) (record_of c.in-Some.held.now))
+    ∙ ap (λ choices. is_chosen (ruled_by [] [] choices c.args.self.now.adopted)
+    (record_of c.in-Some.held.now))
     c.deref.ensures.value
 
 -- the number of choices
@@ -89,7 +100,7 @@ returns g c =
           (below most_choices c.len.result c.if-len-ge-MAX_CHOICES.false
           ∙ ap (nat_le most_choices) (count_is g at.After-len))
           (book-chosen ledger.tariffs.items ledger.held.entries ledger.posted ledger.closed.items
-          ledger.choices.items c.push.new.self.items c.in_ok-choice.choice
+          ledger.choices.items c.push.new.self.items ledger.adopted c.in_ok-choice.choice
           (record_of c.in-Some.held.now) c.in_ok-push.ensures.items c.in_ok-choice.ensures.bytes
           (c.in_ok-choice.ensures.period ∙ ap (λ n. n + 1) (c.len-2.ensures ∙ ledger.closed.ok.0)));
       naming = refl;

@@ -22,7 +22,7 @@ closed_is g c =
     c.is_closed.ensures
     ∙ (λ i. is_closed c.args.period (day_kept c.args.through c.requires i)
     (ruled_by c.args.self.now.tariffs.items (c.deref.ensures.value i)
-    c.args.self.now.choices.items))
+    c.args.self.now.choices.items c.args.self.now.adopted))
 
 next_is : (g : Over) (c : After-len g)
     → c.len.result + 1 ≡ length c.args.self.now.closed.items + 1
@@ -38,7 +38,7 @@ late_is g c =
     (c.last_close.ensures i) true)
     ∙ (λ i. option_map_or (λ close. int_lt close c.args.through)
     (last_close (ruled_by c.args.self.now.tariffs.items (c.deref-2.ensures.value i)
-    c.args.self.now.choices.items)) true)
+    c.args.self.now.choices.items c.args.self.now.adopted)) true)
 
 pub returns-then-is_closed : goal.returns-then-is_closed
 returns-then-is_closed g c =
@@ -46,7 +46,8 @@ returns-then-is_closed g c =
     let ledger = c.args.self.now in
     record {
       call = close_calls-by ledger.tariffs.items ledger.held.entries ledger.posted
-          ledger.closed.items ledger.choices.items c.args.period c.args.through _ _ true _ _ _ refl
+          ledger.closed.items ledger.choices.items ledger.adopted c.args.period c.args.through _ _
+          true _ _ _ refl
           (sym c.if-is_closed.true ∙ closed_is g at.After-is_closed) refl refl refl refl;
       naming = refl;
     }
@@ -57,7 +58,8 @@ returns-then-period-number g c =
     let ledger = c.args.self.now in
     record {
       call = close_calls-by ledger.tariffs.items ledger.held.entries ledger.posted
-          ledger.closed.items ledger.choices.items c.args.period c.args.through _ _ false false _ _
+          ledger.closed.items ledger.choices.items ledger.adopted c.args.period c.args.through _ _
+          false false _ _
           (next_is g at.After-len)
           (sym c.if-is_closed.false ∙ closed_is g at.After-is_closed)
           (sym (ne_eqb _ _ c.if-period-number.true)) refl refl refl;
@@ -79,8 +81,8 @@ open_call : (g : Over) (c : After-is_after g) (late full : Bool) (new : Book)
 open_call g c late full new is_next tested is_late is_full changed =
     let ledger = c.args.self.now in
     close_calls-by ledger.tariffs.items ledger.held.entries ledger.posted ledger.closed.items
-    ledger.choices.items c.args.period c.args.through new _ false true late full is_next
-    (sym c.if-is_closed.false ∙ tested) (sym (eq-eqb _ _ c.if-period-number.false))
+    ledger.choices.items ledger.adopted c.args.period c.args.through new _ false true late full
+    is_next (sym c.if-is_closed.false ∙ tested) (sym (eq-eqb _ _ c.if-period-number.false))
     (sym is_late ∙ late_is g c) is_full changed
 
 pub returns-then-not-is_after : goal.returns-then-not-is_after

@@ -24,7 +24,7 @@ later_is g c =
     c.is_later.ensures
     ∙ (λ i. is_later c.args.tariff.now.effective
     (ruled_by (c.deref-3.ensures.value i) (c.deref-4.ensures.value i)
-    c.args.self.now.choices.items))
+    c.args.self.now.choices.items c.args.self.now.adopted))
 
 -- the answer, where the text is new and so is the day
 answer_is : (g : Over) (c : After-is_later g) (later dear : Bool) → c.is_later.result ≡ later

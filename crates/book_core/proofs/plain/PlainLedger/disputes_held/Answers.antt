@@ -9,7 +9,7 @@ pub returns-clause-disputes : goal.returns-clause-disputes
 returns-clause-disputes g c =
     let ledger = c.args.self.now in
     ap Ok (disputes_in-held ledger.kept ledger.rising
-    ∙ ap (λ choices. disputes_among (ruled_by [] [] choices) ledger.held.entries)
+    ∙ ap (λ choices. disputes_among (ruled_by [] [] choices ledger.adopted) ledger.held.entries)
     (sym c.deref.ensures.value)
     ∙ sym c.in_ok-disputes.ensures)
 
@@ -18,6 +18,6 @@ returns-clause-shown g c =
     let ledger = c.args.self.now in
     subst AreDisputes
     (sym (c.in_ok-disputes.ensures
-    ∙ ap (λ choices. disputes_among (ruled_by [] [] choices) ledger.held.entries)
+    ∙ ap (λ choices. disputes_among (ruled_by [] [] choices ledger.adopted) ledger.held.entries)
     c.deref.ensures.value))
     (are_disputes ledger.kept)

@@ -18,8 +18,8 @@ invariant_of-push g c =
 pub returns-clause-book : goal.returns-clause-book
 returns-clause-book g c =
     let ledger = c.args.self.now in
-    book-closed ledger.tariffs.items ledger.closed.items ledger.choices.items ledger.kept
-    ledger.rising ledger.posted
+    book-closed ledger.tariffs.items ledger.closed.items ledger.choices.items ledger.adopted
+    ledger.kept ledger.rising ledger.posted
     c.in_ok-posted.posted c.in_ok-ending.ending _ c.push.new.self.items
     (to_z w32 (of_z w32 c.args.through))
     c.args.through c.in_ok-push.ensures.items
@@ -46,7 +46,7 @@ invariant_of-self-2 g c =
     record {
       rising = ledger.rising;
       kept = kept-ruled ledger.closed.items c.push.new.self.items ledger.choices.items
-          ledger.choices.items ledger.kept;
+          ledger.choices.items ledger.adopted ledger.adopted ledger.kept;
       recalls = ledger.recalls;
       named = named-closed (λ entry. charges ending entry.1)
           (λ entry. share_at ending (is_named ledger.posted entry) entry.1) ledger.held.entries

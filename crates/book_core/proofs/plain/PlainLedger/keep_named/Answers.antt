@@ -44,7 +44,7 @@ returns-in_default-price_in g c =
     let usage = c.requires.same in
     let price = c.in_default-price_in.ensures.value
     ∙ (λ i. price_in (ruled_by (c.deref.ensures.value i) c.args.self.now.closed.items
-    c.args.self.now.choices.items) (usage i)) in
+    c.args.self.now.choices.items c.args.self.now.adopted) (usage i)) in
     let book = book_in c.args.self.now in
     record {
       call = accept_calls (g.N.Naming.name_of c.args.self.now.naming) c.args.bytes.now book book _
@@ -60,7 +60,7 @@ returns-then-is_full g c =
     let usage = c.requires.same in
     let price = c.in-Some-price_in.ensures.value
     ∙ (λ i. price_in (ruled_by (c.deref.ensures.value i) c.args.self.now.closed.items
-    c.args.self.now.choices.items) (usage i)) in
+    c.args.self.now.choices.items c.args.self.now.adopted) (usage i)) in
     let amount = c.in-Some-price_in.priced.amount in
     let book = book_in c.args.self.now in
     record {
@@ -80,7 +80,7 @@ invariant_of-self-2 g c =
     let usage = c.requires.same in
     let price = c.in-Some-price_in.ensures.value
     ∙ (λ i. price_in (ruled_by (c.deref.ensures.value i) c.args.self.now.closed.items
-    c.args.self.now.choices.items) (usage i)) in
+    c.args.self.now.choices.items c.args.self.now.adopted) (usage i)) in
     let amount = c.in-Some-price_in.priced.amount in
     let ledger = c.args.self.now in
     let names = g.N.Naming.name_of ledger.naming in
@@ -88,8 +88,8 @@ invariant_of-self-2 g c =
       rising = c.in_ok-insert.ensures.ordered;
       kept = subst
           (λ entries. AreBooked names
-          (ruled_by ledger.tariffs.items ledger.closed.items ledger.choices.items) entries
-          (ledger.total + amount))
+          (ruled_by ledger.tariffs.items ledger.closed.items ledger.choices.items ledger.adopted)
+          entries (ledger.total + amount))
           (sym c.in_ok-insert.ensures.entries)
           (kept_with ledger.kept ledger.rising c.args.bytes.now c.name_of-name.result
           c.in_ok-held.held c.in-Some-price_in.priced
@@ -122,7 +122,7 @@ returns g c =
     let usage = c.requires.same in
     let price = c.in-Some-price_in.ensures.value
     ∙ (λ i. price_in (ruled_by (c.deref.ensures.value i) ledger.closed.items
-    ledger.choices.items) (usage i)) in
+    ledger.choices.items ledger.adopted) (usage i)) in
     let amount = c.in-Some-price_in.priced.amount in
     let missing = sym c.in_default.ensures.value in
     record {
@@ -133,10 +133,10 @@ returns g c =
           (sym c.len-count.ensures.len)
           ∙ sym c.is_full.ensures ∙ c.if-is_full.false))
           (ap (λ entries. book_with ledger.tariffs.items entries ledger.posted ledger.closed.items
-          ledger.choices.items)
+          ledger.choices.items ledger.adopted)
           c.in_ok-insert.ensures.entries
           ∙ book-kept ledger.tariffs.items ledger.held.entries ledger.posted ledger.closed.items
-          ledger.choices.items
+          ledger.choices.items ledger.adopted
           c.name_of-name.result c.in_ok-held.held missing ledger.named
           ∙ ap (λ bytes. keep bytes (book_in ledger)) c.in_ok-held.ensures.bytes);
       naming = refl;

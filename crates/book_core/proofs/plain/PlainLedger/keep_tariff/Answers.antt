@@ -16,9 +16,9 @@ pub returns-clause-book : goal.returns-clause-book
 returns-clause-book g c =
     let ledger = c.args.self.now in
     book_stays c.reprice.ensures c.push.new.self.items ledger.posted ledger.closed.items
-    ledger.choices.items
+    ledger.choices.items ledger.adopted
     ∙ ap (λ tariffs. book_with tariffs ledger.held.entries ledger.posted ledger.closed.items
-    ledger.choices.items)
+    ledger.choices.items ledger.adopted)
     (c.in_ok-push.ensures.items
     ∙ ap (λ (tariffs : List Tariffed). tariffs ++ record {
       text = Some (string_bytes c.in_ok-from_str.field-0);
@@ -33,7 +33,7 @@ invariant_of-self g c =
     record {
       rising = ledger.rising;
       kept = subst (λ tariffs. AreBooked names
-          (ruled_by tariffs ledger.closed.items ledger.choices.items)
+          (ruled_by tariffs ledger.closed.items ledger.choices.items ledger.adopted)
           ledger.held.entries ledger.total)
           (sym c.reserve.ensures.items) ledger.kept;
       recalls = ledger.recalls;
@@ -59,7 +59,8 @@ invariant_of-self-2 g c =
       rising = subst (IsStrictlySortedBy by_bytes) (sym (names_stay c.reprice.ensures))
           ledger.rising;
       kept = subst (λ tariffs. AreBooked names
-          (ruled_by tariffs ledger.closed.items ledger.choices.items) anew c.args.total)
+          (ruled_by tariffs ledger.closed.items ledger.choices.items ledger.adopted) anew
+          c.args.total)
           (sym tariffs)
           (subst (AreBooked names _ anew) (sym c.requires.total)
           (kept_anew ledger.kept _ terms later anew c.reprice.ensures small));

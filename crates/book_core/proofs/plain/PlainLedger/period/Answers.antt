@@ -11,7 +11,7 @@ returns-in-Some g c =
     let ledger = c.args.self.now in
     ap (λ found. ok_or found NoSuchPeriod)
     (period_of-closed ledger.tariffs.items ledger.held.entries ledger.posted ledger.closed.items
-    ledger.choices.items
+    ledger.choices.items ledger.adopted
     c.args.number c.in-Some.closed.now (omega arith)
     (ap (λ closed. slice_get closed (c.args.number - 1)) (sym c.deref.ensures.value)
     ∙ slice_get_read c.deref.result.now (length c.deref.result.now) (c.args.number - 1)
@@ -21,8 +21,8 @@ pub returns-in_ok-ending-in-None : goal.returns-in_ok-ending-in-None
 returns-in_ok-ending-in-None g c =
     let ledger = c.args.self.now in
     ap (λ found. ok_or found NoSuchPeriod)
-    (period_of-open ledger.tariffs.items ledger.closed.items ledger.choices.items ledger.kept
-    ledger.rising ledger.posted
+    (period_of-open ledger.tariffs.items ledger.closed.items ledger.choices.items ledger.adopted
+    ledger.kept ledger.rising ledger.posted
     c.in_ok-ending-in-None.field-0 c.args.number c.in_ok-ending-in-None.ensures
     (omega arith) (omega arith)
     (ap (λ closed. slice_get closed (c.args.number - 1)) (sym c.deref.ensures.value)

@@ -1,4 +1,4 @@
-use Rattle.std.proofs.Common.{◌∙◌, [], sym, ap, Some, w32}
+use Rattle.std.proofs.Common.{◌∙◌, [], sym, ap, Some, None, w32}
 use Rattle.std.specs.Option.{option_map}
 use Rattle.std.proofs.lemmas.Int.{to_z-of_z}
 use Rattle.book_core.specs.declared.closed.ClosedPeriod.{ClosedPeriod}
@@ -11,4 +11,4 @@ returns c =
     let last = c.in_ok-last.last.now in
     ap Some (to_z-of_z w32 last.through (day_fits last.through last.day))
     ∙ ap (option_map (λ (period : ClosedPeriod). period.through)) c.in_ok-last.ensures.value
-    ∙ sym (last_close-by [] c.args.closed.now [])
+    ∙ sym (last_close-by [] c.args.closed.now [] None)

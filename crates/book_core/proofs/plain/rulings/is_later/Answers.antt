@@ -1,4 +1,4 @@
-use Rattle.std.proofs.Common.{[], ◌∙◌, ◌&&◌, sym, ap, true, Bool, Option, w32}
+use Rattle.std.proofs.Common.{[], ◌∙◌, ◌&&◌, sym, ap, true, Bool, Option, None, w32}
 use Rattle.std.proofs.lemmas.Int.{to_z-of_z}
 use Rattle.std.specs.Option.{option_map_or}
 use Rattle.std.specs.Prelude.{int_lt, ℤ}
@@ -16,7 +16,7 @@ pub returns-then-are_before : goal.returns-then-are_before
 returns-then-are_before c =
     let day = c.args.tariff.now.effective in
     let before = sym c.are_before.ensures ∙ c.if-are_before.true in
-    sym (is_later-by day (ruled_by c.args.tariffs.now c.args.closed.now [])
+    sym (is_later-by day (ruled_by c.args.tariffs.now c.args.closed.now [] None)
     ∙ (λ i. before i && late (sym c.effective.ensures.value i) (sym c.last_close.ensures i))
     ∙ ap (λ day. late day c.last_close.result) (sym (to_z-of_z w32 c.effective.result
     (day_fits c.effective.result c.effective.ensures.day)))
@@ -25,7 +25,7 @@ returns-then-are_before c =
 pub returns-else-are_before : goal.returns-else-are_before
 returns-else-are_before c =
     let day = c.args.tariff.now.effective in
-    let rulings = ruled_by c.args.tariffs.now c.args.closed.now [] in
+    let rulings = ruled_by c.args.tariffs.now c.args.closed.now [] None in
     let before = sym c.are_before.ensures ∙ c.if-are_before.false in
     c.if-are_before.false
     ∙ sym (is_later-by day rulings ∙ (λ i. before i && late day (last_close rulings)))

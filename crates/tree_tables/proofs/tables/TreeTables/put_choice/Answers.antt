@@ -1,11 +1,17 @@
-use Rattle.tree_tables.proofs.ChoiceRows.{choice_put}
-use Rattle.tree_tables.proofs.Looking.{does_alone}
+use Rattle.tree_tables.proofs.ChoiceRows.{choice_added}
+use Rattle.tree_tables.proofs.Looking.{clean_before, does_after}
 use Rattle.tree_tables.proofs.tables.TreeTables.put_choice.Goals as goal
 
+-- the two rows are there
 pub returns : goal.returns
 returns g c = record {
-  does = does_alone g.S.Store c.put_row.result c.put_row.ensures.quiet c.put_row.ensures.kept
-      c.put_row.ensures.puts
-      (λ clean puts. choice_put c.args.number c.args.name.now c.args.period puts
-      c.in_ok-choice_key.ensures c.in_ok-choice_row.ensures);
+  does =
+      let ghosts = g.S.Store in
+      does_after ghosts c.add_row-2.result c.add_row.ensures.quiet
+      (λ clean. (c.in_ok-add_row.ensures.done clean).only)
+      c.add_row-2.ensures.quiet c.add_row-2.ensures.kept c.add_row-2.ensures.done
+      (λ clean rewritten tables holds new.
+      choice_added c.args.number c.args.name.now c.args.period
+      (c.in_ok-add_row.ensures.done (clean_before ghosts c.add_row-2.ensures.quiet clean))
+      rewritten c.in_ok-choice_row.ensures c.in_ok-choice_name_row.ensures holds new);
 }

@@ -1,0 +1,38 @@
+-- The rule of identity of books: what their row says of it, and whose work a record measures by it.
+use Rattle.std.specs.Prelude.{ℕ, Bool, true, false, ◌==◌, ◌&&◌, nat_le, nat_lt, List}
+use Rattle.std.specs.Prelude.{Option, Some, None, if◌then◌else◌}
+use Rattle.smf_type30.specs.Usage.{identity_of, identity2_of}
+use Rattle.book_model.specs.Words.{first_rule, second_rule, last_period}
+use Rattle.book_audit.specs.declared.identity_rule.IdentityRule.{IdentityRule}
+use Rattle.book_audit.specs.declared.identity_rule.IdentityRule.TheVariants.{First, SecondSince}
+
+-- the period of adoption where none was adopted
+abbrev pub never_adopted : ℕ
+never_adopted = 0
+
+-- such a period may be open
+abbrev pub is_period : ℕ → Bool
+is_period period = nat_lt 0 period && nat_le period last_period
+
+-- The rule of a number and of a period of adoption: the first was never adopted, and the second in
+-- a period. No books have another pair.
+abbrev pub rule_of : ℕ → ℕ → Option IdentityRule
+rule_of number adopted =
+    if (number == first_rule) && (adopted == never_adopted) then Some First
+    else if (number == second_rule) && is_period adopted then Some (SecondSince adopted)
+    else None
+
+-- it was adopted no later than in this period, if it was adopted at all
+abbrev pub is_by : ℕ → IdentityRule → Bool
+is_by period First = true
+is_by period (SecondSince adopted) = nat_le adopted period
+
+-- it was adopted in this period or later, so that identities that were one then may be two
+abbrev pub parts : ℕ → IdentityRule → Bool
+parts period First = false
+parts period (SecondSince adopted) = nat_le period adopted
+
+-- whose work a record measures
+abbrev pub identity_by : IdentityRule → List ℕ → List ℕ
+identity_by First bytes = identity_of bytes
+identity_by (SecondSince adopted) bytes = identity2_of bytes

@@ -1,0 +1,74 @@
+-- The steps of an adoption's walks change no name.
+use Rattle.std.proofs.Common.{◌≡◌, ◌∙◌, ℕ, List, Bool, true, false, cond, not, ◌&&◌, Option, Some, None}
+use Rattle.std.proofs.Common.{refl}
+use Rattle.std.specs.Prelude.{ℤ}
+use Rattle.std.specs.FinMap.{get, keys}
+use Rattle.book_core.specs.Effects.{charge_held}
+use Rattle.book_core.specs.declared.effect_table.Effects.{Effects}
+use Rattle.kept_tables.specs.RowChanges.{change_mark, identity_at, mark_at}
+use Rattle.kept_tables.specs.Steps.{rename_row, rename_step}
+use Rattle.kept_tables.specs.TableChanges.{by_second_rule, charge_in, settle_row, settle_step}
+use Rattle.kept_tables.specs.Tables.{RecordRow, RecordTable, Tables}
+use Rattle.kept_tables.specs.Views.{member_at}
+use Rattle.tree_tables.proofs.Layouts.{record_layout}
+use Rattle.tree_tables.proofs.WalkNames.{KeepsNames, keys_kept}
+
+module _ (mark : Bool) (name : List ℕ) (records : RecordTable) where
+  -- a mark changes no name
+  names_marked : (found : Option RecordRow) → get records name ≡ found
+      → keys (mark_at mark name found records) ≡ keys records
+  names_marked None there = refl
+  names_marked (Some row) there =
+      keys_kept record_layout.total record_layout.exact records name row
+      (record row { charged = mark }) there
+
+  keys_mark : keys (mark_at mark name (get records name) records) ≡ keys records
+  keys_mark = names_marked (get records name) refl
+
+-- nor does one that is taken, if one is
+keys_change : (unmark : Option (List ℕ)) (records : RecordTable)
+    → keys (change_mark unmark records) ≡ keys records
+keys_change None records = refl
+keys_change (Some name) records = keys_mark false name records
+
+-- nor a record that is charged
+charged_names : (period : ℕ) (name : List ℕ) (effects : Effects) (tables : Tables)
+    → keys (charge_in period name effects tables).records ≡ keys tables.records
+charged_names period name effects tables =
+    keys_mark true name (change_mark effects.unmark tables.records)
+    ∙ keys_change effects.unmark tables.records
+
+-- nor a step of the walk that charges records
+pub settle_keeps : (period : ℕ) (last : Option ℤ) (is_due : List ℕ → Bool)
+    → KeepsNames (settle_step period last is_due)
+settle_keeps period last is_due name tables = by_row (get tables.records name)
+  where
+    by_row : (found : Option RecordRow)
+        → keys (settle_row period last (is_due name) name found tables).records
+        ≡ keys tables.records
+    by_row None = refl
+    by_row (Some row) =
+        elim (is_due name && not row.charged) as (λ b. keys (cond b
+        (charge_in period name (charge_held last (member_at (name, row))) tables) tables).records
+        ≡ keys tables.records) [
+          | true ↦ charged_names period name (charge_held last (member_at (name, row))) tables
+          | false ↦ refl
+        ]
+
+-- nor a new identity
+named_by : (name identity : List ℕ) (records : RecordTable) (found : Option RecordRow)
+    → get records name ≡ found → keys (identity_at identity name found records) ≡ keys records
+named_by name identity records None there = refl
+named_by name identity records (Some row) there =
+    keys_kept record_layout.total record_layout.exact records name row
+    (record row { identity = identity }) there
+
+-- nor a step of the walk that gives them
+pub rename_keeps : KeepsNames rename_step
+rename_keeps name tables = by_row (get tables.records name)
+  where
+    by_row : (found : Option RecordRow)
+        → keys (rename_row name found tables).records ≡ keys tables.records
+    by_row None = refl
+    by_row (Some row) =
+        named_by name (by_second_rule row).identity tables.records (get tables.records name) refl

@@ -1,0 +1,182 @@
+-- Walks over all records whose steps hang on the tables before the first one, as calls on a store
+-- make them.
+use Rattle.std.proofs.Common.{◌≡◌, ℕ, List, Option, Some, None, Result, Ok, Err, refl, sym, subst}
+use Rattle.std.proofs.Common.{true≢false, ap, ◌∙◌, Bool, true, false, cond, map, [], ◌∷◌}
+use Rattle.std.specs.Prelude.{IsErr, filter}
+use Rattle.std.specs.FinMap.{entries, keys}
+use Rattle.std.specs.Ordering.{is_lt}
+use Rattle.book_model.specs.Words.{by_bytes}
+use Rattle.sqlite_trees.specs.View.{KeepsCommitted, OnlyWrites}
+use Rattle.sqlite_trees.specs.declared.error.StoreError.{StoreError}
+use Rattle.kept_tables.specs.TableChanges.{walk}
+use Rattle.kept_tables.specs.Tables.{Tables}
+use Rattle.tree_tables.specs.Answers.{FindsNext}
+use Rattle.tree_tables.specs.Holds.{Holds}
+use Rattle.tree_tables.specs.States.{HasCleanDisk, State, Survives}
+use Rattle.tree_tables.specs.Steps.{Does, Looks}
+use Rattle.tree_tables.specs.declared.stored_record.StoredRecord.{StoredRecord}
+use Rattle.tree_tables.proofs.Looking.{held_behind, kept_after, kept_by}
+use Rattle.tree_tables.proofs.Looking.{only_both, only_looks, survives_both, was_clean}
+use Rattle.tree_tables.proofs.WalkNames.{IsWalking, KeepsNames, names_left, next_names, walking_ends}
+use Rattle.table_ledger.proofs.SurvivalLemmas.{survives_none}
+
+-- what is told of any error is told of one
+does_err : {T : Type 0} {When : Tables → Type 0} {change : Tables → Tables} {old new : State}
+    (result : Result T StoreError) → IsErr result → Survives old new (λ trees. ⊥)
+    → (HasCleanDisk new → KeepsCommitted old.view new.view) → Does result old new When change
+does_err (Ok value) failed survives kept = absurd (true≢false (sym failed))
+does_err (Err error) failed survives kept =
+    record { survives = survives; done = λ clean. tt; refused = kept }
+
+-- keys that pass a test are those of the entries whose keys pass it
+keys_passing : {K V : Type 0} (p : K → Bool) (es : List (K × V))
+    → map (λ (e : K × V). e.0) (filter (λ (e : K × V). p e.0) es)
+    ≡ filter p (map (λ (e : K × V). e.0) es)
+keys_passing p [] = refl
+keys_passing {K} {V} p (e ∷ es) =
+    elim (p e.0) as (λ b.
+    map (λ (e : K × V). e.0) (cond b (e ∷ filter (λ (e : K × V). p e.0) es)
+    (filter (λ (e : K × V). p e.0) es))
+    ≡ cond b (e.0 ∷ filter p (map (λ (e : K × V). e.0) es))
+    (filter p (map (λ (e : K × V). e.0) es))) [
+      | true ↦ ap (λ rest. e.0 ∷ rest) (keys_passing p es)
+      | false ↦ keys_passing p es
+    ]
+
+-- so the same names are left where the names are the same
+names_stay : (last : Option (List ℕ)) (one other : Tables)
+    → keys one.records ≡ keys other.records → names_left last one ≡ names_left last other
+names_stay None one other same = same
+names_stay (Some name) one other same =
+    keys_passing (λ k. is_lt (by_bytes name k)) (entries one.records)
+    ∙ ap (filter (λ k. is_lt (by_bytes name k))) same
+    ∙ sym (keys_passing (λ k. is_lt (by_bytes name k)) (entries other.records))
+
+-- A walk has come to a name. Nothing is committed; and of the tables as they are now this is still so,
+-- by those before the walk.
+pub record WalksOf (When : Tables → Type 0) (Still : Tables → Tables → Type 0)
+    (step : Tables → List ℕ → Tables → Tables) (old new : State) (last : Option (List ℕ)) : Type 0
+  where
+    pub survives : Survives old new (λ trees. ⊥)
+    pub only : HasCleanDisk new → OnlyWrites old.view new.view
+    pub walking : HasCleanDisk new → (tables : Tables) → Holds old.view.trees tables → When tables
+        → (so_far : IsWalking (step tables) tables new.view.trees last) × Still tables so_far.now
+
+module _ (When : Tables → Type 0) (Still : Tables → Tables → Type 0)
+    (step : Tables → List ℕ → Tables → Tables) where
+  -- before the first look
+  pub of_none : (state : State) → ((tables : Tables) → When tables → Still tables tables)
+      → WalksOf When Still step state state None
+  of_none state starts = record {
+    survives = survives_none;
+    only = λ clean. refl;
+    walking = λ clean tables holds when.
+        (record { now = tables; holds = holds; whole = refl }, starts tables when);
+  }
+
+  module _ {old mid : State} {last : Option (List ℕ)}
+      (walks : WalksOf When Still step old mid last) where
+    -- a look leaves the walk where it is
+    pub of_still : {A : Type 0} {new : State} {Answers : Tables → A → Type 0} {answer : A}
+        → Looks (Ok answer) mid new Answers → WalksOf When Still step old new last
+    of_still {new = new} looks = record {
+      survives = survives_both walks.survives looks.survives;
+      only = λ clean.
+          only_both old.view (walks.only (was_clean looks.survives clean))
+          (only_looks mid.view (looks.found clean).same);
+      walking = λ clean tables holds when.
+          let both = walks.walking (was_clean looks.survives clean) tables holds when in
+          let so_far = both.0 in (
+            record {
+              now = so_far.now;
+              holds = held_behind mid.view (looks.found clean).same so_far.holds;
+              whole = so_far.whole;
+            },
+            both.1,
+          );
+    }
+
+    -- the next record is found, and its step taken
+    pub of_on : {T : Type 0} {seen new : State} {Before : Tables → Type 0}
+        {change : Tables → Tables} {done : T} (stored : StoredRecord)
+        → ((tables : Tables) → KeepsNames (step tables))
+        → Looks (Ok (Some stored)) mid seen (FindsNext last)
+        → Does (Ok done) seen new Before change
+        → ((tables now : Tables) → Still tables now → FindsNext last now (Some stored)
+        → Before now × (change now ≡ step tables stored.name now))
+        → ((tables now : Tables) → Still tables now → Still tables (step tables stored.name now))
+        → WalksOf When Still step old new (Some stored.name)
+    of_on {seen = seen} {new = new} stored keeps looks does so stays = record {
+      survives = survives_both walks.survives (survives_both looks.survives does.survives);
+      only = λ clean.
+          let behind = was_clean does.survives clean in
+          only_both old.view (walks.only (was_clean looks.survives behind))
+          (only_both mid.view (only_looks mid.view (looks.found behind).same)
+          (does.done clean).only);
+      walking = λ clean tables holds when.
+          let behind = was_clean does.survives clean in
+          let both = walks.walking (was_clean looks.survives behind) tables holds when in
+          let so_far = both.0 in
+          let look = looks.found behind in
+          let found = look.known so_far.now so_far.holds in
+          let steps = so tables so_far.now both.1 found in
+          let name = stored.name in
+          let now = so_far.now in
+          let next = step tables name now in (
+            record {
+              now = next;
+              holds = subst (Holds new.view.trees) steps.1
+                  ((does.done clean).made now (held_behind mid.view look.same so_far.holds)
+                  steps.0);
+              whole = ap (λ names. walk (step tables) names next)
+                  (names_stay (Some name) next now (keeps tables name now))
+                  ∙ ap (λ names. walk (step tables) names now)
+                  (sym (next_names last now stored found))
+                  ∙ so_far.whole;
+            },
+            stays tables now both.1,
+          );
+    }
+
+    -- none is found: all steps are taken, one for each name, in order
+    pub of_all : {T : Type 0} {new : State} {done : T}
+        → Looks (Ok None) mid new (FindsNext last)
+        → Does (Ok done) old new When (λ tables. walk (step tables) (keys tables.records) tables)
+    of_all {new = new} looks = record {
+      survives = survives_both walks.survives looks.survives;
+      done = λ clean. record {
+        only = only_both old.view (walks.only (was_clean looks.survives clean))
+            (only_looks mid.view (looks.found clean).same);
+        made = λ tables holds when.
+            let both = walks.walking (was_clean looks.survives clean) tables holds when in
+            let so_far = both.0 in
+            let look = looks.found clean in
+            held_behind mid.view look.same
+            (walking_ends (step tables) tables last so_far (look.known so_far.now so_far.holds));
+      };
+      refused = λ clean. tt;
+    }
+
+    -- it is given up
+    pub of_no_more : {T : Type 0} {Then : Tables → Type 0} {change : Tables → Tables}
+        (result : Result T StoreError) → IsErr result → Does result old mid Then change
+    of_no_more result failed =
+        does_err result failed walks.survives (λ clean. kept_by (walks.only clean))
+
+    -- a look of it fails
+    pub of_blind : {A T : Type 0} {new : State} {Answers : Tables → A → Type 0}
+        {Then : Tables → Type 0} {change : Tables → Tables} {why : StoreError}
+        (result : Result T StoreError) → IsErr result → Looks {A = A} (Err why) mid new Answers
+        → Does result old new Then change
+    of_blind result failed looks =
+        does_err result failed (survives_both walks.survives looks.survives) (λ clean.
+        kept_after (walks.only (was_clean looks.survives clean)) (looks.refused clean))
+
+    -- a step of it fails
+    pub of_fail : {T U : Type 0} {new : State} {Then Other : Tables → Type 0}
+        {change other : Tables → Tables} {why : StoreError} (result : Result T StoreError)
+        → IsErr result → Does {T = U} (Err why) mid new Other other
+        → Does result old new Then change
+    of_fail result failed does =
+        does_err result failed (survives_both walks.survives does.survives) (λ clean.
+        kept_after (walks.only (was_clean does.survives clean)) (does.refused clean))

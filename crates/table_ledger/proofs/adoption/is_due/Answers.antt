@@ -1,0 +1,29 @@
+use Rattle.std.proofs.Common.{◌≡◌, false, rules, true}
+use Rattle.tree_tables.specs.Answers.{FindsSharing}
+use Rattle.table_ledger.specs.Adoptions.{is_last}
+use Rattle.table_ledger.proofs.Settling.{due_alone, due_chosen}
+use Rattle.table_ledger.proofs.TryLemmas.{looks_known, saw_found, saw_none}
+use Rattle.tree_tables.specs.States.{state}
+use Rattle.table_ledger.proofs.adoption.is_due.Goals as goal
+
+pub returns-then-is_last : goal.returns-then-is_last
+returns-then-is_last g c = record {
+  looks =
+      let stored = c.args.stored.now in
+      let is : is_last c.args.chosen.now stored.identity.items stored.name ≡ true = search rules in
+      looks_known (saw_none {state = state g.S.Store c.args.tables.now.store})
+      (λ tables known stands lasts. due_chosen stored tables c.args.chosen.now is stands lasts);
+}
+
+pub returns : goal.returns
+returns g c = record {
+  looks =
+      let stored = c.args.stored.now in
+      let sharing = c.in_ok-sharing.sharing.items in
+      let is : is_last c.args.chosen.now stored.identity.items stored.name ≡ false =
+      search rules in
+      looks_known (saw_found c.in_ok-sharing.ensures.looks)
+      (λ tables shared stands lasts.
+      let own : FindsSharing stored.identity.items tables sharing = search rules in
+      due_alone stored tables c.args.chosen.now sharing _ is own (search rules) stands lasts);
+}

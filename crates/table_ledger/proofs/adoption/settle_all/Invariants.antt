@@ -1,0 +1,11 @@
+use Rattle.tree_tables.specs.States.{state}
+use Rattle.table_ledger.specs.Adoptions.{IsLast}
+use Rattle.table_ledger.proofs.Settling.{IsStill, settle_of}
+use Rattle.table_ledger.proofs.WalksOf.{WalksOf}
+use Rattle.table_ledger.proofs.adoption.settle_all.Given as goal
+
+-- of the records up to the last name those are charged that are to be
+abbrev pub invariant-records : goal.invariant-records
+invariant-records g l =
+    WalksOf (IsLast l.fn.chosen) (IsStill l.fn.chosen) (settle_of l.fn.period l.fn.through)
+    (state g.S.Store l.fn.tables.store) (state g.S.Store l.tables.store) l.last

@@ -1,0 +1,24 @@
+use Rattle.kept_tables.specs.Steps.{set_rule}
+use Rattle.kept_tables.specs.Views.{is_due_in}
+use Rattle.kept_tables.specs.TableChanges.{settle_step, walk}
+use Rattle.book_model.specs.Words.{second_rule}
+use Rattle.std.specs.FinMap.{keys}
+use Rattle.tree_tables.specs.States.{state}
+use Rattle.tree_tables.specs.Steps.{Always, Does}
+use Rattle.table_ledger.proofs.StepLemmas.{does_then}
+use Rattle.table_ledger.proofs.adoption.write_adoption.Goals as goal
+
+-- the identities, what is charged by them, and the rule
+pub returns : goal.returns
+returns g c = record {
+  does =
+      let period = c.args.period in
+      let rest : Does c.set_rule.result (state g.S.Store c.rename_all.new.tables.store)
+      (state g.S.Store c.set_rule.new.self.store) Always
+      (λ tables. set_rule second_rule period
+      (walk (settle_step period c.args.through (is_due_in tables)) (keys tables.records) tables)) =
+      does_then {When = Always} c.set_rule.result c.in_ok-charge_due.ensures.does
+      c.set_rule.ensures.does (λ tables always. (tt, tt)) in
+      does_then {When = Always} c.set_rule.result c.in_ok-rename_all.ensures.does rest
+      (λ tables always. (tt, tt));
+}

@@ -1,0 +1,11 @@
+use Rattle.std.proofs.Common.{◌∙◌, ap, sym, false}
+use Rattle.std.specs.Option.{option_map_or}
+use Rattle.std.specs.Prelude.{option_copied}
+use Rattle.book_model.specs.Words.{same_bytes}
+use Rattle.table_ledger.proofs.chosen.Chosen.is_last.Goals as goal
+
+pub returns-in-Some : goal.returns-in-Some
+returns-in-Some c =
+    c.eq.ensures
+    ∙ ap (λ found. option_map_or (same_bytes c.args.name.now) found false)
+    (ap option_copied (sym c.in-Some.is) ∙ c.get.ensures.value)

@@ -1,0 +1,17 @@
+use Rattle.std.proofs.Common.{List, map, subst}
+use Rattle.tree_tables.specs.declared.choice_rows.StoredChoice.{StoredChoice}
+use Rattle.tree_tables.proofs.Looking.{looks_behind}
+use Rattle.table_ledger.specs.Adoptions.{IsLastOf}
+use Rattle.table_ledger.proofs.Settling.{last_listed}
+use Rattle.table_ledger.proofs.chosen.look_for_chosen.Goals as goal
+
+-- the last of all choices that were listed
+pub returns : goal.returns
+returns g c = record {
+  looks = looks_behind c.last_of.result c.in_ok-choices.ensures.looks c.last_of.ensures.looks
+      (λ tables chosen lists lasts.
+      last_listed c.in_ok-choices.choices.items chosen tables lists
+      (subst (λ (list : List StoredChoice).
+      IsLastOf (map (λ (choice : StoredChoice). choice.name) list) tables.records chosen)
+      c.deref.ensures.value lasts));
+}

@@ -1,0 +1,195 @@
+//! The second rule of identity, which an office adopts once.
+
+ghost use Rattle.std.specs.Prelude.{◌≡◌};
+ghost use Rattle.std.specs.FinMap.{keys};
+ghost use Rattle.book_model.specs.Words.{Naming, adopt_outcome};
+ghost use Rattle.kept_tables.specs.Steps as step;
+ghost use Rattle.kept_tables.specs.TableChanges as change;
+ghost use Rattle.kept_tables.specs.Views.{is_due_in};
+ghost use Rattle.tree_tables.specs.States.{state};
+ghost use Rattle.tree_tables.specs.Steps.{Always, Does, Looks};
+ghost use Rattle.tree_tables.specs.Stored.{IsAsRead};
+ghost use Rattle.table_ledger.specs.Adoptions.{IsLast};
+ghost use Rattle.table_ledger.specs.Commits.{CommitsOne};
+ghost use Rattle.table_ledger.specs.Tries.{Tries};
+
+use crate::choices::charge;
+use crate::chosen::{Chosen, look_for_chosen};
+use crate::effects::member_of;
+use crate::stored_usage::usage_bytes;
+use crate::summary::{Summary, is_done};
+use book_core::{LedgerFault, Ruled, plan_charge};
+use smf_type30::Type30;
+use sqlite_trees::error::StoreError;
+use sqlite_trees::store::Store;
+use std::alloc::Global;
+use tree_tables::{StoredRecord, TreeTables};
+
+/// The second rule, as the row of the book says it.
+const SECOND_RULE: u64 = 2;
+
+/// The most records that are walked over: more than any tree of a sound store has.
+const MOST_STEPS: u64 = 1 << 32;
+
+/// A record has its identity by the second rule.
+fn rename<S: Store>(
+    tables: &mut TreeTables<S>,
+    alloc: Global,
+    stored: &StoredRecord,
+) -> Result<(), StoreError>
+    ensures does { Does result (state S.Store tables.old.store) (state S.Store tables.new.store)
+        (IsAsRead stored.now) (step.rename_step stored.now.name) }
+{
+    let bytes = usage_bytes(alloc, &stored.data_bytes)?;
+    let identity = Type30::of_usage(&bytes).identity2();
+    tables.set_identity(stored, &identity)
+}
+
+/// Each record has its identity by the second rule.
+fn rename_all<S: Store>(tables: &mut TreeTables<S>, alloc: Global) -> Result<(), StoreError>
+    ensures does { Does result (state S.Store tables.old.store) (state S.Store tables.new.store)
+        Always (λ tables. change.walk step.rename_step (keys tables.records) tables) }
+{
+    let mut last = None;
+    'records: for _ in 0..MOST_STEPS {
+        let Some(stored) = tables.find_next(alloc, last)? else {
+            return Ok(());
+        };
+        rename(tables, alloc, &stored)?;
+        last = Some(stored.name);
+    }
+    // Only a disk that lies has more rows.
+    Err(StoreError::Corrupt)
+}
+
+/// A record is to be charged: it is alone in its identity, or the one that was chosen last.
+fn is_due<S: Store>(
+    tables: &mut TreeTables<S>,
+    alloc: Global,
+    chosen: &Chosen,
+    stored: &StoredRecord,
+) -> Result<bool, StoreError>
+    ensures looks { Looks result (state S.Store tables.old.store) (state S.Store tables.new.store)
+        (λ tables due. IsAsRead stored.now tables → IsLast chosen.now tables
+        → due ≡ is_due_in tables stored.now.name) }
+{
+    if chosen.is_last(&stored.identity, &stored.name) {
+        return Ok(true);
+    }
+    let sharing = tables.find_sharing(alloc, &stored.identity)?;
+    Ok(sharing.len() == 1)
+}
+
+/// A record that is not charged is charged where it is to be.
+fn settle_record<S: Store>(
+    tables: &mut TreeTables<S>,
+    alloc: Global,
+    period: u16,
+    through: Option<i32>,
+    chosen: &Chosen,
+    stored: &StoredRecord,
+) -> Result<(), StoreError>
+    ensures does { Does result (state S.Store tables.old.store) (state S.Store tables.new.store)
+        (λ tables. IsAsRead stored.now tables × IsLast chosen.now tables)
+        (λ tables. change.settle_step period through (is_due_in tables) stored.now.name tables) }
+{
+    if stored.charged {
+        return Ok(());
+    }
+    if !is_due(tables, alloc, chosen, stored)? {
+        return Ok(());
+    }
+    let effects = plan_charge(through, &member_of(stored));
+    charge(tables, period, &stored.name, &effects)
+}
+
+/// Each record that is not charged is charged where it is to be.
+fn settle_all<S: Store>(
+    tables: &mut TreeTables<S>,
+    alloc: Global,
+    period: u16,
+    through: Option<i32>,
+    chosen: &Chosen,
+) -> Result<(), StoreError>
+    ensures does { Does result (state S.Store tables.old.store) (state S.Store tables.new.store)
+        (IsLast chosen.now)
+        (λ tables. change.walk (change.settle_step period through (is_due_in tables))
+        (keys tables.records) tables) }
+{
+    let mut last = None;
+    'records: for _ in 0..MOST_STEPS {
+        let Some(stored) = tables.find_next(alloc, last)? else {
+            return Ok(());
+        };
+        settle_record(tables, alloc, period, through, chosen, &stored)?;
+        last = Some(stored.name);
+    }
+    // Only a disk that lies has more rows.
+    Err(StoreError::Corrupt)
+}
+
+/// Each record that is not charged is charged where it is to be, by the choices.
+fn charge_due<S: Store>(
+    tables: &mut TreeTables<S>,
+    alloc: Global,
+    period: u16,
+    through: Option<i32>,
+) -> Result<(), StoreError>
+    ensures does { Does result (state S.Store tables.old.store) (state S.Store tables.new.store)
+        Always (λ tables. change.walk (change.settle_step period through (is_due_in tables))
+        (keys tables.records) tables) }
+{
+    let chosen = look_for_chosen(tables, alloc)?;
+    settle_all(tables, alloc, period, through, &chosen)
+}
+
+/// Writes the second rule: the identities, what is charged by them, and the row of the book.
+fn write_adoption<S: Store>(
+    tables: &mut TreeTables<S>,
+    alloc: Global,
+    period: u16,
+    through: Option<i32>,
+) -> Result<(), StoreError>
+    ensures does { Does result (state S.Store tables.old.store) (state S.Store tables.new.store)
+        Always (step.adoption_by_steps period through is_due_in) }
+{
+    rename_all(tables, alloc)?;
+    charge_due(tables, alloc, period, through)?;
+    tables.set_rule(SECOND_RULE, period)
+}
+
+/// Keeps the second rule, in one commit.
+fn keep_adoption<S: Store>(
+    tables: &mut TreeTables<S>,
+    alloc: Global,
+    period: u16,
+    through: Option<i32>,
+) -> Result<(), StoreError>
+    ensures commits { CommitsOne result (state S.Store tables.old.store)
+        (state S.Store tables.new.store) Always
+        (step.adoption_by_steps period through is_due_in) }
+{
+    write_adoption(tables, alloc, period, through)?;
+    tables.commit()
+}
+
+/// Answers a rule of identity, and adopts it where it is the second and the first is in force.
+pub(crate) fn try_adopt<S: Store>(
+    tables: &mut TreeTables<S>,
+    alloc: Global,
+    summary: &mut Summary,
+    rule: u8,
+) -> Result<Result<Ruled, LedgerFault>, StoreError>
+    ensures tries { (naming : Naming) → Tries (λ ruled. ruled) naming summary.old summary.new
+        (state S.Store tables.old.store) (state S.Store tables.new.store)
+        (adopt_outcome rule) result }
+{
+    let answer = summary.adopt_answer(rule);
+    if !is_done(&answer) {
+        return Ok(answer);
+    }
+    let period = summary.open_number();
+    keep_adoption(tables, alloc, period, summary.last_close())?;
+    summary.adopted = Some(period);
+    Ok(Ok(Ruled::Done))
+}

@@ -1,0 +1,102 @@
+//! The records that were chosen last, by identity, as the choices of the tables say.
+
+ghost use Rattle.std.specs.Prelude.{◌≡◌, ℕ, List, Some, if◌then◌else◌, map};
+ghost use Rattle.kept_tables.specs.Views.{has_identity};
+ghost use Rattle.table_ledger.specs.Adoptions.{IsLast, IsLastOf, name_of};
+ghost use Rattle.tree_tables.specs.States.{state};
+ghost use Rattle.tree_tables.specs.Steps.{Looks};
+
+use sqlite_trees::error::StoreError;
+use sqlite_trees::store::Store;
+use std::alloc::{AllocError, Global};
+use std::collections::BTreeMap;
+use tree_tables::{StoredChoice, TreeTables};
+
+/// The records that were chosen last of their identities: there are no more of them than choices.
+#[derive(Drop)]
+pub(crate) struct Chosen {
+    /// Their names, by identity.
+    names: BTreeMap<Vec<u8>, [u8; 32]>,
+}
+
+impl Chosen {
+    ghost use Rattle.std.specs.Prelude.{◌≡◌, ℕ, List, None, OnOk, Some, if◌then◌else◌};
+    ghost use Rattle.book_model.specs.Words.{same_bytes};
+    ghost use Rattle.table_ledger.specs.Adoptions.{is_last, name_of};
+
+    /// None yet.
+    fn new(alloc: Global) -> Chosen
+        ensures { (identity : List ℕ) → name_of result identity ≡ None }
+    {
+        Chosen {
+            names: BTreeMap::new(alloc),
+        }
+    }
+
+    /// A record is the last of its identity from now on.
+    fn put(&mut self, identity: Vec<u8>, name: [u8; 32]) -> Result<(), AllocError>
+        ensures { OnOk result ((other : List ℕ) → name_of self.new other
+            ≡ if same_bytes other identity.items then Some name else name_of self.old other) }
+    {
+        self.names.insert(identity, name)?;
+        Ok(())
+    }
+
+    /// Whether a record was chosen last of its identity.
+    pub(crate) fn is_last(&self, identity: &[u8], name: &[u8; 32]) -> bool
+        ensures { result ≡ is_last self.now identity.now name.now }
+    {
+        match self.names.get(identity) {
+            Some(last) => name == last,
+            None => false,
+        }
+    }
+}
+
+/// The record of one choice more is the last of its identity, if there is one of its name.
+fn join<S: Store>(
+    tables: &mut TreeTables<S>,
+    alloc: Global,
+    chosen: &mut Chosen,
+    choice: &StoredChoice,
+) -> Result<(), StoreError>
+    ensures looks { Looks result (state S.Store tables.old.store) (state S.Store tables.new.store)
+        (λ tables joined. (identity : List ℕ) → name_of chosen.new identity
+        ≡ if has_identity tables.records identity choice.now.name then Some choice.now.name
+        else name_of chosen.old identity) }
+{
+    if let Some(stored) = tables.find_record(alloc, &choice.name)? {
+        chosen.put(stored.identity, choice.name)?;
+    }
+    Ok(())
+}
+
+/// Of some choices, the last of each identity.
+fn last_of<S: Store>(
+    tables: &mut TreeTables<S>,
+    alloc: Global,
+    choices: &[StoredChoice],
+) -> Result<Chosen, StoreError>
+    ensures looks { Looks result (state S.Store tables.old.store) (state S.Store tables.new.store)
+        (λ tables chosen. IsLastOf (map (λ choice. choice.name) choices.now) tables.records
+        chosen) }
+{
+    let mut chosen = Chosen::new(alloc);
+    for choice in choices {
+        join(tables, alloc, &mut chosen, choice)?;
+    }
+    Ok(chosen)
+}
+
+/// The records that were chosen last. What is kept of them grows with the choices, and not with the
+/// records.
+pub(crate) fn look_for_chosen<S: Store>(
+    tables: &mut TreeTables<S>,
+    alloc: Global,
+) -> Result<Chosen, StoreError>
+    ensures looks { Looks result (state S.Store tables.old.store) (state S.Store tables.new.store)
+        (λ tables chosen. IsLast chosen tables) }
+{
+    let choices = tables.list_choices(alloc)?;
+    last_of(tables, alloc, &choices)
+}

@@ -1,0 +1,202 @@
+-- Whether a choice names a record, as the tree of chosen names shows it; and the choices as they
+-- are listed.
+use Rattle.std.proofs.Common.{◌≡◌, ◌∙◌, ℕ, ◌||◌, List, [], ◌∷◌, Bool, true, false, cond, map, pos}
+use Rattle.std.proofs.Common.{refl, sym, ap, subst}
+use Rattle.std.specs.Prelude.{T, filter}
+use Rattle.std.specs.Cmp.{tied_itself}
+use Rattle.std.specs.Cmp.Lexicographic.{nat_list_cmp_total}
+use Rattle.std.specs.FinMap.{entries, entries_sorted, is_sorted, values}
+use Rattle.std.specs.FinMap.Entries.{below_all}
+use Rattle.std.specs.List.{AllZip, list_any}
+use Rattle.std.specs.Ordering.{eq_by_cmp, is_eq, is_lt, nat_cmp, ordering_then}
+use Rattle.std.proofs.lemmas.Map.Views.{tells_apart}
+use Rattle.sqlite_trees.specs.Tree.{Trees}
+use Rattle.sqlite_value.specs.Order.{Row}
+use Rattle.sqlite_value.specs.declared.value.Value.TheVariants.{Blob, Int}
+use Rattle.book_model.proofs.SetLemmas.{same_bytes-by_cmp}
+use Rattle.kept_tables.specs.Tables.{ChoiceRow, ChoiceTable, Tables}
+use Rattle.kept_tables.specs.Views.{is_named}
+use Rattle.tree_rows.specs.Indexes.{by_bytes, indexed_by}
+use Rattle.tree_rows.specs.Rows.{Finds, IsFirst}
+use Rattle.tree_rows.specs.Runs.{run_of}
+use Rattle.tree_rows.proofs.IndexLists.{both, index_in_order}
+use Rattle.tree_rows.proofs.IndexOrders.{by_bytes_exact}
+use Rattle.tree_rows.proofs.Maps.{first, second}
+use Rattle.tree_rows.proofs.Runs.{finds_run, run_all, run_named}
+use Rattle.tree_tables.specs.Answers.{IsNamed}
+use Rattle.tree_tables.specs.Columns.{choice_columns, choice_name_columns}
+use Rattle.tree_tables.specs.Holds.{Holds, by_chosen, choice_name_key, choice_names}
+use Rattle.tree_tables.specs.Stored.{SaysChoice, choice_of}
+use Rattle.tree_tables.specs.declared.choice_rows.StoredChoice.{StoredChoice}
+use Rattle.tree_tables.proofs.ChoiceRows.{chosen_named}
+use Rattle.tree_tables.proofs.Layouts.{choice_layout, choice_name_layout}
+
+-- a choice under its number
+abbrev Entry : Type 0
+Entry = ℕ × ChoiceRow
+
+-- a key of the tree of chosen names
+abbrev Key : Type 0
+Key = List ℕ × ℕ
+
+-- the rows of the tree
+abbrev name_rows : ChoiceTable → List Row
+name_rows choices = map choice_name_columns (entries (choice_names choices))
+
+-- whether a list has an element
+abbrev has_one : {X : Type 0} → List X → Bool
+has_one [] = false
+has_one (x ∷ xs) = true
+
+-- what is made of each element is as many
+made_has : {X Y : Type 0} (f : X → Y) (xs : List X) → has_one (map f xs) ≡ has_one xs
+made_has f [] = refl
+made_has f (x ∷ xs) = refl
+
+-- a first row is there where there is a row
+first_has : (rows : List Row) (row : Row) (there : Bool) → IsFirst rows row there
+    → there ≡ has_one rows
+first_has [] row true begins = absurd (let e = begins.1 in cc)
+first_has [] row false begins = refl
+first_has (one ∷ rows) row true begins = refl
+first_has (one ∷ rows) row false begins = absurd (let e = begins in cc)
+
+-- the name of a choice passes a test where one is left of those that do
+any_named : (test : List ℕ → Bool) (es : List Entry)
+    → list_any (λ (choice : ChoiceRow). test choice.name) (map (λ (e : Entry). e.1) es)
+    ≡ has_one (filter (λ (e : Entry). test e.1.name) es)
+any_named test [] = refl
+any_named test (e ∷ es) =
+    elim (test e.1.name) as (λ b.
+    (b || list_any (λ (choice : ChoiceRow). test choice.name) (map (λ (e : Entry). e.1) es))
+    ≡ has_one (cond b (e ∷ filter (λ (e : Entry). test e.1.name) es)
+    (filter (λ (e : Entry). test e.1.name) es))) [
+      | true ↦ refl
+      | false ↦ any_named test es
+    ]
+
+-- Choices of one name stand in the tree of names as they stand by their numbers.
+module _ (name : List ℕ) where
+  -- the key has the name
+  abbrev has_name : Key → Bool
+  has_name key = is_eq (by_bytes key.0 name)
+
+  only_name : (key : Key) → has_name key ≡ true → key.0 ≡ name
+  only_name key same = tells_apart by_bytes_exact key.0 name same
+
+  -- the choices that have the name
+  abbrev with_name : List Entry → List Entry
+  with_name es = filter (λ e. has_name (choice_name_key e)) es
+
+  -- their keys
+  abbrev keys_with : List Entry → List (Key × Unit {0})
+  keys_with es = map (indexed_by choice_name_key) (with_name es)
+
+  -- of two keys with the name the lesser has the lesser number
+  below_one : (number : ℕ) (e : Entry) → e.1.name ≡ name → T (is_lt (nat_cmp number e.0))
+      → T (is_lt (by_chosen (name, number) (choice_name_key e)))
+  below_one number e is below =
+      subst (λ o. T (is_lt o))
+      (sym (ap (λ o. ordering_then o (nat_cmp number e.0))
+      (ap (by_bytes name) is ∙ tied_itself nat_list_cmp_total name))) below
+
+  -- the name with a number below all others is below all keys with the name
+  below_with : (number : ℕ) (es : List Entry) → T (below_all nat_cmp number es)
+      → T (below_all by_chosen (name, number) (keys_with es))
+  below_with number [] below = tt
+  below_with number (e ∷ es) below =
+      let rest = below_with number es (second _ _ below) in
+      elim (has_name (choice_name_key e)) as (λ b. has_name (choice_name_key e) ≡ b
+      → T (below_all by_chosen (name, number) (map (indexed_by choice_name_key)
+      (cond b (e ∷ with_name es) (with_name es))))) [
+        | true ↦ λ is. both _ _
+            (below_one number e (only_name (choice_name_key e) is) (first _ _ below)) rest
+        | false ↦ λ not_it. rest
+      ] refl
+
+  -- so keys with the name, of choices in the order of their numbers, are in the order of the tree
+  names_rise : (es : List Entry) → T (is_sorted nat_cmp es)
+      → T (is_sorted by_chosen (keys_with es))
+  names_rise [] sorted = tt
+  names_rise (e ∷ es) sorted =
+      let rest = names_rise es (second _ _ sorted) in
+      elim (has_name (choice_name_key e)) as (λ b. has_name (choice_name_key e) ≡ b
+      → T (is_sorted by_chosen (map (indexed_by choice_name_key)
+      (cond b (e ∷ with_name es) (with_name es))))) [
+        | true ↦ λ is. both _ _
+            (subst (λ (one : List ℕ). T (below_all by_chosen (one, e.0) (keys_with es)))
+            (sym (only_name (choice_name_key e) is)) (below_with e.0 es (first _ _ sorted))) rest
+        | false ↦ λ not_it. rest
+      ] refl
+
+  -- the rows that begin with the name are those of the choices that have it
+  name_run : (choices : ChoiceTable) → run_of (Blob name ∷ []) (name_rows choices)
+      ≡ map choice_name_columns (keys_with (entries choices))
+  name_run choices =
+      run_named nat_cmp choice_name_layout (λ number. Int (pos number) ∷ [])
+      (λ one number. refl) name (choice_names choices)
+      ∙ ap (map choice_name_columns) (index_in_order chosen_named has_name choices
+      (names_rise (entries choices) (entries_sorted choices)))
+
+  -- a choice names the record where one has the name
+  named_has : (choices : ChoiceTable)
+      → is_named choices name ≡ has_one (with_name (entries choices))
+  named_has choices =
+      ap (λ (same : List ℕ → List ℕ → Bool).
+      list_any (λ (choice : ChoiceRow). same choice.name name) (values choices))
+      same_bytes-by_cmp
+      ∙ any_named (λ one. eq_by_cmp by_bytes one name) (entries choices)
+
+  -- So a look-up of the name in the tree tells whether a choice names the record.
+  pub named_found : (tables : Tables) {rows : List Row} {key row : Row} (hit : Bool)
+      → rows ≡ name_rows tables.choices → key ≡ Blob name ∷ [] → Finds key rows row hit
+      → IsNamed name tables hit
+  named_found tables {rows} {key} {row} hit held key_is finds =
+      let es = with_name (entries tables.choices) in
+      first_has (map choice_name_columns (keys_with (entries tables.choices))) row hit
+      (subst (λ run. IsFirst run row hit)
+      (ap (λ part. run_of part rows) key_is ∙ ap (run_of (Blob name ∷ [])) held
+      ∙ name_run tables.choices) (finds_run key row rows hit finds))
+      ∙ made_has choice_name_columns (keys_with (entries tables.choices))
+      ∙ made_has (indexed_by choice_name_key) es ∙ sym (named_has tables.choices)
+
+-- numbers and names are told by their columns
+same_number : (m n : ℕ) → Int (pos m) ≡ Int (pos n) → n ≡ m
+same_number m n e = cc
+
+same_name : (one other : List ℕ) → Blob one ≡ Blob other → other ≡ one
+same_name one other e = cc
+
+-- a choice that a row says is that of which it is the row
+choice_said : (choice : Entry) (stored : StoredChoice) → SaysChoice (choice_columns choice) stored
+    → choice_of stored ≡ choice
+choice_said choice stored says =
+    let number = same_number choice.0 stored.number says.number in
+    let name = same_name choice.1.name stored.name says.name in
+    let period = same_number choice.1.period stored.period says.period in
+    λ i. (number i, record { name = name i; period = period i })
+
+choices_said : (choices : List Entry) (list : List StoredChoice)
+    → AllZip SaysChoice (map choice_columns choices) list → map choice_of list ≡ choices
+choices_said [] [] says = λ i. []
+choices_said [] (stored ∷ list) says = absurd says
+choices_said (choice ∷ choices) [] says = absurd says
+choices_said (choice ∷ choices) (stored ∷ list) says =
+    let one = choice_said choice stored says.0 in
+    let more = choices_said choices list says.1 in
+    λ i. one i ∷ more i
+
+-- the run of all rows of choices is that of the table
+pub choices_run : (trees : Trees) (tables : Tables) (part : Row) → Holds trees tables → part ≡ []
+    → run_of part (trees 8) ≡ map choice_columns (entries tables.choices)
+choices_run trees tables part holds whole =
+    ap (λ part. run_of part (trees 8)) whole ∙ ap (run_of []) holds.choices
+    ∙ run_all choice_layout tables.choices
+
+-- the choices that are read of it are those of the table
+pub all_choices : (trees : Trees) (tables : Tables) (part : Row) (list : List StoredChoice)
+    → Holds trees tables → part ≡ [] → AllZip SaysChoice (run_of part (trees 8)) list
+    → map choice_of list ≡ entries tables.choices
+all_choices trees tables part list holds whole says =
+    choices_said (entries tables.choices) list
+    (subst (λ rows. AllZip SaysChoice rows list) (choices_run trees tables part holds whole) says)

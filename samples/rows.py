@@ -1,0 +1,241 @@
+"""Worked rows answered by office.py, apart from the program: a script is read as the program's player reads it, and
+each answer is made anew. Tables are what they have to hold by the books as a whole, and not kept step by step."""
+import datetime
+import hashlib
+
+import office
+
+
+class NotKnown(Exception):
+    """A line that is not answered here."""
+
+
+def read(script):
+    """Each line of a script that is no answer, with its body and the answer behind it."""
+    lines = []
+    for line in script.splitlines():
+        if line.startswith("|"):
+            lines[-1][1].append(line[2:])
+        elif not line or line.startswith(("> ", "#")):
+            lines.append((line, [], []))
+        else:
+            lines[-1][2].append(line)
+    return lines
+
+
+def dump_of(named, words):
+    """The dump of parts, as scripts name them."""
+    dump = bytearray()
+    for part in words:
+        if part.startswith("x:"):
+            dump += bytes.fromhex(part[2:])
+        elif part.startswith("zeros:"):
+            dump += bytes(int(part[6:]))
+        elif ":" in part:
+            place, digits = part.split(":")
+            dump[int(place):int(place) + len(digits) // 2] = bytes.fromhex(digits)
+        else:
+            part, _, count = part.partition("*")
+            name, _, places = part.partition("/")
+            first, last = places.split("..") if places else (0, "")
+            dump += named[name][int(first):int(last or len(named[name]))] * int(count or 1)
+    return bytes(dump)
+
+
+def days(day):
+    return (day - office.EPOCH).days
+
+
+class Tables:
+    """What the tables of books have to hold."""
+    def __init__(self, books):
+        self.books = books
+
+    def book(self):
+        books = self.books
+        amount = sum(one.amount for one in books.held.values())
+        yield "1 %d %d %d %d" % (books.rule, books.adopted or 0, len(books.held), amount)
+
+    def closed(self):
+        for number, through in enumerate(self.books.closes, 1):
+            yield "%d %d" % (number, days(through))
+
+    def tariffs(self):
+        for tariff in self.books.tariffs:
+            yield from ("%d {%s}" % (days(tariff.effective), tariff.file.decode())).split("\n")
+
+    def rows(self):
+        for period in range(1, self.books.open + 1):
+            for (day, centre, shift), sums in self.books.rows(period):
+                place = period, days(datetime.date.fromisoformat(day)), centre, shift
+                yield " ".join(str(column) for column in place + tuple(sums))
+
+    def lines(self):
+        books = self.books
+        for period in range(1, books.open + 1):
+            added, removed = books.changes(period)
+            for name in sorted(added | removed):
+                one = books.held[name]
+                yield "%d %d %d %s %s %d %d %d %s" % (
+                    period, name in added, days(one.day), one.centre, one.shift, one.cpu, one.blocks, one.amount,
+                    name.upper())
+
+    def marks(self):
+        charged, posted = self.books.undisputed(), self.books.posted()
+        for name in sorted(self.books.held):
+            yield "%s %d %d" % (name.upper(), name in charged, name in posted)
+
+    def choices(self):
+        for number, (name, period) in enumerate(self.books.choices, 1):
+            yield "%d %s %d" % (number, name.upper(), period)
+
+    def identities(self):
+        for name, one in sorted(self.books.held.items()):
+            yield "%s %s" % (name.upper(), self.books.identity(one).hex().upper())
+
+    def index(self, name):
+        books, charged = self.books, self.books.undisputed()
+        if name == "choice_name":
+            entries = sorted((name, number) for number, (name, _) in enumerate(books.choices, 1))
+            return ["%s %d" % (name.upper(), number) for name, number in entries]
+        held = sorted((books.identity(one), name) for name, one in books.held.items())
+        if name == "record_ident":
+            return [("%s %s" % (identity.hex(), name)).upper() for identity, name in held]
+        return [("%d %s %s" % (mark, identity.hex(), name)).upper()
+                for mark in (False, True) for identity, name in held if (name in charged) == mark]
+
+    def audit(self):
+        yield "SOUND"
+        for word, rows in (("RECORDS", self.marks()), ("TARIFFS", self.books.tariffs), ("CLOSES", self.closed()),
+                           ("CHOICES", self.choices()), ("ROWS", self.rows()), ("LINES", self.lines())):
+            yield "%s %d" % (word, len(list(rows)))
+
+
+TABLES = "book closed tariffs rows lines marks choices identities index".split()
+
+
+class Rows:
+    """Scripts, one after the other: what one names is named in those after it."""
+    def __init__(self):
+        self.dumps, self.texts = {}, {}
+        self.books, self.shown, self.files = None, {}, {}
+
+    def begin(self, kind):
+        if kind not in (["new"], ["commands"]):
+            raise NotKnown
+        self.books, self.shown, self.files = office.Books(), {}, {}
+
+    def name_of(self, word):
+        if len(word) == 64:
+            return word.lower()
+        [data] = office.joined(self.dumps[word])
+        return hashlib.sha256(data).hexdigest()
+
+    def text(self, names, body):
+        return "".join([line + "\n" for line in body] + [self.texts[name] for name in names])
+
+    def changes(self):
+        """Each text of the books that is not as it was shown last."""
+        texts = office.texts(self.books)
+        changed = [line for text, lines in texts.items() if self.shown.get(text) != lines for line in lines]
+        self.shown = texts
+        return changed
+
+    def command(self, verb, words, body=()):
+        """The answer to a command of books."""
+        books = self.books
+        if verb == "tariff":
+            return books.tariff(self.text(words, body).encode())
+        if verb == "import":
+            return books.take(dump_of(self.dumps, words))
+        if verb == "close":
+            return books.close(int(words[0]), datetime.date.fromisoformat(words[1]))
+        if verb == "choose":
+            return books.choose(self.name_of(words[0]))
+        if verb == "adopt":
+            return books.adopt(int(words[0]))
+        raise NotKnown
+
+    def swept(self, what, body):
+        """A run of commands, each answered with no fault."""
+        answers = [line for words in body for line in self.command(words.split()[0], words.split()[1:])]
+        told = sum(1 if line == "DONE" else int(line.split()[1]) if line.startswith("KEPT") else 0 for line in answers)
+        if any(line.startswith("chargectl") for line in answers):
+            raise ValueError("a run that is refused")
+        return ["CHANGES %d %s MORE" % (told, what)]
+
+    def answer(self, verb, words, body):
+        """The answer to a line on books."""
+        books = self.books
+        if verb in TABLES:
+            return list(getattr(Tables(books), verb)(*words))
+        if verb in ("statement", "table", "adjustments"):
+            return books.of_period(getattr(books, verb), int(words[0]))
+        if verb in ("disputes", "periods"):
+            return list(getattr(books, verb)())
+        if verb == "changes":
+            return self.changes()
+        if verb == "list":
+            return [line for asked in body for line in self.command(asked.split()[0], asked.split()[1:])]
+        if verb == "get" and words == ["/disputes"]:
+            text = list(books.disputes())
+            head = ["HTTP/1.1 200 OK", "Content-Type: text/plain; charset=us-ascii",
+                    "Content-Length: %d" % sum(len(line) + 1 for line in text), "Connection: close", ""]
+            return [line + "\\r" for line in head] + text + ["SERVED 200"]
+        if verb in ("stops", "refuses"):
+            return self.swept("STOPS" if verb == "stops" else "REFUSED", body)
+        return self.command(verb, words, body)
+
+    def session(self, verb, words, body):
+        """The answer to a line of a session, which has the books @books alone."""
+        if verb == "file":
+            self.files[words[0]] = dump_of(self.dumps, words[1:])
+            return []
+        if verb == "text-file":
+            self.files[words[0]] = self.text(words[1:], body).encode()
+            return []
+        if verb != "chargectl" or words[1] != "@books":
+            raise NotKnown
+        books, (verb, _, *words) = self.books, words
+        lines = {"init": lambda: [],
+                 "tariff": lambda file: books.tariff(self.files[file]),
+                 "import": lambda file: books.take(self.files[file]),
+                 "adopt": lambda: books.adopt(2),
+                 "disputes": lambda: list(books.disputes()),
+                 "audit": lambda: list(Tables(books).audit()),
+                 "statement": lambda period: books.of_period(books.statement, int(period)),
+                 "adjustments": lambda period: books.of_period(books.adjustments, int(period))
+                 }.get(verb, lambda *words: self.command(verb, words))(*words)
+        return ["! " + lines[0], "STATUS 3"] if lines and lines[0].startswith("chargectl") else lines
+
+    def act(self, kind, line, body):
+        verb, *words = line.split()
+        if verb == "row":
+            self.begin(words[1:])
+        elif verb == "dump":
+            spelled = [part for text in body for part in text.split(";")[0].split()]
+            self.dumps[words[0]] = dump_of(self.dumps, words[1:]) + bytes.fromhex("".join(spelled))
+        elif verb == "text":
+            self.texts[words[0]] = self.text(words[1:], body)
+        elif self.books is None:
+            raise NotKnown
+        else:
+            return (self.session if kind == ["commands"] else self.answer)(verb, words, body)
+        return []
+
+    def play(self, script):
+        """The lines of a script with its answers made anew."""
+        kind = []
+        for line, body, _ in read(script):
+            yield line
+            yield from ("| " + one if one else "|" for one in body)
+            if line.startswith("> "):
+                kind = line.split()[3:] if line.startswith("> row ") else kind
+                yield from self.act(kind, line[2:], body)
+
+
+def answered(data, name):
+    """The lines of a script with its answers made anew. It names what the script of all samples names."""
+    rows = Rows()
+    list(rows.play((data / "samples.rows").read_text()))
+    return rows.play((data / name).read_text())
