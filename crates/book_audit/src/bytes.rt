@@ -1,8 +1,7 @@
 //! The bytes of a record, and what they say.
 
-ghost use Rattle.std.specs.Prelude.{◌≡◌, ◌≤◌, IfOk, None, OnOk, Some, length};
+ghost use Rattle.std.specs.Prelude.{◌≡◌, IfOk, None, OnOk, Some};
 ghost use Rattle.sha2.specs.Sha256.{sha256};
-ghost use Rattle.smf_frames.specs.Framed as framed;
 ghost use Rattle.smf_type30.specs.Class.{IsUsage};
 ghost use Rattle.book_audit.specs.Data.{bytes_of, price_of};
 ghost use Rattle.book_audit.specs.Rules.{identity_by};
@@ -15,22 +14,7 @@ use smf_frames::MAX_DATA;
 use smf_type30::{Class, Type30, class};
 use std::alloc::{AllocError, Global};
 use tariff_rules::price;
-use tree_tables::StoredRecord;
-
-/// The record with that data, behind the descriptor that their length gives.
-fn record_with(alloc: Global, data_bytes: &[u8]) -> Result<Vec<u8>, AllocError>
-    requires { length data_bytes.now ≤ framed.most_data }
-    ensures { IfOk result (λ made. made.items ≡ framed.record_with data_bytes.now) }
-{
-    let len = 4 + data_bytes.len();
-    let mut bytes = Vec::with_capacity(alloc, len)?;
-    bytes.push((len / 256) as u8)?;
-    bytes.push((len % 256) as u8)?;
-    bytes.push(0)?;
-    bytes.push(0)?;
-    bytes.extend_from_slice(data_bytes)?;
-    Ok(bytes)
-}
+use tree_tables::{StoredRecord, record_with};
 
 /// What is wrong with a record's identity and price, by its bytes and the tariffs.
 fn wrong_by_usage(rulings: &Rulings, stored: &StoredRecord, usage: &Type30<'_>) -> Option<Wrong>

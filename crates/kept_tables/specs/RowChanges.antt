@@ -76,12 +76,6 @@ abbrev pub price_at : Priced → List ℕ → Option RecordRow → RecordTable �
 price_at priced name None records = records
 price_at priced name (Some row) records = insert records name (record row { priced = priced })
 
--- a record's row has another identity
-abbrev pub identity_at : List ℕ → List ℕ → Option RecordRow → RecordTable → RecordTable
-identity_at identity name None records = records
-identity_at identity name (Some row) records =
-    insert records name (record row { identity = identity })
-
 -- the records after one of them, if any, is charged no more
 abbrev pub change_mark : Option (List ℕ) → RecordTable → RecordTable
 change_mark None records = records

@@ -7,7 +7,7 @@ use Rattle.book_model.specs.declared.row.RowKey.{RowKey}
 use Rattle.kept_tables.specs.MapChanges.{updated, moved}
 use Rattle.book_core.specs.declared.effect_table.DayChange.{DayChange}
 use Rattle.book_core.specs.declared.effect_table.DayChange.TheVariants.{Add, Take}
-use Rattle.kept_tables.specs.RowChanges.{change_day, change_mark, identity_at, mark_at, price_at}
+use Rattle.kept_tables.specs.RowChanges.{change_day, change_mark, mark_at, price_at}
 use Rattle.kept_tables.specs.RowChanges.{put_mark}
 use Rattle.book_model.specs.Words.{Terms, second_rule}
 use Rattle.kept_tables.specs.TableChanges.{by_second_rule, move_on, reprice_step, settle_step, walk}
@@ -56,30 +56,20 @@ abbrev pub put_price_row : List ℕ → Priced → Tables → Tables
 put_price_row name priced tables =
     record tables { records = price_at priced name (get tables.records name) tables.records }
 
--- a record has another identity; its row stays otherwise
-abbrev pub put_identity_row : List ℕ → List ℕ → Tables → Tables
-put_identity_row name identity tables =
-    record tables { records = identity_at identity name (get tables.records name) tables.records }
-
 -- the book is under a rule of identity, since a period
 abbrev pub set_rule : ℕ → ℕ → Tables → Tables
 set_rule rule period tables =
     record tables { book = record tables.book { rule = rule; adopted = period } }
 
--- a step of a walk: a record has its identity by the second rule
-abbrev pub rename_row : List ℕ → Option RecordRow → Tables → Tables
-rename_row name None tables = tables
-rename_row name (Some row) tables =
-    put_identity_row name (by_second_rule row).identity tables
+-- each record has its identity by the second rule
+abbrev pub rename_rows : Tables → Tables
+rename_rows tables = record tables { records = updated by_second_rule tables.records }
 
-abbrev pub rename_step : List ℕ → Tables → Tables
-rename_step name tables = rename_row name (get tables.records name) tables
-
--- The second rule of identity is adopted by steps: each record has its new identity, in a walk by
--- name; then each that is due is charged, in another; then the row of the book has the rule.
+-- The second rule of identity is adopted by steps: each record has its new identity; then each that
+-- is due is charged, in a walk by name; then the row of the book has the rule.
 abbrev pub adoption_by_steps : ℕ → Option ℤ → (Tables → List ℕ → Bool) → Tables → Tables
 adoption_by_steps period last is_due tables =
-    let named : Tables = walk rename_step (keys tables.records) tables in
+    let named : Tables = rename_rows tables in
     set_rule second_rule period
     (walk (settle_step period last (is_due named)) (keys named.records) named)
 

@@ -29,7 +29,8 @@ use Rattle.tree_tables.specs.declared.stored_record.StoredRecord.{StoredRecord}
 use Rattle.table_ledger.specs.DisputeReads.{IsShownRow}
 use Rattle.table_ledger.specs.LineReads.{NamesRise, lines_stored}
 use Rattle.table_ledger.specs.Ready.{IsReadyAt}
-use Rattle.table_ledger.specs.RecordReads.{CanBeRead, HasWideNames, IsUsageData}
+use Rattle.table_ledger.specs.RecordReads.{CanBeRead, HasWideNames}
+use Rattle.tree_tables.specs.UsageData.{IsUsageData}
 use Rattle.table_ledger.specs.Summaries.{ruled_in}
 use Rattle.table_ledger.specs.declared.summary.Summary.{Summary}
 use Rattle.table_ledger.proofs.LineReadings.{line_with, lines_listed}

@@ -57,7 +57,8 @@ use Rattle.tree_tables.proofs.Layouts.{day_layout}
 use Rattle.tree_tables.proofs.RecordLists.{keys_rise}
 use Rattle.tree_tables.proofs.RowsRead.{all_entries as each_of, nothing_asked}
 use Rattle.table_ledger.specs.DisputeReads.{IsShownRow}
-use Rattle.table_ledger.specs.RecordReads.{CanBeRead, HasWideNames, IsUsageData}
+use Rattle.table_ledger.specs.RecordReads.{CanBeRead, HasWideNames}
+use Rattle.tree_tables.specs.UsageData.{IsUsageData}
 
 -- ---- how many there are
 

@@ -1,13 +1,12 @@
--- The steps of an adoption's walks change no name.
+-- The steps of an adoption's walk change no name.
 use Rattle.std.proofs.Common.{◌≡◌, ◌∙◌, ℕ, List, Bool, true, false, cond, not, ◌&&◌, Option, Some, None}
 use Rattle.std.proofs.Common.{refl}
 use Rattle.std.specs.Prelude.{ℤ}
 use Rattle.std.specs.FinMap.{get, keys}
 use Rattle.book_core.specs.Effects.{charge_held}
 use Rattle.book_core.specs.declared.effect_table.Effects.{Effects}
-use Rattle.kept_tables.specs.RowChanges.{change_mark, identity_at, mark_at}
-use Rattle.kept_tables.specs.Steps.{rename_row, rename_step}
-use Rattle.kept_tables.specs.TableChanges.{by_second_rule, charge_in, settle_row, settle_step}
+use Rattle.kept_tables.specs.RowChanges.{change_mark, mark_at}
+use Rattle.kept_tables.specs.TableChanges.{charge_in, settle_row, settle_step}
 use Rattle.kept_tables.specs.Tables.{RecordRow, RecordTable, Tables}
 use Rattle.kept_tables.specs.Views.{member_at}
 use Rattle.tree_tables.proofs.Layouts.{record_layout}
@@ -54,21 +53,3 @@ settle_keeps period last is_due name tables = by_row (get tables.records name)
           | true ↦ charged_names period name (charge_held last (member_at (name, row))) tables
           | false ↦ refl
         ]
-
--- nor a new identity
-named_by : (name identity : List ℕ) (records : RecordTable) (found : Option RecordRow)
-    → get records name ≡ found → keys (identity_at identity name found records) ≡ keys records
-named_by name identity records None there = refl
-named_by name identity records (Some row) there =
-    keys_kept record_layout.total record_layout.exact records name row
-    (record row { identity = identity }) there
-
--- nor a step of the walk that gives them
-pub rename_keeps : KeepsNames rename_step
-rename_keeps name tables = by_row (get tables.records name)
-  where
-    by_row : (found : Option RecordRow)
-        → keys (rename_row name found tables).records ≡ keys tables.records
-    by_row None = refl
-    by_row (Some row) =
-        named_by name (by_second_rule row).identity tables.records (get tables.records name) refl

@@ -12,14 +12,13 @@ ghost use Rattle.table_ledger.specs.RecordReads.{CanBeRead, HasWideNames};
 ghost use Rattle.table_ledger.specs.Tries.{Tries, TriesItsOwn};
 
 use crate::days::is_day;
-use crate::stored_usage::usage_bytes;
 use crate::summary::Summary;
 use book_core::{LedgerFault, Line, copied, sort_lines};
 use smf_type30::Type30;
 use sqlite_trees::error::StoreError;
 use sqlite_trees::store::Store;
 use std::alloc::Global;
-use tree_tables::{StoredLine, TreeTables};
+use tree_tables::{StoredLine, TreeTables, usage_bytes};
 
 /// The first number that 64 bits with a sign do not hold.
 const SIGNED_END: u64 = 1 << 63;

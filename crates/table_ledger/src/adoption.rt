@@ -16,10 +16,8 @@ ghost use Rattle.table_ledger.specs.Tries.{Tries};
 use crate::choices::charge;
 use crate::chosen::{Chosen, look_for_chosen};
 use crate::effects::member_of;
-use crate::stored_usage::usage_bytes;
 use crate::summary::{Summary, is_done};
 use book_core::{LedgerFault, Ruled, plan_charge};
-use smf_type30::Type30;
 use sqlite_trees::error::StoreError;
 use sqlite_trees::store::Store;
 use std::alloc::Global;
@@ -30,37 +28,6 @@ const SECOND_RULE: u64 = 2;
 
 /// The most records that are walked over: more than any tree of a sound store has.
 const MOST_STEPS: u64 = 1 << 32;
-
-/// A record has its identity by the second rule.
-fn rename<S: Store>(
-    tables: &mut TreeTables<S>,
-    alloc: Global,
-    stored: &StoredRecord,
-) -> Result<(), StoreError>
-    ensures does { Does result (state S.Store tables.old.store) (state S.Store tables.new.store)
-        (IsAsRead stored.now) (step.rename_step stored.now.name) }
-{
-    let bytes = usage_bytes(alloc, &stored.data_bytes)?;
-    let identity = Type30::of_usage(&bytes).identity2();
-    tables.set_identity(stored, &identity)
-}
-
-/// Each record has its identity by the second rule.
-fn rename_all<S: Store>(tables: &mut TreeTables<S>, alloc: Global) -> Result<(), StoreError>
-    ensures does { Does result (state S.Store tables.old.store) (state S.Store tables.new.store)
-        Always (λ tables. change.walk step.rename_step (keys tables.records) tables) }
-{
-    let mut last = None;
-    'records: for _ in 0..MOST_STEPS {
-        let Some(stored) = tables.find_next(alloc, last)? else {
-            return Ok(());
-        };
-        rename(tables, alloc, &stored)?;
-        last = Some(stored.name);
-    }
-    // Only a disk that lies has more rows.
-    Err(StoreError::Corrupt)
-}
 
 /// A record is to be charged: it is alone in its identity, or the one that was chosen last.
 fn is_due<S: Store>(
@@ -153,7 +120,7 @@ fn write_adoption<S: Store>(
     ensures does { Does result (state S.Store tables.old.store) (state S.Store tables.new.store)
         Always (step.adoption_by_steps period through is_due_in) }
 {
-    rename_all(tables, alloc)?;
+    tables.rename_records(alloc)?;
     charge_due(tables, alloc, period, through)?;
     tables.set_rule(SECOND_RULE, period)
 }

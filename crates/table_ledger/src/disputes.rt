@@ -8,18 +8,18 @@ ghost use Rattle.table_readings.specs.DisputesRead as reading;
 ghost use Rattle.table_readings.specs.DisputesRead.{join_last, of_one, variant_read};
 ghost use Rattle.tree_tables.specs.Steps.{FailsByStore, Looks};
 ghost use Rattle.table_ledger.specs.DisputeReads.{IsShownRow};
-ghost use Rattle.table_ledger.specs.RecordReads.{HasWideNames, IsUsageData};
+ghost use Rattle.table_ledger.specs.RecordReads.{HasWideNames};
+ghost use Rattle.tree_tables.specs.UsageData.{IsUsageData};
 ghost use Rattle.table_ledger.specs.Tries.{Tries, TriesItsOwn};
 
 use crate::days::is_day;
-use crate::stored_usage::usage_bytes;
 use crate::summary::Summary;
 use book_core::{Dispute, LedgerFault, Variant, copied};
 use smf_type30::Type30;
 use sqlite_trees::error::StoreError;
 use sqlite_trees::store::Store;
 use std::alloc::Global;
-use tree_tables::{StoredRecord, TreeTables};
+use tree_tables::{StoredRecord, TreeTables, usage_bytes};
 
 /// The bytes of an identity by the first rule.
 const IDENTITY_LENGTH: usize = 24;

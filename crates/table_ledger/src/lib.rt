@@ -19,7 +19,6 @@ mod periods;
 mod recall;
 mod repricing;
 mod settle;
-mod stored_usage;
 mod summary;
 mod tariff;
 

@@ -13,14 +13,13 @@ ghost use Rattle.table_ledger.specs.Repricing.{CanCost, CostUnder, price_under};
 
 use crate::commits::{change_day, write_day};
 use crate::day_write::{key_of, look_for_turn};
-use crate::stored_usage::usage_bytes;
 use book_core::{DayChange, MAX_COST};
 use smf_type30::Type30;
 use sqlite_trees::error::StoreError;
 use sqlite_trees::store::Store;
 use std::alloc::Global;
 use tariff_rules::{Priced, Tariff, price};
-use tree_tables::{StoredRecord, TreeTables};
+use tree_tables::{StoredRecord, TreeTables, usage_bytes};
 
 /// The most records that are walked over: more than any tree of a sound store has.
 const MOST_STEPS: u64 = 1 << 32;

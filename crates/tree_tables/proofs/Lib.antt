@@ -15,9 +15,9 @@ pub mod Records
 pub mod FoundNames
 pub mod RecordLists
 pub mod ChargedRows
-pub mod Posting
+pub mod Renewing
 pub mod Prices
-pub mod Renamed
+pub mod Keying
 pub mod WalkNames
 pub mod Walked
 pub mod DayRows

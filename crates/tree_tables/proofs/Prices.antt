@@ -17,7 +17,7 @@ use Rattle.tree_rows.proofs.Indexes.{index_same}
 use Rattle.tree_rows.proofs.Passing.{first_there}
 use Rattle.tree_rows.proofs.Taking.{changed}
 use Rattle.tree_tables.proofs.Layouts.{record_layout}
-use Rattle.tree_tables.proofs.Posting.{finds_next, with_indexed}
+use Rattle.tree_tables.proofs.Renewing.{finds_next, with_indexed}
 use Rattle.tree_tables.proofs.RecordIndexes.{identity_named, mark_named}
 use Rattle.tree_tables.specs.Answers.{FindsNext}
 use Rattle.tree_tables.specs.Columns.{record_columns}

@@ -75,11 +75,6 @@ abbrev pub priced_entry : StoredRecord → Priced → List ℕ × RecordRow
 priced_entry stored priced =
     (stored.name, record (stored_entry stored).1 { priced = priced })
 
--- it, where it has this identity
-abbrev pub renamed_entry : StoredRecord → List ℕ → List ℕ × RecordRow
-renamed_entry stored identity =
-    (stored.name, record (stored_entry stored).1 { identity = identity })
-
 -- it stands in the tables as it was read
 abbrev pub IsAsRead : StoredRecord → Tables → Type 0
 IsAsRead stored tables = get tables.records stored.name ≡ Some (stored_entry stored).1

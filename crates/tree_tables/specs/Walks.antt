@@ -1,14 +1,19 @@
--- Walks over all records by name: the rows that are left, and how far a walk that posts has come.
-use Rattle.std.specs.Prelude.{◌≡◌, ℕ, ℤ, List, [], ◌∷◌, Bool, true, false, Option, Some, None}
-use Rattle.sqlite_trees.specs.Tree.{Trees, from_key}
+-- Walks over all records: the rows that are left, and how far a walk has come that changes rows by
+-- name, or the keys that find records.
+use Rattle.std.specs.Prelude.{◌≡◌, ◌==◌, ℕ, List, [], ◌∷◌, Bool, true, false, Option, Some, None}
+use Rattle.std.specs.Prelude.{if◌then◌else◌, map}
+use Rattle.std.specs.FinMap.{entries, get}
+use Rattle.sqlite_trees.specs.Tree.{Trees, from_key, insert_entry, remove_entry}
 use Rattle.sqlite_trees.specs.View.{View, OnlyWrites}
 use Rattle.sqlite_value.specs.Keys.{plain}
 use Rattle.sqlite_value.specs.Order.{Row, column}
 use Rattle.sqlite_value.specs.declared.value.Value.TheVariants.{Blob}
-use Rattle.kept_tables.specs.Steps.{post_by, post_rows}
+use Rattle.kept_tables.specs.Steps.{rename_rows}
+use Rattle.kept_tables.specs.TableChanges.{by_second_rule}
 use Rattle.kept_tables.specs.Tables.{RecordRow, RecordTable, Tables}
-use Rattle.tree_rows.specs.Changes.{updated, DoneTo}
-use Rattle.tree_rows.specs.Rows.{past_key}
+use Rattle.tree_rows.specs.Changes.{is_above, updated, DoneTo}
+use Rattle.tree_rows.specs.Indexes.{by_both}
+use Rattle.tree_rows.specs.Rows.{past_key, Rewrites}
 use Rattle.tree_tables.specs.Columns.{record_columns}
 use Rattle.tree_tables.specs.Holds.{Holds}
 
@@ -28,33 +33,98 @@ posted_columns row =
     column row 0 ∷ column row 1 ∷ column row 2 ∷ column row 3 ∷ column row 4 ∷ column row 5
     ∷ column row 6 ∷ column row 7 ∷ column row 8 ∷ column row 9 ∷ column row 9 ∷ []
 
--- a record's row as it is posted by a day, or that it stands so already
-abbrev pub IsPosted : ℤ → List ℕ × RecordRow → Row → Bool → Type 0
-IsPosted day entry row true = row ≡ record_columns (entry.0, post_by day entry.1)
-IsPosted day entry row false = post_by day entry.1 ≡ entry.1
+-- The trees hold these tables, but that the two trees which find records have the keys of others.
+abbrev pub with_rows_of : RecordTable → Trees → Trees
+with_rows_of records trees tree =
+    if tree == 3 then map record_columns (entries records) else trees tree
+
+pub record HoldsFoundBy (trees : Trees) (tables : Tables) (keyed : RecordTable) : Type 0 where
+  pub records : trees 3 ≡ map record_columns (entries tables.records)
+  pub rest : Holds (with_rows_of keyed trees) (record tables { records = keyed })
+
+-- a record's row as a change makes it, or that it stands so already
+abbrev pub IsRenewed :
+    (RecordRow → RecordRow) → List ℕ × RecordRow → Row → Bool → Type 0
+IsRenewed change entry row true = row ≡ record_columns (entry.0, change entry.1)
+IsRenewed change entry row false = change entry.1 ≡ entry.1
 
 -- the same of the record whose row this is
-abbrev pub PostsRow : ℤ → Row → Row → Bool → Type 0
-PostsRow day before row due =
-    (entry : List ℕ × RecordRow) → before ≡ record_columns entry → IsPosted day entry row due
+abbrev pub RenewsRow : (RecordRow → RecordRow) → Row → Row → Bool → Type 0
+RenewsRow change before row due =
+    (entry : List ℕ × RecordRow) → before ≡ record_columns entry → IsRenewed change entry row due
 
--- A walk that posts the records of these tables has come to a key: the trees hold them with
--- records of which all that it has passed are posted, and that the posting of all makes the same.
-pub record IsPosting (day : ℤ) (tables : Tables) (trees : Trees) (key : Row) : Type 0 where
+-- A walk by name that changes the rows of the records of these tables, and no key that finds them,
+-- has come to a key: all rows that it has passed are changed, and the change of all makes the same.
+pub record IsRenewing (change : RecordRow → RecordRow) (tables : Tables) (trees : Trees) (key : Row)
+    : Type 0 where
   pub last : Option (List ℕ)
   pub place : key ≡ place_key last
   pub records : RecordTable
-  pub holds : Holds trees (record tables { records = records })
-  pub whole : updated (post_by day) records ≡ updated (post_by day) tables.records
-  pub done : DoneTo (post_by day) last records
+  pub holds : HoldsFoundBy trees (record tables { records = records }) tables.records
+  pub whole : updated change records ≡ updated change tables.records
+  pub done : DoneTo change last records
 
--- it goes on, or all are posted
-abbrev pub Posts : ℤ → Tables → Trees → Row → Bool → Type 0
-Posts day tables trees key true = IsPosting day tables trees key
-Posts day tables trees key false = Holds trees (post_rows day tables)
+-- the tables with all rows changed
+abbrev pub renewed : (RecordRow → RecordRow) → Tables → Tables
+renewed change tables = record tables { records = updated change tables.records }
+
+-- it goes on, or all are changed
+abbrev pub Renews : (RecordRow → RecordRow) → Tables → Trees → Row → Bool → Type 0
+Renews change tables trees key true = IsRenewing change tables trees key
+Renews change tables trees key false =
+    HoldsFoundBy trees (renewed change tables) tables.records
 
 -- one step of it
-pub record PostsNext (day : ℤ) (old new : View) (key next : Row) (more : Bool) : Type 0 where
+pub record RenewsNext (change : RecordRow → RecordRow) (old new : View) (key next : Row)
+    (more : Bool) : Type 0 where
   pub only : OnlyWrites old new
-  pub posts : (tables : Tables) → IsPosting day tables old.trees key
-      → Posts day tables new.trees next more
+  pub renews : (tables : Tables) → IsRenewing change tables old.trees key
+      → Renews change tables new.trees next more
+
+-- the key of the last entry that a walk by identity has come to
+abbrev pub entry_key : Option (List ℕ × List ℕ) → Row
+entry_key None = []
+entry_key (Some entry) = Blob entry.0 ∷ Blob entry.1 ∷ []
+
+-- A walk by the identities that records had, behind which their keys are those that their rows say
+-- by the second rule, has come to a key: the records that it has passed are found so.
+pub record IsKeying (tables : Tables) (trees : Trees) (key : Row) : Type 0 where
+  pub last : Option (List ℕ × List ℕ)
+  pub place : key ≡ entry_key last
+  pub keyed : RecordTable
+  pub holds : HoldsFoundBy trees tables keyed
+  pub whole : updated by_second_rule keyed ≡ tables.records
+  pub done : (name : List ℕ) (row : RecordRow) → get keyed name ≡ Some row
+      → is_above by_both last (row.identity, name) ≡ false → by_second_rule row ≡ row
+
+-- it goes on, or all are
+abbrev pub Keys : Tables → Trees → Row → Bool → Type 0
+Keys tables trees key true = IsKeying tables trees key
+Keys tables trees key false = Holds trees tables
+
+-- one step of it
+pub record KeysNext (old new : View) (key next : Row) (more : Bool) : Type 0 where
+  pub only : OnlyWrites old new
+  pub keys : (tables : Tables) → IsKeying tables old.trees key → Keys tables new.trees next more
+
+-- The record with this row makes way, in the two trees that find it, from the identity of an entry to
+-- the one that its row says.
+pub record MovesKeys (old new : View) (row entry : Row) : Type 0 where
+  pub mid : View
+  pub identity : Rewrites old mid 6
+      (insert_entry plain (column row 1 ∷ column entry 1 ∷ []) (remove_entry plain entry (old.trees 6)))
+  pub mark : Rewrites mid new 7
+      (insert_entry plain (column row 9 ∷ column row 1 ∷ column entry 1 ∷ [])
+      (remove_entry plain (column row 9 ∷ column entry 0 ∷ column entry 1 ∷ []) (mid.trees 7)))
+
+-- The rows of all records have their identities by the second rule, and their keys have not yet.
+pub record RenamesRows (old new : View) : Type 0 where
+  pub only : OnlyWrites old new
+  pub renamed : (tables : Tables) → Holds old.trees tables
+      → HoldsFoundBy new.trees (rename_rows tables) tables.records
+
+-- So have the keys of such records.
+pub record KeysRecords (old new : View) : Type 0 where
+  pub only : OnlyWrites old new
+  pub keyed : (tables : Tables) → HoldsFoundBy old.trees (rename_rows tables) tables.records
+      → Holds new.trees (rename_rows tables)

@@ -3,6 +3,7 @@
 ghost use Rattle.std.specs.Prelude.{◌≡◌, ◌≢◌, ◌<◌, ◌^◌, IfErr, IfOk, IfSome, None, OnOk, ℤ, length};
 ghost use Rattle.std.specs.Prelude.{pos, slice_set, string_bytes};
 ghost use Rattle.sqlite_value.specs.Order.{column};
+ghost use Rattle.sqlite_value.specs.Value.{owned};
 ghost use Rattle.sqlite_value.specs.declared.value.Value.TheVariants.{Blob, Int, Text};
 ghost use Rattle.tree_tables.specs.Columns.{flag};
 ghost use Rattle.tree_tables.specs.Fits.{HasBytes, HasCount, HasDay, HasHash, HasMark, HasName};
@@ -74,16 +75,25 @@ pub fn mark_at(row: &Row, at: usize) -> Result<bool, StoreError>
     }
 }
 
+/// The bytes in a column, where they stand.
+pub(crate) fn blob_at<'a>(row: &'a Row, at: usize) -> Result<&'a [u8], StoreError>
+    ensures read { IfOk result (λ bytes. column row.now at ≡ Blob bytes.now) }
+    ensures taken { IfErr result (λ error. ¬ HasBytes (column row.now at)) }
+{
+    match row.get(at) {
+        ValueRef::Blob(bytes) => Ok(bytes),
+        _ => Err(StoreError::Corrupt),
+    }
+}
+
 /// The bytes in a column.
 pub fn bytes_at(row: &Row, at: usize, alloc: Global) -> Result<Vec<u8>, StoreError>
     ensures read { IfOk result (λ bytes. column row.now at ≡ Blob bytes.items) }
     ensures taken { IfErr result (λ error. HasBytes (column row.now at)
         → error ≡ StoreError.OutOfMemory) }
 {
-    match row.get(at) {
-        ValueRef::Blob(bytes) => Ok(Vec::from_slice(alloc, bytes)?),
-        _ => Err(StoreError::Corrupt),
-    }
+    let bytes = blob_at(row, at)?;
+    Ok(Vec::from_slice(alloc, bytes)?)
 }
 
 /// The 32 bytes in a column.
@@ -138,22 +148,18 @@ pub fn name_at(row: &Row, at: usize) -> Result<Name, StoreError>
     Name::of(text).ok_or(StoreError::Corrupt)
 }
 
-/// Makes a row that is another one but for the number in one column.
+/// Makes a row that is another one but for the value in one column.
 pub(crate) fn with_column(
     row: &mut Row,
     other: &Row,
     at: usize,
-    number: i64,
+    value: ValueRef<'_>,
 ) -> Result<(), StoreError>
-    ensures { OnOk result (row.new ≡ slice_set other.now at (Int number)) }
+    ensures { OnOk result (row.new ≡ slice_set other.now at (owned value.entry)) }
 {
     row.clear();
     for place in 0..other.len() {
-        let value = if place == at {
-            ValueRef::Int(number)
-        } else {
-            other.get(place)
-        };
+        let value = if place == at { value } else { other.get(place) };
         row.push(value)?;
     }
     Ok(())

@@ -4,7 +4,7 @@ ghost use Rattle.std.specs.Prelude.{◌≡◌, ◌∷◌, ◌++◌, [], OnOk, po
 ghost use Rattle.sqlite_value.specs.Value.{owned};
 ghost use Rattle.sqlite_value.specs.declared.value.Value.TheVariants.{Blob, Int, Text};
 ghost use Rattle.tree_tables.specs.Columns.{flag, record_columns};
-ghost use Rattle.tree_tables.specs.Stored.{new_entry, priced_entry, renamed_entry};
+ghost use Rattle.tree_tables.specs.Stored.{new_entry, priced_entry};
 
 use crate::cells::with_column;
 use crate::keys::{bytes_key, number_key};
@@ -19,16 +19,16 @@ use tariff_rules::Priced;
 use tree_rows::{add_row, change_row, find_row, list_first, list_run};
 
 /// The tree of the records.
-const RECORDS: u32 = 3;
+pub(crate) const RECORDS: u32 = 3;
 
 /// The tree of their identities.
-const IDENTITIES: u32 = 6;
+pub(crate) const IDENTITIES: u32 = 6;
 
 /// The tree of their marks.
-const MARKS: u32 = 7;
+pub(crate) const MARKS: u32 = 7;
 
 /// The column of a record's row that says whether it is charged now.
-const CHARGED: usize = 9;
+pub(crate) const CHARGED: usize = 9;
 
 /// The most records of one identity that are looked at: whether there are two is all that counts.
 const MOST_SHARING: usize = 2;
@@ -108,32 +108,22 @@ fn with_price<'a>(stored: &'a StoredRecord, priced: &Priced) -> NewRecord<'a>
     }
 }
 
-/// A record that was read, as its row is written where it has this identity.
-fn with_identity<'a>(stored: &'a StoredRecord, identity: &'a [u8]) -> NewRecord<'a>
-    ensures { new_entry result ≡ renamed_entry stored.now identity.now }
-{
-    NewRecord {
-        name: &stored.name,
-        identity,
-        data_bytes: &stored.data_bytes,
-        priced: stored.priced,
-        charged: stored.charged,
-        posted: stored.posted,
-    }
-}
-
 /// Makes the row that finds a record by its identity.
-fn identity_row(row: &mut Row, identity: &[u8], name: &[u8]) -> Result<(), StoreError>
-    ensures { OnOk result (row.new ≡ Blob identity.now ∷ Blob name.now ∷ []) }
+pub(crate) fn identity_row(
+    row: &mut Row,
+    identity: ValueRef<'_>,
+    name: ValueRef<'_>,
+) -> Result<(), StoreError>
+    ensures { OnOk result (row.new ≡ owned identity.entry ∷ owned name.entry ∷ []) }
 {
     row.clear();
-    row.push(ValueRef::Blob(identity))?;
-    row.push(ValueRef::Blob(name))?;
+    row.push(identity)?;
+    row.push(name)?;
     Ok(())
 }
 
 /// Makes the row that finds a record by its mark.
-fn mark_row(
+pub(crate) fn mark_row(
     row: &mut Row,
     mark: ValueRef<'_>,
     identity: ValueRef<'_>,
@@ -153,7 +143,7 @@ fn mark_row(
 fn marked_row(row: &mut Row, before: &Row, mark: bool) -> Result<(), StoreError>
     ensures { OnOk result (row.new ≡ slice_set before.now CHARGED (Int (pos (flag mark)))) }
 {
-    with_column(row, before, CHARGED, i64::from(mark))
+    with_column(row, before, CHARGED, mark_value(mark))
 }
 
 impl<S: Store> TreeTables<S> {
@@ -227,14 +217,11 @@ impl<S: Store> TreeTables<S> {
     {
         record_row(&mut self.row, kept)?;
         add_row(&mut self.store, RECORDS, &self.row)?;
-        identity_row(&mut self.row, kept.identity, kept.name)?;
+        let identity = ValueRef::Blob(kept.identity);
+        let name = ValueRef::Blob(kept.name);
+        identity_row(&mut self.row, identity, name)?;
         add_row(&mut self.store, IDENTITIES, &self.row)?;
-        mark_row(
-            &mut self.row,
-            mark_value(kept.charged),
-            ValueRef::Blob(kept.identity),
-            ValueRef::Blob(kept.name),
-        )?;
+        mark_row(&mut self.row, mark_value(kept.charged), identity, name)?;
         add_row(&mut self.store, MARKS, &self.row)
     }
 
@@ -247,30 +234,6 @@ impl<S: Store> TreeTables<S> {
         record_row(&mut self.before, &with_price(stored, &stored.priced))?;
         record_row(&mut self.row, &with_price(stored, priced))?;
         change_row(&mut self.store, RECORDS, &self.before, &self.row)
-    }
-
-    /// A record, which stands as it was read, has this identity from now on, and is found by it. Its
-    /// rows are not looked for: they are what was read.
-    pub fn set_identity(&mut self, stored: &StoredRecord, identity: &[u8]) -> Result<(), StoreError>
-        ensures does { Does result (state S.Store self.old.store) (state S.Store self.new.store)
-            (IsAsRead stored.now) (step.put_identity_row stored.now.name identity.now) }
-    {
-        let name = ValueRef::Blob(&stored.name);
-        let charged = mark_value(stored.charged);
-        record_row(&mut self.before, &with_price(stored, &stored.priced))?;
-        record_row(&mut self.row, &with_identity(stored, identity))?;
-        change_row(&mut self.store, RECORDS, &self.before, &self.row)?;
-        identity_row(&mut self.before, &stored.identity, &stored.name)?;
-        identity_row(&mut self.row, identity, &stored.name)?;
-        change_row(&mut self.store, IDENTITIES, &self.before, &self.row)?;
-        mark_row(
-            &mut self.before,
-            charged,
-            ValueRef::Blob(&stored.identity),
-            name,
-        )?;
-        mark_row(&mut self.row, charged, ValueRef::Blob(identity), name)?;
-        change_row(&mut self.store, MARKS, &self.before, &self.row)
     }
 
     /// The record of a name, if there is one, is charged from now on.

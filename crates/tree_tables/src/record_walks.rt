@@ -1,40 +1,72 @@
 //! Walks over all records, by name.
 
-ghost use Rattle.std.specs.Prelude.{◌≡◌, ◌∷◌, [], IfErr, IfOk, OnOk};
+ghost use Rattle.std.specs.Prelude.{◌≡◌, ◌∷◌, [], IfErr, IfOk, OnErr, OnOk};
+ghost use Rattle.sqlite_disk.specs.Disk.{MoreFaults};
+ghost use Rattle.sqlite_trees.specs.View.{HasCause, IsClean, IsQuiet, KeepsCommitted, KeepsSchema};
+ghost use Rattle.sqlite_value.specs.Keys.{plain};
 ghost use Rattle.sqlite_value.specs.Order.{column};
-ghost use Rattle.tree_tables.specs.Walks.{PostsRow, place_key, posted_columns};
+ghost use Rattle.kept_tables.specs.Steps.{post_by};
+ghost use Rattle.tree_rows.specs.Rows.{IsFirst, IsUnchanged};
+ghost use Rattle.tree_tables.specs.Walks.{RenewsRow, place_key, posted_columns, rows_behind};
 
 use crate::cells::{day_at, mark_at};
 use crate::keys::bytes_key;
+use crate::record_rows::{CHARGED, RECORDS};
 use crate::stored_record::{StoredRecord, read_record};
 use crate::tables::TreeTables;
 use sqlite_trees::error::StoreError;
-use sqlite_trees::store::Store;
+use sqlite_trees::store::{Shape, Store};
 use sqlite_value::row::Row;
 use std::alloc::Global;
 use tree_rows::{change_row, first_after, first_from};
 
-/// The tree of the records.
-const RECORDS: u32 = 3;
+/// The column of a record's name.
+pub(crate) const NAME: usize = 0;
 
 /// The column of a record's day.
 const DAY: usize = 3;
-
-/// The column that says whether a record is charged.
-const CHARGED: usize = 9;
 
 /// The column that says whether the last close charged it.
 const POSTED: usize = 10;
 
 /// The most rows that are walked over: more than any tree of a sound store has.
-const MOST_STEPS: u64 = 1 << 32;
+pub(crate) const MOST_STEPS: u64 = 1 << 32;
 
-/// The first column of a row as a key: the name of a record.
-fn name_key(key: &mut Row, row: &Row) -> Result<(), StoreError>
-    ensures { OnOk result (key.new ≡ column row.now 0 ∷ []) }
+/// Reads the first row of a tree behind those of the key over `row`, or the very first where the key
+/// has no columns; or answers that there is none.
+pub(crate) fn first_behind<S: Store>(
+    store: &mut S,
+    tree: u32,
+    key: &Row,
+    row: &mut Row,
+) -> Result<bool, StoreError>
+    requires { IsClean (S.Store.view store.old)
+        → (S.Store.view store.old).shape tree ≡ Shape.Index plain }
+    ensures found { IfOk result (λ there. IsClean (S.Store.view store.new)
+        → IsFirst (rows_behind key.now ((S.Store.view store.old).trees tree)) row.new there) }
+    ensures same { OnOk result (IsClean (S.Store.view store.new)
+        → IsUnchanged (S.Store.view store.old) (S.Store.view store.new)) }
+    ensures schema { KeepsSchema (S.Store.view store.old) (S.Store.view store.new) }
+    ensures kept { OnErr result (IsClean (S.Store.view store.new)
+        → KeepsCommitted (S.Store.view store.old) (S.Store.view store.new)) }
+    ensures cause { IfErr result (λ error. IsClean (S.Store.view store.new)
+        → HasCause (S.Store.view store.old)
+        (MoreFaults (S.Store.faults store.old) (S.Store.faults store.new)) ⊥ error) }
+    ensures quiet { IsQuiet S.Store.view S.Store.faults S.Store.recovers S.Store.is_shielded
+        store.old store.new }
+{
+    if key.is_empty() {
+        return first_from(store, tree, key, row);
+    }
+    first_after(store, tree, key, row)
+}
+
+/// A column of a row as a key.
+pub(crate) fn column_key(key: &mut Row, row: &Row, at: usize) -> Result<(), StoreError>
+    ensures { OnOk result (key.new ≡ column row.now at ∷ []) }
 {
     key.clear();
-    key.push(row.get(0))?;
+    key.push(row.get(at))?;
     Ok(())
 }
 
@@ -74,7 +106,7 @@ fn posted_row(row: &mut Row, before: &Row) -> Result<(), StoreError>
 /// Makes the row of a record as a close through the day posts it, or answers that it stands so
 /// already.
 fn post_row(row: &mut Row, before: &Row, through: i32) -> Result<bool, StoreError>
-    ensures { IfOk result (PostsRow through before.now row.new) }
+    ensures { IfOk result (RenewsRow (post_by through) before.now row.new) }
 {
     let day = day_at(before, DAY)?;
     let charged = mark_at(before, CHARGED)?;
@@ -87,39 +119,14 @@ fn post_row(row: &mut Row, before: &Row, through: i32) -> Result<bool, StoreErro
 }
 
 impl<S: Store> TreeTables<S> {
-    ghost use Rattle.std.specs.Prelude.{◌≡◌, IfErr, IfOk, OnErr, OnOk};
-    ghost use Rattle.sqlite_disk.specs.Disk.{MoreFaults};
-    ghost use Rattle.sqlite_trees.specs.View.{HasCause, IsClean, IsQuiet, KeepsCommitted};
+    ghost use Rattle.std.specs.Prelude.{IfOk, OnErr};
+    ghost use Rattle.sqlite_trees.specs.View.{IsClean, IsQuiet, KeepsCommitted};
     ghost use Rattle.kept_tables.specs.Steps as step;
-    ghost use Rattle.tree_rows.specs.Rows.{IsFirst, IsUnchanged};
     ghost use Rattle.tree_tables.specs.Answers.{FindsNext};
     ghost use Rattle.tree_tables.specs.Fits.{EachFits};
     ghost use Rattle.tree_tables.specs.States.{state};
     ghost use Rattle.tree_tables.specs.Steps.{Always, Does, FailsByStore, Looks};
-    ghost use Rattle.tree_tables.specs.Walks.{PostsNext, rows_behind};
-
-    /// Reads the first record behind that of the key over `before`, or the very first where the
-    /// key has no columns; or answers that there is none.
-    fn next_record(&mut self) -> Result<bool, StoreError>
-        ensures found { IfOk result (λ there. IsClean (S.Store.view self.new.store)
-            → IsFirst (rows_behind self.old.key ((S.Store.view self.old.store).trees RECORDS))
-            self.new.before there) }
-        ensures stays { self.new.key ≡ self.old.key }
-        ensures same { OnOk result (IsClean (S.Store.view self.new.store)
-            → IsUnchanged (S.Store.view self.old.store) (S.Store.view self.new.store)) }
-        ensures kept { OnErr result (IsClean (S.Store.view self.new.store)
-            → KeepsCommitted (S.Store.view self.old.store) (S.Store.view self.new.store)) }
-        ensures cause { IfErr result (λ error. IsClean (S.Store.view self.new.store)
-            → HasCause (S.Store.view self.old.store)
-            (MoreFaults (S.Store.faults self.old.store) (S.Store.faults self.new.store)) ⊥ error) }
-        ensures quiet { IsQuiet S.Store.view S.Store.faults S.Store.recovers S.Store.is_shielded
-            self.old.store self.new.store }
-    {
-        if self.key.is_empty() {
-            return first_from(&mut self.store, RECORDS, &self.key, &mut self.before);
-        }
-        first_after(&mut self.store, RECORDS, &self.key, &mut self.before)
-    }
+    ghost use Rattle.tree_tables.specs.Walks.{RenewsNext};
 
     /// The record with the least name behind one, or with the least of all where there is none: a
     /// step of a walk over all records, which holds no more than one of them at a time.
@@ -134,7 +141,7 @@ impl<S: Store> TreeTables<S> {
             (state S.Store self.new.store) EachFits }
     {
         walk_key(&mut self.key, last)?;
-        if !self.next_record()? {
+        if !first_behind(&mut self.store, RECORDS, &self.key, &mut self.before)? {
             return Ok(None);
         }
         Ok(Some(read_record(&self.before, alloc)?))
@@ -143,18 +150,18 @@ impl<S: Store> TreeTables<S> {
     /// Posts the first record behind that of the key by a day, and makes its name the key; or
     /// answers that there is none.
     fn post_next(&mut self, through: i32) -> Result<bool, StoreError>
-        ensures posts { IfOk result (λ more. IsClean (S.Store.view self.new.store)
-            → PostsNext through (S.Store.view self.old.store) (S.Store.view self.new.store)
-            self.old.key self.new.key more) }
+        ensures renews { IfOk result (λ more. IsClean (S.Store.view self.new.store)
+            → RenewsNext (step.post_by through) (S.Store.view self.old.store)
+            (S.Store.view self.new.store) self.old.key self.new.key more) }
         ensures kept { OnErr result (IsClean (S.Store.view self.new.store)
             → KeepsCommitted (S.Store.view self.old.store) (S.Store.view self.new.store)) }
         ensures quiet { IsQuiet S.Store.view S.Store.faults S.Store.recovers S.Store.is_shielded
             self.old.store self.new.store }
     {
-        if !self.next_record()? {
+        if !first_behind(&mut self.store, RECORDS, &self.key, &mut self.before)? {
             return Ok(false);
         }
-        name_key(&mut self.key, &self.before)?;
+        column_key(&mut self.key, &self.before, NAME)?;
         if post_row(&mut self.row, &self.before, through)? {
             change_row(&mut self.store, RECORDS, &self.before, &self.row)?;
         }

@@ -11,7 +11,8 @@ use Rattle.tree_tables.specs.States.{HasCleanDisk, state}
 use Rattle.tree_tables.specs.Steps.{IsCaused}
 use Rattle.tree_tables.specs.Stored.{stored_entry}
 use Rattle.tree_tables.proofs.Looking.{caused_memory}
-use Rattle.table_ledger.specs.RecordReads.{CanBeRead, IsUsageData}
+use Rattle.table_ledger.specs.RecordReads.{CanBeRead}
+use Rattle.tree_tables.specs.UsageData.{IsUsageData}
 use Rattle.table_ledger.proofs.adjustments.read_line.Goals as goal
 
 pub returns-in_err-held-clause-looks : goal.returns-in_err-held-clause-looks

@@ -13,12 +13,12 @@ pub returns : goal.returns
 returns g c = record {
   does =
       let period = c.args.period in
-      let rest : Does c.set_rule.result (state g.S.Store c.rename_all.new.tables.store)
+      let rest : Does c.set_rule.result (state g.S.Store c.rename_records.new.self.store)
       (state g.S.Store c.set_rule.new.self.store) Always
       (λ tables. set_rule second_rule period
       (walk (settle_step period c.args.through (is_due_in tables)) (keys tables.records) tables)) =
       does_then {When = Always} c.set_rule.result c.in_ok-charge_due.ensures.does
       c.set_rule.ensures.does (λ tables always. (tt, tt)) in
-      does_then {When = Always} c.set_rule.result c.in_ok-rename_all.ensures.does rest
+      does_then {When = Always} c.set_rule.result c.in_ok-rename_records.ensures.does rest
       (λ tables always. (tt, tt));
 }

@@ -15,7 +15,7 @@ use Rattle.tree_tables.specs.Steps.{IsCaused}
 use Rattle.tree_tables.specs.Stored.{stored_entry}
 use Rattle.tree_tables.specs.declared.stored_record.StoredRecord.{StoredRecord}
 use Rattle.table_ledger.specs.DisputeReads.{IsShownRow}
-use Rattle.table_ledger.specs.RecordReads.{IsUsageData}
+use Rattle.tree_tables.specs.UsageData.{IsUsageData}
 use Rattle.table_ledger.proofs.JoinLemmas.{grouped_more}
 use Rattle.table_ledger.proofs.OwnBooks.{fails_behind}
 use Rattle.table_ledger.proofs.TryLemmas.{saw_found, saw_so, saw_then}

@@ -15,7 +15,7 @@ use Rattle.kept_tables.specs.TablesOf.{tables_of}
 use Rattle.tree_tables.specs.States.{HasCleanDisk, state}
 use Rattle.tree_tables.specs.Steps.{IsCaused}
 use Rattle.table_ledger.specs.Ready.{IsReadyAt}
-use Rattle.table_ledger.specs.RecordReads.{IsUsageData}
+use Rattle.tree_tables.specs.UsageData.{IsUsageData}
 use Rattle.table_ledger.proofs.BookLists.{own_records, own_shown_rows, own_usage}
 use Rattle.table_ledger.proofs.disputes.try_disputes.Goals as goal
 

@@ -3,7 +3,7 @@ use Rattle.sqlite_trees.specs.Tree.{from_key}
 use Rattle.sqlite_trees.specs.View.{IsClean}
 use Rattle.sqlite_value.specs.Keys.{plain}
 use Rattle.tree_rows.specs.Rows.{IsFirst}
-use Rattle.tree_tables.proofs.Posting.{from_is_behind}
+use Rattle.tree_tables.proofs.Renewing.{from_is_behind}
 use Rattle.book_audit.specs.Trees.{number_of}
 use Rattle.book_audit.proofs.trees.Trees.row_behind.Goals as goal
 

@@ -1,7 +1,8 @@
 use Rattle.sqlite_trees.specs.View.{IsClean, IsQuiet, OnlyWrites}
+use Rattle.kept_tables.specs.Steps.{post_by}
 use Rattle.kept_tables.specs.Tables.{Tables}
 use Rattle.tree_tables.specs.Holds.{Holds}
-use Rattle.tree_tables.specs.Walks.{IsPosting}
+use Rattle.tree_tables.specs.Walks.{IsRenewing}
 use Rattle.tree_tables.proofs.tables.TreeTables.post_records.Given as goal
 
 -- the records up to the key are posted, and nothing else is written
@@ -11,8 +12,8 @@ invariant-steps g l =
     let now = g.S.Store.view l.self.store in
     record {
       only : IsClean now → OnlyWrites old now;
-      posting : IsClean now → (tables : Tables) → Holds old.trees tables
-          → IsPosting l.fn.through tables now.trees l.self.key;
+      renewing : IsClean now → (tables : Tables) → Holds old.trees tables
+          → IsRenewing (post_by l.fn.through) tables now.trees l.self.key;
       quiet : IsQuiet g.S.Store.view g.S.Store.faults g.S.Store.recovers g.S.Store.is_shielded
           l.fn.self.store l.self.store;
     }

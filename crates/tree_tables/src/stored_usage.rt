@@ -3,15 +3,15 @@
 ghost use Rattle.std.specs.Prelude.{◌≡◌, ◌≤◌, IfErr, IfOk, length};
 ghost use Rattle.smf_frames.specs.Framed as framed;
 ghost use Rattle.book_model.specs.Words.{IsUsage};
-ghost use Rattle.table_ledger.specs.RecordReads.{IsUsageData};
+ghost use Rattle.tree_tables.specs.UsageData.{IsUsageData};
 
 use smf_frames::MAX_DATA;
 use smf_type30::{Class, class};
 use sqlite_trees::error::StoreError;
 use std::alloc::{AllocError, Global};
 
-/// The record with that data.
-fn record_with(alloc: Global, data_bytes: &[u8]) -> Result<Vec<u8>, AllocError>
+/// The record with that data, behind the descriptor that their length gives.
+pub fn record_with(alloc: Global, data_bytes: &[u8]) -> Result<Vec<u8>, AllocError>
     requires { length data_bytes.now ≤ framed.most_data }
     ensures { IfOk result (λ made. made.items ≡ framed.record_with data_bytes.now) }
 {
@@ -26,7 +26,7 @@ fn record_with(alloc: Global, data_bytes: &[u8]) -> Result<Vec<u8>, AllocError>
 }
 
 /// The usage record with that data. Data that are those of no usage record are an ill-formed row.
-pub(crate) fn usage_bytes(alloc: Global, data_bytes: &[u8]) -> Result<Vec<u8>, StoreError>
+pub fn usage_bytes(alloc: Global, data_bytes: &[u8]) -> Result<Vec<u8>, StoreError>
     ensures bytes { IfOk result (λ made. made.items ≡ framed.record_with data_bytes.now) }
     ensures usage { IfOk result (λ made. IsUsage made.items) }
     ensures taken { IfErr result (λ error. IsUsageData data_bytes.now

@@ -1,0 +1,294 @@
+-- Records that are found by the identities that their rows say by the second rule: the two trees that
+-- find them are changed one entry at a time, in a walk over the entries of the first.
+use Rattle.std.proofs.Common.{◌≡◌, ◌≢◌, ℕ, List, [], ◌∷◌, map, Bool, true, false, cond}
+use Rattle.std.proofs.Common.{Option, Some, None, inl, inr, refl, sym, ap, ap₂, subst, ◌∙◌}
+use Rattle.std.proofs.Common.{true≢false, arith}
+use Rattle.std.specs.Prelude.{◌==◌}
+use Rattle.std.proofs.lemmas.Bool.Decides.{nat_tests}
+use Rattle.std.specs.FinMap.{entries, get, get-entries, get-insert, insert}
+use Rattle.std.specs.Option.{option_map}
+use Rattle.std.specs.Ordering.{eq_by_cmp}
+use Rattle.std.proofs.lemmas.Cmp.{eq_by_cmp_equiv}
+use Rattle.std.proofs.lemmas.Map.Views.{tells_apart}
+use Rattle.sqlite_trees.specs.Tree.{Trees, insert_entry, remove_entry}
+use Rattle.sqlite_trees.specs.View.{View}
+use Rattle.sqlite_value.specs.Keys.{plain}
+use Rattle.sqlite_value.specs.Order.{Row, column}
+use Rattle.sqlite_value.specs.declared.value.Value.{Value}
+use Rattle.sqlite_value.specs.declared.value.Value.TheVariants.{Blob}
+use Rattle.book_model.specs.Words.{by_bytes}
+use Rattle.kept_tables.specs.Steps.{rename_rows}
+use Rattle.kept_tables.specs.TableChanges.{by_second_rule}
+use Rattle.kept_tables.specs.Tables.{RecordRow, RecordTable, Tables}
+use Rattle.tree_rows.specs.Changes.{above, is_above, updated, FindsAbove}
+use Rattle.tree_rows.specs.Indexes.{by_both}
+use Rattle.tree_rows.specs.Layouts.{row_of, rows_of}
+use Rattle.tree_rows.specs.Rows.{Finds, IsFirst, IsUnchanged, Rewrites}
+use Rattle.tree_rows.proofs.Indexes.{index_has, index_names}
+use Rattle.tree_rows.proofs.Passing.{all_passed, first_there, passed_with, walk_start, walk_step}
+use Rattle.tree_rows.proofs.Taking.{some_is}
+use Rattle.tree_rows.proofs.Updating.{get_updated, updated_done, updated_step}
+use Rattle.tree_tables.proofs.Holding.{SameButRecords, apart, with_records}
+use Rattle.tree_tables.proofs.Layouts.{identity_layout, mark_layout, record_layout}
+use Rattle.tree_tables.proofs.Looking.{only_both, only_looks, rewrites_behind}
+use Rattle.tree_tables.proofs.RecordIndexes.{identity_named, index_row_changed, mark_named}
+use Rattle.tree_tables.proofs.Records.{record_there}
+use Rattle.tree_tables.proofs.Renewing.{held_by_same}
+use Rattle.tree_tables.specs.Columns.{identity_columns, mark_columns, record_columns}
+use Rattle.tree_tables.specs.Holds.{Holds, identities, identity_key, mark_key, marks}
+use Rattle.tree_tables.specs.Walks.{HoldsFoundBy, IsKeying, KeysNext, MovesKeys, entry_key}
+use Rattle.tree_tables.specs.Walks.{rows_behind, with_rows_of}
+
+-- before its first step a walk has passed nothing
+pub keying_starts : (trees : Trees) (tables : Tables) (key : Row) → key ≡ []
+    → HoldsFoundBy trees (rename_rows tables) tables.records
+    → IsKeying (rename_rows tables) trees key
+keying_starts trees tables key empty found = record {
+  last = None;
+  place = empty;
+  keyed = tables.records;
+  holds = found;
+  whole = refl;
+  done = λ name row there behind. absurd (true≢false behind);
+}
+
+-- the bytes of a value
+abbrev bytes_in : Value → List ℕ
+bytes_in (Blob bytes) = bytes
+bytes_in value = []
+
+-- the first entry behind a walk's key is the first that is still to come
+next_entry : (last : Option (List ℕ × List ℕ)) (m : RecordTable) (key : Row) (rows : List Row)
+    (row : Row) (there : Bool) → key ≡ entry_key last
+    → rows ≡ map identity_columns (entries (identities m))
+    → IsFirst (rows_behind key rows) row there
+    → FindsAbove identity_layout last (identities m) row there
+next_entry None m key rows row there place held begins =
+    walk_start identity_layout (identities m) row there
+    (subst (λ some. IsFirst some row there) (ap₂ rows_behind place held) begins)
+next_entry (Some entry) m key rows row there place held begins =
+    walk_step identity_layout (identities m) entry row there
+    (subst (λ some. IsFirst some row there) (ap₂ rows_behind place held) begins)
+
+-- trees that differ in those of the records alone still do, where the records' own have other rows
+but_records : {old new : Trees} (keyed others : RecordTable)
+    → ((other : ℕ) → other ≢ 6 → other ≢ 7 → new other ≡ old other)
+    → SameButRecords (with_rows_of keyed old) (with_rows_of others new)
+but_records {old} {new} keyed others same other not_rows not_identities not_marks =
+    let is_other : (other == 3) ≡ false = grind (arith, nat_tests, not_rows) in
+    ap (λ b. cond b (map record_columns (entries others)) (new other)) is_other
+    ∙ same other not_identities not_marks
+    ∙ sym (ap (λ b. cond b (map record_columns (entries keyed)) (old other)) is_other)
+
+-- A walk has come to a key, and looks at the first entry behind it.
+module _ (tables : Tables) {old : Trees} {key : Row} (so_far : IsKeying tables old key) where
+  -- where there is none, all records are found by what their rows say
+  keying_ends : (row : Row) → IsFirst (rows_behind key (old 6)) row false → Holds old tables
+  keying_ends row begins =
+      let none : above so_far.last (identities so_far.keyed) ≡ [] =
+      next_entry so_far.last so_far.keyed key (old 6) row false so_far.place
+      so_far.holds.rest.identities begins in
+      let all : (name : List ℕ) (row : RecordRow) → get so_far.keyed name ≡ Some row
+      → by_second_rule row ≡ row =
+      λ name row there. so_far.done name row there
+      (all_passed identity_layout.total identity_layout.exact so_far.last
+      (identities so_far.keyed) none (row.identity, name) tt
+      (index_has identity_named so_far.keyed name row there)) in
+      let same : so_far.keyed ≡ tables.records =
+      sym (updated_done record_layout.total record_layout.exact by_second_rule so_far.keyed all)
+      ∙ so_far.whole in
+      held_by_same so_far.holds (ap identities same) (ap marks same)
+
+  -- An entry, and the row of the record that it names.
+  module _ {named : Row} (entry : Row) {row : Row} {hit : Bool}
+      (begins : IsFirst (rows_behind key (old 6)) entry true)
+      (named_is : named ≡ column entry 1 ∷ []) (finds : Finds named (old 3) row hit)
+      (there : hit ≡ true)
+    where
+      abbrev it : FindsAbove identity_layout so_far.last (identities so_far.keyed) entry true
+      it = next_entry so_far.last so_far.keyed key (old 6) entry true so_far.place
+          so_far.holds.rest.identities begins
+
+      -- the key of the entry
+      abbrev at : List ℕ × List ℕ
+      at = it.0
+
+      -- it stands for a record
+      names : (v : RecordRow) × (get so_far.keyed at.1 ≡ Some v) × (identity_key (at.1, v) ≡ at)
+      names = index_names identity_named so_far.keyed at
+          (sym (get-entries (identities so_far.keyed) at)
+          ∙ first_there identity_layout.total identity_layout.exact so_far.last
+          (identities so_far.keyed) at tt it.2 it.3)
+
+      abbrev was : RecordRow
+      was = names.0
+
+      -- which has its identity by the second rule in its row
+      now_there : get tables.records at.1 ≡ Some (by_second_rule was)
+      now_there =
+          ap (λ (m : RecordTable). get m at.1) (sym so_far.whole)
+          ∙ get_updated record_layout.total record_layout.exact by_second_rule so_far.keyed at.1
+          ∙ ap (option_map by_second_rule) names.1
+
+      row_is : row ≡ record_columns (at.1, by_second_rule was)
+      row_is =
+          let found = record_there tables {name = at.1} so_far.holds.records
+          (named_is ∙ ap (λ one. column one 1 ∷ []) it.4) finds there in
+          found.2 ∙ ap (λ one. record_columns (at.1, one))
+          (some_is found.0 (by_second_rule was) (sym found.1 ∙ now_there))
+
+      -- the next key of the walk
+      next_is : (next : Row) → next ≡ column entry 0 ∷ column entry 1 ∷ []
+          → next ≡ entry_key (Some at)
+      next_is next is = is ∙ ap (λ one. column one 0 ∷ column one 1 ∷ []) it.4
+
+      -- a record that is passed with the entry is the entry's own, or was passed before
+      passed : (name : List ℕ) (one : RecordRow) → get so_far.keyed name ≡ Some one
+          → is_above by_both (Some at) (one.identity, name) ≡ false
+          → by_second_rule was ≡ was → by_second_rule one ≡ one
+      passed name one is behind kept =
+          elim (passed_with identity_layout.total identity_layout.exact so_far.last
+          (identities so_far.keyed) at tt it.2 it.3 (one.identity, name) tt
+          (index_has identity_named so_far.keyed name one is) behind) [
+            | inl same ↦
+                let value : was ≡ one = some_is was one (sym names.1
+                ∙ ap (get so_far.keyed) (sym (ap (λ (p : List ℕ × List ℕ). p.1) same)) ∙ is) in
+                ap by_second_rule (sym value) ∙ kept ∙ value
+            | inr before ↦ so_far.done name one is before
+          ]
+
+      -- where the record has that identity by the second rule too, the entry is passed
+      keying_passes : (next : Row) → next ≡ column entry 0 ∷ column entry 1 ∷ []
+          → column row 1 ≡ column entry 0 → IsKeying tables old next
+      keying_passes next is same =
+          let value : Blob (by_second_rule was).identity ≡ Blob at.0 =
+          sym (ap (λ one. column one 1) row_is) ∙ same ∙ ap (λ one. column one 0) it.4 in
+          let identity : (by_second_rule was).identity ≡ was.identity =
+          ap bytes_in value ∙ sym (ap (λ (p : List ℕ × List ℕ). p.0) names.2) in
+          let kept : by_second_rule was ≡ was =
+          ap (λ i. record was { identity = i }) identity in
+          record {
+            last = Some at;
+            place = next_is next is;
+            keyed = so_far.keyed;
+            holds = so_far.holds;
+            whole = so_far.whole;
+            done = λ name one found behind. passed name one found behind kept;
+          }
+
+      -- else it makes way for one with that identity, and so does the record's mark
+      keying_goes_on : {new : Trees} (next : Row) → next ≡ column entry 0 ∷ column entry 1 ∷ []
+          → ((other : ℕ) → other ≢ 6 → other ≢ 7 → new other ≡ old other)
+          → new 6 ≡ insert_entry plain (column row 1 ∷ column next 1 ∷ [])
+          (remove_entry plain next (old 6))
+          → new 7 ≡ insert_entry plain (column row 9 ∷ column row 1 ∷ column next 1 ∷ [])
+          (remove_entry plain (column row 9 ∷ column next 0 ∷ column next 1 ∷ []) (old 7))
+          → IsKeying tables new next
+      keying_goes_on {new} next is same identities_now marks_now =
+          let keyed = insert so_far.keyed at.1 (by_second_rule was) in
+          let place : next ≡ entry_key (Some at) = next_is next is in
+          let id : at.0 ≡ was.identity = sym (ap (λ (p : List ℕ × List ℕ). p.0) names.2) in
+          let identity_rows : new 6 ≡ map identity_columns (entries (identities keyed)) =
+          identities_now
+          ∙ ap₂ (λ one other. insert_entry plain (column one 1 ∷ column other 1 ∷ [])
+          (remove_entry plain other (old 6))) row_is (place ∙ ap (λ i. Blob i ∷ Blob at.1 ∷ []) id)
+          ∙ ap (λ rows. insert_entry plain
+          (identity_columns (identity_key (at.1, by_second_rule was), tt))
+          (remove_entry plain (identity_columns (identity_key (at.1, was), tt)) rows))
+          so_far.holds.rest.identities
+          ∙ index_row_changed identity_named identity_layout so_far.keyed at.1 was
+          (by_second_rule was) names.1 in
+          let mark_rows : new 7 ≡ map mark_columns (entries (marks keyed)) =
+          marks_now
+          ∙ ap₂ (λ one other. insert_entry plain (column one 9 ∷ column one 1 ∷ column other 1 ∷ [])
+          (remove_entry plain (column one 9 ∷ column other 0 ∷ column other 1 ∷ []) (old 7)))
+          row_is (place ∙ ap (λ i. Blob i ∷ Blob at.1 ∷ []) id)
+          ∙ ap (λ rows. insert_entry plain
+          (mark_columns (mark_key (at.1, by_second_rule was), tt))
+          (remove_entry plain (mark_columns (mark_key (at.1, was), tt)) rows))
+          so_far.holds.rest.marks
+          ∙ index_row_changed mark_named mark_layout so_far.keyed at.1 was
+          (by_second_rule was) names.1 in
+          record {
+            last = Some at;
+            place = place;
+            keyed = keyed;
+            holds = record {
+              records = same 3 (apart 3 6 refl) (apart 3 7 refl) ∙ so_far.holds.records;
+              rest = with_records so_far.holds.rest keyed
+                  (but_records so_far.keyed keyed same) refl identity_rows mark_rows;
+            };
+            whole = updated_step record_layout.total record_layout.exact by_second_rule
+                (λ one. refl) so_far.keyed at.1 was names.1 ∙ so_far.whole;
+            done = λ name one found behind.
+                elim (eq_by_cmp by_bytes name at.1) as (λ b.
+                cond b (Some (by_second_rule was)) (get so_far.keyed name) ≡ Some one
+                → eq_by_cmp by_bytes name at.1 ≡ b → by_second_rule one ≡ one) [
+                  | true ↦ λ now tie.
+                      let value : by_second_rule was ≡ one =
+                      some_is (by_second_rule was) one now in
+                      ap by_second_rule (sym value) ∙ value
+                  | false ↦ λ now tie. elim (passed_with identity_layout.total
+                      identity_layout.exact so_far.last (identities so_far.keyed) at tt it.2 it.3
+                      (one.identity, name) tt (index_has identity_named so_far.keyed name one now)
+                      behind) [
+                        | inl here ↦ absurd (true≢false
+                            (sym ((eq_by_cmp_equiv record_layout.total).refl at.1)
+                            ∙ sym (ap (λ (p : List ℕ × List ℕ). eq_by_cmp by_bytes p.1 at.1) here)
+                            ∙ tie))
+                        | inr before ↦ so_far.done name one now before
+                      ]
+                ] (sym (get-insert record_layout.total so_far.keyed at.1 (by_second_rule was) name)
+                ∙ found) refl;
+          }
+
+-- A step of the walk: what was read behind its key, and what was found of the record.
+module _ (old mid : View) (key entry : Row) (looked : IsUnchanged old mid) where
+  same_trees : mid.trees ≡ old.trees
+  same_trees = ap (λ (v : View). v.trees) looked
+
+  -- no entry is left
+  pub keys_none : (next : Row) → IsFirst (rows_behind key (old.trees 6)) entry false
+      → KeysNext old mid key next false
+  keys_none next begins = record {
+    only = only_looks old looked;
+    keys = λ tables so_far.
+        subst (λ trees. Holds trees tables) (sym same_trees)
+        (keying_ends tables so_far entry begins);
+  }
+
+  module _ {named row : Row} {hit : Bool} (next : Row)
+      (begins : IsFirst (rows_behind key (old.trees 6)) entry true)
+      (next_is : next ≡ column entry 0 ∷ column entry 1 ∷ [])
+      (named_is : named ≡ column entry 1 ∷ []) (finds : Finds named (old.trees 3) row hit)
+      (there : hit ≡ true)
+    where
+      -- the entry stays
+      pub keys_kept : column row 1 ≡ column next 0 → KeysNext old mid key next true
+      keys_kept same = record {
+        only = only_looks old looked;
+        keys = λ tables so_far.
+            subst (λ trees. IsKeying tables trees next) (sym same_trees)
+            (keying_passes tables so_far entry begins named_is finds there next next_is
+            (same ∙ ap (λ one. column one 0) next_is));
+      }
+
+      -- it makes way
+      pub keys_one : (new : View) → MovesKeys mid new row next → KeysNext old new key next true
+      keys_one new moves =
+          let one = rewrites_behind {old = old} looked moves.identity in
+          let two = moves.mark in
+          record {
+            only = only_both old one.only two.only;
+            keys = λ tables so_far.
+                keying_goes_on tables so_far entry begins named_is finds there next next_is
+                (λ other not_identities not_marks.
+                two.others other not_marks ∙ one.others other not_identities)
+                (two.others 6 (apart 6 7 refl) ∙ one.rows_now
+                ∙ ap (λ trees. insert_entry plain (column row 1 ∷ column next 1 ∷ [])
+                (remove_entry plain next (trees 6))) same_trees)
+                (two.rows_now
+                ∙ ap (λ rows. insert_entry plain (column row 9 ∷ column row 1 ∷ column next 1 ∷ [])
+                (remove_entry plain (column row 9 ∷ column next 0 ∷ column next 1 ∷ []) rows))
+                (one.others 7 (apart 7 6 refl)));
+          }

@@ -1,0 +1,305 @@
+-- Rows of records that are changed one at a time, in a walk by name, while the two trees that find
+-- records stay as they are.
+use Rattle.std.proofs.Common.{◌≡◌, ℕ, ℤ, List, [], ◌∷◌, map, Bool, true, false, cond, Option}
+use Rattle.std.proofs.Common.{Some, None, refl, sym, ap, ap₂, subst, ◌∙◌}
+use Rattle.std.specs.Prelude.{int_lt}
+use Rattle.std.specs.FinMap.{FinMap, entries, get, insert, same_map}
+use Rattle.std.specs.Option.{option_map}
+use Rattle.std.specs.Ordering.{eq_by_cmp}
+use Rattle.std.specs.declared.cmp.Ordering.{Ordering}
+use Rattle.sqlite_trees.specs.Tree.{Trees, from_key, insert_entry, remove_entry}
+use Rattle.sqlite_trees.specs.View.{View}
+use Rattle.sqlite_value.specs.Keys.{plain}
+use Rattle.sqlite_value.specs.Order.{Row, column}
+use Rattle.kept_tables.specs.Steps.{post_by, post_rows}
+use Rattle.kept_tables.specs.Tables.{RecordRow, RecordTable, Tables}
+use Rattle.tree_rows.specs.Changes.{above, updated, FindsAbove}
+use Rattle.tree_rows.specs.Indexes.{IsIndexKey, index_answer, index_of}
+use Rattle.tree_rows.specs.Layouts.{row_of, rows_of}
+use Rattle.tree_rows.specs.Rows.{IsFirst, IsUnchanged, Rewrites}
+use Rattle.tree_rows.proofs.Indexes.{indexed}
+use Rattle.tree_rows.proofs.Passing.{first_there, walk_start, walk_step}
+use Rattle.tree_rows.proofs.Taking.{changed}
+use Rattle.tree_rows.proofs.Updating.{updated_step, done_step, done_start, done_kept, done_all}
+use Rattle.tree_rows.proofs.Updating.{get_updated}
+use Rattle.tree_tables.proofs.Holding.{SameBut, apart}
+use Rattle.tree_tables.proofs.Layouts.{record_layout}
+use Rattle.tree_tables.proofs.Looking.{only_looks, rewrites_behind}
+use Rattle.tree_tables.proofs.RecordIndexes.{identity_named, mark_named}
+use Rattle.tree_tables.specs.Columns.{record_columns, identity_columns, mark_columns}
+use Rattle.tree_tables.specs.Holds.{Holds, identity_key, identities, mark_key, marks}
+use Rattle.tree_tables.specs.Walks.{HoldsFoundBy, IsRenewing, Renews, RenewsNext, RenewsRow}
+use Rattle.tree_tables.specs.Walks.{place_key, renewed, rows_behind}
+
+-- Trees that hold tables find their records by what these say,
+pub found_by_own : {trees : Trees} {tables : Tables} → Holds trees tables
+    → HoldsFoundBy trees tables tables.records
+found_by_own holds = record {
+  records = holds.records;
+  rest = record {
+    book = holds.book;
+    tariffs = holds.tariffs;
+    closes = holds.closes;
+    records = refl;
+    days = holds.days;
+    placed = holds.placed;
+    lines = holds.lines;
+    identities = holds.identities;
+    marks = holds.marks;
+    choices = holds.choices;
+    choice_names = holds.choice_names;
+  };
+}
+
+-- and trees hold tables where they find their records by others that have the same keys.
+pub held_by_same : {trees : Trees} {tables : Tables} {keyed : RecordTable}
+    → HoldsFoundBy trees tables keyed → identities keyed ≡ identities tables.records
+    → marks keyed ≡ marks tables.records → Holds trees tables
+held_by_same found same_identities same_marks = record {
+  book = found.rest.book;
+  tariffs = found.rest.tariffs;
+  closes = found.rest.closes;
+  records = found.records;
+  days = found.rest.days;
+  placed = found.rest.placed;
+  lines = found.rest.lines;
+  identities = found.rest.identities
+      ∙ ap (λ places. map identity_columns (entries places)) same_identities;
+  marks = found.rest.marks ∙ ap (λ places. map mark_columns (entries places)) same_marks;
+  choices = found.rest.choices;
+  choice_names = found.rest.choice_names;
+}
+
+-- other rows of the same records
+pub found_rows : {old new : Trees} {tables : Tables} {keyed : RecordTable} (records : RecordTable)
+    → HoldsFoundBy old tables keyed → SameBut old new 3
+    → new 3 ≡ map record_columns (entries records)
+    → HoldsFoundBy new (record tables { records = records }) keyed
+found_rows records found same now = record {
+  records = now;
+  rest = record {
+    book = same 0 (apart 0 3 refl) ∙ found.rest.book;
+    tariffs = same 1 (apart 1 3 refl) ∙ found.rest.tariffs;
+    closes = same 2 (apart 2 3 refl) ∙ found.rest.closes;
+    records = refl;
+    days = same 4 (apart 4 3 refl) ∙ found.rest.days;
+    placed = found.rest.placed;
+    lines = same 5 (apart 5 3 refl) ∙ found.rest.lines;
+    identities = same 6 (apart 6 3 refl) ∙ found.rest.identities;
+    marks = same 7 (apart 7 3 refl) ∙ found.rest.marks;
+    choices = same 8 (apart 8 3 refl) ∙ found.rest.choices;
+    choice_names = same 9 (apart 9 3 refl) ∙ found.rest.choice_names;
+  };
+}
+
+-- other rows of the same records, which have the same keys
+pub with_indexed : {old new : Trees} {tables : Tables} → Holds old tables → (rows : RecordTable)
+    → SameBut old new 3 → new 3 ≡ map record_columns (entries rows)
+    → identities rows ≡ identities tables.records → marks rows ≡ marks tables.records
+    → Holds new (record tables { records = rows })
+with_indexed holds rows same now same_identities same_marks =
+    held_by_same (found_rows rows (found_by_own holds) same now) (sym same_identities)
+    (sym same_marks)
+
+-- the first row behind a walk's key is that of the first entry that is still to come
+pub finds_next : (last : Option (List ℕ)) (m : RecordTable) (key : Row) (rows : List Row) (row : Row)
+    (there : Bool) → key ≡ place_key last → rows ≡ rows_of record_layout m
+    → IsFirst (rows_behind key rows) row there → FindsAbove record_layout last m row there
+finds_next None m key rows row there place held begins =
+    walk_start record_layout m row there
+    (subst (λ some. IsFirst some row there) (ap₂ rows_behind place held) begins)
+finds_next (Some name) m key rows row there place held begins =
+    walk_step record_layout m name row there
+    (subst (λ some. IsFirst some row there) (ap₂ rows_behind place held) begins)
+
+-- a look-up of the key with no columns begins with the first row of all
+pub from_none : (rows : List Row) → from_key plain [] rows ≡ rows
+from_none [] = refl
+from_none (row ∷ rows) = refl
+
+-- and so does a walk
+pub from_is_behind : (key : Row) (rows : List Row) → key ≡ []
+    → from_key plain key rows ≡ rows_behind key rows
+from_is_behind key rows empty =
+    ap (λ one. from_key plain one rows) empty ∙ from_none rows
+    ∙ ap (λ one. rows_behind one rows) (sym empty)
+
+-- before its first step a walk has changed nothing
+pub renewing_starts : (change : RecordRow → RecordRow) (trees : Trees) (tables : Tables) (key : Row)
+    → key ≡ [] → Holds trees tables → IsRenewing change tables trees key
+renewing_starts change trees tables key empty holds = record {
+  last = None;
+  place = empty;
+  records = tables.records;
+  holds = found_by_own holds;
+  whole = refl;
+  done = done_start record_layout.total record_layout.exact change tables.records;
+}
+
+-- A change that does nothing to what it has changed.
+module _ (change : RecordRow → RecordRow)
+    (again : (row : RecordRow) → change (change row) ≡ change row)
+  where
+    -- A row at which a walk has come, behind its key.
+    module _ (tables : Tables) {old : Trees} {key : Row} (row : Row)
+        (so_far : IsRenewing change tables old key)
+      where
+        -- where there is none, all rows are changed
+        renewing_ends : IsFirst (rows_behind key (old 3)) row false
+            → HoldsFoundBy old (renewed change tables) tables.records
+        renewing_ends begins =
+            let none : above so_far.last so_far.records ≡ [] =
+            finds_next so_far.last so_far.records key (old 3) row false so_far.place
+            so_far.holds.records begins in
+            let all : updated change so_far.records ≡ so_far.records =
+            done_all record_layout.total record_layout.exact change so_far.last so_far.records
+            none so_far.done in
+            subst (λ rows. HoldsFoundBy old (record tables { records = rows }) tables.records)
+            (sym all ∙ so_far.whole) so_far.holds
+
+        -- where it stands as it is changed already, it is passed
+        renewing_passes : (next made : Row) → IsFirst (rows_behind key (old 3)) row true
+            → next ≡ column row 0 ∷ [] → RenewsRow change row made false
+            → IsRenewing change tables old next
+        renewing_passes next made begins named stands =
+            let it = finds_next so_far.last so_far.records key (old 3) row true so_far.place
+            so_far.holds.records begins in
+            record {
+              last = Some it.0;
+              place = named ∙ ap (λ one. column one 0 ∷ []) it.4;
+              records = so_far.records;
+              holds = so_far.holds;
+              whole = so_far.whole;
+              done = done_kept record_layout.total record_layout.exact change so_far.last
+                  so_far.records it.0 it.1 it.2 it.3 (stands (it.0, it.1) it.4) so_far.done;
+            }
+
+        -- where it is changed, so are all that are passed
+        renewing_goes_on : {new : Trees} (next made : Row)
+            → IsFirst (rows_behind key (old 3)) row true
+            → next ≡ column row 0 ∷ [] → RenewsRow change row made true → SameBut old new 3
+            → new 3 ≡ insert_entry plain made (remove_entry plain row (old 3))
+            → IsRenewing change tables new next
+        renewing_goes_on {new} next made begins named made_is same now =
+            let it = finds_next so_far.last so_far.records key (old 3) row true so_far.place
+            so_far.holds.records begins in
+            let there : get so_far.records it.0 ≡ Some it.1 =
+            first_there record_layout.total record_layout.exact so_far.last so_far.records it.0 it.1
+            it.2 it.3 in
+            let rows : new 3 ≡ rows_of record_layout
+            (insert so_far.records it.0 (change it.1)) =
+            now ∙ ap₂ (λ one other. insert_entry plain one (remove_entry plain other (old 3)))
+            (made_is (it.0, it.1) it.4) it.4
+            ∙ ap (λ some. insert_entry plain (row_of record_layout (it.0, change it.1))
+            (remove_entry plain (row_of record_layout (it.0, it.1)) some)) so_far.holds.records
+            ∙ changed record_layout so_far.records it.0 it.1 (change it.1) there in
+            record {
+              last = Some it.0;
+              place = named ∙ ap (λ one. column one 0 ∷ []) it.4;
+              records = insert so_far.records it.0 (change it.1);
+              holds = found_rows (insert so_far.records it.0 (change it.1)) so_far.holds same rows;
+              whole = updated_step record_layout.total record_layout.exact change again
+                  so_far.records it.0 it.1 there ∙ so_far.whole;
+              done = done_step record_layout.total record_layout.exact change again so_far.last
+                  so_far.records it.0 it.1 it.2 it.3 so_far.done;
+            }
+
+    -- A step of the walk: what was read behind its key.
+    module _ (old mid : View) (key row : Row) (looked : IsUnchanged old mid) where
+      same_trees : mid.trees ≡ old.trees
+      same_trees = ap (λ (v : View). v.trees) looked
+
+      -- no row is left
+      pub renews_none : (next : Row) → IsFirst (rows_behind key (old.trees 3)) row false
+          → RenewsNext change old mid key next false
+      renews_none next begins = record {
+        only = only_looks old looked;
+        renews = λ tables so_far.
+            subst (λ trees. HoldsFoundBy trees (renewed change tables) tables.records)
+            (sym same_trees) (renewing_ends tables row so_far begins);
+      }
+
+      -- the row stays
+      pub renews_kept : (next made : Row) → IsFirst (rows_behind key (old.trees 3)) row true
+          → next ≡ column row 0 ∷ [] → RenewsRow change row made false
+          → RenewsNext change old mid key next true
+      renews_kept next made begins named stands = record {
+        only = only_looks old looked;
+        renews = λ tables so_far.
+            subst (λ trees. IsRenewing change tables trees next) (sym same_trees)
+            (renewing_passes tables row so_far next made begins named stands);
+      }
+
+      -- the row is changed
+      pub renews_one : (new : View) (next made : Row)
+          → IsFirst (rows_behind key (old.trees 3)) row true
+          → next ≡ column row 0 ∷ [] → RenewsRow change row made true
+          → Rewrites mid new 3 (insert_entry plain made (remove_entry plain row (mid.trees 3)))
+          → RenewsNext change old new key next true
+      renews_one new next made begins named made_is written =
+          let rewritten = rewrites_behind {old = old} looked written in
+          record {
+            only = rewritten.only;
+            renews = λ tables so_far.
+                renewing_goes_on tables row so_far next made begins named made_is rewritten.others
+                (rewritten.rows_now
+                ∙ ap (λ trees. insert_entry plain made (remove_entry plain row (trees 3)))
+                same_trees);
+          }
+
+-- ---- records that are posted
+
+-- what is posted by a day is posted by it already
+pub post_again : (day : ℤ) (row : RecordRow) → post_by day (post_by day row) ≡ post_by day row
+post_again day row =
+    let posted : RecordRow = record row { posted = row.charged } in
+    elim (int_lt day row.priced.day) as (λ b. int_lt day row.priced.day ≡ b
+    → post_by day (cond b row posted) ≡ cond b row posted) [
+      | true ↦ λ is. ap (λ b. cond b row posted) is
+      | false ↦ λ is. ap (λ b. cond b posted posted) is
+    ] refl
+
+-- a record keeps its identity, and its mark, where it is posted
+posted_identity : (day : ℤ) (name : List ℕ) (row : RecordRow)
+    → identity_key (name, post_by day row) ≡ identity_key (name, row)
+posted_identity day name row =
+    elim (int_lt day row.priced.day) as (λ b.
+    identity_key (name, cond b row (record row { posted = row.charged }))
+    ≡ identity_key (name, row)) [ true ↦ refl | false ↦ refl ]
+
+posted_mark : (day : ℤ) (name : List ℕ) (row : RecordRow)
+    → mark_key (name, post_by day row) ≡ mark_key (name, row)
+posted_mark day name row =
+    elim (int_lt day row.priced.day) as (λ b.
+    mark_key (name, cond b row (record row { posted = row.charged }))
+    ≡ mark_key (name, row)) [ true ↦ refl | false ↦ refl ]
+
+-- an index of rows whose keys stay where they are changed is that of the changed rows
+module _ {K V Q : Type 0} {R : K → K → Ordering} {P : Q → Q → Ordering} {key : K × V → Q}
+    {name : Q → K} (index : IsIndexKey R P key name) (change : V → V)
+    (stays : (k : K) (v : V) → key (k, change v) ≡ key (k, v))
+  where
+    same_answer : (q : Q) (had : Option V)
+        → index_answer P key (name q) q had
+        ≡ index_answer P key (name q) q (option_map change had)
+    same_answer q None = refl
+    same_answer q (Some v) =
+        ap (λ x. cond (eq_by_cmp P q x) (Some tt) None) (sym (stays (name q) v))
+
+    index_stays : (m : FinMap R V) → index_of {P = P} key m ≡ index_of key (updated change m)
+    index_stays m =
+        same_map index.index_total index.index_exact (index_of key m)
+        (index_of key (updated change m)) (λ q.
+        indexed index m q ∙ same_answer q (get m (name q))
+        ∙ ap (index_answer P key (name q) q)
+        (sym (get_updated index.total index.exact change m (name q)))
+        ∙ sym (indexed index (updated change m) q))
+
+-- so trees in which all rows are posted hold the tables that are posted
+pub posted_held : (day : ℤ) {trees : Trees} {tables : Tables}
+    → HoldsFoundBy trees (renewed (post_by day) tables) tables.records
+    → Holds trees (post_rows day tables)
+posted_held day {tables = tables} found =
+    held_by_same found
+    (index_stays identity_named (post_by day) (posted_identity day) tables.records)
+    (index_stays mark_named (post_by day) (posted_mark day) tables.records)

@@ -1,0 +1,26 @@
+use Rattle.std.proofs.Common.{rules}
+use Rattle.kept_tables.specs.Steps.{rename_rows}
+use Rattle.tree_tables.proofs.Keying.{keying_starts}
+use Rattle.tree_tables.proofs.Looking.{clean_before, only_both}
+use Rattle.tree_tables.proofs.tables.TreeTables.key_records.Goals as goal
+
+pub entries-init : goal.entries-init
+entries-init g c = record {
+  only = search rules;
+  keying = λ clean tables found.
+      keying_starts (g.S.Store.view c.args.self.now.store).trees tables c.new-last.result
+      c.new-last.ensures found;
+  quiet = search rules;
+}
+
+-- all are found so
+pub returns-then-not-branch-clause-keyed : goal.returns-then-not-branch-clause-keyed
+returns-then-not-branch-clause-keyed g c clean =
+    let before = clean_before g.S.Store c.key_next.ensures.quiet clean in
+    let step = c.in_ok-key_next.ensures.keys clean in
+    record {
+      only = only_both (g.S.Store.view c.args.self.now.store) (c.entries.invariant.only before)
+          step.only;
+      keyed = λ tables found. rw c.if-not-branch.true at (step.keys (rename_rows tables)
+          (c.entries.invariant.keying before tables found));
+    }
