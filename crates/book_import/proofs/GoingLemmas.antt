@@ -173,7 +173,7 @@ module _ {old joiner mid : Joining} {piece rest : List ℕ} {Done : Doing} {n : 
 module _ {old joiner mid : Joining} {piece rest : List ℕ} {Done : Doing} {fault : FrameFault}
     (goes : Goes old piece rest joiner Done) (fed : Feeds joiner rest (Err fault) mid) where
   -- a descriptor in the rest has a fault, which breaks the front behind the records found
-  breaks_here : (text : List ℕ) → StandsAfter text old → front old.layout (text ++ piece)
+  pub breaks_here : (text : List ℕ) → StandsAfter text old → front old.layout (text ++ piece)
       ≡ broken_by (front old.layout (text ++ goes.seen)).records fault
   breaks_here text stood =
       ap (λ b. front old.layout b) (sym (whole_text goes text))

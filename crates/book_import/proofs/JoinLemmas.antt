@@ -1,5 +1,6 @@
 -- What an import has done with the records of a dump that it reads in pieces.
 use Rattle.std.proofs.Common.{◌≡◌, ◌∙◌, ℕ, List, [], ◌++◌, sym, ap, subst, Option, Some, None}
+use Rattle.std.proofs.Common.{append-nil}
 use Rattle.std.specs.Prelude.{unwrap_or}
 use Rattle.smf_frames.specs.declared.dump.Layout.{Layout}
 use Rattle.book_model.specs.Words.{Front, front, Joining, StandsAfter, nothing_joined}
@@ -66,18 +67,20 @@ module _ (begins now : Seen) (receipt : Receipt) {layout : Layout} {bytes : List
       (with_piece next (λ naming l text. LeadsTo naming (front l (text ++ piece)).records later)
       handled)
 
-  -- the import was stopped in a piece, whatever bytes follow
+  -- the import was stopped in a piece
   pub joins_stopped : (next : Seen) (piece : List ℕ) (later told : Receipt) (stop : Stop)
       → ((text : List ℕ) → StandsAfter text joiner → IsWork now next
       (HandlesPiece now.naming joiner.layout text piece receipt later (Some stop)))
-      → told ≡ record later { stop = stop } → (more : List ℕ) (cut : Option Stop)
-      → IsWork begins next (Imports begins.naming layout cut ((bytes ++ piece) ++ more) told)
-  joins_stopped next piece later told stop handled so more cut =
-      let text = (bytes ++ piece) ++ more in
+      → told ≡ record later { stop = stop } → (cut : Option Stop)
+      → IsWork begins next (Imports begins.naming layout cut (bytes ++ piece) told)
+  joins_stopped next piece later told stop handled so cut =
+      let text = bytes ++ piece in
       let here = record later { stop = stop } in
       subst (λ told. IsWork begins next (Imports begins.naming layout cut text told)) (sym so)
       (work_as begins next _ (Imports begins.naming layout cut text here)
-      (λ was before events is stops. stops more cut)
+      (λ was before events is stops.
+      subst (λ b. Imports begins.naming layout cut b here was before events is)
+      (append-nil text) (stops [] cut))
       (with_piece next (λ naming l text. StopsAt naming l (text ++ piece) here) handled))
 
   -- no more pieces come

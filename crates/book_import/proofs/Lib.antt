@@ -1,5 +1,5 @@
 -- Records that are handed in, and what stops an import; how a joiner goes through a dump, and what
--- an import does with the records that it finds; the events that it makes; the book that those
+-- an import does with the records that it finds, and how far it reads; the events that it makes; the book that those
 -- leave, what it holds, and the same import again, also behind a stop; what a stop tells.
 pub mod ImportLemmas
 pub mod StopLemmas
@@ -7,6 +7,7 @@ pub mod PieceLemmas
 pub mod GoingLemmas
 pub mod ComeLemmas
 pub mod JoinLemmas
+pub mod ReachLemmas
 pub mod EventLemmas
 pub mod BookLemmas
 pub mod KeepingLemmas

@@ -1,11 +1,14 @@
 -- What becomes of the records of a dump that is handed to the books piece by piece. Words of the
 -- code alone.
-use Rattle.std.specs.Prelude.{◌≡◌, ℕ, Bool, false, List, ◌++◌, Option, Some, None}
+use Rattle.std.specs.Prelude.{◌≡◌, ℕ, ◌+◌, ◌≤◌, Bool, true, false, List, ◌++◌, length, Option}
+use Rattle.std.specs.Prelude.{Some, None}
 use Rattle.smf_frames.specs.declared.dump.Layout.{Layout}
 use Rattle.book_model.specs.Words.{front, Joining, StandsAfter, Naming, Book, Event, after_all}
 use Rattle.book_core.specs.Work.{Work}
 use Rattle.book_import.specs.declared.receipt.Receipt.{Receipt}
 use Rattle.book_import.specs.declared.receipt.Stop.{Stop}
+use Rattle.book_import.specs.Receipts.{counted}
+use Rattle.book_import.specs.Reach.{is_early}
 use Rattle.book_import.specs.Handled.{Imported, answers_of, handle_all, start_of}
 use Rattle.book_import.specs.Imports.{Imports}
 
@@ -42,6 +45,14 @@ HandlesPiece naming layout text piece old new None = Behind naming (front layout
 HandlesPiece naming layout text piece old new (Some stop) =
     Behind naming (front layout text).records old
     (StopsAt naming layout (text ++ piece) (record new { stop = stop }))
+
+-- each record that a piece completes behind a text was counted; or the import was stopped early
+abbrev pub CountsPiece : Layout → List ℕ → List ℕ → Receipt → Receipt → Option Stop → Type 0
+CountsPiece layout text piece old new None =
+    length (front layout (text ++ piece)).records + counted old
+    ≤ length (front layout text).records + counted new
+CountsPiece layout text piece old new (Some stop) =
+    (is_early (front layout (text ++ piece)) stop ≡ true) × (counted old ≤ counted new)
 
 -- a joiner took all of a piece that breaks no front, and no record stands
 pub record TakesAll (old : Joining) (piece : List ℕ) (new : Joining) : Type 0 where

@@ -1,7 +1,8 @@
-ghost use Rattle.std.specs.Prelude.{◌≡◌, ℕ, List, unwrap_or};
+ghost use Rattle.std.specs.Prelude.{◌≡◌, ℕ, List, IfSome, false, unwrap_or};
 ghost use Rattle.book_model.specs.Words.{front, StandsAfter};
 ghost use Rattle.book_import.specs.Dumps.{frame_stop};
 ghost use Rattle.book_import.specs.Reading.{cut_of};
+ghost use Rattle.book_import.specs.Receipts.{is_stop_of_books};
 
 use crate::receipt::Stop;
 use book_core::Source;
@@ -10,7 +11,8 @@ use std::io::Read;
 
 /// What cut the reading of a source short, if anything did.
 pub(crate) fn cut<R: Read + Drop>(source: &Source<R>) -> Option<Stop>
-    ensures { result ≡ cut_of source.now }
+    ensures cut { result ≡ cut_of source.now }
+    ensures other { IfSome result (λ stop. is_stop_of_books stop ≡ false) }
 {
     if source.failed() {
         Some(Stop::Read)
@@ -23,8 +25,9 @@ pub(crate) fn cut<R: Read + Drop>(source: &Source<R>) -> Option<Stop>
 
 /// The stop behind the last record, where what a joiner took is the whole dump.
 pub(crate) fn dump_end(joiner: &Joiner) -> Stop
-    ensures { (text : List ℕ) → StandsAfter text joiner.now
+    ensures stop { (text : List ℕ) → StandsAfter text joiner.now
         → result ≡ frame_stop (front joiner.now.layout text).fault }
+    ensures other { is_stop_of_books result ≡ false }
 {
     match joiner.finish() {
         Ok(()) => Stop::End,
@@ -35,8 +38,9 @@ pub(crate) fn dump_end(joiner: &Joiner) -> Stop
 /// The stop behind the last record of what a joiner took of a source that is read no further. Where
 /// something cut the reading short, that is the stop, and not what is undone for want of more.
 pub fn reading_end<R: Read + Drop>(source: &Source<R>, joiner: &Joiner) -> Stop
-    ensures { (text : List ℕ) → StandsAfter text joiner.now → result
+    ensures stop { (text : List ℕ) → StandsAfter text joiner.now → result
         ≡ unwrap_or (cut_of source.now) (frame_stop (front joiner.now.layout text).fault) }
+    ensures other { is_stop_of_books result ≡ false }
 {
     cut(source).unwrap_or(dump_end(joiner))
 }

@@ -14,6 +14,6 @@ pub use laws::{
     books_hold_what_came, cuts_make_no_difference, reading_is_limited, stops_are_mended,
     stops_tell, twice_is_once,
 };
-pub use reading::{MAX_READS, PIECE, read_out, read_piece};
+pub use reading::{MAX_READS, PIECE, read_piece};
 pub use receipt::{Receipt, Stop};
 pub use whole::{import, import_bytes};

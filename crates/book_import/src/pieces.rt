@@ -2,7 +2,7 @@ ghost use Rattle.std.specs.Prelude.{◌≡◌, ◌+◌, ◌<◌, ◌≤◌, ◌^
 ghost use Rattle.book_model.specs.Words.{StandsAfter};
 ghost use Rattle.book_core.specs.Work.{IsWork};
 ghost use Rattle.book_import.specs.Receipts.{counted};
-ghost use Rattle.book_import.specs.Pieces.{HandlesPiece, TakesAll};
+ghost use Rattle.book_import.specs.Pieces.{HandlesPiece, CountsPiece, TakesAll};
 
 use crate::receipt::{Receipt, Stop};
 use crate::records::handle;
@@ -25,6 +25,8 @@ pub(crate) fn import_piece<L: Ledger>(
         (HandlesPiece (L.seen ledger.old).naming joiner.old.layout text piece.now receipt.old
         receipt.new result) }
     ensures taken { result ≡ None → TakesAll joiner.old piece.now joiner.new }
+    ensures counts { (text : List ℕ) → StandsAfter text joiner.old
+        → CountsPiece joiner.old.layout text piece.now receipt.old receipt.new result }
     ensures counted { counted receipt.new ≤ counted receipt.old + length piece.now }
 {
     let mut rest = piece;

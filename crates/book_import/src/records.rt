@@ -1,4 +1,4 @@
-ghost use Rattle.std.specs.Prelude.{◌≡◌, ◌+◌, ◌≤◌, ◌<◌, ◌^◌, OnErr};
+ghost use Rattle.std.specs.Prelude.{◌≡◌, ◌+◌, ◌≤◌, ◌<◌, ◌^◌, OnErr, OnOk};
 ghost use Rattle.book_model.specs.Words.{IsFramed};
 ghost use Rattle.book_core.specs.Work.{IsWork};
 ghost use Rattle.book_import.specs.Imports.{Counts};
@@ -49,6 +49,7 @@ pub(crate) fn handle<L: Ledger>(
         (Counts (L.seen ledger.old).naming bytes.now receipt.old receipt.new result) }
     ensures refused { OnErr result (receipt.new ≡ receipt.old) }
     ensures counted { counted receipt.new ≤ counted receipt.old + 1 }
+    ensures counts { OnOk result (counted receipt.new ≡ counted receipt.old + 1) }
 {
     match class(bytes) {
         Class::Usage => {

@@ -1,14 +1,15 @@
 ghost use Rattle.std.specs.Prelude.{◌≡◌, ◌+◌, ◌≤◌, ◌^◌, ℕ, List, None, false};
-ghost use Rattle.std.specs.Io.KnownBytes.{Consumes};
 ghost use Rattle.streams.specs.Sources.{reader_of, reads_of, has_failed, has_ended};
 ghost use Rattle.streams.specs.Marks.{NothingIsLeft};
+ghost use Rattle.streams.specs.Sides.{input};
 ghost use Rattle.book_core.specs.Work.{IsWork};
 ghost use Rattle.book_import.specs.Imports.{Imports};
-ghost use Rattle.book_import.specs.Reading.{ReadsOutFor, cut_of, most_reads};
+ghost use Rattle.book_import.specs.Reach.{IsReadFor};
+ghost use Rattle.book_import.specs.Reading.{cut_of, most_reads};
 
 use crate::ending::{dump_end, reading_end};
 use crate::pieces::import_piece;
-use crate::reading::{PIECE, read_out, read_piece};
+use crate::reading::{PIECE, read_piece};
 use crate::receipt::{Receipt, Stop};
 use book_core::{Ledger, LedgerFault, Source};
 use smf_frames::{Joiner, Layout};
@@ -16,7 +17,8 @@ use std::alloc::Global;
 use std::io::Read;
 
 /// Reads a dump to its end, in at most so many reads, and hands its records to the books in order.
-/// No more than a piece and a record of it is held at a time.
+/// Where it stops before, nothing more is read. No more than a piece and a record of the dump is
+/// held at a time.
 pub fn import<R: Read + Drop, L: Ledger>(
     alloc: Global,
     source: &mut Source<R>,
@@ -29,29 +31,26 @@ pub fn import<R: Read + Drop, L: Ledger>(
     requires ended { has_ended source.old ≡ false }
     requires reads { reads ≤ most_reads }
 
-    // These bytes were taken from the reader, and booked. Where the source has ended, they are all
-    // that a reader had which tells its bytes.
+    // These bytes were taken from the reader, up to the stop and no further, and booked. Where the
+    // source has ended, they are all that a reader had which tells its bytes.
     ensures booked { (bytes : List ℕ)
-        × Consumes (R.remaining (reader_of source.old)) (R.remaining (reader_of source.new)) bytes
+        × IsReadFor layout reads bytes result (input R.remaining source.old source.new)
         × IsWork (L.seen ledger.old) (L.seen ledger.new)
         (Imports (L.seen ledger.old).naming layout (cut_of source.new) bytes result) }
     ensures left { NothingIsLeft
         (has_ended source.new) (R.remaining (reader_of source.new)) }
     ensures asked { reads_of source.new ≤ reads_of source.old + reads }
-    ensures read_out { ReadsOutFor reads source.old source.new result.stop }
 {
     let Ok(mut joiner) = Joiner::new(alloc, layout) else {
         return Receipt::stopped(Stop::Ledger(LedgerFault::Memory));
     };
     let mut receipt = Receipt::stopped(Stop::End);
     let mut piece = [0u8; PIECE];
-    for turn in 0..reads {
+    for _ in 0..reads {
         let Some(count) = read_piece(source, &mut piece) else {
             return receipt.stopped_by(reading_end(source, &joiner));
         };
         if let Some(stop) = import_piece(ledger, &mut joiner, &mut receipt, &piece[..count]) {
-            // The rest is read all the same, so that the source shows how the input ended.
-            read_out(source, reads - 1 - turn);
             return receipt.stopped_by(stop);
         }
     }

@@ -1,14 +1,12 @@
 -- What is asked of books, what they answer, and what it does to them.
-use Rattle.std.specs.Prelude.{◌≡◌, ◌⊎◌, ℕ, ◌+◌, ◌≤◌, ◌^◌, false, List, [], Option, Some, None, Result}
+use Rattle.std.specs.Prelude.{◌≡◌, ℕ, ◌+◌, ◌≤◌, ◌^◌, false, List, [], Option, Some, None, Result}
 use Rattle.std.specs.Prelude.{Ok, if◌then◌else◌, string_bytes}
-use Rattle.std.specs.Io.KnownBytes.{Consumes}
 use Rattle.smf_frames.specs.declared.dump.Layout.{Layout}
 use Rattle.smf_frames.specs.declared.dump.Layout.TheVariants.{Rdw}
 use Rattle.streams.specs.Marks.{NothingIsLeft}
 use Rattle.streams.specs.Sides.{ReaderSeen, Input}
 use Rattle.book_model.specs.declared.answer.Ruled as ruled
 use Rattle.book_model.specs.declared.fault.LedgerFault.{LedgerFault}
-use Rattle.book_model.specs.declared.fault.LedgerFault.TheVariants.{Memory}
 use Rattle.book_model.specs.Words.{IsDay, Book, Outcome, tariff_outcome, close_outcome}
 use Rattle.book_model.specs.Words.{choose_outcome, adopt_outcome, Naming}
 use Rattle.book_core.specs.Calls.{Calls}
@@ -16,8 +14,9 @@ use Rattle.book_core.specs.Work.{Work, IsWork}
 use Rattle.book_core.specs.Ledgers.{Books}
 use Rattle.book_import.specs.declared.receipt.Receipt as receipt
 use Rattle.book_import.specs.declared.receipt.Stop.{Stop}
-use Rattle.book_import.specs.declared.receipt.Stop.TheVariants.{Read, ReadLimit, Ledger}
+use Rattle.book_import.specs.declared.receipt.Stop.TheVariants.{Read, ReadLimit}
 use Rattle.book_import.specs.Imports.{Imports}
+use Rattle.book_import.specs.Reach.{IsReadFor}
 use Rattle.book_import.specs.Reading.{most_reads}
 use Rattle.book_reports.specs.BookTexts.{shown_by, report_outcome}
 use Rattle.office.specs.declared.request.Asked.{Asked}
@@ -74,23 +73,20 @@ cut_by reader =
     else if reader.has_ended then None
     else Some ReadLimit
 
--- memory ran out in the import of a dump
-abbrev pub IsShortImport : Result Told LedgerFault → Type 0
-IsShortImport (Ok (Count receipt)) = receipt.stop ≡ Ledger Memory
-IsShortImport told = ⊥
+-- the bytes of a dump were taken for this receipt, and no more than it wanted
+abbrev pub IsReadBy : Dump → Result Told LedgerFault → Input → Type 0
+IsReadBy dump (Ok (Count receipt)) input =
+    IsReadFor dump.layout most_reads dump.bytes receipt input
+IsReadBy dump told input = ⊥
 
--- A dump was read of a reader: these bytes were taken from it. It was read to its end, to a failure,
--- or to the last read that was allowed, unless memory ran out.
+-- A dump was read of a reader, up to the stop of its receipt and no further.
 pub record IsReadOf (layout : Layout) (dump : Dump) (told : Result Told LedgerFault) (input : Input)
     : Type 0 where
   pub form : dump.layout ≡ layout
   pub cut : dump.cut ≡ cut_by input.new
-  pub bytes : Consumes input.old.left input.new.left dump.bytes
+  pub read : IsReadBy dump told input
   pub at_end : NothingIsLeft input.new.has_ended input.new.left
   pub reads : input.new.reads ≤ input.old.reads + most_reads
-  pub read_out :
-      (input.new.has_failed ≡ false → input.new.has_ended ≡ false
-      → input.new.reads ≡ input.old.reads + most_reads) ⊎ IsShortImport told
 
 -- nothing was read of the reader, and this is the dump
 pub record IsUnread (dump found : Dump) (input : Input) : Type 0 where

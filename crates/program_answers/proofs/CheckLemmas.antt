@@ -1,25 +1,33 @@
 -- What makes a check: a dump whose pieces were listed one after another.
 use Rattle.std.proofs.Common.{◌≡◌, ℕ, List, [], ◌++◌, length, sym, ap, subst, Option, Some, None}
-use Rattle.std.proofs.Common.{Result, Ok, Err}
+use Rattle.std.proofs.Common.{Result, Ok, Err, ◌∙◌, ◌+◌, ◌≤◌, false, append-nil}
+use Rattle.std.specs.Prelude.{◌||◌}
 use Rattle.std.specs.Prelude.{IfOk, unwrap_or}
-use Rattle.std.specs.Io.KnownBytes.{Consumes}
+use Rattle.std.specs.Io.KnownBytes.{Consumes, Appends}
 use Rattle.std.proofs.KnownBytes.{Appends-nil, Consumes-nil}
 use Rattle.smf_frames.specs.declared.dump.Layout.{Layout}
 use Rattle.smf_frames.specs.declared.fault.FrameFault.{FrameFault}
+use Rattle.streams.specs.Sides.{Input, ReaderSeen}
 use Rattle.book_model.specs.Words.{Front, front, Joining, StandsAfter, broken_by}
 use Rattle.book_import.specs.declared.receipt.Stop.{Stop}
 use Rattle.book_import.specs.declared.receipt.Stop.TheVariants.{Frame}
 use Rattle.book_import.specs.Dumps.{stop_behind, frame_stop}
+use Rattle.book_import.specs.Reading.{piece_length}
+use Rattle.book_import.specs.Receipts.{is_stop_of_books}
+use Rattle.book_import.specs.Reach.{is_early, EndsBy, IsNoFurther}
 use Rattle.book_import.specs.Pieces.{TakesAll}
 use Rattle.book_import.proofs.GoingLemmas.{HasPassed, holds_here, passed_more, stop_is}
+use Rattle.book_import.proofs.ReachLemmas.{ends_late, ends_early, nothing_further, all_needed}
+use Rattle.book_import.proofs.ReachLemmas.{piece_needed}
 use Rattle.book_reports.specs.declared.fault.ReportFault.{ReportFault}
 use Rattle.program_answers.specs.declared.listing.Listing.{Listing}
-use Rattle.program_answers.specs.Checks.{IsCheck}
+use Rattle.program_answers.specs.Checks.{IsCheck, AreWritten}
 use Rattle.book_reports.specs.CheckLists.{record_lines, last_line, check_list_text}
 use Rattle.program_answers.specs.Listings.{HasListed, WritesSome, ListsOn, Breaks, waiting}
-use Rattle.program_answers.specs.Listings.{count_of}
+use Rattle.program_answers.specs.Listings.{count_of, WritesBut}
 use Rattle.book_reports.specs.Writing.{WritesPrefix}
 use Rattle.program_answers.proofs.ListingLemmas.{written_of_more, is_prefix, listed_whole}
+use Rattle.program_answers.proofs.ListingLemmas.{prefix_grows, grows_on, lines_written}
 
 -- the lines of the records were written, or wait
 abbrev pub AreListed : Option (List ℕ) → Option (List ℕ) → Listing → List (List ℕ) → Type 0
@@ -43,26 +51,56 @@ module _ {layout : Layout} {bytes : List ℕ} {joiner : Joining} (began now : Li
       → HasPassed layout (bytes ++ piece) new (AreListed held has now)
   lists_more {piece = piece} taken over = passed_more lists taken (lists_on piece None over)
 
-module _ {layout : Layout} {cut : Option Stop} where
+-- the stop that is answered is the one at which the reading ended so
+ends_told : (allowed : ℕ) (found : Front) (input : Input) (stop : Stop)
+    (answer : Result Stop ReportFault) → IfOk answer (λ told. told ≡ stop)
+    → EndsBy allowed (is_early found stop) input
+    → IfOk answer (λ told. EndsBy allowed (is_early found told) input)
+ends_told allowed found input stop (Ok told) same ends =
+    subst (λ stop. EndsBy allowed (is_early found stop) input) (sym same) ends
+ends_told allowed found input stop (Err fault) same ends = tt
+
+-- the lines of all bytes before the last piece were written before it was read
+written_before : (layout : Layout) (input : Input) (bytes piece : List ℕ) (joiner : Joining)
+    (began : Listing) (held had gets : Option (List ℕ))
+    → HasPassed layout bytes joiner (AreListed held had began) → waiting began ≡ []
+    → (more : List ℕ) × Appends had gets more
+    → input.new.reads ≤ input.old.reads + length bytes + 1 → length piece ≤ piece_length
+    → input.new.has_failed ≡ false → input.new.has_ended ≡ false
+    → IsNoFurther layout (bytes ++ piece) (AreWritten held gets) input
+written_before layout input bytes piece joiner began held had gets lists waits grown reads few
+    failed ended =
+    piece_needed layout (AreWritten held gets) input bytes piece lists.whole
+    (lines_written (front layout bytes).records began held had gets lists.done waits grown) reads
+    few failed ended
+
+module _ {layout : Layout} {cut : Option Stop} {allowed : ℕ} {input : Input} where
   -- without memory nothing is read or written
-  pub no_check : (had held : Option (List ℕ)) (fault : ReportFault)
-      → IsCheck layout cut had had held held (Err fault)
-  no_check had held fault = record {
+  pub no_check : (held : Option (List ℕ)) (fault : ReportFault) → input.new ≡ input.old
+      → IsCheck layout cut allowed input held held (Err fault)
+  no_check held fault same = record {
     bytes = [];
-    taken = Consumes-nil had;
+    taken = subst (λ (one : ReaderSeen). Consumes input.old.left one.left []) (sym same)
+        (Consumes-nil input.old.left);
     written = (0, Appends-nil held);
     stop = tt;
+    ends = tt;
+    no_further = nothing_further layout (AreWritten held held) input ([], Appends-nil held)
+        (ap (λ (one : ReaderSeen). one.reads) same);
   }
 
   -- the last line was written behind the lines of these bytes, or a prefix of what was left of them
-  is_check : (bytes : List ℕ) (began : Listing) (from left held had has : Option (List ℕ))
+  is_check : (bytes : List ℕ) (began : Listing) (held had has : Option (List ℕ))
       (stop : Stop) (answer : Result Stop ReportFault)
       → HasListed (front layout bytes).records held had began
       → stop ≡ stop_behind cut (front layout bytes)
       → WritesPrefix (waiting began ++ last_line (count_of began) stop) had has answer
       → IfOk answer (λ told. told ≡ stop)
-      → Consumes from left bytes → IsCheck layout cut from left held has answer
-  is_check bytes began from left held had has stop answer listed same written told taken =
+      → Consumes input.old.left input.new.left bytes
+      → EndsBy allowed (is_early (front layout bytes) stop) input
+      → IsNoFurther layout bytes (AreWritten held has) input
+      → IsCheck layout cut allowed input held has answer
+  is_check bytes began held had has stop answer listed same written told taken ends no_further =
       record {
         bytes = bytes;
         taken = taken;
@@ -71,60 +109,84 @@ module _ {layout : Layout} {cut : Option Stop} where
             (listed_whole (front layout bytes).records stop held had has began answer listed
             written);
         stop = subst (λ stop. IfOk answer (λ told. told ≡ stop)) same told;
+        ends = ends_told allowed (front layout bytes) input stop answer told ends;
+        no_further = no_further;
       }
 
   -- no more pieces came
   pub check_ended : (bytes : List ℕ) (joiner : Joining) (began : Listing)
-      (from left held had has : Option (List ℕ)) (stop : Stop) (answer : Result Stop ReportFault)
-      → HasPassed layout bytes joiner (AreListed held had began)
+      (held had has : Option (List ℕ)) (stop : Stop) (answer : Result Stop ReportFault)
+      → HasPassed layout bytes joiner (AreListed held had began) → waiting began ≡ []
       → ((text : List ℕ) → StandsAfter text joiner
       → stop ≡ unwrap_or cut (frame_stop (front joiner.layout text).fault))
+      → is_stop_of_books stop ≡ false
       → WritesPrefix (waiting began ++ last_line (count_of began) stop) had has answer
       → IfOk answer (λ told. told ≡ stop)
-      → Consumes from left bytes → IsCheck layout cut from left held has answer
-  check_ended bytes joiner began from left held had has stop answer lists stopped written told
-      taken =
-      is_check bytes began from left held had has stop answer lists.done (stop_is lists cut stopped)
+      → Consumes input.old.left input.new.left bytes
+      → input.new.reads ≤ input.old.reads + length bytes + 1
+      → (input.new.has_failed ≡ false → input.new.has_ended ≡ false
+      → input.new.reads ≡ input.old.reads + allowed)
+      → IsCheck layout cut allowed input held has answer
+  check_ended bytes joiner began held had has stop answer lists waits stopped other written told
+      taken reads out =
+      is_check bytes began held had has stop answer lists.done (stop_is lists cut stopped)
       written told taken
+      (ends_late (ap (λ b. b || (front layout bytes).is_broken) other ∙ lists.whole) out)
+      (all_needed layout (AreWritten held has) input bytes lists.whole
+      (lines_written (front layout bytes).records began held had has lists.done waits
+      (prefix_grows (waiting began ++ last_line (count_of began) stop) had has answer written))
+      reads)
 
-  -- a fault was found in a piece, whatever bytes follow
-  pub check_broken : (bytes piece more : List ℕ) (joiner : Joining) (began now : Listing)
-      (from left held had has gets : Option (List ℕ)) (fault : FrameFault)
-      (answer : Result Stop ReportFault)
-      → HasPassed layout bytes joiner (AreListed held had began) → Breaks joiner piece fault
-      → ListsOn joiner piece began now had has (Ok (Some fault))
-      → WritesPrefix (waiting now ++ last_line (count_of now) (Frame fault)) has gets answer
-      → IfOk answer (λ told. told ≡ Frame fault)
-      → Consumes from left ((bytes ++ piece) ++ more)
-      → IsCheck layout cut from left held gets answer
-  check_broken bytes piece more joiner began now from left held had has gets fault answer lists
-      breaks over written told taken =
-      let is = holds_here lists (λ l text. front l ((text ++ piece) ++ more)
-      ≡ broken_by (front l (text ++ piece)).records fault) (λ text stood. breaks text more stood) in
-      is_check ((bytes ++ piece) ++ more) now from left held has gets (Frame fault) answer
-      (subst (λ (f : Front). HasListed f.records held has now) (sym is)
-      (lists_on began now held had has lists piece (Some fault) over))
-      (ap (stop_behind cut) (sym is)) written told taken
+  module _ (bytes piece : List ℕ) (joiner : Joining) (began now : Listing)
+      (held had has : Option (List ℕ))
+      (lists : HasPassed layout bytes joiner (AreListed held had began))
+      (waits : waiting began ≡ []) (grown : (more : List ℕ) × Appends had has more)
+      (taken : Consumes input.old.left input.new.left (bytes ++ piece))
+      (reads : input.new.reads ≤ input.old.reads + length bytes + 1)
+      (few : length piece ≤ piece_length)
+      (failed : input.new.has_failed ≡ false) (ended : input.new.has_ended ≡ false) where
+    -- a fault was found in the piece
+    pub check_broken : (gets : Option (List ℕ)) (fault : FrameFault)
+        (answer : Result Stop ReportFault) → Breaks joiner piece fault
+        → ListsOn joiner piece began now had has (Ok (Some fault))
+        → WritesPrefix (waiting now ++ last_line (count_of now) (Frame fault)) has gets answer
+        → IfOk answer (λ told. told ≡ Frame fault)
+        → IsCheck layout cut allowed input held gets answer
+    check_broken gets fault answer breaks over written told =
+        let all = bytes ++ piece in
+        let is = ap (λ b. front layout b) (sym (append-nil all))
+        ∙ holds_here lists (λ l text. front l ((text ++ piece) ++ [])
+        ≡ broken_by (front l (text ++ piece)).records fault)
+        (λ text stood. breaks text [] stood) in
+        is_check all now held has gets (Frame fault) answer
+        (lists_on began now held had has lists piece (Some fault) over)
+        (ap (stop_behind cut) (sym is)) written told taken
+        (ends_early (ap (λ (f : Front). f.is_broken) is) failed ended)
+        (written_before layout input bytes piece joiner began held had gets lists waits
+        (grows_on had has gets grown (prefix_grows (waiting now ++ last_line (count_of now)
+        (Frame fault)) has gets answer written)) reads few failed ended)
 
-  -- a line was not written, or found no memory
-  pub check_cut : (bytes piece more : List ℕ) (joiner : Joining) (began now : Listing)
-      (from left held had has : Option (List ℕ)) (fault : ReportFault)
-      → HasPassed layout bytes joiner (AreListed held had began)
-      → ListsOn joiner piece began now had has (Err fault)
-      → Consumes from left ((bytes ++ piece) ++ more)
-      → IsCheck layout cut from left held has (Err fault)
-  check_cut bytes piece more joiner began now from left held had has fault lists some taken =
-      let found = front layout ((bytes ++ piece) ++ more) in
-      let lines = record_lines 1 found.records in
-      let stop = stop_behind cut found in
-      let last = last_line (length found.records) stop in
-      let part = holds_here lists (λ l text. AreListed held had began (front l text).records
-      → WritesSome l (text ++ piece) held has) (λ text stood. some text held stood) lists.done
-      more in
-      record {
-        bytes = (bytes ++ piece) ++ more;
-        taken = taken;
-        written = is_prefix (lines ++ last) (part.0 ++ last) held has
-            (written_of_more lines part.0 last held has part.1);
-        stop = tt;
-      }
+    -- a line was not written, or found no memory
+    pub check_cut : (fault : ReportFault) → ListsOn joiner piece began now had has (Err fault)
+        → IsCheck layout cut allowed input held has (Err fault)
+    check_cut fault some =
+        let all = bytes ++ piece in
+        let found = front layout all in
+        let lines = record_lines 1 found.records in
+        let stop = stop_behind cut found in
+        let last = last_line (length found.records) stop in
+        let part = holds_here lists (λ l text. AreListed held had began (front l text).records
+        → WritesSome l (text ++ piece) held has) (λ text stood. some text held stood) lists.done
+        [] in
+        record {
+          bytes = all;
+          taken = taken;
+          written = is_prefix (lines ++ last) (part.0 ++ last) held has
+              (written_of_more lines part.0 last held has
+              (subst (λ b. WritesBut (record_lines 1 (front layout b).records) part.0 held has)
+              (append-nil all) part.1));
+          stop = tt;
+          ends = tt;
+          no_further = written_before layout input bytes piece joiner began held had has lists
+              waits grown reads few failed ended;
+        }

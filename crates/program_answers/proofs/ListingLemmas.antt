@@ -11,6 +11,7 @@ use Rattle.book_reports.specs.declared.fault.ReportFault.{ReportFault}
 use Rattle.program_answers.specs.declared.listing.Listing.{Listing}
 use Rattle.book_reports.specs.CheckLists.{record_line, record_lines, last_line, check_list_text}
 use Rattle.program_answers.specs.Listings.{WritesBut, HasListed, waiting, count_of}
+use Rattle.program_answers.specs.Checks.{AreWritten}
 use Rattle.book_reports.specs.Writing.{WritesPrefix}
 use Rattle.book_reports.proofs.NumberLemmas.{lines-append, one_more_line}
 
@@ -165,3 +166,28 @@ listed_whole records stop held had has began answer listed ended =
         let left = prefix_written rest part.0 had has part.1 in
         is_prefix text left.0 held has
         (then_written text rest left.0 held had has written left.1)
+
+-- a prefix of a text, or all of it, came behind what the writer held
+pub prefix_grows : {A : Type 0} (text : List ℕ) (held holds : Option (List ℕ))
+    (answer : Result A ReportFault) → WritesPrefix text held holds answer
+    → (more : List ℕ) × Appends held holds more
+prefix_grows text held holds (Ok value) written = (text, written)
+prefix_grows text held holds (Err fault) written = (take written.0 text, written.1)
+
+-- and then more came behind it
+pub grows_on : (held had has : Option (List ℕ)) → (more : List ℕ) × Appends held had more
+    → (more : List ℕ) × Appends had has more → (more : List ℕ) × Appends held has more
+grows_on held had has one other =
+    (one.0 ++ other.0, Appends-trans held had has one.0 other.0 one.1 other.1)
+
+-- lines of which none waits were written, whatever was written then
+pub lines_written : (records : List (List ℕ)) (listing : Listing) (held had has : Option (List ℕ))
+    → HasListed records held had listing → waiting listing ≡ []
+    → (more : List ℕ) × Appends had has more → AreWritten held has records
+lines_written records listing held had has listed none grown =
+    let lines = listed.lines in (
+      grown.0,
+      subst (λ b. Appends held has (b ++ grown.0))
+          (sym (lines.parts ∙ ap (λ b. lines.first ++ b) none ∙ append-nil lines.first))
+          (Appends-trans held had has lines.first grown.0 lines.grown grown.1),
+    )

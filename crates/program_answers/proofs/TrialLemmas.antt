@@ -2,10 +2,10 @@
 use Rattle.std.proofs.Common.{◌≡◌, ◌≢◌, ◌∙◌, ℕ, false, List, [], ◌∷◌, ◌++◌, Option, Result, Err}
 use Rattle.std.proofs.Common.{refl, ap, subst}
 use Rattle.std.specs.Prelude.{IfOk}
-use Rattle.std.specs.Io.KnownBytes.{Appends, Consumes}
-use Rattle.std.proofs.KnownBytes.{Consumes-nil}
+use Rattle.std.specs.Io.KnownBytes.{Appends}
 use Rattle.sha2.specs.Sha256.{sha256}
 use Rattle.smf_frames.specs.declared.dump.Layout.{Layout}
+use Rattle.streams.specs.Sides.{Input, ReaderSeen}
 use Rattle.book_model.specs.Words.{Terms, front, Book, flat_book, Event, after_all, Naming, Rulings}
 use Rattle.book_core.specs.Ledgers.{in_memory}
 use Rattle.book_core.specs.Work.{IsWork}
@@ -14,8 +14,10 @@ use Rattle.book_import.specs.declared.receipt.Receipt.{Receipt}
 use Rattle.book_import.specs.declared.receipt.Stop.{Stop}
 use Rattle.book_import.specs.declared.receipt.Stop.TheVariants.{Ledger}
 use Rattle.book_import.specs.Dumps.{stop_behind}
+use Rattle.book_import.specs.Reach.{IsReadFor}
 use Rattle.book_import.specs.Imports.{Imports}
 use Rattle.book_import.specs.Imports.Handles.{out_of_memory}
+use Rattle.book_import.proofs.ReachLemmas.{read_nothing}
 use Rattle.book_import.proofs.KeepingLemmas.{handles_kept, rulings_stay}
 use Rattle.book_import.specs.Receipts.{receipt_stopped}
 use Rattle.book_reports.specs.declared.fault.ReportFault.{ReportFault}
@@ -71,41 +73,40 @@ texts_written told book after held one two holds answer stays line statement dis
     (others_written (open_statement book) (dispute_text book ∷ []) one two holds answer statement
     (subst (λ book. Writes (dispute_text book ∷ []) two holds answer) stays disputes))
 
-module _ {terms : Terms} {layout : Layout} {cut : Option Stop} {MayStop : Stop → Type 0} where
+module _ {terms : Terms} {layout : Layout} {cut : Option Stop} {allowed : ℕ} {input : Input} where
   -- new books, the import, and what was written
-  pub is_trial : {had left held holds : Option (List ℕ)} {answer : Result Receipt ReportFault}
-      {book : Book} (told : Receipt) (bytes : List ℕ) → Consumes had left bytes
+  pub is_trial : {held holds : Option (List ℕ)} {answer : Result Receipt ReportFault}
+      {book : Book} (told : Receipt) (bytes : List ℕ) → IsReadFor layout allowed bytes told input
       → IsBooked terms layout cut bytes told book
-      → MayStop told.stop → Writes (trial_texts told book) held holds answer
+      → Writes (trial_texts told book) held holds answer
       → IfOk answer (λ receipt. receipt ≡ told)
-      → IsTrial terms layout cut MayStop had left held holds answer
-  is_trial {held = held} {holds = holds} {answer = answer} told bytes taken is stopped written
-      receipt =
+      → IsTrial terms layout cut allowed input held holds answer
+  is_trial {held = held} {holds = holds} {answer = answer} told bytes read is written receipt =
       record {
         bytes = bytes;
         told = told;
         events = is.events;
-        taken = taken;
+        read = read;
         booked = is.booked;
-        stopped = stopped;
         written = subst (λ book. Writes (trial_texts told book) held holds answer) is.leads written;
         receipt = receipt;
       }
 
   -- without memory for new books nothing is read or written
-  pub no_trial : (had held : Option (List ℕ)) (fault : ReportFault) → fault ≢ Write
-      → MayStop (Ledger Memory)
-      → IsTrial terms layout cut MayStop had had held held (Err fault)
-  no_trial had held fault other stopped =
+  pub no_trial : (held : Option (List ℕ)) (fault : ReportFault) → fault ≢ Write
+      → input.new ≡ input.old → input.new.has_failed ≡ false → input.new.has_ended ≡ false
+      → IsTrial terms layout cut allowed input held held (Err fault)
+  no_trial held fault other same failed ended =
       let told : Receipt = receipt_stopped (Ledger Memory) in
       let others = open_statement (flat_book terms) ∷ dispute_text (flat_book terms) ∷ [] in
       record {
         bytes = [];
         told = told;
         events = [];
-        taken = Consumes-nil had;
+        read = read_nothing layout allowed told input refl
+            (ap (λ (one : ReaderSeen). one.left) same) (ap (λ (one : ReaderSeen). one.reads) same)
+            failed ended;
         booked = out_of_memory 0 refl (record { receipt = refl; events = refl });
-        stopped = stopped;
         written = nothing_written fault held (receipt_line_text told) others other;
         receipt = tt;
       }

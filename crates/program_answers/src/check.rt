@@ -2,20 +2,22 @@
 
 ghost use Rattle.std.specs.Prelude.{◌≡◌, ℕ, ◌+◌, ◌<◌, ◌≤◌, ◌^◌, false, true, List, None, length};
 ghost use Rattle.std.specs.Prelude.{IfErr, IfOk, OnOk, []};
+ghost use Rattle.std.specs.Io.KnownBytes.{Appends};
 ghost use Rattle.book_model.specs.Words.{StandsAfter};
 ghost use Rattle.streams.specs.Sinks.{writer_of, has_failed};
 ghost use Rattle.streams.specs.Marks.{NothingIsLeft};
+ghost use Rattle.streams.specs.Sides.{input};
 ghost use Rattle.streams.specs.Sources as sources;
 ghost use Rattle.book_import.specs.Reading.{cut_of, most_reads};
 ghost use Rattle.book_import.specs.Receipts.{is_stop_of_books};
-ghost use Rattle.program_answers.specs.Checks.{IsCheck, ReadsOutUnless};
+ghost use Rattle.program_answers.specs.Checks.{IsCheck};
 ghost use Rattle.program_answers.specs.Listings.{waiting, count_of, HasRoom, ListsOn};
 ghost use Rattle.program_answers.specs.Listings.{TakesOrBreaks};
 ghost use Rattle.book_reports.specs.Writing.{is_write_fault, is_write_or_memory};
 
 use crate::listing::Listing;
 use book_core::{Sink, Source};
-use book_import::{PIECE, Stop, read_out, read_piece, reading_end};
+use book_import::{PIECE, Stop, read_piece, reading_end};
 use book_reports::ReportFault;
 use smf_frames::{FrameFault, Joiner, Layout};
 use std::alloc::Global;
@@ -36,6 +38,8 @@ fn list_records<W: Write + Drop>(
     requires unwritten { has_failed sink.old ≡ false }
     ensures listed { ListsOn joiner.old piece.now listing.old listing.new
         (W.contents (writer_of sink.old)) (W.contents (writer_of sink.new)) result }
+    ensures grown { (more : List ℕ)
+        × Appends (W.contents (writer_of sink.old)) (W.contents (writer_of sink.new)) more }
     ensures taken { IfOk result (λ found. TakesOrBreaks joiner.old piece.now found joiner.new) }
     ensures count { OnOk result (count_of listing.new ≤ count_of listing.old + length piece.now) }
     ensures room { OnOk result (HasRoom listing.new) }
@@ -74,6 +78,8 @@ fn list_piece<W: Write + Drop>(
     ensures listed { ListsOn joiner.old piece.now listing.old listing.new
         (W.contents (writer_of sink.old)) (W.contents (writer_of sink.new)) result }
     ensures waits { OnOk result (waiting listing.new ≡ []) }
+    ensures grown { (more : List ℕ)
+        × Appends (W.contents (writer_of sink.old)) (W.contents (writer_of sink.new)) more }
     ensures taken { IfOk result (λ found. TakesOrBreaks joiner.old piece.now found joiner.new) }
     ensures count { OnOk result (count_of listing.new ≤ count_of listing.old + length piece.now) }
     ensures failed { has_failed sink.new ≡ is_write_fault result }
@@ -86,7 +92,8 @@ fn list_piece<W: Write + Drop>(
 
 /// Writes what every record of a dump is, and why there are no more. The lines of a piece are
 /// written before the next one is read; held are a piece, a record, and lines that are written at
-/// once. After a fault the writer has a prefix of the list.
+/// once. Behind a fault at a descriptor, or a write that failed, nothing more is read. After a fault
+/// the writer has a prefix of the list.
 pub fn check_list<R: Read + Drop, W: Write + Drop>(
     alloc: Global,
     source: &mut Source<R>,
@@ -100,18 +107,16 @@ pub fn check_list<R: Read + Drop, W: Write + Drop>(
     requires reads { reads ≤ most_reads }
     requires unwritten { has_failed sink.old ≡ false }
 
-    // What was read and written.
-    ensures check { IsCheck layout (cut_of source.new)
-        (R.remaining (sources.reader_of source.old)) (R.remaining (sources.reader_of source.new))
+    // What was read, how far the reading went, and what was written.
+    ensures check { IsCheck layout (cut_of source.new) reads
+        (input R.remaining source.old source.new)
         (W.contents (writer_of sink.old)) (W.contents (writer_of sink.new)) result }
 
     // Where the source has ended, nothing is left of a reader that tells its bytes.
     ensures left { NothingIsLeft (sources.has_ended source.new)
         (R.remaining (sources.reader_of source.new)) }
 
-    // How far the reading went.
     ensures asked { sources.reads_of source.new ≤ sources.reads_of source.old + reads }
-    ensures read_out { ReadsOutUnless reads source.old source.new result }
 
     // A fault is a failed write, or want of memory; Write comes where a write failed, and nowhere
     // else. No books are asked, so none stop the list or refuse it.
@@ -122,22 +127,14 @@ pub fn check_list<R: Read + Drop, W: Write + Drop>(
     let mut joiner = Joiner::new(alloc, layout)?;
     let mut listing = Listing::new(alloc)?;
     let mut piece = [0u8; PIECE];
-    for turn in 0..reads {
+    for _ in 0..reads {
         let Some(count) = read_piece(source, &mut piece) else {
             return listing.end(reading_end(source, &joiner), sink);
         };
         match list_piece(&mut joiner, &piece[..count], &mut listing, sink) {
             Ok(None) => {}
-            Ok(Some(fault)) => {
-                // The rest is read too, as of a dump with no fault: its reader may wait for that.
-                read_out(source, reads - 1 - turn);
-                return listing.end(Stop::Frame(fault), sink);
-            }
-            Err(fault) => {
-                // So is it behind a write that failed.
-                read_out(source, reads - 1 - turn);
-                return Err(fault);
-            }
+            Ok(Some(fault)) => return listing.end(Stop::Frame(fault), sink),
+            Err(fault) => return Err(fault),
         }
     }
     listing.end(reading_end(source, &joiner), sink)

@@ -1,8 +1,9 @@
 ghost use Rattle.std.specs.Prelude.{◌≡◌, ◌+◌, ◌≤◌, ◌^◌, false, true, IfErr};
 ghost use Rattle.streams.specs.Sinks.{writer_of, has_failed};
 ghost use Rattle.streams.specs.Marks.{NothingIsLeft};
+ghost use Rattle.streams.specs.Sides.{input};
 ghost use Rattle.streams.specs.Sources as sources;
-ghost use Rattle.book_import.specs.Reading.{ReadsOutFor, cut_of, most_reads};
+ghost use Rattle.book_import.specs.Reading.{cut_of, most_reads};
 ghost use Rattle.book_reports.specs.Writing.{is_write_fault, is_write_or_memory};
 ghost use Rattle.program_answers.specs.Trials.{IsTrial};
 
@@ -32,9 +33,8 @@ pub fn trial<R: Read + Drop, W: Write + Drop>(
     requires unwritten { has_failed sink.old ≡ false }
 
     // What was read, how far the reading went, what was booked, and what was written.
-    ensures trial { IsTrial tariff layout (cut_of source.new)
-        (ReadsOutFor reads source.old source.new)
-        (R.remaining (sources.reader_of source.old)) (R.remaining (sources.reader_of source.new))
+    ensures trial { IsTrial tariff layout (cut_of source.new) reads
+        (input R.remaining source.old source.new)
         (W.contents (writer_of sink.old)) (W.contents (writer_of sink.new)) result }
 
     // Where the source has ended, nothing is left of a reader that tells its bytes.

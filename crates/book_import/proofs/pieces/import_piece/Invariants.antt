@@ -2,13 +2,17 @@ use Rattle.std.proofs.Common.{◌+◌, ◌≤◌, length}
 use Rattle.book_import.specs.Receipts.{counted}
 use Rattle.book_import.proofs.GoingLemmas.{Goes}
 use Rattle.book_import.proofs.ComeLemmas.{LeadsOver}
+use Rattle.book_import.proofs.ReachLemmas.{CountsOver}
 use Rattle.book_import.proofs.pieces.import_piece.Given as goal
 
--- no more records were counted than bytes were seen
+-- each record found was counted, and no more than bytes were seen
 abbrev pub invariant-loop-fault : goal.invariant-loop-fault
 invariant-loop-fault g l = record {
   goes : Goes l.fn.joiner l.piece l.rest l.joiner
       (LeadsOver (g.L.Ledger.seen l.fn.ledger) (g.L.Ledger.seen l.ledger) l.fn.receipt l.receipt);
+  counts : Goes l.fn.joiner l.piece l.rest l.joiner
+      (CountsOver (counted l.fn.receipt) (counted l.receipt));
+  more : counted l.fn.receipt ≤ counted l.receipt;
   few : counted l.receipt + length l.rest ≤ counted l.fn.receipt + length l.piece;
 }
 

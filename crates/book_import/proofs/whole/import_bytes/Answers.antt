@@ -1,6 +1,5 @@
-use Rattle.std.proofs.Common.{subst, List, ℕ, None, [], refl, append-nil}
+use Rattle.std.proofs.Common.{None, refl}
 use Rattle.book_model.specs.Words.{front}
-use Rattle.book_core.specs.Work.{IsWork}
 use Rattle.book_core.proofs.WorkLemmas.{no_work, work_as}
 use Rattle.book_import.specs.Dumps.{stop_behind}
 use Rattle.book_import.specs.Imports.{Imports}
@@ -26,12 +25,9 @@ returns-in-Some g c =
     let receipt = c.stopped-receipt.result in
     let none = joins_nothing seen c.args.layout c.in-Ok.joiner receipt c.in-Ok.ensures.value
     c.in-Ok.ensures.stands c.in-Ok.ensures.found c.stopped-receipt.ensures in
-    subst (λ (text : List ℕ).
-    IsWork seen (g.L.Ledger.seen c.import_piece.new.ledger)
-    (Imports seen.naming c.args.layout None text told)) (append-nil bytes)
-    (joins_stopped seen seen receipt none (g.L.Ledger.seen c.import_piece.new.ledger) bytes
-    c.import_piece.new.receipt told c.in-Some.stop c.in-Some.ensures.handled c.stopped_by.ensures []
-    None)
+    joins_stopped seen seen receipt none (g.L.Ledger.seen c.import_piece.new.ledger) bytes
+    c.import_piece.new.receipt told c.in-Some.stop c.in-Some.ensures.handled c.stopped_by.ensures
+    None
 
 pub returns : goal.returns
 returns g c =
@@ -43,4 +39,4 @@ returns g c =
     let joins = joins_more seen seen receipt none new c.import_piece.new.receipt
     (c.in-None.ensures.taken refl) c.in-None.ensures.handled in
     joins_ended seen new c.import_piece.new.receipt joins c.stopped_by-in-None.result
-    c.dump_end.result None c.dump_end.ensures c.stopped_by-in-None.ensures
+    c.dump_end.result None c.dump_end.ensures.stop c.stopped_by-in-None.ensures

@@ -64,10 +64,9 @@ returns-in-Import g c =
       given = record {
         form = refl;
         cut = refl;
-        bytes = booked.1;
+        read = booked.1;
         at_end = c.import.ensures.left;
         reads = c.import.ensures.asked;
-        read_out = c.import.ensures.read_out;
       };
       work = booked.2;
     })

@@ -1,6 +1,6 @@
 use Rattle.std.proofs.lemmas.Result.{err_from_is_err_and}
 use Rattle.streams.specs.Sinks.{writer_of}
-use Rattle.program_answers.proofs.ListingLemmas.{listed_flushed}
+use Rattle.program_answers.proofs.ListingLemmas.{listed_flushed, grows_on}
 use Rattle.program_answers.proofs.PieceLemmas.{come_unflushed}
 use Rattle.program_answers.proofs.check.list_piece.Goals as goal
 
@@ -22,3 +22,13 @@ returns-clause-listed g c = λ text held stood listed.
     listed_flushed _ held (g.W.Write.contents (writer_of c.list_records.new.sink))
     (g.W.Write.contents (writer_of c.flush.new.sink)) c.list_records.new.listing c.flush.new.self
     (c.in_ok-found.ensures.listed text held stood listed) wrote.written wrote.waits wrote.count
+
+pub returns-in_err-flush-clause-grown : goal.returns-in_err-flush-clause-grown
+returns-in_err-flush-clause-grown g c =
+    grows_on _ _ (g.W.Write.contents (writer_of c.flush.new.sink)) c.in_ok-found.ensures.grown
+    (_, c.in_err-flush.ensures.written.1)
+
+pub returns-clause-grown : goal.returns-clause-grown
+returns-clause-grown g c =
+    grows_on _ _ (g.W.Write.contents (writer_of c.flush.new.sink)) c.in_ok-found.ensures.grown
+    (_, c.in_ok-flush.ensures.written)

@@ -1,9 +1,10 @@
-use Rattle.std.proofs.Common.{arith}
+use Rattle.std.proofs.Common.{arith, []}
+use Rattle.std.proofs.KnownBytes.{Appends-nil}
 use Rattle.std.proofs.lemmas.Result.{err_from_is_err_and}
 use Rattle.streams.specs.Sinks.{writer_of}
 use Rattle.book_import.proofs.GoingLemmas.{goes_nowhere, shorter, goes_on, all_done, takes_all}
 use Rattle.book_import.proofs.GoingLemmas.{breaks, broken_done}
-use Rattle.program_answers.proofs.ListingLemmas.{listed_more}
+use Rattle.program_answers.proofs.ListingLemmas.{listed_more, grows_on}
 use Rattle.program_answers.proofs.PieceLemmas.{come_cut}
 use Rattle.program_answers.proofs.check.list_records.Goals as goal
 
@@ -13,6 +14,7 @@ loop-fault-init g c = record {
       (λ records held listed. listed);
   few = omega arith;
   room = c.requires.room;
+  grown = ([], Appends-nil _);
   unwritten = c.requires.unwritten;
 }
 
@@ -41,6 +43,18 @@ returns-in_err-push_line-clause-listed g c =
     (g.W.Write.contents (writer_of c.push_line.new.sink)) c.in-Some.bytes.now wrote.0 failed.0
     c.loop-fault.invariant.goes c.in-Ok.ensures c.in-Some.ensures.exact wrote.1)
 
+pub returns-in-Err-clause-grown : goal.returns-in-Err-clause-grown
+returns-in-Err-clause-grown g c = c.loop-fault.invariant.grown
+
+pub returns-in_default-clause-grown : goal.returns-in_default-clause-grown
+returns-in_default-clause-grown g c = c.loop-fault.invariant.grown
+
+pub returns-in_err-push_line-clause-grown : goal.returns-in_err-push_line-clause-grown
+returns-in_err-push_line-clause-grown g c =
+    let wrote = c.in_err-push_line.ensures.written in
+    grows_on _ _ (g.W.Write.contents (writer_of c.push_line.new.sink))
+    c.loop-fault.invariant.grown (wrote.1.first, wrote.1.grown)
+
 pub loop-fault-smaller : goal.loop-fault-smaller
 loop-fault-smaller g c =
     shorter c.loop-fault.invariant.goes c.in-Ok.ensures c.in-Some.ensures.exact
@@ -61,5 +75,7 @@ loop-fault-preserved g c =
           c.push_line.new.self (lists held listed) wrote.written wrote.count);
       few = omega (arith, c.loop-fault.invariant.few, wrote.count, less);
       room = wrote.room;
+      grown = grows_on _ _ (g.W.Write.contents (writer_of c.push_line.new.sink))
+          c.loop-fault.invariant.grown (wrote.written.first, wrote.written.grown);
       unwritten = wrote.failed;
     }

@@ -1,4 +1,5 @@
-use Rattle.std.proofs.Common.{◌≡◌, ◌+◌, ◌≤◌, false, length}
+use Rattle.std.proofs.Common.{◌≡◌, ◌+◌, ◌≤◌, ℕ, List, false, length}
+use Rattle.std.specs.Io.KnownBytes.{Appends}
 use Rattle.streams.specs.Sinks.{writer_of, has_failed}
 use Rattle.book_import.proofs.GoingLemmas.{Goes}
 use Rattle.program_answers.specs.Listings.{count_of, HasRoom}
@@ -12,6 +13,8 @@ invariant-loop-fault g l = record {
       (g.W.Write.contents (writer_of l.fn.sink)) (g.W.Write.contents (writer_of l.sink)));
   few : count_of l.listing + length l.rest ≤ count_of l.fn.listing + length l.piece;
   room : HasRoom l.listing;
+  grown : (more : List ℕ) × Appends (g.W.Write.contents (writer_of l.fn.sink))
+      (g.W.Write.contents (writer_of l.sink)) more;
   unwritten : has_failed l.sink ≡ false;
 }
 

@@ -1,4 +1,4 @@
-use Rattle.std.proofs.Common.{◌≡◌, [], ◌∷◌, ◌∙◌, ap, refl, inr, Result, Ok, Err}
+use Rattle.std.proofs.Common.{◌≡◌, [], ◌∷◌, ◌∙◌, ap, refl, Result, Ok, Err}
 use Rattle.std.proofs.lemmas.Result.{err_from_is_err_and}
 use Rattle.streams.specs.Sinks.{writer_of}
 use Rattle.book_model.specs.Words.{charges_outcome}
@@ -32,7 +32,8 @@ booked g c =
 pub returns-in_err-ledger-clause-trial : goal.returns-in_err-ledger-clause-trial
 returns-in_err-ledger-clause-trial g c =
     let failed = err_from_is_err_and c.from_residual.result c.from_residual.ensures.1 in
-    rw failed.1 (no_trial _ _ failed.0 (memory_not_write failed.2) (inr refl))
+    rw failed.1 (no_trial _ failed.0 (memory_not_write failed.2) refl
+    c.requires.unread c.requires.unended)
 
 -- no period of these books was closed: their statement is that of the open one
 first : (g : Over) (c : After-import-receipt g)
@@ -57,7 +58,7 @@ returns-in_err-receipt_line-clause-trial g c =
     rw failed.1
     (is_trial c.import-receipt.result import.booked.0 import.booked.1
     (booked g (goal.at.returns-in_err-receipt_line-clause-trial g c).After-import-receipt)
-    import.read_out written tt)
+    written tt)
 
 pub returns-in_err-statement-clause-trial : goal.returns-in_err-statement-clause-trial
 returns-in_err-statement-clause-trial g c =
@@ -78,7 +79,7 @@ returns-in_err-statement-clause-trial g c =
     rw failed.1
     (is_trial c.import-receipt.result import.booked.0 import.booked.1
     (booked g (goal.at.returns-in_err-statement-clause-trial g c).After-import-receipt)
-    import.read_out written tt)
+    written tt)
 
 pub returns-in_err-dispute_list-clause-trial : goal.returns-in_err-dispute_list-clause-trial
 returns-in_err-dispute_list-clause-trial g c =
@@ -97,7 +98,7 @@ returns-in_err-dispute_list-clause-trial g c =
     rw failed.1
     (is_trial c.import-receipt.result import.booked.0 import.booked.1
     (booked g (goal.at.returns-in_err-dispute_list-clause-trial g c).After-import-receipt)
-    import.read_out written tt)
+    written tt)
 
 pub returns-clause-trial : goal.returns-clause-trial
 returns-clause-trial g c =
@@ -113,7 +114,7 @@ returns-clause-trial g c =
     (report_writes c.in_ok-dispute_list.ensures.report (dispute_text after) refl) in
     is_trial c.import-receipt.result import.booked.0 import.booked.1
     (booked g (goal.at.returns-clause-trial g c).After-import-receipt)
-    import.read_out written refl
+    written refl
 
 pub returns-in_err-statement-clause-fault : goal.returns-in_err-statement-clause-fault
 returns-in_err-statement-clause-fault g c =

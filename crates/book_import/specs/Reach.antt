@@ -1,0 +1,47 @@
+-- How far a dump is read: to its stop, and no further.
+use Rattle.std.specs.Prelude.{◌≡◌, ℕ, ◌+◌, ◌≤◌, Bool, true, false, ◌||◌, List, [], ◌++◌}
+use Rattle.std.specs.Prelude.{length}
+use Rattle.std.specs.Io.KnownBytes.{Consumes}
+use Rattle.smf_frames.specs.declared.dump.Layout.{Layout}
+use Rattle.streams.specs.Sides.{Input}
+use Rattle.book_model.specs.Words.{Front, front}
+use Rattle.book_import.specs.declared.receipt.Receipt.{Receipt}
+use Rattle.book_import.specs.declared.receipt.Stop.{Stop}
+use Rattle.book_import.specs.Reading.{piece_length}
+use Rattle.book_import.specs.Receipts.{counted, is_stop_of_books}
+
+-- the stop did not wait for the input's end: the books refused, or a descriptor has a fault that no
+-- more bytes could mend
+abbrev pub is_early : Front → Stop → Bool
+is_early front stop = is_stop_of_books stop || front.is_broken
+
+-- Behind an early stop the reader had neither failed nor come to its end. Behind any other the
+-- reading went on to the input's end, to a failure, or to the last read that was allowed.
+pub record EndsBy (allowed : ℕ) (early : Bool) (input : Input) : Type 0 where
+  pub in_midst : early ≡ true
+      → (input.new.has_failed ≡ false) × (input.new.has_ended ≡ false)
+  pub read_out : early ≡ false → input.new.has_failed ≡ false → input.new.has_ended ≡ false
+      → input.new.reads ≡ input.old.reads + allowed
+
+-- No read was made once the stop was known. Of the bytes that came, these came before the last read,
+-- one or more with each: they have no fault at a descriptor, and this was done with their records.
+-- With the last read came a piece at most; and nothing, where it failed or was the end.
+pub record IsNoFurther (layout : Layout) (bytes : List ℕ) (AreDone : List (List ℕ) → Type 0)
+    (input : Input) : Type 0 where
+  pub before : List ℕ
+  pub last : List ℕ
+  pub parts : bytes ≡ before ++ last
+  pub piece : length last ≤ piece_length
+  pub nothing : (input.new.has_failed || input.new.has_ended) ≡ true → last ≡ []
+  pub reads : input.new.reads ≤ input.old.reads + length before + 1
+  pub unbroken : (front layout before).is_broken ≡ false
+  pub done : AreDone (front layout before).records
+
+-- These bytes were taken from the reader for this receipt, and no more than it wanted: it counts
+-- each record that was whole before the last read.
+pub record IsReadFor (layout : Layout) (allowed : ℕ) (bytes : List ℕ) (told : Receipt)
+    (input : Input) : Type 0 where
+  pub taken : Consumes input.old.left input.new.left bytes
+  pub ends : EndsBy allowed (is_early (front layout bytes) told.stop) input
+  pub no_further :
+      IsNoFurther layout bytes (λ records. length records ≤ counted told) input
