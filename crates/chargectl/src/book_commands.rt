@@ -4,7 +4,7 @@
 ghost use Rattle.office.specs.Requests.{IsAskableAnew};
 ghost use Rattle.office.proofs.AskLemmas.{askable_once};
 
-use crate::progress::{Watched, WatchedRows};
+use crate::progress::{Behind, Watched, WatchedRows};
 use crate::trouble::{Trouble, ended};
 use book_audit::{Audited, AuditedShelf, audit_text};
 use book_core::{Ledger, LedgerFault, Sink, Source};
@@ -13,7 +13,6 @@ use office::{Answer, Asked, Report, Shelf, Visit, answer};
 use program_answers::name_of_text;
 use smf_text::day_of_text;
 use std::alloc::Global;
-use std::fs::File;
 use std::io::{IsTerminal, Read, Write};
 use std::{fs, io};
 use tariff_rules::{MAX_TEXT, TariffFault};
@@ -152,18 +151,13 @@ pub(crate) fn import_dump<S: Shelf, O: Write + Drop>(
 ) -> Result<(), Trouble> {
     shelf.expect(book)?;
     let asked = Asked::Import(dump.layout);
-    let input = watched(rt, dump)?;
+    let is_shown = !dump.quiet && rt.stderr().is_terminal();
+    let input = Watched::new(rt, fs::open(rt, dump.file)?, dump.layout, is_shown);
+    let output = Behind::new(rt, output, is_shown);
     match ask_books(rt, shelf, book, asked, input, output)? {
         Answer::Receipt(receipt) => ended(receipt.stop),
         Answer::Ruled(_) | Answer::Text(_) => Ok(()),
     }
-}
-
-/// The file of a dump, which shows how far it is read.
-fn watched<'a>(rt: &'a HostRuntime, dump: DumpFile<'_>) -> io::Result<Watched<'a, File>> {
-    let input = fs::open(rt, dump.file)?;
-    let is_shown = !dump.quiet && rt.stderr().is_terminal();
-    Ok(Watched::new(rt, input, dump.layout, is_shown))
 }
 
 /// Prints a report of the books.

@@ -128,5 +128,7 @@ fn check<O: Write + Drop>(rt: &HostRuntime, dump: DumpFile<'_>, output: O) -> Re
     let input = fs::open(rt, dump.file)?;
     let mut source = Source::new(Watched::new(rt, input, layout, is_shown));
     let mut sink = Sink::new(output);
-    ended(check_list(rt.alloc(), &mut source, layout, MAX_READS, &mut sink)?)
+    let answer = check_list(rt.alloc(), &mut source, layout, MAX_READS, &mut sink);
+    source.into_inner().clear();
+    ended(answer?)
 }

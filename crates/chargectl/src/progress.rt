@@ -125,6 +125,13 @@ impl<'a, R: Read + Drop> Watched<'a, R> {
         };
         Watched { inner, progress }
     }
+
+    /// It is read no further.
+    pub(crate) fn clear(&self) {
+        if let Some(progress) = &self.progress {
+            progress.line.clear();
+        }
+    }
 }
 
 impl<R: Read + Drop> Read for Watched<'_, R> {
@@ -137,6 +144,40 @@ impl<R: Read + Drop> Read for Watched<'_, R> {
             }
         }
         answer
+    }
+}
+
+/// A writer of what is said behind a dump: before that, the line that shows how far the dump was read
+/// is taken away, wherever the reading stopped.
+#[derive(Drop)]
+pub(crate) struct Behind<'a, W: Write + Drop> {
+    rt: &'a HostRuntime,
+    is_shown: bool,
+    inner: W,
+}
+
+impl<'a, W: Write + Drop> Behind<'a, W> {
+    /// Behind a dump that is shown where that is asked for.
+    pub(crate) fn new(rt: &'a HostRuntime, inner: W, is_shown: bool) -> Behind<'a, W> {
+        Behind {
+            rt,
+            is_shown,
+            inner,
+        }
+    }
+}
+
+impl<W: Write + Drop> Write for Behind<'_, W> {
+    fn write(&mut self, bytes: &[u8]) -> io::Result<usize> {
+        if self.is_shown {
+            self.is_shown = false;
+            let _ = write!(self.rt.stderr(), "{CLEARED}");
+        }
+        self.inner.write(bytes)
+    }
+
+    fn flush(&mut self) -> io::Result<()> {
+        self.inner.flush()
     }
 }
 
