@@ -84,11 +84,14 @@ at_once old new ended asked other behind reply is work more none =
     (work (behind ++ more)))
 
 -- what a head asks, by what was found in it
-pub asked_by : (head : RequestHead) (method target : List ℕ) (body : Framing) (found : Option Route)
-    (asked : Asked) → Says head method target body → found ≡ route (path_of target)
-    → asked ≡ asked_framed body found method → asked ≡ spec.asked head
-asked_by head method target body found asked says at is =
-    is ∙ ap (λ framed. asked_framed framed found method) says.body_is
-    ∙ ap (λ place. asked_framed (framing head) place method)
+pub asked_by : (head : RequestHead) (method target : List ℕ) (body : Framing) (origin : Bool)
+    (found : Option Route) (asked : Asked) → Says head method target body origin
+    → found ≡ route (path_of target) → asked ≡ asked_framed body found method origin
+    → asked ≡ spec.asked head
+asked_by head method target body origin found asked says at is =
+    let place = route (path_of head.target) in
+    is ∙ ap (λ framed. asked_framed framed found method origin) says.body_is
+    ∙ ap (λ place. asked_framed (framing head) place method origin)
     (at ∙ ap (λ words. route (path_of words)) says.target_is)
-    ∙ ap (asked_framed (framing head) (route (path_of head.target))) says.method_is
+    ∙ ap (λ name. asked_framed (framing head) place name origin) says.method_is
+    ∙ ap (asked_framed (framing head) place head.method) says.origin_is

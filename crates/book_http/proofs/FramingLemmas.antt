@@ -10,7 +10,7 @@ use Rattle.httparse.specs.Spans.{header_bytes}
 use Rattle.httparse.specs.declared.spans.HeaderSpan.{HeaderSpan}
 use Rattle.book_http.specs.declared.framing.Framing.TheVariants.{Faulty}
 use Rattle.book_http.specs.Framing.{is_called, values_called, framing_if, framing_by_all}
-use Rattle.book_http.specs.Framing.{with_length, with_field, declared, is_encoded}
+use Rattle.book_http.specs.Framing.{with_length, with_field, declared, has_field}
 use Rattle.book_http.specs.Numbers.{number}
 use Rattle.std.specs.List.{list_any}
 
@@ -58,13 +58,12 @@ declared_more bytes fields at within =
     ∙ framing_with (is_called wanted field.0) (values_called wanted before) field)
 
 -- no field is called so where the first of them are not, nor the next one
-pub still_plain : (bytes : List ℕ) (fields : List HeaderSpan) (at : ℕ) → at < length fields
-    → is_encoded (map (header_bytes bytes) (take at fields)) ≡ false
-    → is_called (codes "transfer-encoding") (header_bytes bytes (get_or fields at no_field)).0
-    ≡ false
-    → is_encoded (map (header_bytes bytes) (take (at + 1) fields)) ≡ false
-unfolding is_encoded
-still_plain bytes fields at within before other =
+pub still_plain : (wanted bytes : List ℕ) (fields : List HeaderSpan) (at : ℕ) → at < length fields
+    → has_field wanted (map (header_bytes bytes) (take at fields)) ≡ false
+    → is_called wanted (header_bytes bytes (get_or fields at no_field)).0 ≡ false
+    → has_field wanted (map (header_bytes bytes) (take (at + 1) fields)) ≡ false
+unfolding has_field
+still_plain wanted bytes fields at within before other =
     rw (take_more fields at no_field within, map-append, list_any-append, before, other) refl
 
 -- a test of the images is one of the elements
@@ -74,12 +73,12 @@ list_any-map test f [] = refl
 list_any-map test f (x ∷ xs) = ap (λ rest. test (f x) || rest) (list_any-map test f xs)
 
 -- one field that is called so is enough
-pub is_encoded_at : (bytes : List ℕ) (fields : List HeaderSpan) (at : ℕ) → at < length fields
-    → is_called (codes "transfer-encoding") (header_bytes bytes (get_or fields at no_field)).0
-    ≡ true
-    → is_encoded (map (header_bytes bytes) fields) ≡ true
-unfolding is_encoded
-is_encoded_at bytes fields at within same =
-    let test = λ (field : List ℕ × List ℕ). is_called (codes "transfer-encoding") field.0 in
+pub has_field_at : (wanted bytes : List ℕ) (fields : List HeaderSpan) (at : ℕ)
+    → at < length fields
+    → is_called wanted (header_bytes bytes (get_or fields at no_field)).0 ≡ true
+    → has_field wanted (map (header_bytes bytes) fields) ≡ true
+unfolding has_field
+has_field_at wanted bytes fields at within same =
+    let test = λ (field : List ℕ × List ℕ). is_called wanted field.0 in
     rw (list_any-map test (header_bytes bytes) fields)
     (list_any_at (λ field. test (header_bytes bytes field)) fields at no_field within same)

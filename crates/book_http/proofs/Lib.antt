@@ -1,5 +1,6 @@
 pub mod AnswerLemmas
 pub mod AskedLemmas
+pub mod BodyLemmas
 pub mod FindLemmas
 pub mod FramingLemmas
 pub mod HeadLemmas
@@ -9,6 +10,7 @@ pub mod NumberLemmas
 pub mod OneLemmas
 pub mod PeriodLemmas
 pub mod PieceLemmas
+pub mod ReadLemmas
 pub mod RouteLemmas
 pub mod SeekLemmas
 pub mod ServeLemmas

@@ -1,5 +1,6 @@
 -- The body of a request.
-use Rattle.std.specs.Prelude.{◌≡◌, ℕ, ◌≤◌, Bool, false, true, List, length, take, Result, Ok, Err}
+use Rattle.std.specs.Prelude.{◌≡◌, ℕ, ◌<◌, ◌≤◌, Bool, false, true, List, length, take}
+use Rattle.std.specs.Prelude.{Result, Ok, Err}
 use Rattle.book_http.specs.declared.body.BodyFault.{BodyFault}
 use Rattle.book_http.specs.declared.body.BodyFault.TheVariants.{Short, Read, Memory}
 
@@ -11,6 +12,12 @@ most_body_bytes = 16777216
 pub record IsWholeBody (size : ℕ) (behind body : List ℕ) : Type 0 where
   pub enough : size ≤ length behind
   pub bytes : body ≡ take size behind
+
+-- What reading a body came to, by the bytes behind the head: it is whole, or they are too few.
+abbrev pub BodyComes : {A : Type 0} → (A → List ℕ) → ℕ → List ℕ → Result A BodyFault → Type 0
+BodyComes bytes size behind (Ok body) = IsWholeBody size behind (bytes body)
+BodyComes bytes size behind (Err Short) = length behind < size
+BodyComes bytes size behind (Err fault) = Unit {0}
 
 -- a read failed
 abbrev pub is_failed_body : {A : Type 0} → Result A BodyFault → Bool

@@ -47,9 +47,13 @@ with_field before field =
 unfoldable pub declared : List (List ℕ × List ℕ) → Framing
 declared fields = framing_by_all (values_called (codes "content-length") fields)
 
+-- a field has this name
+unfoldable pub has_field : List ℕ → List (List ℕ × List ℕ) → Bool
+has_field wanted fields = list_any (λ field. is_called wanted field.0) fields
+
 -- a field gives a transfer encoding
-unfoldable pub is_encoded : List (List ℕ × List ℕ) → Bool
-is_encoded fields = list_any (λ field. is_called (codes "transfer-encoding") field.0) fields
+abbrev pub is_encoded : List (List ℕ × List ℕ) → Bool
+is_encoded fields = has_field (codes "transfer-encoding") fields
 
 -- a length is not used where the body comes in a transfer encoding
 abbrev pub unless_encoded : Bool → Framing → Framing

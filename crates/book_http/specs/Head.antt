@@ -1,5 +1,6 @@
 -- The head of a request, by the grammar of httparse (RFC 9112) and the office's limits.
-use Rattle.std.specs.Prelude.{◌≡◌, ℕ, ◌≤◌, Bool, false, true, List, [], ◌++◌, length, drop, ⊤}
+use Rattle.std.specs.Prelude.{◌≡◌, ℕ, ◌<◌, ◌≤◌, Bool, false, true, List, [], ◌++◌, length}
+use Rattle.std.specs.Prelude.{take, drop, ⊤}
 use Rattle.httparse.specs.Grammar.{RequestHead, ReadsRequest, print_request}
 use Rattle.httparse.specs.Spans.{IsRequestAt}
 use Rattle.httparse.specs.declared.spans.HeaderSpan.{HeaderSpan}
@@ -43,6 +44,14 @@ IfWhole Closed P = ⊤
 IfWhole Failed P = ⊤
 IfWhole Refused P = ⊤
 IfWhole (Whole whole) P = P whole
+
+-- What reading a head came to, by the bytes that were taken: the input ended before the first of
+-- them, or behind them no head can come, or they stand in the buffer with a head at their front.
+abbrev pub HeadComes : HeadRead → List ℕ → Bool → List ℕ → Type 0
+HeadComes Closed buffer ended bytes = (ended ≡ true) × (bytes ≡ [])
+HeadComes Failed buffer ended bytes = ⊤
+HeadComes Refused buffer ended bytes = (0 < length bytes) × NoHeadComes ended bytes
+HeadComes (Whole whole) buffer ended bytes = bytes ≡ take whole.filled buffer
 
 -- a read failed
 abbrev pub is_failed_head : HeadRead → Bool

@@ -9,6 +9,7 @@ pub mod Paths
 pub mod Routes
 pub mod Bodies
 pub mod Asked
+pub mod Reads
 pub mod Statuses
 pub mod AnswerHead
 pub mod Replies

@@ -1,8 +1,8 @@
 -- What became of one request, however its bytes came.
 use Rattle.std.specs.Prelude.{◌≡◌, ◌<◌, ℕ, Bool, true, false, List, [], ◌++◌, length, take, Option}
 use Rattle.std.specs.Prelude.{Result, Err}
-use Rattle.std.specs.Io.KnownBytes.{Appends, Consumes}
-use Rattle.streams.specs.Sides.{Input, Output}
+use Rattle.std.specs.Io.KnownBytes.{Appends}
+use Rattle.streams.specs.Sides.{Output}
 use Rattle.book_core.specs.Ledgers.{Seen, Books}
 use Rattle.book_core.specs.Work.{Work, IsWork}
 use Rattle.book_core.specs.Follow.{FollowsHistory}
@@ -46,21 +46,18 @@ IsSent reply held holds WriteFault =
 IsSent reply held holds served = ⊥
 
 -- a request was answered, by the bytes that were taken from the reader, and the answer was sent
-pub record IsReplied (books : Books) (input : Input) (output : Output) (served : Served) : Type 0
-  where
-    pub taken : List ℕ
-    pub consumed : Consumes input.old.left input.new.left taken
-    pub reply : Reply
-    pub answer : IsAnswer books.old books.new input.new.has_ended taken reply
-    pub sent : IsSent reply output.old.holds output.new.holds served
+pub record IsReplied (books : Books) (taken : List ℕ) (ended : Bool) (output : Output)
+    (served : Served) : Type 0 where
+  pub reply : Reply
+  pub answer : IsAnswer books.old books.new ended taken reply
+  pub sent : IsSent reply output.old.holds output.new.holds served
 
 -- What was served. Where the input ended before its first byte, or a read failed, nothing is
 -- answered.
-abbrev pub IsServed : Books → Input → Output → Served → Type 0
-IsServed books input output Closed =
-    Consumes input.old.left input.new.left [] × (input.new.has_ended ≡ true)
-IsServed books input output ReadFault = Unit {0}
-IsServed books input output served = IsReplied books input output served
+abbrev pub IsServed : Books → List ℕ → Bool → Output → Served → Type 0
+IsServed books taken ended output Closed = (taken ≡ []) × (ended ≡ true)
+IsServed books taken ended output ReadFault = Unit {0}
+IsServed books taken ended output served = IsReplied books taken ended output served
 
 -- nothing was answered
 abbrev pub is_unanswered : Served → Bool

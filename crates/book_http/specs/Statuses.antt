@@ -8,6 +8,7 @@ use Rattle.book_http.specs.declared.status.Status.TheVariants as status
 abbrev pub code_of : Status → ℕ
 code_of status.Done = 200
 code_of status.BadRequest = 400
+code_of status.Forbidden = 403
 code_of status.NotFound = 404
 code_of status.MethodNotAllowed = 405
 code_of status.LengthRequired = 411

@@ -1,8 +1,7 @@
 //! The answer to a request whose head stands.
 
-ghost use Rattle.std.specs.Prelude.{◌≡◌, ◌+◌, ◌≤◌, ◌^◌, ◌++◌, ℕ, List, IfOk, OnErr, IsUtf8};
+ghost use Rattle.std.specs.Prelude.{◌≡◌, ◌+◌, ◌≤◌, ◌^◌, ◌++◌, List, IfOk, OnErr, IsUtf8};
 ghost use Rattle.std.specs.Prelude.{false, is_err};
-ghost use Rattle.std.specs.Io.KnownBytes.{Consumes};
 ghost use Rattle.httparse.specs.Grammar.{RequestHead};
 ghost use Rattle.streams.specs.Marks.{NothingIsLeft};
 ghost use Rattle.streams.specs.Sources.{reader_of, reads_of, has_failed, has_ended};
@@ -11,6 +10,7 @@ ghost use Rattle.book_http.specs.Asked as spec;
 ghost use Rattle.book_http.specs.Asked.{IsServable};
 ghost use Rattle.book_http.specs.Bodies.{most_body_bytes};
 ghost use Rattle.book_http.specs.Head.{most_head_bytes};
+ghost use Rattle.book_http.specs.Reads.{OneRead, bytes_of, IsReadBy, IsDueBehind};
 ghost use Rattle.book_http.specs.Replies.{reply_of};
 ghost use Rattle.book_http.specs.Requests.{Says};
 ghost use Rattle.book_http.specs.Served.{IsAnswerTo};
@@ -25,7 +25,7 @@ use crate::status::Status;
 use book_core::{Ledger, Source};
 use smf_frames::Layout;
 use std::alloc::Global;
-use std::io::Read;
+use streams::Reader;
 
 /// A read failed before the request was whole: nothing was done.
 #[derive(Clone, Copy, Debug, PartialEq, Eq)]
@@ -33,7 +33,7 @@ pub struct ReadFailed;
 
 /// Reads a body, of which the front was read before, and imports it. Of a body that ends early
 /// nothing is imported.
-fn answer_body<R: Read + Drop, L: Ledger>(
+fn answer_body<R: Reader + Drop, L: Ledger>(
     alloc: Global,
     source: &mut Source<R>,
     front: &[u8],
@@ -45,10 +45,12 @@ fn answer_body<R: Read + Drop, L: Ledger>(
     requires asked { reads_of source.old ≤ 2 ^ 62 + most_head_bytes }
     requires failed { has_failed source.old ≡ false }
     requires ended { has_ended source.old ≡ false }
-    ensures answer { IfOk result (λ answer. (bytes : List ℕ)
-        × Consumes (R.remaining (reader_of source.old)) (R.remaining (reader_of source.new)) bytes
-        × IsAnswerTo (L.seen ledger.old) (L.seen ledger.new) (has_ended source.new)
-        (asks.Import layout size) (front.now ++ bytes) (reply_of answer)) }
+    ensures answer { (reads : List (OneRead R)) × IsReadBy R.remaining R.may_answer
+        (λ came room. IsDueBehind (asks.Import layout size) (front.now ++ came) room)
+        source.old source.new reads
+        × IfOk result (λ answer. IsAnswerTo (L.seen ledger.old) (L.seen ledger.new)
+        (has_ended source.new) (asks.Import layout size) (front.now ++ bytes_of reads)
+        (reply_of answer)) }
     ensures none { OnErr result (ledger.new ≡ ledger.old) }
     ensures failed { has_failed source.new ≡ is_err result }
     ensures asked { reads_of source.new ≤ reads_of source.old + most_body_bytes }
@@ -64,7 +66,7 @@ fn answer_body<R: Read + Drop, L: Ledger>(
 }
 
 /// Does what a head asks, behind which these bytes were read already.
-fn answer_asked<R: Read + Drop, L: Ledger>(
+fn answer_asked<R: Reader + Drop, L: Ledger>(
     alloc: Global,
     source: &mut Source<R>,
     front: &[u8],
@@ -75,10 +77,10 @@ fn answer_asked<R: Read + Drop, L: Ledger>(
     requires asked { reads_of source.old ≤ 2 ^ 62 + most_head_bytes }
     requires failed { has_failed source.old ≡ false }
     requires ended { has_ended source.old ≡ false }
-    ensures answer { IfOk result (λ answer. (bytes : List ℕ)
-        × Consumes (R.remaining (reader_of source.old)) (R.remaining (reader_of source.new)) bytes
-        × IsAnswerTo (L.seen ledger.old) (L.seen ledger.new) (has_ended source.new)
-        asked (front.now ++ bytes) (reply_of answer)) }
+    ensures answer { (reads : List (OneRead R)) × IsReadBy R.remaining R.may_answer
+        (λ came room. IsDueBehind asked (front.now ++ came) room) source.old source.new reads
+        × IfOk result (λ answer. IsAnswerTo (L.seen ledger.old) (L.seen ledger.new)
+        (has_ended source.new) asked (front.now ++ bytes_of reads) (reply_of answer)) }
     ensures none { OnErr result (ledger.new ≡ ledger.old) }
     ensures failed { has_failed source.new ≡ is_err result }
     ensures asked { reads_of source.new ≤ reads_of source.old + most_body_bytes }
@@ -96,7 +98,7 @@ fn answer_asked<R: Read + Drop, L: Ledger>(
 }
 
 /// Answers a request.
-pub fn answer_request<R: Read + Drop, L: Ledger>(
+pub fn answer_request<R: Reader + Drop, L: Ledger>(
     alloc: Global,
     source: &mut Source<R>,
     request: &Request<'_>,
@@ -106,12 +108,14 @@ pub fn answer_request<R: Read + Drop, L: Ledger>(
     requires asked { reads_of source.old ≤ 2 ^ 62 + most_head_bytes }
     requires failed { has_failed source.old ≡ false }
     requires ended { has_ended source.old ≡ false }
-    ensures answer { IfOk result (λ answer. (bytes : List ℕ)
-        × Consumes (R.remaining (reader_of source.old)) (R.remaining (reader_of source.new)) bytes
-        × ((head : RequestHead) → Says head request.now.method.now request.now.target.now
-        request.now.framing
-        → IsAnswerTo (L.seen ledger.old) (L.seen ledger.new) (has_ended source.new)
-        (spec.asked head) (request.now.behind.now ++ bytes) (reply_of answer))) }
+    ensures answer { (head : RequestHead) → Says head request.now.method.now
+        request.now.target.now request.now.framing request.now.has_origin
+        → (reads : List (OneRead R)) × IsReadBy R.remaining R.may_answer
+        (λ came room. IsDueBehind (spec.asked head) (request.now.behind.now ++ came) room)
+        source.old source.new reads
+        × IfOk result (λ answer. IsAnswerTo (L.seen ledger.old) (L.seen ledger.new)
+        (has_ended source.new) (spec.asked head) (request.now.behind.now ++ bytes_of reads)
+        (reply_of answer)) }
     ensures none { OnErr result (ledger.new ≡ ledger.old) }
     ensures failed { has_failed source.new ≡ is_err result }
     ensures asked { reads_of source.new ≤ reads_of source.old + most_body_bytes }
@@ -121,6 +125,6 @@ pub fn answer_request<R: Read + Drop, L: Ledger>(
     let Ok(found) = find_route(alloc, request.target) else {
         return Ok(Answer::Refusal(Status::Unavailable));
     };
-    let asked = asked_framed(request.framing, found, request.method);
+    let asked = asked_framed(request.framing, found, request.method, request.has_origin);
     answer_asked(alloc, source, request.behind, asked, ledger)
 }

@@ -38,9 +38,22 @@ fn asked_import(layout: Layout, framing: Framing) -> Asked
     }
 }
 
+/// What the head of an import asks that may say of which origin its sender is: a page in a browser
+/// hands in no dump.
+fn asked_post(layout: Layout, has_origin: bool, framing: Framing) -> Asked
+    ensures asked { result ≡ spec.asked_post layout has_origin framing }
+    ensures limit { IsServable result }
+{
+    if has_origin {
+        Asked::Refusal(Status::Forbidden)
+    } else {
+        asked_import(layout, framing)
+    }
+}
+
 /// What is asked at a route.
-fn asked_at(found: Option<Route>, method: &[u8], framing: Framing) -> Asked
-    ensures asked { result ≡ spec.asked_at found method.now framing }
+fn asked_at(found: Option<Route>, method: &[u8], has_origin: bool, framing: Framing) -> Asked
+    ensures asked { result ≡ spec.asked_at found method.now has_origin framing }
     ensures limit { IsServable result }
 {
     match found {
@@ -54,7 +67,7 @@ fn asked_at(found: Option<Route>, method: &[u8], framing: Framing) -> Asked
         }
         Some(Route::Import(layout)) => {
             if is_method(method, Method::Post) {
-                asked_import(layout, framing)
+                asked_post(layout, has_origin, framing)
             } else {
                 Asked::OtherMethod(Method::Post)
             }
@@ -63,12 +76,17 @@ fn asked_at(found: Option<Route>, method: &[u8], framing: Framing) -> Asked
 }
 
 /// What is asked: a faulty length is refused before anything else is looked at.
-pub fn asked_framed(framing: Framing, found: Option<Route>, method: &[u8]) -> Asked
-    ensures asked { result ≡ spec.asked_framed framing found method.now }
+pub fn asked_framed(
+    framing: Framing,
+    found: Option<Route>,
+    method: &[u8],
+    has_origin: bool,
+) -> Asked
+    ensures asked { result ≡ spec.asked_framed framing found method.now has_origin }
     ensures limit { IsServable result }
 {
     match framing {
         Framing::Faulty => Asked::Refusal(Status::BadRequest),
-        _ => asked_at(found, method, framing),
+        _ => asked_at(found, method, has_origin, framing),
     }
 }

@@ -1,16 +1,15 @@
 //! The body of a request, read in any pieces.
 
-ghost use Rattle.std.specs.Prelude.{◌≡◌, ◌+◌, ◌<◌, ◌≤◌, ◌^◌, ◌++◌, ℕ, List, false, true};
-ghost use Rattle.std.specs.Prelude.{length, take, drop, IfOk, OnOk, IsErrOf};
-ghost use Rattle.std.specs.Io.KnownBytes.{Consumes};
+ghost use Rattle.std.specs.Prelude.{◌≡◌, ◌+◌, ◌<◌, ◌≤◌, ◌^◌, ◌++◌, List, false, true};
+ghost use Rattle.std.specs.Prelude.{length, take, drop, OnOk, IsErrOf};
 ghost use Rattle.streams.specs.Marks.{NothingIsLeft};
 ghost use Rattle.streams.specs.Sources.{reader_of, reads_of, has_failed, has_ended};
-ghost use Rattle.book_http.specs.Bodies.{IsWholeBody, is_failed_body, most_body_bytes};
+ghost use Rattle.book_http.specs.Bodies.{BodyComes, is_failed_body, most_body_bytes};
 ghost use Rattle.book_http.specs.Head.{most_head_bytes};
+ghost use Rattle.book_http.specs.Reads.{OneRead, bytes_of, IsReadBy, IsDueForBody};
 
 use std::alloc::Global;
-use std::io::Read;
-use streams::Source;
+use streams::{Reader, Source};
 
 /// The most bytes that a body may have.
 pub const MAX_BODY: u64 = 16_777_216;
@@ -27,7 +26,7 @@ pub enum BodyFault {
 }
 
 /// Reads the rest of a body, of which so many bytes are there.
-fn fill<R: Read + Drop>(
+fn fill<R: Reader + Drop>(
     source: &mut Source<R>,
     body: &mut [u8],
     had: usize,
@@ -38,11 +37,11 @@ fn fill<R: Read + Drop>(
     requires failed { has_failed source.old ≡ false }
     requires ended { has_ended source.old ≡ false }
     ensures kept { take had body.new ≡ take had body.old }
-    ensures whole { OnOk result (Consumes (R.remaining (reader_of source.old))
-        (R.remaining (reader_of source.new)) (drop had body.new)) }
-    ensures short { IsErrOf result BodyFault.Short → (bytes : List ℕ) × Consumes
-        (R.remaining (reader_of source.old)) (R.remaining (reader_of source.new)) bytes
-        × (had + length bytes < length body.new) }
+    ensures reads { (reads : List (OneRead R)) × IsReadBy R.remaining R.may_answer
+        (λ came room. IsDueForBody (length body.old) (had + length came) room)
+        source.old source.new reads
+        × OnOk result (bytes_of reads ≡ drop had body.new)
+        × (IsErrOf result BodyFault.Short → had + length (bytes_of reads) < length body.new) }
     ensures ended { IsErrOf result BodyFault.Short → has_ended source.new ≡ true }
     ensures failed { has_failed source.new ≡ is_failed_body result }
     ensures memory { IsErrOf result BodyFault.Memory → ⊥ }
@@ -64,7 +63,7 @@ fn fill<R: Read + Drop>(
 }
 
 /// Fills a body, of which the front was read behind the head.
-fn fill_behind<R: Read + Drop>(
+fn fill_behind<R: Reader + Drop>(
     source: &mut Source<R>,
     body: &mut [u8],
     front: &[u8],
@@ -73,12 +72,10 @@ fn fill_behind<R: Read + Drop>(
     requires asked { reads_of source.old ≤ 2 ^ 62 + most_head_bytes }
     requires failed { has_failed source.old ≡ false }
     requires ended { has_ended source.old ≡ false }
-    ensures whole { OnOk result ((bytes : List ℕ) × Consumes
-        (R.remaining (reader_of source.old)) (R.remaining (reader_of source.new)) bytes
-        × IsWholeBody (length body.old) (front.now ++ bytes) body.new) }
-    ensures short { IsErrOf result BodyFault.Short → (bytes : List ℕ) × Consumes
-        (R.remaining (reader_of source.old)) (R.remaining (reader_of source.new)) bytes
-        × (length (front.now ++ bytes) < length body.old) }
+    ensures reads { (reads : List (OneRead R)) × IsReadBy R.remaining R.may_answer
+        (λ came room. IsDueForBody (length body.old) (length (front.now ++ came)) room)
+        source.old source.new reads
+        × BodyComes (λ _. body.new) (length body.old) (front.now ++ bytes_of reads) result }
     ensures ended { IsErrOf result BodyFault.Short → has_ended source.new ≡ true }
     ensures failed { has_failed source.new ≡ is_failed_body result }
     ensures memory { IsErrOf result BodyFault.Memory → ⊥ }
@@ -93,7 +90,7 @@ fn fill_behind<R: Read + Drop>(
 
 /// The body of so many bytes, of which the front was read behind the head. Where more than the body
 /// was read there, nothing is read here.
-pub fn read_body<R: Read + Drop>(
+pub fn read_body<R: Reader + Drop>(
     alloc: Global,
     source: &mut Source<R>,
     front: &[u8],
@@ -104,13 +101,12 @@ pub fn read_body<R: Read + Drop>(
     requires failed { has_failed source.old ≡ false }
     requires ended { has_ended source.old ≡ false }
 
-    // These bytes were taken from the reader: with them the body is whole, or too short.
-    ensures whole { IfOk result (λ body. (bytes : List ℕ) × Consumes
-        (R.remaining (reader_of source.old)) (R.remaining (reader_of source.new)) bytes
-        × IsWholeBody size (front.now ++ bytes) body.items) }
-    ensures short { IsErrOf result BodyFault.Short → (bytes : List ℕ) × Consumes
-        (R.remaining (reader_of source.old)) (R.remaining (reader_of source.new)) bytes
-        × (length (front.now ++ bytes) < size) }
+    // The reads that were made, none of them for a byte behind the body: with their bytes the body
+    // is whole, or too short.
+    ensures reads { (reads : List (OneRead R)) × IsReadBy R.remaining R.may_answer
+        (λ came room. IsDueForBody size (length (front.now ++ came)) room)
+        source.old source.new reads
+        × BodyComes (λ body. body.items) size (front.now ++ bytes_of reads) result }
 
     // It is called too short at the input's end alone, and a read failed at no other fault.
     ensures ended { IsErrOf result BodyFault.Short → has_ended source.new ≡ true }
@@ -123,6 +119,8 @@ pub fn read_body<R: Read + Drop>(
     let Ok(mut body) = vec![in alloc; 0u8; size] else {
         return Err(BodyFault::Memory);
     };
-    fill_behind(source, &mut body, front)?;
-    Ok(body)
+    match fill_behind(source, &mut body, front) {
+        Ok(()) => Ok(body),
+        Err(fault) => Err(fault),
+    }
 }

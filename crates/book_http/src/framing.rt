@@ -1,7 +1,6 @@
 //! How a request says where its body ends.
 
 ghost use Rattle.std.specs.Prelude.{◌≡◌, All, length, map};
-ghost use Rattle.std.specs.List.{list_any};
 ghost use Rattle.httparse.specs.Spans.{IsHeaderWithin, header_bytes};
 ghost use Rattle.book_http.specs.Framing as spec;
 
@@ -78,13 +77,13 @@ fn declared(bytes: &[u8], fields: &[HeaderSpan]) -> Framing
     said
 }
 
-/// A field gives a transfer encoding.
-fn is_encoded(bytes: &[u8], fields: &[HeaderSpan]) -> bool
+/// A field has this name, in any case.
+pub fn has_field(bytes: &[u8], fields: &[HeaderSpan], wanted: &str) -> bool
     requires { All (IsHeaderWithin (length bytes.now)) fields.now }
-    ensures { result ≡ spec.is_encoded (map (header_bytes bytes.now) fields.now) }
+    ensures { result ≡ spec.has_field wanted.now (map (header_bytes bytes.now) fields.now) }
 {
     for field in fields {
-        if is_called(field.name.of(bytes), TRANSFER_ENCODING) {
+        if is_called(field.name.of(bytes), wanted) {
             return true;
         }
     }
@@ -97,7 +96,7 @@ pub fn framing_in(bytes: &[u8], fields: &[HeaderSpan]) -> Framing
     ensures { result ≡ spec.framing_of (map (header_bytes bytes.now) fields.now) }
 {
     match declared(bytes, fields) {
-        Framing::Framed(_) if is_encoded(bytes, fields) => Framing::Unframed,
+        Framing::Framed(_) if has_field(bytes, fields, TRANSFER_ENCODING) => Framing::Unframed,
         said => said,
     }
 }

@@ -1,19 +1,17 @@
 //! The head of a request, read in any pieces.
 
-ghost use Rattle.std.specs.Prelude.{◌≡◌, ◌+◌, ◌<◌, ◌≤◌, ◌^◌, ℕ, false, true};
-ghost use Rattle.std.specs.Prelude.{List, [], length, take};
-ghost use Rattle.std.specs.Io.KnownBytes.{Consumes};
+ghost use Rattle.std.specs.Prelude.{◌≡◌, ◌+◌, ◌≤◌, ◌^◌, false, List, length, take};
 ghost use Rattle.httparse.specs.Grammar.{RequestHead};
 ghost use Rattle.httparse.specs.Spans.{IsRequestWithin};
 ghost use Rattle.streams.specs.Marks.{NothingIsLeft};
 ghost use Rattle.streams.specs.Sources.{reader_of, reads_of, has_failed, has_ended};
-ghost use Rattle.book_http.specs.Head.{HoldsHead, IfWhole, NoHeadComes};
+ghost use Rattle.book_http.specs.Head.{HeadComes, HoldsHead, IfWhole};
 ghost use Rattle.book_http.specs.Head.{is_failed_head, most_fields, most_head_bytes};
+ghost use Rattle.book_http.specs.Reads.{OneRead, bytes_of, IsReadBy, IsDueForHead};
 
 use httparse::Status;
 use httparse::spans::{HeaderSpan, RequestSpans, parse_request};
-use std::io::Read;
-use streams::Source;
+use streams::{Reader, Source};
 
 /// The most bytes that a head may have.
 pub const MAX_HEAD: usize = 16_384;
@@ -45,7 +43,7 @@ pub enum HeadRead {
 
 /// Reads until a head is whole, or can't become one any more. The fields are those of the head that
 /// came.
-pub fn read_head<R: Read + Drop>(
+pub fn read_head<R: Reader + Drop>(
     source: &mut Source<R>,
     buffer: &mut [u8],
     fields: &mut [HeaderSpan],
@@ -56,19 +54,15 @@ pub fn read_head<R: Read + Drop>(
     requires failed { has_failed source.old ≡ false }
     requires ended { has_ended source.old ≡ false }
 
-    // Why no head came: the input's end before its first byte, a read that failed, or bytes behind
-    // which no head can come.
-    ensures closed { result ≡ HeadRead.Closed → (has_ended source.new ≡ true)
-        × Consumes (R.remaining (reader_of source.old)) (R.remaining (reader_of source.new)) [] }
+    // The reads that were made, each of them while no head was there yet, and what came of their
+    // bytes.
+    ensures reads { (reads : List (OneRead R))
+        × IsReadBy R.remaining R.may_answer IsDueForHead source.old source.new reads
+        × HeadComes result buffer.new (has_ended source.new) (bytes_of reads) }
     ensures failed { has_failed source.new ≡ is_failed_head result }
-    ensures refused { result ≡ HeadRead.Refused → (bytes : List ℕ) × (0 < length bytes)
-        × Consumes (R.remaining (reader_of source.old)) (R.remaining (reader_of source.new)) bytes
-        × NoHeadComes (has_ended source.new) bytes }
 
     // The head that came, and how much of the buffer was read for it.
     ensures filled { IfWhole result (λ whole. whole.filled ≤ length buffer.new) }
-    ensures taken { IfWhole result (λ whole. Consumes (R.remaining (reader_of source.old))
-        (R.remaining (reader_of source.new)) (take whole.filled buffer.new)) }
     ensures within { IfWhole result (λ whole.
         IsRequestWithin (take whole.filled buffer.new) fields.new whole.spans) }
     ensures head { IfWhole result (λ whole. (h : RequestHead)

@@ -5,8 +5,11 @@ ghost use Rattle.httparse.specs.Grammar.{RequestHead};
 ghost use Rattle.httparse.specs.Spans.{IsRequestAt, IsRequestWithin};
 ghost use Rattle.book_http.specs.Requests.{Says};
 
-use crate::framing::{Framing, framing_in};
+use crate::framing::{Framing, framing_in, has_field};
 use httparse::spans::{HeaderSpan, RequestSpans};
+
+/// The name of the field that says of which origin a page is that sends the request.
+const ORIGIN: &str = "origin";
 
 /// What a head says, lent from the buffer that it was read into.
 #[derive(Clone, Copy)]
@@ -17,6 +20,8 @@ pub struct Request<'a> {
     pub target: &'a [u8],
     /// What is said of the length of the body.
     pub framing: Framing,
+    /// It says of which origin the page is that sends it.
+    pub has_origin: bool,
     /// The bytes that were read behind the head.
     pub behind: &'a [u8],
 }
@@ -26,12 +31,14 @@ pub fn request_in<'a>(bytes: &'a [u8], fields: &[HeaderSpan], spans: RequestSpan
     requires { IsRequestWithin bytes.now fields.now spans }
     ensures behind { result.behind.now ≡ drop spans.len bytes.now }
     ensures says { (h : RequestHead) → IsRequestAt bytes.now fields.now spans h
-        → Says h result.method.now result.target.now result.framing }
+        → Says h result.method.now result.target.now result.framing result.has_origin }
 {
+    let fields = &fields[..spans.headers];
     Request {
         method: spans.method.of(bytes),
         target: spans.path.of(bytes),
-        framing: framing_in(bytes, &fields[..spans.headers]),
+        framing: framing_in(bytes, fields),
+        has_origin: has_field(bytes, fields, ORIGIN),
         behind: &bytes[spans.len..],
     }
 }

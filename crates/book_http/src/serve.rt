@@ -1,14 +1,15 @@
 //! One request, from the bytes of a reader to the bytes of a writer.
 
-ghost use Rattle.std.specs.Prelude.{◌≡◌, ◌+◌, ◌≤◌, ◌^◌, ℕ, List, [], false, true, IfOk, IsErrOf, OnErr};
-ghost use Rattle.std.specs.Io.KnownBytes.{Consumes};
+ghost use Rattle.std.specs.Prelude.{◌≡◌, ◌+◌, ◌≤◌, ◌^◌, List, [], false, true};
+ghost use Rattle.std.specs.Prelude.{IfOk, IsErrOf, OnErr};
 ghost use Rattle.streams.specs.Marks.{NothingIsLeft};
-ghost use Rattle.streams.specs.Sides.{input, output};
+ghost use Rattle.streams.specs.Sides.{output};
 ghost use Rattle.streams.specs.Sinks as sinks;
 ghost use Rattle.streams.specs.Sources.{reader_of, reads_of, has_failed, has_ended};
 ghost use Rattle.book_core.specs.Ledgers.{books};
 ghost use Rattle.book_http.specs.Bodies.{most_body_bytes};
 ghost use Rattle.book_http.specs.Head.{most_head_bytes};
+ghost use Rattle.book_http.specs.Reads.{OneRead, bytes_of, IsReadBy, IsDue};
 ghost use Rattle.book_http.specs.Replies.{reply_of};
 ghost use Rattle.book_http.specs.Served.{IsAnswer, IsServed};
 ghost use Rattle.book_http.specs.Served.{is_failed, is_read_fault, is_unanswered, is_write_fault};
@@ -23,10 +24,11 @@ use crate::status::Status;
 use book_core::{Ledger, Sink, Source};
 use httparse::spans::EMPTY_HEADER_SPAN;
 use std::alloc::Global;
-use std::io::{Read, Write};
+use std::io::Write;
+use streams::Reader;
 
 /// Reads one request, and does what it asks of the books.
-fn answer_one<R: Read + Drop, L: Ledger>(
+fn answer_one<R: Reader + Drop, L: Ledger>(
     alloc: Global,
     source: &mut Source<R>,
     ledger: &mut L,
@@ -34,13 +36,12 @@ fn answer_one<R: Read + Drop, L: Ledger>(
     requires asked { reads_of source.old ≤ 2 ^ 62 }
     requires failed { has_failed source.old ≡ false }
     requires ended { has_ended source.old ≡ false }
-    ensures answer { IfOk result (λ answer. (taken : List ℕ) × Consumes
-        (R.remaining (reader_of source.old)) (R.remaining (reader_of source.new)) taken
-        × IsAnswer (L.seen ledger.old) (L.seen ledger.new) (has_ended source.new) taken
-        (reply_of answer)) }
-    ensures closed { IsErrOf result Unanswered.Closed → Consumes
-        (R.remaining (reader_of source.old)) (R.remaining (reader_of source.new)) []
-        × has_ended source.new ≡ true }
+    ensures answer { (reads : List (OneRead R))
+        × IsReadBy R.remaining R.may_answer IsDue source.old source.new reads
+        × IfOk result (λ answer. IsAnswer (L.seen ledger.old) (L.seen ledger.new)
+        (has_ended source.new) (bytes_of reads) (reply_of answer))
+        × (IsErrOf result Unanswered.Closed → bytes_of reads ≡ []) }
+    ensures closed { IsErrOf result Unanswered.Closed → has_ended source.new ≡ true }
     ensures none { OnErr result (ledger.new ≡ ledger.old) }
     ensures failed { has_failed source.new ≡ is_failed result }
     ensures asked { reads_of source.new
@@ -67,7 +68,7 @@ fn answer_one<R: Read + Drop, L: Ledger>(
 /// Serves one request: reads it, does what it asks of the books, and writes the answer. Bytes
 /// behind the request are not looked at. What a request did stays done where its answer can't be
 /// written.
-pub fn serve_one<R: Read + Drop, W: Write + Drop, L: Ledger>(
+pub fn serve_one<R: Reader + Drop, W: Write + Drop, L: Ledger>(
     alloc: Global,
     source: &mut Source<R>,
     sink: &mut Sink<W>,
@@ -79,10 +80,13 @@ pub fn serve_one<R: Read + Drop, W: Write + Drop, L: Ledger>(
     requires open { sinks.has_failed sink.old ≡ false }
 
     // The books did what the request asks, and the writer has the answer, or a front of it: by the
-    // bytes that were taken from the reader, whatever may come behind them. Where the source has
-    // ended, they are all that a reader had which tells its bytes.
-    ensures served { IsServed (books L.seen ledger.old ledger.new)
-        (input R.remaining source.old source.new) (output W.contents sink.old sink.new) result }
+    // bytes that the reads gave, whatever may come behind them. Each read was due: while no head
+    // was there, or for the rest of the body of an import that is served. Where the source has
+    // ended, the bytes are all that a reader had which tells its bytes.
+    ensures served { (reads : List (OneRead R))
+        × IsReadBy R.remaining R.may_answer IsDue source.old source.new reads
+        × IsServed (books L.seen ledger.old ledger.new) (bytes_of reads) (has_ended source.new)
+        (output W.contents sink.old sink.new) result }
     ensures asked { reads_of source.new
         ≤ reads_of source.old + most_head_bytes + most_body_bytes }
     ensures left { NothingIsLeft

@@ -12,6 +12,8 @@ pub enum Status {
     Done,
     /// Its head is none, or its body is not as long as its head says.
     BadRequest,
+    /// A page in a browser sent it, where a dump is handed in.
+    Forbidden,
     /// Nothing has that path.
     NotFound,
     /// The path takes another method.
@@ -34,6 +36,7 @@ impl Status {
         match self {
             Status::Done => StatusCode::OK,
             Status::BadRequest => StatusCode::BAD_REQUEST,
+            Status::Forbidden => StatusCode::FORBIDDEN,
             Status::NotFound => StatusCode::NOT_FOUND,
             Status::MethodNotAllowed => StatusCode::METHOD_NOT_ALLOWED,
             Status::LengthRequired => StatusCode::LENGTH_REQUIRED,

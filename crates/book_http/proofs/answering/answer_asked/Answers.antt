@@ -1,9 +1,8 @@
 use Rattle.std.proofs.Common.{[], ◌++◌}
-use Rattle.std.proofs.KnownBytes.{Consumes-nil}
-use Rattle.streams.specs.Sources.{reader_of}
 use Rattle.book_http.specs.declared.asked.Asked.TheVariants as asks
 use Rattle.book_http.specs.Replies.{refusal, other_method, reply_of}
 use Rattle.book_http.proofs.AskedLemmas.{at_once, refuses}
+use Rattle.book_http.proofs.ReadLemmas.{not_read}
 use Rattle.book_http.proofs.answering.answer_asked.Goals as goal
 
 pub returns-in-Report-clause-answer : goal.returns-in-Report-clause-answer
@@ -11,7 +10,7 @@ returns-in-Report-clause-answer g c =
     let old = g.L.Ledger.seen c.args.ledger.now in
     let new = g.L.Ledger.seen c.answer_report.new.ledger in (
       [],
-      Consumes-nil (g.R.Read.remaining (reader_of c.args.source.now)),
+      not_read _ _ _ _,
       at_once old new _ c.args.asked (asks.Report c.in-Report.report) (c.args.front.now ++ [])
           (reply_of c.answer_report.result) c.in-Report.is (λ more. c.answer_report.ensures),
     )
@@ -24,7 +23,7 @@ returns-in-Refusal-clause-answer g c =
     let seen = g.L.Ledger.seen c.args.ledger.now in
     let reply = refusal c.in-Refusal.status in (
       [],
-      Consumes-nil (g.R.Read.remaining (reader_of c.args.source.now)),
+      not_read _ _ _ _,
       at_once seen seen _ c.args.asked (asks.Refusal c.in-Refusal.status)
           (c.args.front.now ++ []) reply c.in-Refusal.is (λ more. refuses seen reply),
     )
@@ -34,7 +33,7 @@ returns-in-OtherMethod-clause-answer g c =
     let seen = g.L.Ledger.seen c.args.ledger.now in
     let reply = other_method c.in-OtherMethod.method in (
       [],
-      Consumes-nil (g.R.Read.remaining (reader_of c.args.source.now)),
+      not_read _ _ _ _,
       at_once seen seen _ c.args.asked (asks.OtherMethod c.in-OtherMethod.method)
           (c.args.front.now ++ []) reply c.in-OtherMethod.is (λ more. refuses seen reply),
     )

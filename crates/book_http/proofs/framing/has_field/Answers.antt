@@ -1,18 +1,18 @@
 use Rattle.std.proofs.Common.{rules, refl, sym}
 use Rattle.book_http.specs.Framing as spec
-use Rattle.book_http.proofs.FramingLemmas.{is_encoded_at, still_plain}
-use Rattle.book_http.proofs.framing.is_encoded.Goals as goal
+use Rattle.book_http.proofs.FramingLemmas.{has_field_at, still_plain}
+use Rattle.book_http.proofs.framing.has_field.Goals as goal
 
 pub loop-field-init : goal.loop-field-init
-unfolding spec.is_encoded
+unfolding spec.has_field
 loop-field-init c = refl
 
 pub returns-then-is_called : goal.returns-then-is_called
 returns-then-is_called c =
-    sym (is_encoded_at c.args.bytes.now c.args.fields.now c.loop-field.field-index
+    sym (has_field_at c.args.wanted.now c.args.bytes.now c.args.fields.now c.loop-field.field-index
     c.loop-field-test.true (search rules))
 
 pub loop-field-preserved : goal.loop-field-preserved
 loop-field-preserved c =
-    still_plain c.args.bytes.now c.args.fields.now c.loop-field.field-index
+    still_plain c.args.wanted.now c.args.bytes.now c.args.fields.now c.loop-field.field-index
     c.loop-field-test.true c.loop-field.invariant (search rules)

@@ -1,0 +1,81 @@
+-- How far a request is read: the reads that were made of a reader, and for each of them why it was
+-- due. The reads stand in a list, newest first.
+use Rattle.std.specs.Prelude.{◌≡◌, ℕ, ◌+◌, ◌<◌, ◌≤◌, List, [], ◌∷◌, ◌++◌, length, take, ⊤}
+use Rattle.std.specs.Prelude.{Option, Result, Ok, Err}
+use Rattle.std.specs.Io.KnownBytes.{Consumes}
+use Rattle.std.specs.declared.io.Error.{Error}
+use Rattle.httparse.specs.Grammar.{RequestHead, HasNoRequest, MayBecomeRequest}
+use Rattle.streams.specs.declared.source.Source.{Source}
+use Rattle.streams.specs.Sources.{reader_of, reads_of}
+use Rattle.book_http.specs.declared.asked.Asked.{Asked}
+use Rattle.book_http.specs.declared.asked.Asked.TheVariants as asks
+use Rattle.book_http.specs.Asked.{asked}
+use Rattle.book_http.specs.Head.{HasHead, most_head_bytes}
+
+-- one read: the room that the reader was given, its answer, and the reader and the room then
+pub record OneRead (R : Type 0) : Type 0 where
+  pub room : List ℕ
+  pub answer : Result ℕ Error
+  pub after : R
+  pub given : List ℕ
+
+-- what a read of a reader with this room may answer, with the reader and the room then
+abbrev pub Answering : Type 0 → Type 1
+Answering R = R → List ℕ → Result ℕ Error → R → List ℕ → Type 0
+
+-- the bytes that a read gave
+abbrev pub bytes_given : Result ℕ Error → List ℕ → List ℕ
+bytes_given (Ok count) given = take count given
+bytes_given (Err error) given = []
+
+-- the bytes that reads gave
+abbrev pub bytes_of : {R : Type 0} → List (OneRead R) → List ℕ
+bytes_of [] = []
+bytes_of (read ∷ before) = bytes_of before ++ bytes_given read.answer read.given
+
+-- the reader behind reads of this one
+abbrev pub reader_behind : {R : Type 0} → R → List (OneRead R) → R
+reader_behind first [] = first
+reader_behind first (read ∷ before) = read.after
+
+-- Each of these reads is the reader's very answer, and was due behind the bytes of those before it,
+-- for as many bytes as it had room for.
+abbrev pub AreDue : {R : Type 0} → Answering R → (List ℕ → ℕ → Type 0) → R → List (OneRead R)
+    → Type 0
+AreDue MayAnswer IsDue first [] = ⊤
+AreDue MayAnswer IsDue first (read ∷ before) =
+    AreDue MayAnswer IsDue first before × IsDue (bytes_of before) (length read.room)
+    × MayAnswer (reader_behind first before) read.room read.answer read.after read.given
+
+-- From one source to the other by these reads, and no other: what they gave is what was taken.
+pub record IsReadBy {R : Type 0} {answers : _} {bytes : _} (remaining : R → Option (List ℕ))
+    (MayAnswer : Answering R) (IsDue : List ℕ → ℕ → Type 0) (old new : Source R answers bytes)
+    (reads : List (OneRead R)) : Type 0 where
+  pub due : AreDue MayAnswer IsDue (reader_of old) reads
+  pub reader : reader_of new ≡ reader_behind (reader_of old) reads
+  pub count : reads_of new ≡ reads_of old + length reads
+  pub taken : Consumes (remaining (reader_of old)) (remaining (reader_of new)) (bytes_of reads)
+
+-- A read is due for the head, within its limit: no head stands whole in what came, and one may
+-- still come.
+pub record IsDueForHead (came : List ℕ) (room : ℕ) : Type 0 where
+  pub within : length came + room ≤ most_head_bytes
+  pub none : 0 < length came → HasNoRequest came
+  pub may_come : 0 < length came → MayBecomeRequest came
+
+-- A read is due for a body, of which so many bytes came: it is not whole yet, and no byte behind it
+-- is asked for.
+pub record IsDueForBody (size came room : ℕ) : Type 0 where
+  pub short : came < size
+  pub within : came + room ≤ size
+
+-- Behind a head that asks this, and these bytes, a read is due for the body of an import alone.
+abbrev pub IsDueBehind : Asked → List ℕ → ℕ → Type 0
+IsDueBehind (asks.Import layout size) behind room = IsDueForBody size (length behind) room
+IsDueBehind asked behind room = ⊥
+
+-- a read is due for a request of which these bytes came
+pub data IsDue (bytes : List ℕ) (room : ℕ) : Type 0 where
+  for_head : IsDueForHead bytes room → IsDue bytes room
+  for_body : (head : RequestHead) (behind : List ℕ) → HasHead bytes head behind
+      → IsDueBehind (asked head) behind room → IsDue bytes room
