@@ -1,4 +1,5 @@
 """Requests to a server on 127.0.0.1, for `run` and `serve`."""
+import os
 import pathlib
 import socket
 import subprocess
@@ -6,7 +7,9 @@ import sys
 import time
 
 ROOT = pathlib.Path(__file__).resolve().parent.parent
-CHARGECTL = ROOT / "crates" / "chargectl_main" / "out" / "chargectl_main"
+# The variable CHARGECTL names a program that is built already.
+BUILT = os.environ.get("CHARGECTL")
+CHARGECTL = pathlib.Path(BUILT) if BUILT else ROOT / "crates" / "chargectl_main" / "out" / "chargectl_main"
 PLAIN_SOURCE = ROOT / "bench" / "plain" / "main.rs"
 CPU, EXCP, RECORD = "20000", "500", "100"
 TARIFF = """effective = "2024-01-01"
