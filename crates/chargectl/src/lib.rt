@@ -3,7 +3,6 @@
 
 mod book_commands;
 mod connection;
-mod explained;
 mod program;
 mod progress;
 mod serve;

@@ -1,7 +1,6 @@
 //! What the program does with its words and streams.
 
 use crate::book_commands::{adopt, audit, choose, close, import_dump, report, tariff};
-use crate::explained::explained;
 use crate::progress::Watched;
 use crate::serve::serve;
 use crate::trouble::{Trouble, ended};
@@ -9,7 +8,8 @@ use book_audit::AuditedShelf;
 use book_core::{Sink, Source};
 use book_import::MAX_READS;
 use command_words::{BookRequest, DumpFile, NumberKind, Request, WordFault, requested_by};
-use program_answers::{PROGRAM, Status, check_list, io_failed, out_of_memory, trial};
+use program_answers::{Explanation, Numbered, PROGRAM, Status, check_list, explained, io_failed};
+use program_answers::{out_of_memory, trial};
 use smf_frames::Layout;
 use std::alloc::Global;
 use std::fs;
@@ -100,9 +100,20 @@ fn refuse<O: Write + Drop, E: Write>(fault: &WordFault, mut output: O, errors: &
 
 /// Says what a number means.
 fn explain<O: Write + Drop>(kind: NumberKind, number: u16, mut output: O) -> Result<(), Trouble> {
-    let text = explained(kind, number).ok_or(Trouble::Number)?;
-    writeln!(output, "{text}")?;
+    let Some(Explanation { meaning, advice }) = explained(numbered(kind), number) else {
+        return Err(Trouble::Number);
+    };
+    writeln!(output, "{meaning}\n{advice}")?;
     Ok(output.flush()?)
+}
+
+fn numbered(kind: NumberKind) -> Numbered {
+    match kind {
+        NumberKind::Frame => Numbered::Frame,
+        NumberKind::Ledger => Numbered::Ledger,
+        NumberKind::Tariff => Numbered::Tariff,
+        NumberKind::Damaged => Numbered::Damage,
+    }
 }
 
 /// Prices the records of the input under one tariff. None stands for a rate outside its limits.

@@ -1,7 +1,8 @@
--- What makes a trial and a check, and laws of trials.
+-- What makes a trial and a check, laws of trials, and which number each fault has.
 pub mod TrialLemmas
 pub mod LineLemmas
 pub mod ListingLemmas
 pub mod PieceLemmas
 pub mod CheckLemmas
 pub mod LawLemmas
+pub mod NumberLemmas

@@ -1,8 +1,10 @@
 -- Read in this order: what a trial and a check are, the exit statuses, the name that a word spells,
--- and laws that follow.
+-- what each number means, and laws that follow.
 pub mod Trials
 pub mod Checks
 pub mod Listings
 pub mod Statuses
 pub mod Names
+pub mod Meanings
+pub mod Explanations
 pub mod Laws

@@ -1,17 +1,21 @@
 //! What the program writes of a dump alone, the lines that it says on standard error, the statuses
-//! with which it ends, and the name that a word spells. No file is opened here.
+//! with which it ends, what each number means, and the name that a word spells. No file is opened
+//! here.
 #![tactic(auto)]
 
 mod check;
+mod explanations;
 mod laws;
 mod listing;
+mod meanings;
 mod message;
 mod names;
 mod status;
 mod trials;
 
 pub use check::check_list;
-pub use laws::same_records_same_texts;
+pub use explanations::{Explanation, Numbered, explained};
+pub use laws::{numbers_are_one_to_one, same_records_same_texts};
 pub use message::{
     PROGRAM, books_unsound, io_failed, ledger_refused, no_such_number, out_of_memory,
     report_failed, said, stopped, words_failed,
