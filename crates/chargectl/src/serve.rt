@@ -1,8 +1,10 @@
 //! Answers for the books over HTTP, on this machine alone.
 
+ghost use Rattle.std.specs.Prelude.{◌≡◌};
+
 use crate::connection::Client;
 use crate::trouble::Trouble;
-use book_core::{Ledger, Sink, Source};
+use book_core::{Ledger, LedgerFault, Sink, Source};
 use book_http::{Served, serve_one};
 use office::{Shelf, Visit};
 use std::io;
@@ -12,8 +14,8 @@ use std::net::{TcpListener, TcpStream};
 /// The status of an answer that the books could not give.
 const UNAVAILABLE: u16 = 503;
 
-/// Answers so many connections, one after the other, and says of each what became of it. After an
-/// answer that the books could not give, their file is closed and opened again.
+/// Answers so many connections, one after the other, and says of each what became of it. After a
+/// fault of the books' store their file is closed and opened again.
 pub(crate) fn serve<S: Shelf, O: Write + Drop>(
     rt: &HostRuntime,
     shelf: &S,
@@ -92,8 +94,8 @@ fn listen<O: Write>(rt: &HostRuntime, port: u16, output: &mut O) -> io::Result<T
     Ok(listener)
 }
 
-/// Answers so many connections, or up to the first answer that the books could not give: then it says
-/// how many are left.
+/// Answers so many connections, or up to the first fault of the books' store: then it says how many
+/// are left.
 fn serve_while_open<L: Ledger, O: Write>(
     rt: &HostRuntime,
     listener: &TcpListener,
@@ -103,11 +105,31 @@ fn serve_while_open<L: Ledger, O: Write>(
 ) -> io::Result<Option<u32>> {
     for before in 0..requests {
         let served = serve_next(rt, listener, books, output)?;
-        if served == Served::Answered(UNAVAILABLE) {
+        if may_have_failed(served) && must_reopen(books) {
             return Ok(Some(requests - before - 1));
         }
     }
     Ok(None)
+}
+
+/// The books may have failed: they could not answer, or what they answered was not written.
+fn may_have_failed(served: Served) -> bool {
+    match served {
+        Served::Answered(status) => status == UNAVAILABLE,
+        Served::WriteFault => true,
+        Served::Closed | Served::ReadFault => false,
+    }
+}
+
+/// The store of the books has failed: they answer nothing more until they are opened again. Want of
+/// memory is no such fault.
+fn must_reopen<L: Ledger>(books: &mut L) -> bool
+    ensures { result ≡ (L.seen books.new).must_reopen }
+{
+    match books.periods() {
+        Err(fault) => fault == LedgerFault::Reopen || fault == LedgerFault::Store,
+        Ok(_) => false,
+    }
 }
 
 /// Answers the next connection, and says what became of it.
