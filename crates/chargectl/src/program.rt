@@ -8,8 +8,9 @@ use book_audit::AuditedShelf;
 use book_core::{Sink, Source};
 use book_import::MAX_READS;
 use command_words::{BookRequest, DumpFile, NumberKind, Request, WordFault, requested_by};
-use program_answers::{Explanation, Numbered, PROGRAM, Status, check_list, explained, io_failed};
-use program_answers::{out_of_memory, trial};
+use program_answers::{
+    Explanation, Numbered, PROGRAM, Status, check_list, explained, io_failed, out_of_memory, trial,
+};
 use smf_frames::Layout;
 use std::alloc::Global;
 use std::fs;
