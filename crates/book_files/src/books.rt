@@ -9,11 +9,13 @@ use book_audit::{Audited, Watch, audit_trees};
 use book_core::{LedgerFault, ShaNames};
 use book_trees::shut;
 use office::{ShelfFault, Visit};
-use sqlite_disk::Disk;
+use sqlite_disk::{Disk, Files};
 use sqlite_store::FileStore;
+use sqlite_trees::error::StoreError;
 use sqlite_trees::store::Store;
 use std::alloc::Global;
 use table_ledger::TableLedger;
+use tree_tables::TreeTables;
 
 /// Visits the books that a store keeps. They name records by SHA-256. The store is given back.
 fn visit_in<S: Store, V: Visit + Drop>(
@@ -42,54 +44,104 @@ fn make_in<S: Store>(alloc: Global, store: S) -> (Result<(), LedgerFault>, S)
     }
 }
 
+/// Whether nothing was handed in to books yet, if their row is there.
+fn are_new<S: Store>(
+    alloc: Global,
+    tables: &mut TreeTables<S>,
+) -> Result<Option<bool>, StoreError> {
+    let Some(book) = tables.find_book()? else {
+        return Ok(None);
+    };
+    let tariffs = tables.list_tariffs(alloc)?;
+    let closes = tables.list_closes(alloc)?;
+    let has_none = tariffs.is_empty() && closes.is_empty();
+    Ok(Some(has_none && book.held == 0 && book.adopted == 0))
+}
+
+/// What a fault of the store stands for.
+fn fault_of(error: StoreError) -> ShelfFault {
+    ShelfFault::Ledger(match error {
+        StoreError::OutOfMemory => LedgerFault::Memory,
+        _ => LedgerFault::Store,
+    })
+}
+
+/// Goes on with new books where a stop came while they were made, with or without their row. Books
+/// to which anything was handed in are somebody's.
+fn go_on_in<S: Store>(alloc: Global, store: S) -> (Result<(), ShelfFault>, S)
+    requires { IsClean (S.Store.view store) → HasShapes (S.Store.view store) }
+{
+    let mut tables = TreeTables::over(alloc, store);
+    let found = are_new(alloc, &mut tables);
+    let store = tables.into_store();
+    match found {
+        Ok(None) => {
+            let (made, store) = make_in(alloc, store);
+            (made.map_err(ShelfFault::Ledger), store)
+        }
+        Ok(Some(true)) => (Ok(()), store),
+        Ok(Some(false)) => (Err(ShelfFault::Exists), store),
+        Err(error) => (Err(fault_of(error)), store),
+    }
+}
+
 /// Closes the store of a file, and brings what its log holds into the file. A fault here loses
-/// nothing, and is let go.
-fn close<D: Disk + Drop>(store: FileStore<D>) {
+/// nothing, and is let go. Until the files that are given back are dropped nobody else has them.
+fn close<D: Disk>(store: FileStore<D>) -> Files<D> {
     let mut store = store;
     let _ = shut(&mut store);
-    drop(store.close());
+    store.close()
 }
 
 /// What came of open books, behind which the file is closed.
-fn closed<D: Disk + Drop, T: Drop>(
+fn closed<D: Disk, T: Drop>(
     came: (Result<T, LedgerFault>, FileStore<D>),
-) -> Result<T, ShelfFault> {
+) -> (Result<T, ShelfFault>, Files<D>) {
     let (answer, store) = came;
-    close(store);
-    answer.map_err(ShelfFault::Ledger)
+    (answer.map_err(ShelfFault::Ledger), close(store))
 }
 
 /// Visits the books in a file that was opened, and closes it.
-pub(crate) fn visit_and_close<D: Disk + Drop, V: Visit + Drop>(
+pub(crate) fn visit_and_close<D: Disk, V: Visit + Drop>(
     alloc: Global,
     store: FileStore<D>,
     visit: V,
-) -> Result<V::Answer, ShelfFault>
+) -> (Result<V::Answer, ShelfFault>, Files<D>)
     requires { HasShapes (view store) }
 {
     closed(visit_in(alloc, store, visit))
 }
 
 /// Makes new books in a file whose trees were made, and closes it.
-pub(crate) fn make_and_close<D: Disk + Drop>(
+pub(crate) fn make_and_close<D: Disk>(
     alloc: Global,
     store: FileStore<D>,
-) -> Result<(), ShelfFault>
+) -> (Result<(), ShelfFault>, Files<D>)
     requires { HasShapes (view store) }
 {
     closed(make_in(alloc, store))
 }
 
-/// Looks the books in a file that was opened through, and lets it go. Nothing was written, and its log
-/// is left as it is.
-pub(crate) fn audit_and_close<D: Disk + Drop, W: Watch>(
+/// Goes on with new books in a file that was left while they were made, and closes it.
+pub(crate) fn go_on_and_close<D: Disk>(
+    alloc: Global,
+    store: FileStore<D>,
+) -> (Result<(), ShelfFault>, Files<D>)
+    requires { HasShapes (view store) }
+{
+    let (answer, store) = go_on_in(alloc, store);
+    (answer, close(store))
+}
+
+/// Looks the books in a file that was opened through, and lets it go. Nothing was written, and what
+/// its log holds is left there.
+pub(crate) fn audit_and_close<D: Disk, W: Watch>(
     alloc: Global,
     store: FileStore<D>,
     watch: &mut W,
-) -> Result<Audited, ShelfFault>
+) -> (Result<Audited, ShelfFault>, Files<D>)
     requires { HasShapes (view store) }
 {
     let (audited, store) = audit_trees(alloc, store, watch);
-    drop(store.close());
-    audited.map_err(ShelfFault::Ledger)
+    (audited.map_err(ShelfFault::Ledger), store.close())
 }

@@ -2,6 +2,8 @@
 #![tactic(auto)]
 
 mod books;
+mod log;
+mod making;
 mod shelf;
 
 pub use shelf::{Anything, Files, Supposed};

@@ -1,16 +1,18 @@
 //! The files of one machine, by their paths.
 
-use crate::books::{audit_and_close, make_and_close, visit_and_close};
+use crate::books::{audit_and_close, visit_and_close};
+use crate::log::Log;
 use book_audit::{Audited, AuditedShelf, Finding, Place, Watch, Wrong};
 use book_core::LedgerFault;
-use book_trees::{LeftByLedger, OpenFault, create_at, look_through_at, open_at};
+use book_trees::{LeftByLedger, LookFault, OpenFault, look_through_at, open_at};
 use office::{Shelf, ShelfFault, Visit};
 use sqlite_disk::Unknown;
-use std::alloc::AllocError;
-use std::fs::File;
 use std::hash::{BuildHasher, RandomState};
-use std::io::ErrorKind;
+use std::io::{ErrorKind, Read};
 use std::{fs, io};
+
+/// What every database of SQLite begins with, and so each file of books from the first on.
+const BEGINNING: [u8; 16] = *b"SQLite format 3\0";
 
 /// What is supposed of files as they are opened. No code can read it: the clauses of an open are
 /// proved of whatever is supposed, as long as it is nothing, or what a ledger left.
@@ -37,8 +39,8 @@ impl Supposed for Anything {
 /// Files, each with the books of one office.
 #[derive(Drop)]
 pub struct Files<'a, P: Supposed> {
-    rt: &'a HostRuntime,
-    supposed: &'a P,
+    pub(crate) rt: &'a HostRuntime,
+    pub(crate) supposed: &'a P,
 }
 
 impl<'a, P: Supposed> Files<'a, P> {
@@ -48,32 +50,41 @@ impl<'a, P: Supposed> Files<'a, P> {
     }
 
     /// A number that no one can foresee, for the digests of a store.
-    fn seed(&self) -> Result<u64, ShelfFault> {
+    pub(crate) fn seed(&self) -> Result<u64, ShelfFault> {
         match RandomState::new(self.rt) {
             Ok(state) => Ok(state.hash_one(&0u8)),
             Err(error) => Err(failed(&error)),
         }
     }
 
-    /// Makes new books in a file that is empty.
-    fn make_in(&self, book: &str) -> Result<(), ShelfFault> {
-        match create_at(self.rt, book, self.seed()?, self.supposed.start()) {
-            Ok(store) => make_and_close(self.rt.alloc(), store),
-            Err(fault) => Err(refused(fault)),
+    /// The log of a file that may hold books, before that is opened. A file that is no database is
+    /// not opened, whatever log lies beside it.
+    fn log_of(&self, book: &str) -> Result<Log<'a>, ShelfFault> {
+        match begins_as_books(self.rt, book) {
+            Ok(true) => {}
+            Ok(false) => return Err(ShelfFault::Ledger(LedgerFault::NotBooks)),
+            Err(error) => return Err(failed(&error)),
         }
+        Log::of(self.rt, book).map_err(|error| failed(&error))
     }
+}
 
-    /// Takes away the file of books that could not be made, and its log.
-    fn take_away(&self, book: &str) -> Result<(), AllocError> {
-        let log = format!(in self.rt.alloc(); "{book}-wal")?;
-        let _ = fs::remove_file(self.rt, log.as_str());
-        let _ = fs::remove_file(self.rt, book);
-        Ok(())
+/// Whether a file begins as books do. What is no regular file is not read: it might never end.
+fn begins_as_books(rt: &HostRuntime, book: &str) -> io::Result<bool> {
+    if !fs::metadata(rt, book)?.is_file() {
+        return Err(ErrorKind::Unsupported.into());
+    }
+    let mut file = fs::open(rt, book)?;
+    let mut first = [0; 16];
+    match file.read_exact(&mut first) {
+        Ok(()) => Ok(first == BEGINNING),
+        Err(error) if error.kind() == ErrorKind::UnexpectedEof => Ok(false),
+        Err(error) => Err(error),
     }
 }
 
 /// What a file that failed stands for.
-fn failed(error: &io::Error) -> ShelfFault {
+pub(crate) fn failed(error: &io::Error) -> ShelfFault {
     match error.kind() {
         ErrorKind::AlreadyExists => ShelfFault::Exists,
         ErrorKind::OutOfMemory => ShelfFault::Ledger(LedgerFault::Memory),
@@ -82,12 +93,23 @@ fn failed(error: &io::Error) -> ShelfFault {
 }
 
 /// What it stands for that books were not opened or made.
-fn refused(fault: OpenFault) -> ShelfFault {
+pub(crate) fn refused(fault: OpenFault) -> ShelfFault {
     match fault {
         OpenFault::NotBooks => ShelfFault::Ledger(LedgerFault::NotBooks),
         OpenFault::Memory => ShelfFault::Ledger(LedgerFault::Memory),
         OpenFault::Store => ShelfFault::Ledger(LedgerFault::Store),
         OpenFault::Path => ShelfFault::Io,
+    }
+}
+
+/// What is answered where a file was not looked through.
+fn not_looked_through(fault: LookFault) -> Result<Audited, ShelfFault> {
+    match fault {
+        LookFault::Pages => Ok(Audited::Unsound(Finding {
+            place: Place::File,
+            wrong: Wrong::Pages,
+        })),
+        LookFault::Open(fault) => Err(refused(fault)),
     }
 }
 
@@ -101,39 +123,45 @@ impl<P: Supposed> Shelf for Files<'_, P> {
         }
     }
 
-    /// Makes new books in a file that is not there yet. Where they can't be made the file is taken away
-    /// again, so that the command can be given once more.
+    /// Makes new books of a name that is not there yet.
     fn make(&self, book: &str) -> Result<(), ShelfFault> {
-        if let Err(error) = File::create_new(self.rt, book) {
-            return Err(failed(&error));
-        }
-        let made = self.make_in(book);
-        if made.is_err() {
-            let _ = self.take_away(book);
-        }
-        made
+        self.make_new(book)
     }
 
     /// Visits the books of a file that is there. What a ledger left in it is opened at the same cost
-    /// whatever it holds: the file is not read through.
+    /// whatever it holds: the file is not read through. Behind the visit the books are one file.
     fn open<V: Visit + Drop>(&self, book: &str, visit: V) -> Result<V::Answer, ShelfFault> {
+        let log = self.log_of(book)?;
         match open_at(self.rt, book, self.seed()?, self.supposed.start()) {
-            Ok(store) => visit_and_close(self.rt.alloc(), store, visit),
-            Err(fault) => Err(refused(fault)),
+            Ok(store) => {
+                let (answer, files) = visit_and_close(self.rt.alloc(), store, visit);
+                log.take_away();
+                drop(files);
+                answer
+            }
+            Err((fault, files)) => {
+                log.leave(files);
+                Err(refused(fault))
+            }
         }
     }
 }
 
 impl<P: Supposed> AuditedShelf for Files<'_, P> {
-    /// Looks the whole file through: all of its pages, and then each row of its trees.
+    /// Looks the whole file through: all of its pages, and then each row of its trees. The files are
+    /// left as they were.
     fn audit<W: Watch>(&self, book: &str, watch: &mut W) -> Result<Audited, ShelfFault> {
+        let log = self.log_of(book)?;
         match look_through_at(self.rt, book, self.seed()?, self.supposed.start()) {
-            Ok(Some(store)) => audit_and_close(self.rt.alloc(), store, watch),
-            Ok(None) => Ok(Audited::Unsound(Finding {
-                place: Place::File,
-                wrong: Wrong::Pages,
-            })),
-            Err(fault) => Err(refused(fault)),
+            Ok(store) => {
+                let (audited, files) = audit_and_close(self.rt.alloc(), store, watch);
+                log.leave(Some(files));
+                audited
+            }
+            Err((fault, files)) => {
+                log.leave(files);
+                not_looked_through(fault)
+            }
         }
     }
 }

@@ -1,6 +1,7 @@
 -- The lemmas: the trees of books; the list that a sound file has; why an open
 -- fails; what the state of a store says of its files; files that a ledger left, and what an open
--- shows of them; that books can be made; what a store over books leaves.
+-- shows of them; that books can be made; what a store over books leaves;
+-- logs that are too short to hold anything.
 pub mod Trees
 pub mod ListingLemmas
 pub mod Refused
@@ -8,3 +9,4 @@ pub mod FileParts
 pub mod Opened
 pub mod Buildable
 pub mod EachLeft
+pub mod ShortLogs

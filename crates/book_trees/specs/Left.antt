@@ -1,5 +1,5 @@
 -- What a ledger leaves of its two files.
-use Rattle.std.specs.Prelude.{◌≡◌, ◌⊎◌, ◌<◌, ◌^◌, [], ℕ}
+use Rattle.std.specs.Prelude.{◌≡◌, ◌⊎◌, ◌+◌, ◌<◌, ◌^◌, [], ℕ}
 use Rattle.sqlite_disk.specs.declared.Disk.{Ghosts}
 use Rattle.sqlite_disk.specs.declared.files.Files.{Files}
 use Rattle.sqlite_pages.specs.PageMap.{PageMap}
@@ -44,3 +44,11 @@ AreLeft image = (image.db ≡ []) ⊎ (HoldsNone image ⊎ HoldsBooks image)
 -- no table has a row
 abbrev pub AreEmptyTables : Trees → Type 0
 AreEmptyTables trees = (tree : ℕ) → tree < 2 ^ 32 → trees tree ≡ []
+
+-- A log is passed over that has no room for its header and that of a page.
+abbrev pub shortest_log : ℕ
+shortest_log = 32 + 24
+
+-- the file with no log beside it
+abbrev pub without_log : Image → Image
+without_log image = record { log = []; db = image.db }

@@ -1,9 +1,11 @@
 //! The log of books is brought into their file, as it is done before they are closed.
 
-ghost use Rattle.std.specs.Prelude.{◌≤◌};
+ghost use Rattle.std.specs.Prelude.{◌≡◌, ◌≤◌, ◌<◌, ◌↔◌, length, IsTrue};
 ghost use Rattle.sqlite_store.specs.FileStore.{view, recovers};
 ghost use Rattle.sqlite_trees.specs.Tree.{Trees};
 ghost use Rattle.sqlite_trees.specs.View.{doubt};
+ghost use Rattle.sqlite_wal.specs.Recovery.{Image};
+ghost use Rattle.book_trees.specs.Left.{shortest_log, without_log, HoldsBooks, tables_at};
 
 use sqlite_disk::Disk;
 use sqlite_store::FileStore;
@@ -19,4 +21,18 @@ pub fn shut<D: Disk>(store: &mut FileStore<D>) -> Result<(), StoreError>
 {
     store.rollback();
     store.checkpoint()
+}
+
+/// The length of a log's header and of a page's. An open passes over a shorter log.
+const SHORTEST_LOG: u64 = 56;
+
+/// Whether a log of this length may be taken away: books whose log is so short are held by their
+/// file alone, with the same tables.
+pub fn needs_no_log(len: u64) -> bool
+    ensures short { IsTrue result ↔ (len < shortest_log) }
+    ensures alone { IsTrue result → (image : Image) → length image.log ≡ len
+        → (held : HoldsBooks image)
+        → (alone : HoldsBooks (without_log image)) × (tables_at alone ≡ tables_at held) }
+{
+    len < SHORTEST_LOG
 }

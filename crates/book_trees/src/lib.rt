@@ -14,10 +14,10 @@ mod reopening;
 mod schema;
 mod unopened;
 
-pub use closing::shut;
+pub use closing::{needs_no_log, shut};
 pub use faults::OpenFault;
 pub use left::LeftByLedger;
-pub use looking::{look_through, look_through_at};
+pub use looking::{LookFault, look_through, look_through_at};
 pub use new_books::{create_at, create_files, open_new_books};
 pub use opening::{open_at, open_files, open_left};
 pub use outcomes::{finds_each, leaves_books};

@@ -1,6 +1,6 @@
 //! Files of books are looked through, whatever they hold.
 
-ghost use Rattle.std.specs.Prelude.{◌≡◌, IfOk, IfSome, IsTrue};
+ghost use Rattle.std.specs.Prelude.{◌≡◌, IfOk, IsTrue};
 ghost use Rattle.sqlite_store.specs.FileStore.{view, schema_of, IsReady};
 ghost use Rattle.book_trees.specs.Schema.{books_schema};
 ghost use Rattle.tree_tables.specs.Holds.{HasShapes};
@@ -14,34 +14,43 @@ use sqlite_std_file::{FileFrom, open};
 use sqlite_store::{FileStore, OpenError};
 use std::alloc::Global;
 
+/// Why files were not looked through, or what was found.
+#[derive(Clone, Copy, Debug, PartialEq, Eq, Drop)]
+pub enum LookFault {
+    /// They list the tables of books, and their pages are not such a file's.
+    Pages,
+    /// They were not opened.
+    Open(OpenFault),
+}
+
 /// Opens two files, and looks all of their pages through: the header, the free list, and each tree.
-/// Where they list the tables of books and their pages are not such a file's, there is no store.
-pub fn look_through<D: Disk + Drop>(
+/// Where there is no store they are given back.
+pub fn look_through<D: Disk>(
     alloc: Global,
     files: Files<D>,
     options: Options,
-) -> Result<Option<FileStore<D>>, OpenFault>
+) -> Result<FileStore<D>, (LookFault, Files<D>)>
     requires log { IsTrue (D.Disk.is_usable files.log) }
     requires db { IsTrue (D.Disk.is_usable files.db) }
-    ensures ready { IfOk result (λ found. IfSome found IsReady) }
-    ensures schema { IfOk result (λ found. IfSome found (λ store.
-        schema_of store ≡ books_schema)) }
-    ensures trees { IfOk result (λ found. IfSome found (λ store. HasShapes (view store))) }
+    ensures ready { IfOk result IsReady }
+    ensures schema { IfOk result (λ store. schema_of store ≡ books_schema) }
+    ensures trees { IfOk result (λ store. HasShapes (view store)) }
 {
-    let Ok(mut files) = unopened(alloc, files, options) else {
-        return Err(OpenFault::Memory);
+    let mut files = match unopened(alloc, files, options) {
+        Ok(files) => files,
+        Err(files) => return Err((LookFault::Open(OpenFault::Memory), files)),
     };
     let listed = match files.read_catalog() {
         Ok(listed) => listed,
-        Err(error) => return Err(fault_of(error)),
+        Err(error) => return Err((LookFault::Open(fault_of(error)), files.close())),
     };
     if !lists_books(listed.as_slice()) {
-        return Err(OpenFault::NotBooks);
+        return Err((LookFault::Open(OpenFault::NotBooks), files.close()));
     }
     match files.open() {
-        Ok(store) => Ok(Some(store)),
-        Err((OpenError::Refused, _)) => Ok(None),
-        Err((error, _)) => Err(fault_of(error)),
+        Ok(store) => Ok(store),
+        Err((OpenError::Refused, files)) => Err((LookFault::Pages, files.close())),
+        Err((error, files)) => Err((LookFault::Open(fault_of(error)), files.close())),
     }
 }
 
@@ -51,14 +60,17 @@ pub fn look_through_at<S: Start>(
     path: &str,
     seed: u64,
     start: S,
-) -> Result<Option<FileStore<FileFrom<S>>>, OpenFault>
-    ensures ready { IfOk result (λ found. IfSome found IsReady) }
-    ensures schema { IfOk result (λ found. IfSome found (λ store.
-        schema_of store ≡ books_schema)) }
-    ensures trees { IfOk result (λ found. IfSome found (λ store. HasShapes (view store))) }
+) -> Result<FileStore<FileFrom<S>>, (LookFault, Option<Files<FileFrom<S>>>)>
+    ensures ready { IfOk result IsReady }
+    ensures schema { IfOk result (λ store. schema_of store ≡ books_schema) }
+    ensures trees { IfOk result (λ store. HasShapes (view store)) }
 {
-    match open(rt, path, start) {
-        Ok(files) => look_through(rt.alloc(), files, Options::new(seed)),
-        Err(error) => Err(fault_at(error)),
+    let files = match open(rt, path, start) {
+        Ok(files) => files,
+        Err(error) => return Err((LookFault::Open(fault_at(error)), None)),
+    };
+    match look_through(rt.alloc(), files, Options::new(seed)) {
+        Ok(store) => Ok(store),
+        Err((fault, files)) => Err((fault, Some(files))),
     }
 }

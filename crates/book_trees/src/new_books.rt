@@ -64,13 +64,13 @@ pub fn create_files<D: Disk>(
 }
 
 /// Makes new books in two files at a path. `S` stands for what these hold before, which is nothing
-/// where books are made.
+/// where books are made. Files that are refused are given back.
 pub fn create_at<S: Start>(
     rt: &HostRuntime,
     path: &str,
     seed: u64,
     start: S,
-) -> Result<FileStore<FileFrom<S>>, OpenFault>
+) -> Result<FileStore<FileFrom<S>>, (OpenFault, Option<Files<FileFrom<S>>>)>
     ensures ready { IfOk result IsReady }
     ensures schema { IfOk result (λ store. schema_of store ≡ books_schema) }
     ensures trees { IfOk result (λ store. HasShapes (view store)) }
@@ -86,11 +86,11 @@ pub fn create_at<S: Start>(
 {
     let files = match open(rt, path, start) {
         Ok(files) => files,
-        Err(error) => return Err(fault_at(error)),
+        Err(error) => return Err((fault_at(error), None)),
     };
     match create_files(rt.alloc(), files, Options::new(seed)) {
         Ok(store) => Ok(store),
-        Err((fault, _)) => Err(fault),
+        Err((fault, files)) => Err((fault, Some(files))),
     }
 }
 

@@ -102,13 +102,14 @@ pub fn open_files<D: Disk>(
     }
 }
 
-/// Opens the file at a path, where `S` stands for what the files hold.
+/// Opens the file at a path, where `S` stands for what the files hold. Files that are refused are
+/// given back, so that nobody else has them before the caller lets them go.
 pub fn open_at<S: LeftByLedger>(
     rt: &HostRuntime,
     path: &str,
     seed: u64,
     start: S,
-) -> Result<FileStore<FileFrom<S>>, OpenFault>
+) -> Result<FileStore<FileFrom<S>>, (OpenFault, Option<Files<FileFrom<S>>>)>
     ensures ready { IfOk result IsReady }
     ensures schema { IfOk result (λ store. schema_of store ≡ books_schema) }
     ensures trees { IfOk result (λ store. HasShapes (view store)) }
@@ -121,10 +122,10 @@ pub fn open_at<S: LeftByLedger>(
 {
     let files = match open(rt, path, start) {
         Ok(files) => files,
-        Err(error) => return Err(fault_at(error)),
+        Err(error) => return Err((fault_at(error), None)),
     };
     match open_files(rt.alloc(), files, Options::new(seed)) {
         Ok(store) => Ok(store),
-        Err((fault, _)) => Err(fault),
+        Err((fault, files)) => Err((fault, Some(files))),
     }
 }

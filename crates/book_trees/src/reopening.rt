@@ -58,7 +58,7 @@ pub fn close_and_open<D: Disk + Drop, S: LeftByLedger>(
     drop(old.close());
     match open_at(rt, path, seed, start) {
         Ok(store) => Ok(store),
-        Err(fault) => Err(fault),
+        Err((fault, _)) => Err(fault),
     }
 }
 

@@ -47,6 +47,7 @@
 //! | `first SIZE chargectl WORDS..` | the same, but no more than so many bytes of each |
 //! | `count-lines chargectl WORDS..`, or `count-bytes` | the same, but how many its output has |
 //! | `same FILE FILE`, `missing FILE` | whether they are |
+//! | `files` | the names of the row's files, in order |
 #![tactic(auto)]
 
 mod changed;

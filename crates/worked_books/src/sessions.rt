@@ -83,6 +83,18 @@ impl<'a> Sessions<'a> {
         Ok(true)
     }
 
+    /// Lists the files of the row.
+    fn list_files(&self, out: &mut Vec<u8>) -> Result<bool, AllocError> {
+        let Ok(names) = names_in(self.rt, self.folder) else {
+            push_line(out, "NOT READ")?;
+            return Ok(true);
+        };
+        for name in &names {
+            push_line(out, name.as_str())?;
+        }
+        Ok(true)
+    }
+
     /// Sets what standard input gives, if there are bytes for it.
     fn set_input(&mut self, input: Option<Vec<u8>>, fails: bool) -> bool {
         let Some(input) = input else {
@@ -128,6 +140,17 @@ impl<'a> Sessions<'a> {
     }
 }
 
+/// The names in a folder, in order.
+fn names_in(rt: &HostRuntime, folder: &str) -> io::Result<Vec<String>> {
+    let mut names = Vec::new(rt.alloc());
+    for entry in fs::read_dir(rt, folder)? {
+        let entry = entry?;
+        names.push(String::from_str(rt.alloc(), entry.file_name())?)?;
+    }
+    names.sort_unstable();
+    Ok(names)
+}
+
 impl Answers for Sessions<'_> {
     fn begin(&mut self, _named: &Named, words: &[&str]) -> Result<bool, AllocError> {
         *self = Sessions::new(self.rt, self.folder);
@@ -161,6 +184,7 @@ impl Answers for Sessions<'_> {
                 )?;
                 Ok(true)
             }
+            ("files", []) => self.list_files(out),
             ("input", parts) => Ok(self.set_input(named.dump(parts)?, false)),
             ("broken-input", parts) => Ok(self.set_input(named.dump(parts)?, true)),
             ("room", [size]) => Ok(self.set_room(size.parse::<usize>().ok())),

@@ -1,0 +1,73 @@
+//! The log that lies beside a file of books while a command runs, and what a command leaves of it.
+
+use book_trees::needs_no_log;
+use std::fs::File;
+use std::{fs, io};
+
+/// The log of a file, by its path, and whether it lay there before the file was opened.
+#[derive(Drop)]
+pub(crate) struct Log<'a> {
+    rt: &'a HostRuntime,
+    path: String,
+    was_there: bool,
+}
+
+impl<'a> Log<'a> {
+    /// The log of a file that is there. It lies beside the file to which a link leads.
+    pub(crate) fn of(rt: &'a HostRuntime, book: &str) -> io::Result<Log<'a>> {
+        let real = fs::canonicalize(rt, book)?;
+        let path = format!(in rt.alloc(); "{}-wal", real.as_str())?;
+        let was_there = is_there(rt, path.as_str())?;
+        Ok(Log {
+            rt,
+            path,
+            was_there,
+        })
+    }
+
+    /// Takes the log away where it holds nothing, and says whether none is left. The caller still
+    /// has the file open, and with it the lock under which alone a log is made or written, so no
+    /// other program has this one. Nothing is lost: by `needs_no_log` the file alone holds the same
+    /// books, and what was committed was synced there before the log was cut so short.
+    pub(crate) fn take_away(&self) -> bool {
+        let path = self.path.as_str();
+        match fs::symlink_metadata(self.rt, path) {
+            Ok(found) if found.is_file() && needs_no_log(found.len()) => {
+                fs::remove_file(self.rt, path).is_ok()
+            }
+            Ok(_) => false,
+            Err(error) => error.kind() == io::ErrorKind::NotFound,
+        }
+    }
+
+    /// Takes the log of new books away, whatever it holds, where these could not be made.
+    pub(crate) fn remove(&self) {
+        let _ = fs::remove_file(self.rt, self.path.as_str());
+    }
+
+    /// Lets the files of an open go, behind which they are to be as they were: a log that the open
+    /// made is taken away. Where there are no files another program may have them, and nothing is
+    /// touched.
+    pub(crate) fn leave<F: Drop>(&self, files: Option<F>) {
+        if files.is_some() && !self.was_there {
+            self.take_away();
+        }
+        drop(files);
+    }
+}
+
+/// Whether something lies at a path, if only a link that leads nowhere.
+pub(crate) fn is_there(rt: &HostRuntime, path: &str) -> io::Result<bool> {
+    match fs::symlink_metadata(rt, path) {
+        Ok(_) => Ok(true),
+        Err(error) if error.kind() == io::ErrorKind::NotFound => Ok(false),
+        Err(error) => Err(error),
+    }
+}
+
+/// Brings the names in the folder of a file to the disk.
+pub(crate) fn sync_folder(rt: &HostRuntime, book: &str) -> io::Result<()> {
+    let mut folder = fs::canonicalize(rt, book)?;
+    folder.pop();
+    File::open(rt, folder.as_str())?.sync_all()
+}

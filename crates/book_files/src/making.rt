@@ -1,0 +1,115 @@
+//! New books are made under a second name, and get their own once they are whole: a stop at any
+//! moment leaves books of that name, or nothing.
+
+use crate::books::{go_on_and_close, make_and_close};
+use crate::log::{Log, is_there, sync_folder};
+use crate::shelf::{Files, Supposed, failed, refused};
+use book_core::LedgerFault;
+use book_trees::{OpenFault, create_at, open_at};
+use office::ShelfFault;
+use sqlite_disk::Files as Pair;
+use sqlite_std_file::FileFrom;
+use std::fs::File;
+use std::io::ErrorKind;
+use std::{fs, io};
+
+impl<P: Supposed> Files<'_, P> {
+    /// Makes new books of a name that nothing has. What was begun is taken away where they can't be
+    /// made; what a stop left of an earlier call is gone on with.
+    pub(crate) fn make_new(&self, book: &str) -> Result<(), ShelfFault> {
+        self.expect_none(book)?;
+        let begun = beside(self.rt, book, "new").map_err(|error| failed(&error))?;
+        let is_first = match File::create_new(self.rt, begun.as_str()) {
+            Ok(_) => true,
+            Err(error) if error.kind() == ErrorKind::AlreadyExists => false,
+            Err(error) => return Err(failed(&error)),
+        };
+        let log = Log::of(self.rt, begun.as_str()).map_err(|error| failed(&error))?;
+        let (made, files) = self.make_in(begun.as_str());
+        let named = match made {
+            Ok(()) => self.give_name(begun.as_str(), &log, book),
+            Err(fault) => Err(fault),
+        };
+        if named.is_err() && is_first && files.is_some() {
+            log.remove();
+            let _ = fs::remove_file(self.rt, begun.as_str());
+        }
+        log.leave(files);
+        named
+    }
+
+    /// Nothing may have the name, nor that of a log or a journal beside it: new books would be taken
+    /// for what that holds.
+    fn expect_none(&self, book: &str) -> Result<(), ShelfFault> {
+        match has_traces(self.rt, book) {
+            Ok(false) => Ok(()),
+            Ok(true) => Err(ShelfFault::Exists),
+            Err(error) => Err(failed(&error)),
+        }
+    }
+
+    /// Makes new books in a file that is empty, or that a stop left while they were made.
+    fn make_in(&self, begun: &str) -> (Result<(), ShelfFault>, Option<Pair<FileFrom<P::Start>>>) {
+        let seed = match self.seed() {
+            Ok(seed) => seed,
+            Err(fault) => return (Err(fault), None),
+        };
+        match create_at(self.rt, begun, seed, self.supposed.start()) {
+            Ok(store) => {
+                let (made, files) = make_and_close(self.rt.alloc(), store);
+                (made, Some(files))
+            }
+            Err((OpenFault::NotBooks, files)) => {
+                drop(files);
+                self.go_on_in(begun, seed)
+            }
+            Err((fault, files)) => (Err(refused(fault)), files),
+        }
+    }
+
+    /// Goes on with books whose trees are all there. Any other file is somebody's.
+    fn go_on_in(
+        &self,
+        begun: &str,
+        seed: u64,
+    ) -> (Result<(), ShelfFault>, Option<Pair<FileFrom<P::Start>>>) {
+        match open_at(self.rt, begun, seed, self.supposed.start()) {
+            Ok(store) => {
+                let (made, files) = go_on_and_close(self.rt.alloc(), store);
+                (made, Some(files))
+            }
+            Err((OpenFault::NotBooks, files)) => (Err(ShelfFault::Exists), files),
+            Err((fault, files)) => (Err(refused(fault)), files),
+        }
+    }
+
+    /// Gives books that are whole, in one file, their name. They are still locked: of two calls at
+    /// once only one comes here, so the name is not taken between the look and the change. Where
+    /// the name does not get to the disk, a power cut leaves the second one, and the next call goes
+    /// on with it.
+    fn give_name(&self, begun: &str, log: &Log<'_>, book: &str) -> Result<(), ShelfFault> {
+        if !log.take_away() {
+            return Err(ShelfFault::Ledger(LedgerFault::Store));
+        }
+        self.expect_none(book)?;
+        match fs::rename(self.rt, begun, book) {
+            Ok(()) => {
+                let _ = sync_folder(self.rt, book);
+                Ok(())
+            }
+            Err(error) => Err(failed(&error)),
+        }
+    }
+}
+
+/// The path of a file that belongs to another.
+fn beside(rt: &HostRuntime, book: &str, what: &str) -> io::Result<String> {
+    Ok(format!(in rt.alloc(); "{book}-{what}")?)
+}
+
+/// Whether something has the name, or that of a log or a journal beside it.
+fn has_traces(rt: &HostRuntime, book: &str) -> io::Result<bool> {
+    let log = beside(rt, book, "wal")?;
+    let journal = beside(rt, book, "journal")?;
+    Ok(is_there(rt, book)? || is_there(rt, log.as_str())? || is_there(rt, journal.as_str())?)
+}
