@@ -98,6 +98,7 @@ pub(crate) fn refused(fault: OpenFault) -> ShelfFault {
         OpenFault::NotBooks => ShelfFault::Ledger(LedgerFault::NotBooks),
         OpenFault::Memory => ShelfFault::Ledger(LedgerFault::Memory),
         OpenFault::Store => ShelfFault::Ledger(LedgerFault::Store),
+        OpenFault::Busy => ShelfFault::Busy,
         OpenFault::Path => ShelfFault::Io,
     }
 }

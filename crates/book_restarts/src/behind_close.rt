@@ -17,7 +17,7 @@ fn fault_of(fault: OpenFault) -> LedgerFault {
     match fault {
         OpenFault::NotBooks => LedgerFault::NotBooks,
         OpenFault::Memory => LedgerFault::Memory,
-        OpenFault::Store | OpenFault::Path => LedgerFault::Store,
+        OpenFault::Store | OpenFault::Busy | OpenFault::Path => LedgerFault::Store,
     }
 }
 

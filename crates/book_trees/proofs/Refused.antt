@@ -5,7 +5,8 @@ use Rattle.sqlite_store.specs.declared.error.OpenError.{OpenError}
 use Rattle.sqlite_store.specs.declared.error.OpenError.TheVariants.{OutOfMemory, Io, Full, Refused}
 use Rattle.book_trees.specs.Refusals.{fault_for, HasCause}
 use Rattle.book_trees.specs.declared.faults.OpenFault.{OpenFault}
-use Rattle.book_trees.specs.declared.faults.OpenFault.TheVariants.{NotBooks, Memory, Store, Path}
+use Rattle.book_trees.specs.declared.faults.OpenFault.TheVariants.{NotBooks, Memory, Store, Busy}
+use Rattle.book_trees.specs.declared.faults.OpenFault.TheVariants.{Path}
 
 -- the cause of an error is one of the fault that it stands for
 pub cause_of : (old new : ℕ) (AtLimit Wanted Held : Type 0) → (Held → Wanted) → (e : OpenError)
@@ -22,6 +23,7 @@ cause_since first old new AtLimit Held later NotBooks cause = cause
 cause_since first old new AtLimit Held later Memory cause = cause
 cause_since first old new AtLimit Held later Store cause =
     elim cause [ inl more ↦ inl (omega arith) | inr full ↦ inr full ]
+cause_since first old new AtLimit Held later Busy cause = cause
 cause_since first old new AtLimit Held later Path cause = cause
 
 -- a cause by a wider limit, and where more was to be held
@@ -32,4 +34,5 @@ cause_for old new Limit Limit' Held Held' wider so NotBooks cause = λ held. cau
 cause_for old new Limit Limit' Held Held' wider so Memory cause = cause
 cause_for old new Limit Limit' Held Held' wider so Store cause =
     elim cause [ inl more ↦ inl more | inr full ↦ inr (wider full) ]
+cause_for old new Limit Limit' Held Held' wider so Busy cause = cause
 cause_for old new Limit Limit' Held Held' wider so Path cause = cause

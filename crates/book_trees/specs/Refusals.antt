@@ -14,7 +14,8 @@ use Rattle.sqlite_wal.specs.Reads.{AreClean}
 use Rattle.sqlite_wal.specs.Recovery.{Image}
 use Rattle.book_trees.specs.Left.{image_of, page_size, HoldsNone}
 use Rattle.book_trees.specs.declared.faults.OpenFault.{OpenFault}
-use Rattle.book_trees.specs.declared.faults.OpenFault.TheVariants.{NotBooks, Memory, Store, Path}
+use Rattle.book_trees.specs.declared.faults.OpenFault.TheVariants.{NotBooks, Memory, Store, Busy}
+use Rattle.book_trees.specs.declared.faults.OpenFault.TheVariants.{Path}
 
 -- the fault that an error of the store stands for
 abbrev pub fault_for : OpenError → OpenFault
@@ -25,11 +26,12 @@ fault_for store.Full = Store
 
 -- A fault has its cause: the files do not hold what they have to; memory was wanting, of which a
 -- store tells no more; or a disk failed during the call, or a limit of the format was met. Files that
--- are open are not out of reach.
+-- are open here are not open elsewhere, nor out of reach.
 abbrev pub HasCause : ℕ → ℕ → Type 0 → Type 0 → OpenFault → Type 0
 HasCause old new AtLimit Held NotBooks = ¬ Held
 HasCause old new AtLimit Held Memory = ⊤
 HasCause old new AtLimit Held Store = MoreFaults old new ⊎ AtLimit
+HasCause old new AtLimit Held Busy = ⊥
 HasCause old new AtLimit Held Path = ⊥
 
 -- the files hold no database, or one that was begun and has no table

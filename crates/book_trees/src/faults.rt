@@ -14,8 +14,10 @@ pub enum OpenFault {
     NotBooks,
     /// Memory was wanting.
     Memory,
-    /// The files failed, or are full, or another program has them open.
+    /// The files failed, or are full.
     Store,
+    /// Another program has the files open.
+    Busy,
     /// The files can't be had at the path.
     Path,
 }
@@ -34,12 +36,12 @@ pub(crate) fn fault_of(error: OpenError) -> OpenFault
 /// What an error at a path stands for, where the files could not be had.
 pub(crate) fn fault_at(error: PathError) -> OpenFault
     ensures memory { error ≡ PathError.OutOfMemory → result ≡ OpenFault.Memory }
-    ensures busy { error ≡ PathError.Busy → result ≡ OpenFault.Store }
+    ensures busy { error ≡ PathError.Busy → result ≡ OpenFault.Busy }
     ensures journal { error ≡ PathError.HotJournal → result ≡ OpenFault.Path }
 {
     match error {
         PathError::OutOfMemory => OpenFault::Memory,
-        PathError::Busy => OpenFault::Store,
+        PathError::Busy => OpenFault::Busy,
         PathError::Io(error) if error.kind() == ErrorKind::OutOfMemory => OpenFault::Memory,
         PathError::Io(_) | PathError::HotJournal => OpenFault::Path,
     }

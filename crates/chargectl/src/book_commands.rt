@@ -1,5 +1,5 @@
 //! The commands on books. Faults are found in this order: a date or a name, the books, the file,
-//! and then what the books say.
+//! what the books say, or the stop of an import, and then the output.
 
 ghost use Rattle.office.specs.Requests.{IsAskableAnew};
 ghost use Rattle.office.proofs.AskLemmas.{askable_once};
@@ -8,8 +8,9 @@ use crate::progress::{Behind, Watched, WatchedRows};
 use crate::trouble::{Trouble, ended};
 use book_audit::{Audited, AuditedShelf, audit_text};
 use book_core::{Ledger, LedgerFault, Sink, Source};
+use book_reports::ReportFault;
 use command_words::DumpFile;
-use office::{Answer, Asked, Report, Shelf, Visit, answer};
+use office::{Answer, Asked, Reply, Report, Shelf, Visit, answer};
 use program_answers::name_of_text;
 use smf_text::day_of_text;
 use std::alloc::Global;
@@ -31,16 +32,27 @@ struct Question<R: Read + Drop, W: Write + Drop> {
 }
 
 impl<R: Read + Drop, W: Write + Drop> Visit for Question<R, W> {
-    /// What the books answered, written.
-    type Answer = Result<Answer, Trouble>;
+    /// What the books answered was written, or the first fault.
+    type Answer = Result<(), Trouble>;
 
-    fn visit<L: Ledger>(self, books: &mut L) -> Result<Answer, Trouble> {
+    fn visit<L: Ledger>(self, books: &mut L) -> Result<(), Trouble> {
         let mut source = Source::new(self.input);
         let mut sink = Sink::new(self.output);
-        let answered = answer(self.alloc, books, &self.asked, &mut source, &mut sink)?;
-        sink.into_inner().flush()?;
-        Ok(answered)
+        let Reply { answer, told } =
+            answer(self.alloc, books, &self.asked, &mut source, &mut sink);
+        let written = flushed(told, sink.into_inner());
+        // An import that stopped says so, also where its receipt could not be written.
+        if let Answer::Receipt(receipt) = answer? {
+            ended(receipt.stop)?;
+        }
+        written
     }
+}
+
+/// What was told was written, and has left the program.
+fn flushed<W: Write + Drop>(told: Result<(), ReportFault>, mut output: W) -> Result<(), Trouble> {
+    told?;
+    Ok(output.flush()?)
 }
 
 /// Asks the books of a name, and writes what they answer.
@@ -51,7 +63,7 @@ fn ask_books<S: Shelf, R: Read + Drop, O: Write + Drop>(
     asked: Asked,
     input: R,
     output: O,
-) -> Result<Answer, Trouble>
+) -> Result<(), Trouble>
     requires { IsAskableAnew asked }
 {
     let question = Question {
@@ -73,8 +85,7 @@ pub(crate) fn tariff<S: Shelf, O: Write + Drop>(
 ) -> Result<(), Trouble> {
     shelf.expect(book)?;
     let asked = Asked::Tariff(tariff_text(rt, file)?);
-    ask_books(rt, shelf, book, asked, io::empty(), output)?;
-    Ok(())
+    ask_books(rt, shelf, book, asked, io::empty(), output)
 }
 
 /// The text of a tariff file.
@@ -107,8 +118,7 @@ pub(crate) fn close<S: Shelf, O: Write + Drop>(
     };
     shelf.expect(book)?;
     let asked = Asked::Close { period, through };
-    ask_books(rt, shelf, book, asked, io::empty(), output)?;
-    Ok(())
+    ask_books(rt, shelf, book, asked, io::empty(), output)
 }
 
 /// Chooses the record of a name.
@@ -124,8 +134,7 @@ pub(crate) fn choose<S: Shelf, O: Write + Drop>(
     };
     shelf.expect(book)?;
     let asked = Asked::Choose(name);
-    ask_books(rt, shelf, book, asked, io::empty(), output)?;
-    Ok(())
+    ask_books(rt, shelf, book, asked, io::empty(), output)
 }
 
 /// Adopts the later rule of identity.
@@ -137,8 +146,7 @@ pub(crate) fn adopt<S: Shelf, O: Write + Drop>(
 ) -> Result<(), Trouble> {
     shelf.expect(book)?;
     let asked = Asked::Adopt(LATER_RULE);
-    ask_books(rt, shelf, book, asked, io::empty(), output)?;
-    Ok(())
+    ask_books(rt, shelf, book, asked, io::empty(), output)
 }
 
 /// Reads a dump into the books, and prints the receipt line, whatever stopped the import.
@@ -154,10 +162,7 @@ pub(crate) fn import_dump<S: Shelf, O: Write + Drop>(
     let is_shown = !dump.quiet && rt.stderr().is_terminal();
     let input = Watched::new(rt, fs::open(rt, dump.file)?, dump.layout, is_shown);
     let output = Behind::new(rt, output, is_shown);
-    match ask_books(rt, shelf, book, asked, input, output)? {
-        Answer::Receipt(receipt) => ended(receipt.stop),
-        Answer::Ruled(_) | Answer::Text(_) => Ok(()),
-    }
+    ask_books(rt, shelf, book, asked, input, output)
 }
 
 /// Prints a report of the books.
@@ -170,8 +175,7 @@ pub(crate) fn report<S: Shelf, O: Write + Drop>(
 ) -> Result<(), Trouble> {
     shelf.expect(book)?;
     let asked = Asked::Report(report);
-    ask_books(rt, shelf, book, asked, io::empty(), output)?;
-    Ok(())
+    ask_books(rt, shelf, book, asked, io::empty(), output)
 }
 
 /// Looks the whole file of books through, and prints what came of it.
@@ -180,7 +184,7 @@ pub(crate) fn audit<S: AuditedShelf, O: Write + Drop>(
     shelf: &S,
     book: &str,
     quiet: bool,
-    mut output: O,
+    output: O,
 ) -> Result<(), Trouble> {
     shelf.expect(book)?;
     let mut rows = WatchedRows::new(rt, !quiet && rt.stderr().is_terminal());
@@ -188,10 +192,14 @@ pub(crate) fn audit<S: AuditedShelf, O: Write + Drop>(
     rows.clear();
     let audited = audited?;
     let text = audit_text(rt.alloc(), &audited)?;
-    write!(output, "{text}")?;
-    output.flush()?;
+    let written = write_text(&text, output);
     match audited {
-        Audited::Sound(_) => Ok(()),
+        Audited::Sound(_) => written,
         Audited::Unsound(_) => Err(Trouble::Unsound),
     }
+}
+
+fn write_text<O: Write + Drop>(text: &String, mut output: O) -> Result<(), Trouble> {
+    write!(output, "{text}")?;
+    Ok(output.flush()?)
 }

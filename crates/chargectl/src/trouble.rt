@@ -3,7 +3,8 @@ use book_import::Stop;
 use book_reports::ReportFault;
 use office::ShelfFault;
 use program_answers::{
-    Status, books_unsound, io_failed, ledger_refused, no_such_number, report_failed, said, stopped,
+    Status, books_busy, books_unsound, io_failed, ledger_refused, no_such_number, report_failed, said,
+    stopped,
 };
 use std::alloc::AllocError;
 use std::io;
@@ -20,6 +21,8 @@ pub(crate) enum Trouble {
     Number,
     /// The file is there already.
     Exists,
+    /// Another program has the file of the books open.
+    Busy,
     /// A word is no date, or no name of a record.
     Word,
     Ledger(LedgerFault),
@@ -38,6 +41,7 @@ impl Trouble {
             Trouble::Usage => Status::Usage,
             Trouble::Number => no_such_number(errors),
             Trouble::Exists => said(errors, "exists"),
+            Trouble::Busy => books_busy(errors),
             Trouble::Word => said(errors, "word"),
             Trouble::Ledger(fault) => ledger_refused(errors, fault),
             Trouble::Report(fault) => report_failed(errors, fault),
@@ -82,6 +86,7 @@ impl From<ShelfFault> for Trouble {
         match fault {
             ShelfFault::Io => Trouble::Io,
             ShelfFault::Exists => Trouble::Exists,
+            ShelfFault::Busy => Trouble::Busy,
             ShelfFault::Ledger(fault) => Trouble::Ledger(fault),
         }
     }

@@ -154,7 +154,7 @@ answers_follow_history seen naming start before [] answered opened done still =
     record { end = start; told = refl; left = opened }
 answers_follow_history seen naming start before (exchange ∷ later) answered opened done still =
     let one = done.0 in
-    let told : Result Told LedgerFault = told_by one.answer in
+    let told : Result Told LedgerFault = told_by exchange.reply.answer in
     let gone = work_leaves opened one.call.work
     (open_at_first seen exchange.after later done.1 still) in
     let first = subst (λ naming. Asks naming exchange.asked one.call.dump told false
@@ -173,11 +173,10 @@ answers_follow_history seen naming start before (exchange ∷ later) answered op
         gone.events,
         record {
           dump = one.call.dump;
-          answer = one.answer;
           given = one.call.given;
           work = work;
           is = asks_done naming exchange.asked one.call.dump told (book_of start) gone.events work;
-          passed = one.told;
+          told = one.told;
           answered = more;
         },
         rest.told,

@@ -1,16 +1,14 @@
 -- Requests, one after the other, on one ledger: what each is told is what the whole history before
 -- it defines.
-use Rattle.std.specs.Prelude.{◌≡◌, false, List, [], ◌∷◌, ◌++◌, Result}
+use Rattle.std.specs.Prelude.{◌≡◌, false, List, [], ◌∷◌, ◌++◌}
 use Rattle.streams.specs.Sides.{Input, Output}
-use Rattle.book_model.specs.declared.fault.LedgerFault.{LedgerFault}
 use Rattle.book_model.specs.Words.{IsAnswered, Event, book_after, book_of, Naming, rulings_in}
 use Rattle.book_model.specs.Words.{stretches}
 use Rattle.book_core.specs.Ledgers.{Seen, IsOpenAt, books}
-use Rattle.book_reports.specs.declared.fault.ReportFault.{ReportFault}
 use Rattle.office.specs.declared.request.Asked.{Asked}
-use Rattle.office.specs.declared.request.Answer.{Answer}
+use Rattle.office.specs.declared.request.Reply.{Reply}
 use Rattle.office.specs.Requests.{Dump, Gives, Asks, told_by}
-use Rattle.office.specs.Answers.{Answers, PassesOn}
+use Rattle.office.specs.Answers.{Answers, IsTold}
 use Rattle.office.specs.Does.{does, is_hindered}
 
 -- no store has failed, and what the ledger is kept on returned what was written
@@ -27,7 +25,7 @@ pub record DiffersAsAllowed (one other : List Event) : Type 0 where
 -- a request, its reader and writer, and the ledger after it
 pub record Exchange (L : Type 0) : Type 0 where
   pub asked : Asked
-  pub result : Result Answer ReportFault
+  pub reply : Reply
   pub after : L
   pub input : Input
   pub output : Output
@@ -41,22 +39,23 @@ ledger_after before (exchange ∷ later) = ledger_after exchange.after later
 abbrev pub AreAnswered : {L : Type 0} → (L → Seen) → L → List (Exchange L) → Type 0
 AreAnswered seen before [] = Unit {0}
 AreAnswered seen before (exchange ∷ later) =
-    Answers exchange.asked exchange.result (books seen before exchange.after) exchange.input
+    Answers exchange.asked exchange.reply (books seen before exchange.after) exchange.input
     exchange.output × AreAnswered seen exchange.after later
 
--- After a history this was asked, told and passed on, and these events were made, the newest first.
--- Unless want of memory or the store hindered it, it is what the definitions say of the history,
--- looked at as a whole.
+-- After a history this was asked, answered and told, and these events were made, the newest first.
+-- Unless want of memory or the store hindered it, the answer is what the definitions say of the
+-- history, looked at as a whole.
 pub record IsToldAfter {L : Type 0} (naming : Naming) (history : List Event)
     (exchange : Exchange L) (made : List Event) : Type 0 where
   pub dump : Dump
-  pub answer : Result Answer LedgerFault
-  pub given : Gives exchange.asked dump (told_by answer) exchange.input
-  pub work : Asks naming exchange.asked dump (told_by answer) false (book_of history) made false
-  pub is : is_hindered (told_by answer) ≡ false
+  pub given : Gives exchange.asked dump (told_by exchange.reply.answer) exchange.input
+  pub work :
+      Asks naming exchange.asked dump (told_by exchange.reply.answer) false (book_of history) made
+      false
+  pub is : is_hindered (told_by exchange.reply.answer) ≡ false
       → does naming exchange.asked dump (book_of history)
-      ≡ record { told = told_by answer; events = made }
-  pub passed : PassesOn answer exchange.output exchange.result
+      ≡ record { told = told_by exchange.reply.answer; events = made }
+  pub told : IsTold exchange.reply.answer exchange.output exchange.reply.told
   pub answered : IsAnswered naming (made ++ history)
 
 -- so was each, after the history that goes on with what those before it made
@@ -91,5 +90,6 @@ AnswersAreFree {L} {M} seen seen_other =
     (made made_other : List Event) (first : IsToldAfter naming history one made)
     (second : IsToldAfter naming other two made_other)
     → DiffersAsAllowed history other → one.asked ≡ two.asked → first.dump ≡ second.dump
-    → is_hindered (told_by first.answer) ≡ false → is_hindered (told_by second.answer) ≡ false
-    → told_by first.answer ≡ told_by second.answer
+    → is_hindered (told_by one.reply.answer) ≡ false
+    → is_hindered (told_by two.reply.answer) ≡ false
+    → told_by one.reply.answer ≡ told_by two.reply.answer

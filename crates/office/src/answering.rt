@@ -8,7 +8,7 @@ ghost use Rattle.book_core.specs.Ledgers.{books};
 ghost use Rattle.streams.specs.Sides.{input, output, reader_seen};
 
 use crate::asking::ask;
-use crate::request::{Answer, Asked};
+use crate::request::{Answer, Asked, Reply};
 use book_core::{Ledger, Ruled, Sink, Source};
 use book_reports::{ReportFault, receipt_line_text, write_bytes, write_text};
 use std::alloc::Global;
@@ -28,20 +28,23 @@ fn tell<W: Write + Drop>(answer: &Answer, sink: &mut Sink<W>) -> Result<(), Repo
 }
 
 /// Does what is asked of the books, and writes what they answer. Where they refuse, nothing is
-/// written.
+/// written. What they answered is handed on also where it could not be written.
 pub fn answer<L: Ledger, R: Read + Drop, W: Write + Drop>(
     alloc: Global,
     ledger: &mut L,
     asked: &Asked,
     source: &mut Source<R>,
     sink: &mut Sink<W>,
-) -> Result<Answer, ReportFault>
+) -> Reply
     requires askable { IsAskable asked.now (reader_seen R.remaining source.old) }
     requires failed { has_failed sink.old ≡ false }
     ensures { Answers asked.now result (books L.seen ledger.old ledger.new)
         (input R.remaining source.old source.new) (output W.contents sink.old sink.new) }
 {
-    let answer = ask(alloc, ledger, asked, source)?;
-    tell(&answer, sink)?;
-    Ok(answer)
+    let answer = ask(alloc, ledger, asked, source);
+    let told = match &answer {
+        Ok(answer) => tell(answer, sink),
+        Err(fault) => Err(ReportFault::from(*fault)),
+    };
+    Reply { answer, told }
 }

@@ -12,6 +12,6 @@ pub use answering::answer;
 pub use asking::{ask, ask_alone};
 pub use book_reports::Report;
 pub use laws::{answers_are_free, answers_follow_history, run_twice_is_once};
-pub use request::{Answer, Asked};
+pub use request::{Answer, Asked, Reply};
 pub use running::run;
 pub use shelf::{Shelf, ShelfFault, Visit};

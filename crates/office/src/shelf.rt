@@ -20,6 +20,8 @@ pub enum ShelfFault {
     Io,
     /// The file is there already.
     Exists,
+    /// Another program has the file open.
+    Busy,
     /// There was no memory, the store failed, or it holds no books.
     Ledger(LedgerFault),
 }

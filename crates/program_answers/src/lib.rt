@@ -17,7 +17,7 @@ pub use check::check_list;
 pub use explanations::{Explanation, Numbered, explained};
 pub use laws::{numbers_are_one_to_one, same_records_same_texts};
 pub use message::{
-    PROGRAM, books_unsound, io_failed, ledger_refused, no_such_number, out_of_memory,
+    PROGRAM, books_busy, books_unsound, io_failed, ledger_refused, no_such_number, out_of_memory,
     report_failed, said, stopped, words_failed,
 };
 pub use names::name_of_text;

@@ -96,6 +96,14 @@ pub fn books_unsound<E: Write>(errors: &mut E) -> Status
     Status::Store
 }
 
+/// Says that another program has the file of the books open.
+pub fn books_busy<E: Write>(errors: &mut E) -> Status
+    ensures { result ≡ Status.Store }
+{
+    let _ = writeln!(errors, "{PROGRAM}: busy");
+    Status::Store
+}
+
 /// Says why a ledger refused.
 pub fn ledger_refused<E: Write>(errors: &mut E, fault: LedgerFault) -> Status
     ensures { result ≡ spec.ledger_status fault }
