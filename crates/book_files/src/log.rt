@@ -13,11 +13,14 @@ pub(crate) struct Log<'a> {
 }
 
 impl<'a> Log<'a> {
-    /// The log of a file that is there. It lies beside the file to which a link leads.
+    /// The log of a file that is there. It lies beside the file to which a link leads. An open makes
+    /// it, and then brings the names in the folder to the disk: a folder that refuses this refuses
+    /// it here, before there is a log that would stay.
     pub(crate) fn of(rt: &'a HostRuntime, book: &str) -> io::Result<Log<'a>> {
         let real = fs::canonicalize(rt, book)?;
         let path = format!(in rt.alloc(); "{}-wal", real.as_str())?;
         let was_there = is_there(rt, path.as_str())?;
+        sync_folder(rt, book)?;
         Ok(Log {
             rt,
             path,

@@ -10,32 +10,64 @@ use office::ShelfFault;
 use sqlite_disk::Files as Pair;
 use sqlite_std_file::FileFrom;
 use std::fs::File;
-use std::io::ErrorKind;
 use std::{fs, io};
 
 impl<P: Supposed> Files<'_, P> {
-    /// Makes new books of a name that nothing has. What was begun is taken away where they can't be
-    /// made; what a stop left of an earlier call is gone on with.
+    /// Makes new books of a name that nothing has. Where they can't be made, what this call began is
+    /// taken away; what a stop left of an earlier call is gone on with.
     pub(crate) fn make_new(&self, book: &str) -> Result<(), ShelfFault> {
         self.expect_none(book)?;
         let begun = beside(self.rt, book, "new").map_err(|error| failed(&error))?;
-        let is_first = match File::create_new(self.rt, begun.as_str()) {
-            Ok(_) => true,
-            Err(error) if error.kind() == ErrorKind::AlreadyExists => false,
-            Err(error) => return Err(failed(&error)),
+        let is_first = self.begin(begun.as_str())?;
+        let log = match Log::of(self.rt, begun.as_str()) {
+            Ok(log) => log,
+            Err(error) => {
+                if is_first {
+                    let _ = fs::remove_file(self.rt, begun.as_str());
+                }
+                return Err(failed(&error));
+            }
         };
-        let log = Log::of(self.rt, begun.as_str()).map_err(|error| failed(&error))?;
         let (made, files) = self.make_in(begun.as_str());
         let named = match made {
             Ok(()) => self.give_name(begun.as_str(), &log, book),
             Err(fault) => Err(fault),
         };
-        if named.is_err() && is_first && files.is_some() {
-            log.remove();
-            let _ = fs::remove_file(self.rt, begun.as_str());
+        match named {
+            Err(fault) if is_first && fault != ShelfFault::Busy => {
+                self.take_back(begun.as_str(), &log, files.is_some());
+            }
+            _ => {}
         }
         log.leave(files);
         named
+    }
+
+    /// Makes the file in which books are begun, and says whether it was not there. Where it was not,
+    /// a log or a journal of it is somebody's.
+    fn begin(&self, begun: &str) -> Result<bool, ShelfFault> {
+        match is_there(self.rt, begun) {
+            Ok(true) => return Ok(false),
+            Ok(false) => {}
+            Err(error) => return Err(failed(&error)),
+        }
+        self.expect_none(begun)?;
+        match File::create_new(self.rt, begun) {
+            Ok(_) => Ok(true),
+            Err(error) => Err(failed(&error)),
+        }
+    }
+
+    /// Takes away what this call began. While the file is locked it is emptied first: a stop on the
+    /// way leaves an empty one, with which the next call begins. A file that was not opened is empty;
+    /// a call that has it by now finds none to rename.
+    fn take_back(&self, begun: &str, log: &Log<'_>, is_locked: bool) {
+        if is_locked {
+            let _ = fs::write(self.rt, begun, b"".as_slice());
+            log.remove();
+        }
+        let _ = fs::remove_file(self.rt, begun);
+        log.take_away();
     }
 
     /// Nothing may have the name, nor that of a log or a journal beside it: new books would be taken

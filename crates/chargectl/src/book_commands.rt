@@ -38,8 +38,7 @@ impl<R: Read + Drop, W: Write + Drop> Visit for Question<R, W> {
     fn visit<L: Ledger>(self, books: &mut L) -> Result<(), Trouble> {
         let mut source = Source::new(self.input);
         let mut sink = Sink::new(self.output);
-        let Reply { answer, told } =
-            answer(self.alloc, books, &self.asked, &mut source, &mut sink);
+        let Reply { answer, told } = answer(self.alloc, books, &self.asked, &mut source, &mut sink);
         let written = flushed(told, sink.into_inner());
         // An import that stopped says so, also where its receipt could not be written.
         if let Answer::Receipt(receipt) = answer? {

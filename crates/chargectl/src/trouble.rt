@@ -3,8 +3,8 @@ use book_import::Stop;
 use book_reports::ReportFault;
 use office::ShelfFault;
 use program_answers::{
-    Status, books_busy, books_unsound, io_failed, ledger_refused, no_such_number, report_failed, said,
-    stopped,
+    Status, books_busy, books_unsound, io_failed, ledger_refused, no_such_number, report_failed,
+    said, stopped,
 };
 use std::alloc::AllocError;
 use std::io;

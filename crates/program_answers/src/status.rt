@@ -13,7 +13,7 @@ pub enum Status {
     Usage,
     /// The input was refused.
     Refused,
-    /// The store of the books failed, or an audit found them unsound.
+    /// The store of the books failed or is in use, or an audit found them unsound.
     Store,
     /// There was no memory.
     Memory,
