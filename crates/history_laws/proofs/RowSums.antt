@@ -8,7 +8,9 @@ use Rattle.std.proofs.Math.Bool.{or-true}
 use Rattle.std.proofs.lemmas.List.Folds.{fold-map}
 use Rattle.std.proofs.lemmas.List.Sums.{sum_by-cons, length-filter}
 use Rattle.tariff_rules.specs.declared.priced.Priced.{Priced}
-use Rattle.book_model.specs.Words.{key_of, same_key, row_at, keys_of, rows_of}
+use Rattle.book_model.specs.Words.{charged_at, key_of, same_key, row_at, keys_of, rows_of}
+use Rattle.book_model.specs.declared.row.ChargeRow.{ChargeRow}
+use Rattle.book_model.specs.declared.row.RowKey.{RowKey}
 use Rattle.book_model.proofs.RowLemmas.{by_key_total, same_key_is, same_key_laws, keys_distinct}
 use Rattle.book_model.proofs.ListLemmas.{list_any-map, count_by-distinct}
 use Rattle.book_model.proofs.SetLemmas.{any_tied-members}
@@ -60,16 +62,24 @@ module _ {X K : Type 0} {eq : K → K → Bool} (laws : IsEquivalence eq) (ks : 
       ∙ sum_by-exchange share ks xs
       ∙ at_their_keys xs there
 
--- the rows of some prices amount to what the prices do
-pub sum_by-rows_of : (priced : List Priced) → sum_by (λ row. row.amount) (rows_of priced)
-    ≡ sum_by (λ one. one.amount) priced
-sum_by-rows_of priced =
+-- what each row sums of the prices at its key is over all rows what all prices sum to
+pub sum_by-rows : (g : ChargeRow → ℕ) (f : Priced → ℕ) (priced : List Priced)
+    → ((key : RowKey) → g (row_at priced key) ≡ sum_by f (charged_at priced key))
+    → sum_by g (rows_of priced) ≡ sum_by f priced
+sum_by-rows g f priced each =
     let keys = keys_of priced in
-    fold-map (λ n row. n + row.amount) (row_at priced) 0 keys
-    ∙ sum_by-keys same_key_laws keys (keys_distinct priced) key_of (λ one. one.amount) priced
+    fold-map (λ n row. n + g row) (row_at priced) 0 keys
+    ∙ (λ i. sum_by (λ key. each key i) keys)
+    ∙ sum_by-keys same_key_laws keys (keys_distinct priced) key_of f priced
     (λ one among.
     (λ i. list_any (same_key_is i (key_of one)) keys)
     ∙ any_tied-members by_key_total (map key_of priced) (key_of one)
     ∙ (λ i. list_any (sym same_key_is i (key_of one)) (map key_of priced))
     ∙ list_any-map (same_key (key_of one)) key_of priced
     ∙ among)
+
+-- so the rows of some prices amount to what the prices do
+pub sum_by-rows_of : (priced : List Priced) → sum_by (λ row. row.amount) (rows_of priced)
+    ≡ sum_by (λ one. one.amount) priced
+sum_by-rows_of priced =
+    sum_by-rows (λ row. row.amount) (λ one. one.amount) priced (λ key. refl)

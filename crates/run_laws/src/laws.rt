@@ -6,6 +6,7 @@ ghost use Rattle.run_laws.specs.CallLaws.{CallsFollowHistory};
 ghost use Rattle.run_laws.specs.Laws.{ClosedStatementsStay, OpenStatementIsFirst, RunOrderIsFree};
 ghost use Rattle.run_laws.specs.Laws.{RunsMakeHistory, RunsChargeOnce, RunsConserve};
 ghost use Rattle.run_laws.specs.Laws.{RunsFollowHistory};
+ghost use Rattle.run_laws.specs.Widths.{StatementsAreEven};
 
 use book_core::Ledger;
 
@@ -59,4 +60,10 @@ pub fn calls_follow_history<L: Ledger>()
 /// amount to what the records cost that are charged by the history.
 pub fn lists_conserve<L: Ledger>()
     ensures { ListsConserve L.seen }
+{}
+
+/// Each line of a statement but the first has 114 characters, whatever period of books that calls
+/// made it is of: within the office's limits no number is wider than its column.
+pub fn statements_are_even()
+    ensures { StatementsAreEven }
 {}

@@ -8,4 +8,5 @@ mod laws;
 pub use laws::{
     calls_follow_history, closed_statements_stay, lists_conserve, open_statement_is_first,
     run_order_is_free, runs_charge_once, runs_conserve, runs_follow_history, runs_make_history,
+    statements_are_even,
 };
