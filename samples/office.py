@@ -1,8 +1,8 @@
 """The office's rules once more, apart from the program: what its commands print of a dump, of a tariff file, of a
 close, of a choice among records in dispute, of the second rule of identity, and as each report. `samples/make` writes
 by it what a month of commands has to print, history.py the answers to a long history, and rows.py those to worked rows
-and the rows of their tables. Only what these need is here: no dump is torn, no books are full, and five faults of a
-tariff file are known."""
+and the rows of their tables; `samples/recompute` recomputes the reports of any books. Only what these need is here: no
+dump is torn, no books are full, and five faults of a tariff file are known."""
 import collections
 import datetime
 import hashlib
@@ -18,6 +18,8 @@ RATES = ["%s_%s" % (kind, unit) for kind in ("step", "job") for unit in ("cpu", 
  OLD_RULE) = range(6, 15)
 # How many bytes say whose work a record measures, by the first rule of identity and by the second.
 IDENTITY_LENGTHS = {1: 24, 2: 32}
+# The bytes of code page 037 that are shown as characters: printable ASCII without the backslash.
+SHOWN = {chr(code).encode("cp037")[0]: chr(code) for code in range(32, 127) if chr(code) != "\\"}
 
 
 def refused(fault, *more):
@@ -58,7 +60,8 @@ def receipt(kinds):
 
 
 def text(field):
-    return field.decode("cp037").rstrip()
+    """As it is shown: without blanks at its end, and bytes that are no such characters in hexadecimal."""
+    return "".join(SHOWN.get(byte, "\\%02X" % byte) for byte in field.rstrip(b"\x40"))
 
 
 def moment(word, field):
@@ -71,13 +74,23 @@ def day_of(packed):
         int(packed[2:].hex()[:3]) - 1)
 
 
-def fields_of(data):
+def framed(data):
+    """The record: all offsets count from its descriptor."""
+    return struct.pack(">HH", len(data) + 4, 0) + data
+
+
+def section(record, at):
+    """The first section that the triplet there names; nothing where it counts none."""
+    offset, length, number = struct.unpack_from(">IHH", record, at)
+    return record[offset:offset + length] if number else b""
+
+
+def fields_of(record):
     """The accounting fields."""
-    offset, _, number = struct.unpack_from(">IHH", data, 60)
-    at = offset - 4
+    at, _, number = struct.unpack_from(">IHH", record, 64)
     for _ in range(number):
-        yield text(data[at + 1:at + 1 + data[at]])
-        at += 1 + data[at]
+        yield record[at + 1:at + 1 + record[at]]
+        at += 1 + record[at]
 
 
 def fault_of(file):
@@ -112,30 +125,31 @@ class Tariff:
         return "BASE", 100
 
     def centre(self, job, fields):
+        """By the bytes of a field, blanks at its end among them."""
         for centre in self.terms.get("centre", ()):
             at = centre.get("account", 0)
-            shown = job if at == 0 else fields[at - 1] if at <= len(fields) else None
-            if shown is not None and shown.startswith(centre["prefix" if at else "job"]):
+            field = job if at == 0 else fields[at - 1] if at <= len(fields) else None
+            if field is not None and field.startswith(centre["prefix" if at else "job"].encode("cp037")):
                 return centre["name"]
         return "UNASSIGNED"
 
     def record(self, data):
-        sections = [struct.unpack_from(">I", data, at - 4)[0] - 4 for at in (32, 40, 48, 56)]
-        work, activity, completion, processor = (data[at:] for at in sections)
+        whole = framed(data)
+        work, activity, completion, processor = (section(whole, at) for at in (32, 40, 48, 56))
         subtype, step = data[18:20], work[40:42]
         day, minute = day_of(data[6:10]), struct.unpack_from(">I", data, 2)[0] // 6000
-        job, rates = text(work[:8]), self.terms["rates"]
+        rates = self.terms["rates"]
         prefix = "step" if subtype == b"\0\4" else "job"
         cpu = sum(struct.unpack_from(">II", processor, 4))
-        blocks = struct.unpack_from(">I", activity, 4)[0]
+        blocks = struct.unpack_from(">I", activity, 4)[0] if activity else 0
         shift, percent = self.shift(day.isoweekday(), minute)
         base = 10 * cpu * rates[prefix + "_cpu"] + blocks * rates[prefix + "_excp"] + 1000 * rates[prefix + "_record"]
         identity = data[10:14] + work[:8] + work[64:72] + subtype + (step if subtype == b"\0\4" else b"\0\0")
         identity += work[56:64]
-        code = "%s/%s" % (completion[:2].hex().upper(), completion[2:4].hex().upper())
-        centre, amount = self.centre(job, list(fields_of(data))), (base * percent + 50000) // 100000
-        return Record(hashlib.sha256(data).hexdigest(), identity, day, minute, job, centre, shift, cpu, blocks, amount,
-                      code, text(work[32:40]), text(work[8:16]))
+        code = "/".join(part.hex().upper() for part in (completion[:2], completion[2:4])) if completion else "----"
+        centre, amount = self.centre(work[:8], list(fields_of(whole))), (base * percent + 50000) // 100000
+        return Record(hashlib.sha256(data).hexdigest(), identity, day, minute, text(work[:8]), centre, shift, cpu, blocks,
+                      amount, code, text(work[32:40]), text(work[8:16]))
 
 
 def decimals(number, places):
