@@ -14,6 +14,7 @@ Record = collections.namedtuple(
     "Record", "name identity day minute job centre shift cpu blocks amount code job_id program")
 EPOCH = datetime.date(1970, 1, 1)
 RATES = ["%s_%s" % (kind, unit) for kind in ("step", "job") for unit in ("cpu", "excp", "record")]
+MEMORY = 1
 (TARIFF_DATE, TARIFF_EXISTS, _, WRONG_PERIOD, NOT_LATER, NO_SUCH_PERIOD, NO_SUCH_RECORD, NOT_DISPUTED,
  OLD_RULE) = range(6, 15)
 # How many bytes say whose work a record measures, by the first rule of identity and by the second.
@@ -52,11 +53,11 @@ def kind_of(data):
     return "USAGE" if fits else "DAMAGED"
 
 
-def receipt(kinds):
-    """The line of an import whose records were counted as these."""
+def receipt(kinds, stop="END"):
+    """The line of an import whose records were counted as these, up to its stop."""
     counts = collections.Counter(kinds)
     words = "KEPT KNOWN UNPRICED OTHER HEADERS TRAILERS LOST CONTINUED DAMAGED".split()
-    return " ".join("%s %d" % (word, counts[word]) for word in words) + " STOP END"
+    return " ".join("%s %d" % (word, counts[word]) for word in words) + " STOP " + stop
 
 
 def text(field):

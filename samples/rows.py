@@ -2,6 +2,7 @@
 each answer is made anew. Tables are what they have to hold by the books as a whole, and not kept step by step."""
 import datetime
 import hashlib
+import itertools
 
 import office
 
@@ -36,10 +37,25 @@ def dump_of(named, words):
             dump[int(place):int(place) + len(digits) // 2] = bytes.fromhex(digits)
         else:
             part, _, count = part.partition("*")
+            count, _, place = count.partition("@")
             name, _, places = part.partition("/")
             first, last = places.split("..") if places else (0, "")
-            dump += named[name][int(first):int(last or len(named[name]))] * int(count or 1)
+            copy = bytearray(named[name][int(first):int(last or len(named[name]))])
+            for number in range(int(count or 1)):
+                if place:
+                    copy[int(place):int(place) + 2] = number.to_bytes(2, "big")
+                dump += copy
     return bytes(dump)
+
+
+def told(turns, unit):
+    """What came of each turn: once of all that follow each other and are the same."""
+    at = 0
+    for turn, group in itertools.groupby(turns):
+        last = at + len(list(group)) - 1
+        yield "%d%s %s" % (at, " TO %d" % last if last > at else "", unit)
+        yield from turn
+        at = last + 1
 
 
 def days(day):
@@ -113,17 +129,64 @@ class Tables:
 
 TABLES = "book closed tariffs rows lines marks choices identities index".split()
 
+# How often a report asks the books: for the days of the closes, and for what it lists.
+ASKS = {"statement": 2, "table": 1, "adjustments": 2, "disputes": 1, "periods": 1}
+
+# The report of a path, and the form of its text.
+PATHS = {"statement": ("statement", "plain"), "statement-csv": ("table", "csv"),
+         "adjustments": ("adjustments", "plain"), "disputes": ("disputes", "plain"), "periods": ("periods", "plain")}
+
+PHRASES = {200: "OK", 404: "Not Found", 503: "Service Unavailable"}
+
+
+def served(status, text, form="plain"):
+    """An answer over HTTP, as it is shown. A refusal without a text of its own has its status and phrase."""
+    first = "%d %s" % (status, PHRASES[status])
+    text = text or [first]
+    head = ["HTTP/1.1 " + first, "Content-Type: text/%s; charset=us-ascii" % form,
+            "Content-Length: %d" % sum(len(line) + 1 for line in text), "Connection: close", ""]
+    return [line + "\\r" for line in head] + text + ["SERVED %d" % status]
+
 
 class Rows:
     """Scripts, one after the other: what one names is named in those after it."""
     def __init__(self):
         self.dumps, self.texts = {}, {}
         self.books, self.shown, self.files = None, {}, {}
+        # How many calls of the books come before one that is refused for memory, if one is to be.
+        self.calls_left, self.is_counted = None, False
 
     def begin(self, kind):
         if kind not in (["new"], ["commands"]):
             raise NotKnown
         self.books, self.shown, self.files = office.Books(), {}, {}
+        self.is_counted = False
+
+    def is_refused(self):
+        """Counts a call of the books, and tells whether it is the one that is refused."""
+        if self.calls_left is None:
+            return False
+        self.calls_left -= 1
+        if self.calls_left < 0:
+            self.calls_left = None
+        return self.calls_left is None
+
+    def take(self, dump):
+        """The receipt of a dump. The books are asked of usage records alone."""
+        kinds = []
+        for data in office.joined(dump):
+            if office.kind_of(data) == "USAGE" and self.is_refused():
+                return [office.receipt(kinds, "LEDGER %d" % office.MEMORY)]
+            kinds.append(self.books.take_one(data))
+        return [office.receipt(kinds)]
+
+    def report(self, verb, words):
+        """A report, or why there is none."""
+        if any(self.is_refused() for _ in range(ASKS[verb])):
+            return office.refused(office.MEMORY)
+        if words:
+            return self.books.of_period(getattr(self.books, verb), int(words[0]))
+        return list(getattr(self.books, verb)())
 
     def name_of(self, word):
         if len(word) == 64:
@@ -144,10 +207,12 @@ class Rows:
     def command(self, verb, words, body=()):
         """The answer to a command of books."""
         books = self.books
+        if verb == "import":
+            return self.take(dump_of(self.dumps, words))
+        if verb in ("tariff", "close", "choose", "adopt") and self.is_refused():
+            return office.refused(office.MEMORY)
         if verb == "tariff":
             return books.tariff(self.text(words, body).encode())
-        if verb == "import":
-            return books.take(dump_of(self.dumps, words))
         if verb == "close":
             return books.close(int(words[0]), datetime.date.fromisoformat(words[1]))
         if verb == "choose":
@@ -164,24 +229,61 @@ class Rows:
             raise ValueError("a run that is refused")
         return ["CHANGES %d %s MORE" % (told, what)]
 
+    def get(self, path):
+        """The answer to a request for a report."""
+        _, name, *words = path.split("/")
+        verb, form = PATHS[name]
+        text = self.report(verb, words)
+        if text == office.refused(office.MEMORY):
+            return served(503, [])
+        return served(404, []) if text == office.refused(office.NO_SUCH_PERIOD) else served(200, text, form)
+
+    def post(self, parts):
+        """The answer to a request that hands in a dump."""
+        text = self.take(dump_of(self.dumps, parts))
+        return served(200 if text[0].endswith(" END") else 503, text)
+
+    def each_call(self, verb, words, body):
+        """The answers where the first call of the books is refused, then the second, and so on up to where none is;
+        with each, what it changed."""
+        turns, has_refused = [], True
+        while has_refused:
+            self.calls_left = len(turns)
+            answer = self.answer(verb, words, body)
+            has_refused, self.calls_left = self.calls_left is None, None
+            turns.append(answer + self.changes())
+        return list(told(turns, "CALLS"))
+
+    def records(self, parts):
+        """The records of a dump that is whole: the descriptor of each, and its name."""
+        joined = list(office.joined(dump_of(self.dumps, parts)))
+        return ["RECORDS %d FAULT 0" % len(joined)] + [
+            "%04x0000 %s" % (len(data) + 4, hashlib.sha256(data).hexdigest()) for data in joined]
+
     def answer(self, verb, words, body):
         """The answer to a line on books."""
-        books = self.books
         if verb in TABLES:
-            return list(getattr(Tables(books), verb)(*words))
-        if verb in ("statement", "table", "adjustments"):
-            return books.of_period(getattr(books, verb), int(words[0]))
-        if verb in ("disputes", "periods"):
-            return list(getattr(books, verb)())
+            return list(getattr(Tables(self.books), verb)(*words))
+        if verb in ASKS:
+            text = self.report(verb, words)
+            return ["TOOK %d IN 1" % sum(len(line) + 1 for line in text)] if self.is_counted else text
+        if verb == "writer":
+            self.is_counted = words == ["all", "1..2"]
+            return []
         if verb == "changes":
             return self.changes()
         if verb == "list":
-            return [line for asked in body for line in self.command(asked.split()[0], asked.split()[1:])]
-        if verb == "get" and words == ["/disputes"]:
-            text = list(books.disputes())
-            head = ["HTTP/1.1 200 OK", "Content-Type: text/plain; charset=us-ascii",
-                    "Content-Length: %d" % sum(len(line) + 1 for line in text), "Connection: close", ""]
-            return [line + "\\r" for line in head] + text + ["SERVED 200"]
+            commands = [asked.split() for asked in body] * int(words[0] if words else 1)
+            answers = [self.command(asked, rest) for asked, *rest in commands]
+            return list(told(answers, "COMMANDS")) if words else sum(answers, [])
+        if verb == "get":
+            return self.get(*words)
+        if verb == "post" and words[0] == "/import":
+            return self.post(words[1:])
+        if verb == "each-call":
+            return self.each_call(words[0], words[1:], body)
+        if verb == "records":
+            return self.records(words)
         if verb in ("stops", "refuses"):
             return self.swept("STOPS" if verb == "stops" else "REFUSED", body)
         return self.command(verb, words, body)
@@ -234,8 +336,13 @@ class Rows:
                 yield from self.act(kind, line[2:], body)
 
 
-def answered(data, name):
+def played(data, script):
     """The lines of a script with its answers made anew. It names what the script of all samples names."""
     rows = Rows()
     list(rows.play((data / "samples.rows").read_text()))
-    return rows.play((data / name).read_text())
+    return rows.play(script)
+
+
+def answered(data, name):
+    """The same of a script that is there."""
+    return played(data, (data / name).read_text())

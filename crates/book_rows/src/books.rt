@@ -3,10 +3,11 @@
 use crate::answers::{push_accepted, push_receipt, push_ruled};
 use crate::changes::push_changes;
 use crate::day::Day;
+use crate::failing_reads::import_each_read;
 use crate::lines::BookLines;
 use crate::names::name_in;
 use crate::reading::Reading;
-use crate::request_lists::push_answers;
+use crate::request_lists::{push_answers, push_repeated};
 use crate::texts::{BookText, TextOf};
 use crate::writing::push_text;
 use book_core::{Ledger, Ruled, Source};
@@ -71,7 +72,8 @@ fn accept_each<L: Ledger>(
 }
 
 impl BookLines {
-    /// Answers a line, each by one call of the books but for `list`, `accept` and `changes`.
+    /// Answers a line, each by one call of the books but for `list`, `accept`, `changes` and what a
+    /// row does many times.
     fn answer<L: Ledger>(
         &mut self,
         named: &Named,
@@ -94,6 +96,10 @@ impl BookLines {
             ("closes", [periods, day]) => close_each(ledger, periods, Day::of(day)?, out),
             ("import", parts) => read_in(alloc, ledger, reading, &named.read_dump(parts)?, out),
             ("accept", parts) => accept_each(alloc, ledger, &named.read_dump(parts)?, out),
+            ("import-each-read", words) => import_each_read(named, ledger, reading, words, out),
+            ("list", [times]) => {
+                push_repeated(named, reading.layout, ledger, ask.body, times, out)
+            }
             ("list", _) => push_answers(named, reading.layout, ledger, ask.body, out),
             ("changes", []) => {
                 let shown = self.shown.get_or_insert_with(|| BTreeMap::new(alloc));

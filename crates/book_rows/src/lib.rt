@@ -11,7 +11,9 @@
 //! | `adopt RULE`: the number of a rule of identity | the same |
 //! | `import PARTS..` | the receipt |
 //! | `accept PARTS..` | `KEPT`, `KNOWN`, `UNPRICED` or the fault's line, of each usage record |
+//! | `import-each-read PARTS..` | the receipts where each read fails in turn |
 //! | `list`, with a body of `tariff`, `import`, `close`, `choose`, `adopt` | the answer to each |
+//! | `list TIMES`, with such a body, all of it so many times in one list | the same |
 //! | `statement PERIOD`, `table PERIOD`, `adjustments PERIOD`, `disputes`, `periods` | the text |
 //! | `changes` | each text, but for tables, that is not as at the last `changes` of the row |
 //!
@@ -32,6 +34,12 @@
 //! and the reads `counted`. Texts are written as `writer SIZE WRITES` says: at most so many bytes
 //! in each of so many writes, or `all`; then how much was taken in how many writes is told. With
 //! `writer SIZE FROM..END` a text is written again and again, and that alone is told of each.
+//!
+//! `import-each-read` imports a dump from a reader whose first read fails, and then whole; then from
+//! one whose second read fails, and so on up to one of which none does. A word `at:PLACE` among the
+//! parts puts the number of the turn into two bytes there, so that each dump is another one. Turns,
+//! and commands of a list that is repeated, are counted from 0 on, and shown as one where they follow
+//! each other and had the same answers.
 #![tactic(auto)]
 
 mod alone;
@@ -40,6 +48,7 @@ mod books;
 mod changes;
 mod day;
 mod dumps;
+mod failing_reads;
 mod faults;
 mod lines;
 mod names;

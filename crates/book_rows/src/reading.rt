@@ -52,6 +52,23 @@ impl Reading {
         Ok(reading)
     }
 
+    /// The same, but that each read after so many fails.
+    pub(crate) fn failing(self, reads: u16) -> Reading {
+        let limits = Limits {
+            calls: u32::from(reads),
+            ..self.limits
+        };
+        Reading { limits, ..self }
+    }
+
+    /// Of the same layout, whole, up to the end.
+    pub(crate) fn whole(self) -> Reading {
+        Reading {
+            layout: self.layout,
+            ..Reading::plain()
+        }
+    }
+
     /// The reader of a dump.
     pub(crate) fn reader(self, dump: &[u8]) -> Giver<'_> {
         Giver::new(dump, self.limits, self.is_endless)

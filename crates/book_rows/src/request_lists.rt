@@ -8,7 +8,7 @@ use crate::day::Day;
 use crate::names::name_in;
 use book_core::Ledger;
 use office::{Asked, run};
-use row_scripts::{Answered, LineFault, Named};
+use row_scripts::{Answered, Cases, LineFault, Named};
 use smf_frames::Layout;
 
 /// The request of a line.
@@ -57,4 +57,29 @@ pub(crate) fn push_answers<L: Ledger>(
         push_answer(out, answer)?;
     }
     Ok(())
+}
+
+/// Asks the requests of a body of books, all of them so many times in one list. Adds the answers,
+/// once where some that follow each other are the same.
+pub(crate) fn push_repeated<L: Ledger>(
+    named: &Named,
+    layout: Layout,
+    ledger: &mut L,
+    body: &str,
+    times: &str,
+    out: &mut Vec<u8>,
+) -> Answered {
+    let alloc = named.alloc();
+    let mut bodies = String::new(alloc);
+    for _ in 0..times.parse::<u16>()? {
+        bodies.push_str(body)?;
+    }
+    let requests = requests(named, layout, bodies.as_str())?;
+    let mut cases = Cases::new(alloc, out, "COMMANDS");
+    for answer in &run(alloc, ledger, &requests)? {
+        let mut text = Vec::new(alloc);
+        push_answer(&mut text, answer)?;
+        cases.take(text)?;
+    }
+    cases.say()
 }

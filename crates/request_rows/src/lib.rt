@@ -16,7 +16,6 @@
 //! Lengths and counts that follow each other and had the same are shown as one.
 #![tactic(auto)]
 
-mod cases;
 mod connection;
 mod exchange;
 mod lines;

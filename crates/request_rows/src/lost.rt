@@ -1,12 +1,11 @@
 //! A request whose answer is lost at each write, and that is sent again.
 
-use crate::cases::Cases;
 use crate::connection::Connection;
 use crate::exchange::{Exchange, push_served};
 use crate::sending::Sending;
 use book_core::Ledger;
 use book_http::Served;
-use row_scripts::{Answered, Ask, push_line};
+use row_scripts::{Answered, Ask, Cases, push_line};
 
 /// The most writes that an answer takes.
 const MOST_WRITES: u32 = 10_000;

@@ -1,10 +1,9 @@
 //! A request that a script tells: sent once, cut at each length, or broken at each read.
 
-use crate::cases::Cases;
 use crate::connection::Connection;
 use crate::exchange::Exchange;
 use book_core::Ledger;
-use row_scripts::{Answered, Ask, LineFault, Named};
+use row_scripts::{Answered, Ask, Cases, LineFault, Named};
 use std::alloc::Global;
 use std::io::Write;
 

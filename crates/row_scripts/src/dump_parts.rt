@@ -66,6 +66,23 @@ fn push_copies(out: &mut Vec<u8>, bytes: &[u8], count: &str) -> Answered {
     Ok(())
 }
 
+/// Adds so many copies of bytes, each with its number, from 0 on, in two bytes at a place of it.
+fn push_numbered(
+    alloc: Global,
+    out: &mut Vec<u8>,
+    bytes: &[u8],
+    count: &str,
+    place: &str,
+) -> Answered {
+    let times = count.parse::<u16>()?;
+    let mut copy = Vec::from_slice(alloc, bytes)?;
+    for number in 0..times {
+        put_at(&mut copy, place, &number.to_be_bytes())?;
+        out.extend_from_slice(&copy)?;
+    }
+    Ok(())
+}
+
 /// The bytes from one place up to another, if they are there.
 fn slice_of<'a>(bytes: &'a [u8], places: &str) -> Option<&'a [u8]> {
     let (from, to) = places.split_once("..")?;
@@ -86,13 +103,18 @@ fn named<'a>(dumps: &'a Dumps, part: &str) -> Option<&'a [u8]> {
     }
 }
 
-/// Adds a part: `NAME`, `NAME/FROM..TO`, either with `*COUNT` behind it, `x:HEX`, `zeros:COUNT`, or
-/// `PLACE:HEX`, which is put over what is there so far.
+/// Adds a part: `NAME`, `NAME/FROM..TO`, either followed by `*COUNT` or, where each copy is to have
+/// its number, by `*COUNT@PLACE`; `x:HEX`, `zeros:COUNT`, or `PLACE:HEX`, which is put over what is
+/// there so far.
 fn push_part(alloc: Global, dumps: &Dumps, out: &mut Vec<u8>, part: &str) -> Answered {
     match part.split_once(':') {
         None => {
             let (part, count) = part.split_once('*').unwrap_or((part, "1"));
-            push_copies(out, named(dumps, part).ok_or(LineFault::Unread)?, count)
+            let bytes = named(dumps, part).ok_or(LineFault::Unread)?;
+            match count.split_once('@') {
+                None => push_copies(out, bytes, count),
+                Some((count, place)) => push_numbered(alloc, out, bytes, count, place),
+            }
         }
         Some(("x", word)) => read_where(push_hex(out, word)?),
         Some(("zeros", count)) => push_copies(out, &[0], count),

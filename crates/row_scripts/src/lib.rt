@@ -4,6 +4,7 @@
 
 mod answered;
 mod ask;
+mod cases;
 mod dump_parts;
 mod limited;
 mod named;
@@ -12,6 +13,7 @@ mod verdict;
 
 pub use answered::{Answered, LineFault, if_read};
 pub use ask::{Answers, Ask};
+pub use cases::Cases;
 pub use dump_parts::push_hex;
 pub use limited::{Giver, Limits, Taker};
 pub use named::Named;

@@ -1,13 +1,13 @@
 //! What came of one case after the other: it is said once of all that follow each other and had the
 //! same.
 
-use row_scripts::Answered;
+use crate::answered::Answered;
 use std::alloc::Global;
 use std::io::Write;
 
 /// Cases, counted from 0 on.
 #[derive(Drop)]
-pub(crate) struct Cases<'a> {
+pub struct Cases<'a> {
     out: &'a mut Vec<u8>,
     /// What a case has so many of.
     unit: &'a str,
@@ -20,8 +20,8 @@ pub(crate) struct Cases<'a> {
 }
 
 impl<'a> Cases<'a> {
-    /// None yet. What is said of them goes behind a text.
-    pub(crate) fn new(alloc: Global, out: &'a mut Vec<u8>, unit: &'a str) -> Cases<'a> {
+    /// None yet. What is said of them is added to a text.
+    pub fn new(alloc: Global, out: &'a mut Vec<u8>, unit: &'a str) -> Cases<'a> {
         Cases {
             out,
             unit,
@@ -32,7 +32,7 @@ impl<'a> Cases<'a> {
     }
 
     /// Says what the last cases had, if there were some.
-    pub(crate) fn say(&mut self) -> Answered {
+    pub fn say(&mut self) -> Answered {
         let (first, behind, unit) = (self.first, self.count, self.unit);
         if behind <= first {
             return Ok(());
@@ -47,7 +47,7 @@ impl<'a> Cases<'a> {
     }
 
     /// Takes what the next case had.
-    pub(crate) fn take(&mut self, had: Vec<u8>) -> Answered {
+    pub fn take(&mut self, had: Vec<u8>) -> Answered {
         if had.as_slice() != self.had.as_slice() {
             self.say()?;
             self.first = self.count;
