@@ -50,6 +50,7 @@ mod day;
 mod dumps;
 mod failing_reads;
 mod faults;
+mod forgetful;
 mod lines;
 mod names;
 mod plans;
@@ -64,4 +65,5 @@ mod writing;
 
 pub use alone::answer_alone;
 pub use books::answer;
+pub use forgetful::Forgetful;
 pub use lines::BookLines;

@@ -24,7 +24,7 @@ impl Lines {
 
     /// Answers a line that is asked of books, by calls or by requests. False where it is none, or
     /// can't be read.
-    pub(crate) fn ask<L: Ledger>(
+    pub(crate) fn ask_once<L: Ledger>(
         &mut self,
         named: &Named,
         ledger: &mut L,
@@ -35,5 +35,19 @@ impl Lines {
             return Ok(true);
         }
         answer_request(&mut self.requests, named, ledger, ask, out)
+    }
+
+    /// The same, or answers `each-call` with such a line behind it.
+    pub(crate) fn ask<L: Ledger>(
+        &mut self,
+        named: &Named,
+        ledger: &mut L,
+        ask: Ask<'_>,
+        out: &mut Vec<u8>,
+    ) -> Result<bool, AllocError> {
+        if ask.verb == "each-call" {
+            return self.ask_each_call(named, ledger, ask, out);
+        }
+        self.ask_once(named, ledger, ask, out)
     }
 }

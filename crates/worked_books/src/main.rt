@@ -17,7 +17,10 @@
 //! | `flat CPU BLOCKS`, `one-name CPU BLOCKS` | the same in memory, under a tariff of two rates |
 //! | `empty` | none, in trees without rows |
 //!
-//! Its lines are those of `book_rows` and `request_rows`, and in tables also
+//! Its lines are those of `book_rows` and `request_rows`. `each-call`, with such a line after it, asks
+//! that line of books that refuse its first call for memory, then its second one, and so on up to
+//! where none is refused; the answers, each with the texts of the books that it changed, are shown as
+//! one where they follow each other and are the same. In tables there are also
 //!
 //! | A line | Is answered with |
 //! |---|---|
@@ -51,6 +54,7 @@
 #![tactic(auto)]
 
 mod changed;
+mod each_call;
 mod ends;
 mod left;
 mod lines;

@@ -1,0 +1,2 @@
+-- Calls that are refused for memory.
+pub mod RefusalLemmas
