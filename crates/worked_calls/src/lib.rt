@@ -1,10 +1,33 @@
-//! What no script of rows can name: how much memory is in use while long dumps are read, and a
-//! request over a socket. There is nothing here but tests.
+//! What no script of rows can name: how much memory is in use while long dumps are read, calls that
+//! were refused memory and are made again, and requests over sockets. There is nothing here but
+//! tests.
 #![tactic(auto)]
 
 #[cfg(test)]
+mod books;
+#[cfg(test)]
+mod dumps;
+#[cfg(test)]
+mod ends;
+#[cfg(test)]
 mod headers;
+#[cfg(test)]
+mod lines;
 #[cfg(test)]
 mod long_dumps;
 #[cfg(test)]
-mod sockets;
+mod requests;
+#[cfg(test)]
+mod rows;
+#[cfg(test)]
+mod runs;
+#[cfg(test)]
+mod sample;
+#[cfg(test)]
+mod serving;
+#[cfg(test)]
+mod shelf;
+#[cfg(test)]
+mod tables;
+#[cfg(test)]
+mod texts;

@@ -1,4 +1,4 @@
-//! Dumps of any length: what is asked for memory while they are read, and how much of it is in use.
+//! Dumps of any length: how much memory is asked for while they are read, and how much is in use.
 
 use crate::headers::Headers;
 use book_core::{LedgerFault, PlainLedger, ShaNames, Sink, Source};
@@ -26,17 +26,19 @@ fn headers(count: u32) -> Receipt {
     }
 }
 
-/// Imports so many dump headers into new books. Where memory is refused the test fails by an error:
+/// Imports so many dump headers into new books, and once more where memory was refused:
 /// `bench/refusals` refuses each request in turn, and counts how many there are.
 fn import_headers(rt: &impl Abort, alloc: Global, count: u32) -> Result<(), Fail> {
     let mut ledger = PlainLedger::new(alloc, ShaNames)?;
-    let mut source = Source::new(Headers::of(count));
-    let receipt = import(alloc, &mut source, Layout::Rdw, MAX_READS, &mut ledger);
-    if receipt.stop == Stop::Ledger(LedgerFault::Memory) {
-        return Err(Fail::new("memory was refused"));
+    for _ in 0..2 {
+        let mut source = Source::new(Headers::of(count));
+        let receipt = import(alloc, &mut source, Layout::Rdw, MAX_READS, &mut ledger);
+        if receipt.stop != Stop::Ledger(LedgerFault::Memory) {
+            assert_eq!(rt; receipt, headers(count));
+            return Ok(());
+        }
     }
-    assert_eq!(rt; receipt, headers(count));
-    Ok(())
+    Err(Fail::new("memory was refused twice"))
 }
 
 #[test]
