@@ -19,27 +19,45 @@ fn digit_of(byte: u8) -> Option<u8> {
     }
 }
 
+/// The byte that two digits spell.
+fn byte_of(digits: &[u8]) -> Option<u8> {
+    let [high, low] = *digits else {
+        return None;
+    };
+    Some(digit_of(high)? << 4 | digit_of(low)?)
+}
+
 /// Adds the bytes that a word spells, two capital digits each. False where it spells none.
 pub fn push_hex(out: &mut Vec<u8>, word: &str) -> Result<bool, AllocError> {
     for digits in word.as_bytes().chunks(2) {
-        let [high, low] = *digits else {
+        let Some(byte) = byte_of(digits) else {
             return Ok(false);
         };
-        let (Some(high), Some(low)) = (digit_of(high), digit_of(low)) else {
-            return Ok(false);
-        };
-        out.push(high << 4 | low)?;
+        out.push(byte)?;
     }
     Ok(true)
 }
 
+/// Adds the bytes that a word spells.
+fn push_bytes(out: &mut Vec<u8>, word: &str) -> Answered {
+    read_where(push_hex(out, word)?)
+}
+
 /// Adds the bytes that the words of a line spell, up to a word that begins with a semicolon.
-pub(crate) fn push_hex_line(out: &mut Vec<u8>, line: &str) -> Answered {
+fn push_hex_line(out: &mut Vec<u8>, line: &str) -> Answered {
     for word in line.split_whitespace() {
         if word.starts_with(';') {
             break;
         }
-        read_where(push_hex(out, word)?)?;
+        push_bytes(out, word)?;
+    }
+    Ok(())
+}
+
+/// Adds the bytes that lines spell.
+pub(crate) fn push_hex_lines(out: &mut Vec<u8>, lines: &str) -> Answered {
+    for line in lines.lines() {
+        push_hex_line(out, line)?;
     }
     Ok(())
 }
@@ -52,6 +70,13 @@ fn put_at(out: &mut [u8], place: &str, bytes: &[u8]) -> Answered {
     }
     out[at..at + bytes.len()].copy_from_slice(bytes);
     Ok(())
+}
+
+/// Puts the bytes that a word spells over those at a place, if they are there.
+fn put_hex(alloc: Global, out: &mut [u8], place: &str, word: &str) -> Answered {
+    let mut bytes = Vec::new(alloc);
+    push_bytes(&mut bytes, word)?;
+    put_at(out, place, &bytes)
 }
 
 /// Adds so many copies of bytes.
@@ -97,9 +122,27 @@ fn slice_of<'a>(bytes: &'a [u8], places: &str) -> Option<&'a [u8]> {
 
 /// The bytes of a dump that is named, or those at some places of it.
 fn named<'a>(dumps: &'a Dumps, part: &str) -> Option<&'a [u8]> {
-    match part.split_once('/') {
-        None => Some(dumps.get(part)?.as_slice()),
-        Some((name, places)) => slice_of(dumps.get(name)?.as_slice(), places),
+    let (name, places) = part.split_once('/').unwrap_or((part, "0.."));
+    slice_of(dumps.get(name)?.as_slice(), places)
+}
+
+/// Adds a dump that is named, or bytes of it, once or as often as the number after a star says, and
+/// then, if a place comes after an at sign, with the number of each copy there.
+fn push_named(alloc: Global, dumps: &Dumps, out: &mut Vec<u8>, part: &str) -> Answered {
+    let (part, count) = part.split_once('*').unwrap_or((part, "1"));
+    let bytes = named(dumps, part).ok_or(LineFault::Unread)?;
+    match count.split_once('@') {
+        None => push_copies(out, bytes, count),
+        Some((count, place)) => push_numbered(alloc, out, bytes, count, place),
+    }
+}
+
+/// Adds a part that names no dump: what stands before its colon, and after it.
+fn push_kind(alloc: Global, out: &mut Vec<u8>, kind: &str, word: &str) -> Answered {
+    match kind {
+        "x" => push_bytes(out, word),
+        "zeros" => push_copies(out, &[0], word),
+        place => put_hex(alloc, out, place, word),
     }
 }
 
@@ -108,21 +151,8 @@ fn named<'a>(dumps: &'a Dumps, part: &str) -> Option<&'a [u8]> {
 /// there so far.
 fn push_part(alloc: Global, dumps: &Dumps, out: &mut Vec<u8>, part: &str) -> Answered {
     match part.split_once(':') {
-        None => {
-            let (part, count) = part.split_once('*').unwrap_or((part, "1"));
-            let bytes = named(dumps, part).ok_or(LineFault::Unread)?;
-            match count.split_once('@') {
-                None => push_copies(out, bytes, count),
-                Some((count, place)) => push_numbered(alloc, out, bytes, count, place),
-            }
-        }
-        Some(("x", word)) => read_where(push_hex(out, word)?),
-        Some(("zeros", count)) => push_copies(out, &[0], count),
-        Some((place, word)) => {
-            let mut bytes = Vec::new(alloc);
-            read_where(push_hex(&mut bytes, word)?)?;
-            put_at(out, place, &bytes)
-        }
+        Some((kind, word)) => push_kind(alloc, out, kind, word),
+        None => push_named(alloc, dumps, out, part),
     }
 }
 

@@ -9,7 +9,7 @@ use std::io::{ErrorKind, Read, Write};
 pub struct Limits {
     /// How many bytes go over at a call, at most.
     pub size: usize,
-    /// Each call behind so many fails.
+    /// Each call after so many fails.
     pub calls: u32,
 }
 

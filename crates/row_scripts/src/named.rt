@@ -1,7 +1,7 @@
 //! What scripts have named: dumps and texts.
 
 use crate::answered::{Answered, LineFault, if_read};
-use crate::dump_parts::{Dumps, dump_of, push_hex_line};
+use crate::dump_parts::{Dumps, dump_of, push_hex_lines};
 use std::alloc::{AllocError, Global};
 use std::collections::BTreeMap;
 
@@ -42,36 +42,49 @@ impl Named {
         Some(self.texts.get(name)?.as_str())
     }
 
-    /// A body, and the texts that are named behind it.
+    /// A body, and the texts that are named after it.
     pub fn read_texts(&self, names: &[&str], body: &str) -> Answered<String> {
         let mut text = String::from_str(self.alloc, body)?;
         for name in names {
-            text.push_str(self.text(name).ok_or(LineFault::Unread)?)?;
+            let Some(other) = self.text(name) else {
+                return Err(LineFault::Unread);
+            };
+            text.push_str(other)?;
         }
         Ok(text)
     }
 
-    /// A body, and the texts that are named behind it, if they are.
+    /// A body, and the texts that are named after it, if they are.
     pub fn texts(&self, names: &[&str], body: &str) -> Result<Option<String>, AllocError> {
         if_read(self.read_texts(names, body))
     }
 
-    /// Names a dump of parts, and of what a body spells behind them.
-    pub(crate) fn name_dump(&mut self, name: &str, parts: &[&str], body: &str) -> Answered {
+    /// The dump of parts, and what lines spell after them.
+    fn read_dump_and(&self, parts: &[&str], lines: &str) -> Answered<Vec<u8>> {
         let mut dump = self.read_dump(parts)?;
-        for line in body.lines() {
-            push_hex_line(&mut dump, line)?;
-        }
-        self.dumps
-            .insert(String::from_str(self.alloc, name)?, dump)?;
+        push_hex_lines(&mut dump, lines)?;
+        Ok(dump)
+    }
+
+    /// Names a dump, by a name, parts, and what a body spells after them.
+    pub(crate) fn name_dump(&mut self, words: &[&str], body: &str) -> Answered {
+        let [name, parts @ ..] = words else {
+            return Err(LineFault::Unread);
+        };
+        let dump = self.read_dump_and(parts, body)?;
+        let name = String::from_str(self.alloc, name)?;
+        self.dumps.insert(name, dump)?;
         Ok(())
     }
 
-    /// Names a text: a body, and the texts that are named behind it.
-    pub(crate) fn name_text(&mut self, name: &str, names: &[&str], body: &str) -> Answered {
+    /// Names a text, by a name, and texts that are named, which come after a body.
+    pub(crate) fn name_text(&mut self, words: &[&str], body: &str) -> Answered {
+        let [name, names @ ..] = words else {
+            return Err(LineFault::Unread);
+        };
         let text = self.read_texts(names, body)?;
-        self.texts
-            .insert(String::from_str(self.alloc, name)?, text)?;
+        let name = String::from_str(self.alloc, name)?;
+        self.texts.insert(name, text)?;
         Ok(())
     }
 }

@@ -1,4 +1,4 @@
-//! A script, line by line. A line that begins with `> ` asks, and lines behind it that begin with
+//! A script, line by line. A line that begins with `> ` asks, and lines after it that begin with
 //! `|` are its body. A line that begins with `#`, and an empty one, say nothing. Every other line
 //! is an answer that is wanted: it is left out, and what is answered is written in its place.
 
@@ -59,27 +59,43 @@ impl<A: Answers> Player<A> {
         }
     }
 
-    /// Begins a row, names a dump or a text, or asks for an answer.
-    fn act(&mut self, words: &[&str]) -> Answered {
-        let Some((verb, words)) = words.split_first() else {
+    /// Begins a row, by the words after its name.
+    fn begin(&mut self, words: &[&str]) -> Answered {
+        let [_name, kind @ ..] = words else {
             return Err(LineFault::Unread);
         };
+        self.played.rows = self.played.rows.saturating_add(1);
+        read_where(self.answers.begin(&self.named, kind)?)
+    }
+
+    /// Asks for an answer.
+    fn ask(&mut self, verb: &str, words: &[&str]) -> Answered {
+        self.played.answers = self.played.answers.saturating_add(1);
         let body = self.body.as_str();
-        match (*verb, words) {
-            ("row", [_name, kind @ ..]) => {
-                self.played.rows = self.played.rows.saturating_add(1);
-                read_where(self.answers.begin(&self.named, kind)?)
-            }
-            ("dump", [name, parts @ ..]) => self.named.name_dump(name, parts, body),
-            ("text", [name, names @ ..]) => self.named.name_text(name, names, body),
-            ("row" | "dump" | "text", _) => Err(LineFault::Unread),
-            (verb, words) => {
-                self.played.answers = self.played.answers.saturating_add(1);
-                let ask = Ask { verb, words, body };
-                let text = &mut self.played.text;
-                read_where(self.answers.answer(&self.named, ask, text)?)
-            }
+        let ask = Ask { verb, words, body };
+        read_where(
+            self.answers
+                .answer(&self.named, ask, &mut self.played.text)?,
+        )
+    }
+
+    /// Begins a row, names a dump or a text, or asks for an answer.
+    fn act(&mut self, words: &[&str]) -> Answered {
+        let [verb, words @ ..] = words else {
+            return Err(LineFault::Unread);
+        };
+        match *verb {
+            "row" => self.begin(words),
+            "dump" => self.named.name_dump(words, self.body.as_str()),
+            "text" => self.named.name_text(words, self.body.as_str()),
+            verb => self.ask(verb, words),
         }
+    }
+
+    /// Does what a line says.
+    fn act_by(&mut self, line: &str) -> Answered {
+        let words: Vec<&str> = line.split_whitespace().collect(self.named.alloc())?;
+        self.act(&words)
     }
 
     /// Does what the line says that asks, if one does.
@@ -87,12 +103,34 @@ impl<A: Answers> Player<A> {
         let Some(line) = asking else {
             return Ok(());
         };
-        let words: Vec<&str> = line.split_whitespace().collect(self.named.alloc())?;
-        if if_read(self.act(&words))?.is_none() {
+        if if_read(self.act_by(line))?.is_none() {
             self.played.unread = self.played.unread.saturating_add(1);
             push_line(&mut self.played.text, "NOT UNDERSTOOD")?;
         }
         Ok(())
+    }
+
+    /// Adds a line to the body, without the blank that it may begin with.
+    fn push_body(&mut self, line: &str) -> Result<(), AllocError> {
+        self.body.push_str(line.strip_prefix(' ').unwrap_or(line))?;
+        self.body.push('\n')
+    }
+
+    /// Plays a line that is in no body, after the one that asks, and gives what it asks.
+    fn turn<'a>(
+        &mut self,
+        asking: Option<&str>,
+        line: &'a str,
+    ) -> Result<Option<&'a str>, AllocError> {
+        self.finish(asking)?;
+        let asking = line.strip_prefix("> ");
+        if asking.is_some() {
+            self.body.clear();
+        }
+        if asking.is_some() || line.is_empty() || line.starts_with('#') {
+            push_line(&mut self.played.text, line)?;
+        }
+        Ok(asking)
     }
 
     /// Plays a script.
@@ -101,18 +139,11 @@ impl<A: Answers> Player<A> {
         let mut asking = None;
         for line in script.lines() {
             if let Some(body) = line.strip_prefix('|') {
-                self.body.push_str(body.strip_prefix(' ').unwrap_or(body))?;
-                self.body.push('\n')?;
+                self.push_body(body)?;
+                push_line(&mut self.played.text, line)?;
             } else {
-                self.finish(asking)?;
-                asking = line.strip_prefix("> ");
-                if asking.is_some() {
-                    self.body.clear();
-                } else if !line.is_empty() && !line.starts_with('#') {
-                    continue;
-                }
+                asking = self.turn(asking, line)?;
             }
-            push_line(&mut self.played.text, line)?;
         }
         self.finish(asking)
     }

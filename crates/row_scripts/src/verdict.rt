@@ -2,8 +2,8 @@
 
 use crate::ask::Answers;
 use crate::player::{Played, Player};
-use std::fs;
 use std::test::Fail;
+use std::{fs, io};
 
 /// How many lines are shown where a script was answered otherwise.
 const SHOWN: usize = 40;
@@ -14,21 +14,39 @@ fn same_lines(got: &str, want: &str) -> usize {
     pairs.take_while(|(line, other)| line == other).count()
 }
 
-/// Prints how many rows and answers a script has, and whether it was answered as it is written.
-fn print_verdict(rt: &HostRuntime, name: &str, script: &str, played: &Played) -> Result<(), Fail> {
+/// Prints how many rows and answers a script has.
+fn print_counts(rt: &HostRuntime, name: &str, played: &Played) -> io::Result<()> {
     let (rows, answers, unread) = (played.rows, played.answers, played.unread);
-    print!(rt; "{name}: {rows} rows, {answers} answers, {unread} not understood, ")?;
-    if played.text.as_slice() == script.as_bytes() {
-        println!(rt; "as written")?;
-        return Ok(());
-    }
-    let text = str::from_utf8(&played.text)?;
-    let same = same_lines(text, script);
+    print!(rt; "{name}: {rows} rows, {answers} answers, {unread} not understood, ")
+}
+
+/// Prints where a script was answered otherwise, and how.
+fn print_other(rt: &HostRuntime, got: &str, want: &str) -> io::Result<()> {
+    let same = same_lines(got, want);
     println!(rt; "OTHER IN LINE {}", same.saturating_add(1))?;
-    for line in text.lines().skip(same).take(SHOWN) {
+    for line in got.lines().skip(same).take(SHOWN) {
         println!(rt; "{line}")?;
     }
     Ok(())
+}
+
+/// Prints how many rows and answers a script has, and whether it was answered as it is written.
+fn print_verdict(rt: &HostRuntime, name: &str, script: &str, played: &Played) -> Result<(), Fail> {
+    print_counts(rt, name, played)?;
+    let text = str::from_utf8(&played.text)?;
+    if text == script {
+        println!(rt; "as written")?;
+    } else {
+        print_other(rt, text, script)?;
+    }
+    Ok(())
+}
+
+/// Plays the script of a file, and prints what came of it.
+fn play_file<A: Answers>(rt: &HostRuntime, player: &mut Player<A>, name: &str) -> Result<(), Fail> {
+    let script = fs::read_to_string(rt, name)?;
+    player.play(script.as_str())?;
+    print_verdict(rt, name, script.as_str(), &player.played)
 }
 
 /// Plays the scripts of these files, one after the other, and prints of each what came of it. What
@@ -36,9 +54,7 @@ fn print_verdict(rt: &HostRuntime, name: &str, script: &str, played: &Played) ->
 pub fn play_files<A: Answers>(rt: &HostRuntime, answers: A, names: &[String]) -> Result<(), Fail> {
     let mut player = Player::new(rt.alloc(), answers);
     for name in names {
-        let script = fs::read_to_string(rt, name.as_str())?;
-        player.play(script.as_str())?;
-        print_verdict(rt, name.as_str(), script.as_str(), &player.played)?;
+        play_file(rt, &mut player, name.as_str())?;
     }
     Ok(())
 }

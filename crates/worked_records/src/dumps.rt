@@ -1,47 +1,50 @@
 //! What a dump is cut into, and the class and the header of a record.
 
-use crate::words::Answered;
-use hex::encode_upper;
-use smf_frames::{Header, Layout, split};
+use crate::answer::Answer;
+use crate::dump_reader::work_lines;
+use row_scripts::Answered;
+use smf_frames::{Header, Split};
 use smf_type30::{Class, Damage, class};
-use std::alloc::Global;
 
-/// Adds how many records a dump has, the number of the fault behind them, or 0, and whether that
+/// Adds how many records a dump has, the number of the fault after them, or 0, and whether that
 /// stays whatever follows.
-pub(crate) fn push_parts(alloc: Global, out: &mut String, layout: Layout, dump: &[u8]) -> Answered {
-    let parts = split(alloc, layout, dump)?;
-    let fault = parts.fault.map_or(0, |fault| fault.number());
-    let broken = if parts.is_broken { " BROKEN" } else { "" };
-    let count = parts.records.len();
-    Ok(writeln!(out, "RECORDS {count} FAULT {fault}{broken}")?)
+pub(crate) fn push_parts(out: &mut Answer, parts: &Split) -> Answered {
+    out.value("RECORDS ", parts.records.len());
+    out.value(" FAULT ", parts.fault.map_or(0, |fault| fault.number()));
+    out.line(if parts.is_broken { " BROKEN" } else { "" })
 }
 
 /// Adds the header of a record, if it has one.
-pub(crate) fn push_header(alloc: Global, out: &mut String, bytes: &[u8]) -> Answered {
+pub(crate) fn push_header(out: &mut Answer, bytes: &[u8]) -> Answered {
     let Some(header) = Header::read(bytes) else {
-        return Ok(writeln!(out, "NO HEADER")?);
+        return out.line("NO HEADER");
     };
-    let (kind, time) = (header.kind, header.time);
-    let date = encode_upper(alloc, header.date)?;
-    let system = encode_upper(alloc, header.system)?;
-    Ok(writeln!(out, "TYPE {kind} TIME {time} DATE {date} SYSTEM {system}")?)
+    out.value("TYPE ", header.kind);
+    out.value(" TIME ", header.time);
+    out.bytes(" DATE ", &header.date);
+    out.bytes_line(" SYSTEM ", &header.system)
 }
 
 /// Adds the number of a record's damage.
-pub(crate) fn push_damage(out: &mut String, damage: Damage) -> Answered {
-    Ok(writeln!(out, "DAMAGED {}", damage.number())?)
+pub(crate) fn push_damage(out: &mut Answer, damage: Damage) -> Answered {
+    out.value_line("DAMAGED ", damage.number())
 }
 
 /// Adds the class of a record, by the words of the check list.
-pub(crate) fn push_class(out: &mut String, bytes: &[u8]) -> Answered {
-    let word = match class(bytes) {
-        Class::DumpHeader => "HEADER",
-        Class::DumpTrailer => "TRAILER",
-        Class::DataLost => "LOST",
-        Class::Other => "OTHER",
-        Class::Continuation => "CONTINUED",
-        Class::Usage => "USAGE",
-        Class::Damaged(damage) => return push_damage(out, damage),
-    };
-    Ok(writeln!(out, "{word}")?)
+pub(crate) fn push_class(out: &mut Answer, bytes: &[u8]) -> Answered {
+    match class(bytes) {
+        Class::DumpHeader => out.line("HEADER"),
+        Class::DumpTrailer => out.line("TRAILER"),
+        Class::DataLost => out.line("LOST"),
+        Class::Other => out.line("OTHER"),
+        Class::Continuation => out.line("CONTINUED"),
+        Class::Usage => out.line("USAGE"),
+        Class::Damaged(damage) => push_damage(out, damage),
+    }
+}
+
+/// Adds a line for each step or job of a dump.
+pub(crate) fn push_work(out: &mut Answer, dump: &[u8]) -> Answered {
+    let lines = work_lines(out.alloc(), dump)?;
+    out.end(lines.as_str())
 }

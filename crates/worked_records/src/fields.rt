@@ -1,76 +1,69 @@
 //! The fields of a usage record: `subtype`, `day`, `time`, `cpu`, `blocks`, `completion`, `job`,
 //! `program`, `job_id`, `identity`, and `account:NUMBER`.
 
+use crate::answer::Answer;
 use crate::dumps::push_damage;
-use crate::words::{Answered, NoAnswer};
-use hex::encode_upper;
-use smf_type30::{Class, Damage, Type30, class};
-use std::alloc::Global;
+use row_scripts::{Answered, LineFault};
+use smf_type30::{Class, Type30, class};
 
 /// A record that is shorter is read whatever its class: it is too short.
 const TRIPLETS_END: usize = 72;
 
-/// The usage record, or its damage; none where it is a long one of another class.
-pub(crate) fn usage_of(bytes: &[u8]) -> Option<Result<Type30<'_>, Damage>> {
-    if bytes.len() < TRIPLETS_END || class(bytes) == Class::Usage {
-        Some(Type30::read(bytes))
-    } else {
-        None
-    }
-}
-
 /// Adds the bytes of a field that may be absent.
-fn push_bytes(alloc: Global, out: &mut String, bytes: Option<&[u8]>) -> Answered {
+fn push_bytes(out: &mut Answer, bytes: Option<&[u8]>) -> Answered {
     match bytes {
-        Some(bytes) => writeln!(out, "{}", encode_upper(alloc, bytes)?)?,
-        None => writeln!(out, "NONE")?,
+        Some(bytes) => out.bytes_line("", bytes),
+        None => out.line("NONE"),
     }
-    Ok(())
 }
 
-/// A field that is a number, by its name.
-fn number_named(name: &str, usage: &Type30<'_>) -> Option<i64> {
-    match name {
-        "subtype" => Some(i64::from(usage.subtype())),
-        "day" => Some(i64::from(usage.moment().day)),
-        "time" => Some(i64::from(usage.moment().time)),
-        "cpu" => Some(usage.cpu() as i64),
-        "blocks" => Some(usage.excp() as i64),
-        _ => None,
+/// Adds the completion code.
+fn push_completion(out: &mut Answer, usage: &Type30<'_>) -> Answered {
+    match usage.completion() {
+        Some(bytes) => out.bytes_line("", &bytes),
+        None => out.line("NONE"),
     }
+}
+
+/// Adds an accounting field, by its name.
+fn push_account(out: &mut Answer, name: &str, usage: &Type30<'_>) -> Answered {
+    let Some(number) = name.strip_prefix("account:") else {
+        return Err(LineFault::Unread);
+    };
+    push_bytes(out, usage.account(number.parse::<u16>()?))
 }
 
 /// Adds a field that is bytes, by its name.
-fn push_bytes_named(alloc: Global, out: &mut String, name: &str, usage: &Type30<'_>) -> Answered {
+fn push_bytes_named(out: &mut Answer, name: &str, usage: &Type30<'_>) -> Answered {
     match name {
-        "job" => push_bytes(alloc, out, Some(usage.job())),
-        "program" => push_bytes(alloc, out, Some(usage.program())),
-        "job_id" => push_bytes(alloc, out, Some(usage.job_id())),
-        "identity" => push_bytes(alloc, out, Some(&usage.identity())),
-        "completion" => match usage.completion() {
-            Some(bytes) => push_bytes(alloc, out, Some(&bytes)),
-            None => push_bytes(alloc, out, None),
-        },
-        _ => {
-            let number = name.strip_prefix("account:").ok_or(NoAnswer::Unread)?;
-            push_bytes(alloc, out, usage.account(number.parse::<u16>()?))
-        }
+        "job" => out.bytes_line("", usage.job()),
+        "program" => out.bytes_line("", usage.program()),
+        "job_id" => out.bytes_line("", usage.job_id()),
+        "identity" => out.bytes_line("", &usage.identity()),
+        "completion" => push_completion(out, usage),
+        _ => push_account(out, name, usage),
     }
 }
 
 /// Adds a field of a usage record, by its name.
-fn push_named(alloc: Global, out: &mut String, name: &str, usage: &Type30<'_>) -> Answered {
-    match number_named(name, usage) {
-        Some(number) => Ok(writeln!(out, "{number}")?),
-        None => push_bytes_named(alloc, out, name, usage),
+fn push_named(out: &mut Answer, name: &str, usage: &Type30<'_>) -> Answered {
+    match name {
+        "subtype" => out.value_line("", usage.subtype()),
+        "day" => out.value_line("", usage.moment().day),
+        "time" => out.value_line("", usage.moment().time),
+        "cpu" => out.value_line("", usage.cpu()),
+        "blocks" => out.value_line("", usage.excp()),
+        _ => push_bytes_named(out, name, usage),
     }
 }
 
 /// Adds a field of a record, by its name, or the record's damage.
-pub(crate) fn push_field(alloc: Global, out: &mut String, name: &str, bytes: &[u8]) -> Answered {
-    match usage_of(bytes) {
-        Some(Ok(usage)) => push_named(alloc, out, name, &usage),
-        Some(Err(damage)) => push_damage(out, damage),
-        None => Err(NoAnswer::Unread),
+pub(crate) fn push_field(out: &mut Answer, name: &str, bytes: &[u8]) -> Answered {
+    if TRIPLETS_END <= bytes.len() && class(bytes) != Class::Usage {
+        return Err(LineFault::Unread);
+    }
+    match Type30::read(bytes) {
+        Ok(usage) => push_named(out, name, &usage),
+        Err(damage) => push_damage(out, damage),
     }
 }

@@ -1,41 +1,54 @@
 //! What a joiner answers that stands over the lines of a row.
 
-use crate::words::{Answered, NoAnswer};
+use crate::answer::Answer;
+use row_scripts::{Answered, LineFault};
 use smf_frames::{FrameFault, Joiner};
 
 /// Adds the number of a fault.
-fn push_fault(out: &mut String, fault: FrameFault) -> Answered {
-    Ok(writeln!(out, "FAULT {}", fault.number())?)
+fn push_fault(out: &mut Answer, fault: FrameFault) -> Answered {
+    out.value_line("FAULT ", fault.number())
+}
+
+/// Adds how much of a dump the joiner took, or its fault.
+fn push_taken(out: &mut Answer, joiner: &mut Joiner, dump: &[u8]) -> Answered {
+    match joiner.feed(dump) {
+        Ok(taken) => out.value_line("TOOK ", taken),
+        Err(fault) => push_fault(out, fault),
+    }
 }
 
 /// Adds how long the record is that stands, and whether it is this one.
-fn push_record(out: &mut String, joiner: &Joiner, wanted: &[u8]) -> Answered {
+fn push_record(out: &mut Answer, joiner: &Joiner, wanted: &[u8]) -> Answered {
     let Some(bytes) = joiner.record() else {
-        return Ok(writeln!(out, "NO RECORD")?);
+        return out.line("NO RECORD");
     };
-    let what = if bytes == wanted { "SAME" } else { "OTHER" };
-    Ok(writeln!(out, "RECORD {} {what}", bytes.len())?)
+    out.value("RECORD ", bytes.len());
+    out.line(if bytes == wanted { " SAME" } else { " OTHER" })
+}
+
+/// Adds what the end of the dump leaves undone.
+fn push_end(out: &mut Answer, joiner: &Joiner) -> Answered {
+    match joiner.finish() {
+        Ok(()) => out.line("END"),
+        Err(fault) => push_fault(out, fault),
+    }
 }
 
 /// Does what a verb says with a joiner and a dump, and adds what comes of it.
 pub(crate) fn push_joined(
-    out: &mut String,
+    out: &mut Answer,
     joiner: &mut Joiner,
     verb: &str,
     dump: &[u8],
 ) -> Answered {
     match verb {
-        "feed" => match joiner.feed(dump) {
-            Ok(taken) => writeln!(out, "TOOK {taken}")?,
-            Err(fault) => push_fault(out, fault)?,
-        },
-        "record" => push_record(out, joiner, dump)?,
-        "finish" if dump.is_empty() => match joiner.finish() {
-            Ok(()) => writeln!(out, "END")?,
-            Err(fault) => push_fault(out, fault)?,
-        },
-        "next" if dump.is_empty() => joiner.next(),
-        _ => return Err(NoAnswer::Unread),
+        "feed" => push_taken(out, joiner, dump),
+        "record" => push_record(out, joiner, dump),
+        _ if !dump.is_empty() => Err(LineFault::Unread),
+        "finish" => push_end(out, joiner),
+        _ => {
+            joiner.next();
+            Ok(())
+        }
     }
-    Ok(())
 }

@@ -1,19 +1,17 @@
 //! What the lines of a row have set so far, and which of them is answered by what.
 
-use crate::dump_reader::work_lines;
-use crate::dumps::{push_class, push_header, push_parts};
+use crate::answer::Answer;
+use crate::dumps::{push_class, push_header, push_parts, push_work};
 use crate::fields::push_field;
 use crate::joined::push_joined;
 use crate::marks::{push_reads, push_writes};
 use crate::pieces::push_pieces;
-use crate::tariffs::{changed, push_fault, push_file, push_flat, push_price, repeated};
-use crate::texts::{push_day, push_encoded, push_name, push_packed, push_shown};
-use crate::words::{Answered, NoAnswer, dump_of, hex_of, text_of};
-use row_scripts::{Answers, Ask, Named};
-use smf_frames::{Joiner, Layout};
-use smf_text::day_of_text;
+use crate::tariffs::{push_file, push_file_of, push_flat, push_prices, push_said};
+use crate::texts::{push_date, push_day_of, push_encoded, push_name, push_packed, push_shown};
+use crate::words::text_of;
+use row_scripts::{Answered, Answers, Ask, LineFault, Named, if_read};
+use smf_frames::{Joiner, Layout, split};
 use std::alloc::{AllocError, Global};
-use tariff_rules::TariffFault;
 
 /// What the lines of a row have set so far.
 #[derive(Drop)]
@@ -25,74 +23,60 @@ pub(crate) struct RecordLines {
     file: String,
 }
 
-/// Adds the answer to a line on bytes that no dump is made of.
-fn push_of_bytes(alloc: Global, out: &mut String, verb: &str, bytes: &[u8]) -> Answered {
-    match verb {
-        "packed" => push_packed(alloc, out, bytes),
-        _ => push_shown(alloc, out, bytes),
-    }
-}
-
-/// Adds the answer to a line on a text.
-fn push_of_text(alloc: Global, out: &mut String, verb: &str, text: &str) -> Answered {
-    match verb {
-        "day" => push_day(alloc, out, day_of_text(text)),
-        _ => push_name(out, text),
+/// Adds the answer to a line on texts and days, or on a sink.
+fn push_of_texts(out: &mut Answer, ask: Ask<'_>) -> Answered {
+    match ask.verb {
+        "packed" => push_packed(out, ask.words),
+        "show" => push_shown(out, ask.words),
+        "day" => push_day_of(out, ask.words),
+        "date" => push_date(out, ask.words),
+        "name" => push_name(out, ask.words),
+        "encode" => push_encoded(out, ask.words),
+        "sink" => push_writes(out, ask.words),
+        "say" => push_said(out, ask.words),
+        _ => Err(LineFault::Unread),
     }
 }
 
 /// Adds the answer to a line on a dump or a record alone.
-fn push_of_dump(alloc: Global, out: &mut String, verb: &str, dump: &[u8]) -> Answered {
-    match verb {
-        "header" => push_header(alloc, out, dump),
-        "class" => push_class(out, dump),
-        _ => Ok(out.push_str(work_lines(alloc, dump)?.as_str())?),
+fn push_of_dump(named: &Named, out: &mut Answer, ask: Ask<'_>) -> Answered {
+    let dump = named.read_dump(ask.words)?;
+    match ask.verb {
+        "header" => push_header(out, &dump),
+        "class" => push_class(out, &dump),
+        _ => push_work(out, &dump),
     }
 }
 
-/// Adds the answer to a line on texts, days or records.
-fn push_read(named: &Named, out: &mut String, ask: Ask<'_>) -> Answered {
-    let alloc = named.alloc();
-    match (ask.verb, ask.words) {
-        ("packed" | "show", [hex]) => push_of_bytes(alloc, out, ask.verb, &hex_of(alloc, hex)?),
-        ("day" | "name", words) => {
-            push_of_text(alloc, out, ask.verb, text_of(alloc, words)?.as_str())
-        }
-        ("date", [number]) => push_day(alloc, out, Some(number.parse::<i32>()?)),
-        ("encode", [size, words @ ..]) => push_encoded(alloc, out, size, words),
-        ("header" | "class" | "work", parts) => {
-            push_of_dump(alloc, out, ask.verb, &dump_of(named, parts)?)
-        }
-        ("field", [name, parts @ ..]) => push_field(alloc, out, name, &dump_of(named, parts)?),
-        _ => Err(NoAnswer::Unread),
+/// Adds the answer to a line on what a word says of a dump or a record.
+fn push_of_word(named: &Named, out: &mut Answer, ask: Ask<'_>) -> Answered {
+    let [word, parts @ ..] = ask.words else {
+        return Err(LineFault::Unread);
+    };
+    let dump = named.read_dump(parts)?;
+    match ask.verb {
+        "field" => push_field(out, word, &dump),
+        "source" => push_reads(out, word, &dump),
+        _ => push_price(named, out, word, &dump),
     }
 }
 
-/// The text of a tariff file that a line gives.
-fn file_of(named: &Named, ask: Ask<'_>) -> Result<String, NoAnswer> {
-    match (ask.verb, ask.words) {
-        ("file", names) => named.texts(names, ask.body)?.ok_or(NoAnswer::Unread),
-        ("changed", [name, words @ ..]) => changed(named, name, words),
-        ("repeated", [count, piece, names @ ..]) => repeated(named, count, piece, names),
-        _ => Err(NoAnswer::Unread),
+/// Adds what records cost by a tariff file that is named.
+fn push_price(named: &Named, out: &mut Answer, name: &str, dump: &[u8]) -> Answered {
+    match named.text(name) {
+        Some(text) => push_prices(out, text, dump),
+        None => Err(LineFault::Unread),
     }
 }
 
-/// Adds the answer to a line on tariffs or streams.
-fn push_priced(named: &Named, out: &mut String, ask: Ask<'_>) -> Answered {
-    let alloc = named.alloc();
-    match (ask.verb, ask.words) {
-        ("file" | "changed" | "repeated", _) => {
-            push_file(alloc, out, file_of(named, ask)?.as_str())
-        }
-        ("say", ["memory"]) => push_fault(out, TariffFault::Memory),
-        ("flat", [cpu, excp, record, parts @ ..]) => {
-            push_flat(alloc, out, [cpu, excp, record], &dump_of(named, parts)?)
-        }
-        ("price", [name, parts @ ..]) => push_price(named, out, name, &dump_of(named, parts)?),
-        ("source", [sizes, parts @ ..]) => push_reads(alloc, out, sizes, &dump_of(named, parts)?),
-        ("sink", [size, writes, texts @ ..]) => push_writes(alloc, out, size, writes, texts),
-        _ => push_read(named, out, ask),
+/// Adds the answer to a line for which it does not matter what the lines before it have set.
+fn push_alone(named: &Named, out: &mut Answer, ask: Ask<'_>) -> Answered {
+    match ask.verb {
+        "file" | "changed" | "repeated" => push_file_of(named, out, ask),
+        "header" | "class" | "work" => push_of_dump(named, out, ask),
+        "field" | "price" | "source" => push_of_word(named, out, ask),
+        "flat" => push_flat(named, out, ask.words),
+        _ => push_of_texts(out, ask),
     }
 }
 
@@ -106,30 +90,58 @@ impl RecordLines {
         }
     }
 
+    /// Sets how dumps are read.
+    fn set_layout(&mut self, words: &[&str]) -> Answered {
+        self.layout = match words {
+            [] => Layout::Rdw,
+            ["bdw"] => Layout::Bdw,
+            _ => return Err(LineFault::Unread),
+        };
+        Ok(())
+    }
+
+    /// Begins a joiner.
+    fn set_joiner(&mut self, alloc: Global, words: &[&str]) -> Answered {
+        if !words.is_empty() {
+            return Err(LineFault::Unread);
+        }
+        self.joiner = Some(Joiner::new(alloc, self.layout)?);
+        Ok(())
+    }
+
+    /// Adds what the joiner answers.
+    fn push_joined(&mut self, named: &Named, out: &mut Answer, ask: Ask<'_>) -> Answered {
+        let dump = named.read_dump(ask.words)?;
+        match &mut self.joiner {
+            Some(joiner) => push_joined(out, joiner, ask.verb, &dump),
+            None => Err(LineFault::Unread),
+        }
+    }
+
     /// Adds what is read of the row's lines so far, with one more.
-    fn push_line(&mut self, alloc: Global, out: &mut String, words: &[&str]) -> Answered {
-        self.file.push_str(text_of(alloc, words)?.as_str())?;
+    fn push_line(&mut self, out: &mut Answer, words: &[&str]) -> Answered {
+        self.file.push_str(text_of(out.alloc(), words)?.as_str())?;
         self.file.push('\n')?;
-        push_file(alloc, out, self.file.as_str())
+        push_file(out, self.file.as_str())
+    }
+
+    /// Adds what a dump is cut into.
+    fn push_split(&self, named: &Named, out: &mut Answer, words: &[&str]) -> Answered {
+        let dump = named.read_dump(words)?;
+        push_parts(out, &split(out.alloc(), self.layout, &dump)?)
     }
 
     /// Adds the answer to a line.
-    fn push_answer(&mut self, named: &Named, out: &mut String, ask: Ask<'_>) -> Answered {
-        let alloc = named.alloc();
-        match (ask.verb, ask.words) {
-            ("reader", []) => self.layout = Layout::Rdw,
-            ("reader", ["bdw"]) => self.layout = Layout::Bdw,
-            ("joiner", []) => self.joiner = Some(Joiner::new(alloc, self.layout)?),
-            ("feed" | "record" | "finish" | "next", parts) => {
-                let joiner = self.joiner.as_mut().ok_or(NoAnswer::Unread)?;
-                push_joined(out, joiner, ask.verb, &dump_of(named, parts)?)?;
-            }
-            ("line", words) => self.push_line(alloc, out, words)?,
-            ("split", parts) => push_parts(alloc, out, self.layout, &dump_of(named, parts)?)?,
-            ("pieces", [sizes, parts @ ..]) => push_pieces(named, out, self.layout, sizes, parts)?,
-            _ => push_priced(named, out, ask)?,
+    fn push_answer(&mut self, named: &Named, out: &mut Answer, ask: Ask<'_>) -> Answered {
+        match ask.verb {
+            "reader" => self.set_layout(ask.words),
+            "joiner" => self.set_joiner(out.alloc(), ask.words),
+            "feed" | "record" | "finish" | "next" => self.push_joined(named, out, ask),
+            "line" => self.push_line(out, ask.words),
+            "split" => self.push_split(named, out, ask.words),
+            "pieces" => push_pieces(named, out, self.layout, ask.words),
+            _ => push_alone(named, out, ask),
         }
-        Ok(())
     }
 }
 
@@ -145,13 +157,9 @@ impl Answers for RecordLines {
         ask: Ask<'_>,
         out: &mut Vec<u8>,
     ) -> Result<bool, AllocError> {
-        let mut text = String::new(named.alloc());
-        let answered = self.push_answer(named, &mut text, ask);
-        out.extend_from_slice(text.as_bytes())?;
-        match answered {
-            Ok(()) => Ok(true),
-            Err(NoAnswer::Unread) => Ok(false),
-            Err(NoAnswer::Memory(error)) => Err(error),
-        }
+        let mut answer = Answer::new(named.alloc());
+        let answered = if_read(self.push_answer(named, &mut answer, ask))?;
+        out.extend_from_slice(answer.as_bytes())?;
+        Ok(answered.is_some())
     }
 }

@@ -11,7 +11,7 @@
 //! | `encode SIZE TEXT` | a buffer of 09 with the text's bytes at its front |
 //! | `name TEXT` | the name with that text |
 //! | `reader`, `reader bdw` | nothing: from here on dumps are segments, or blocks |
-//! | `split DUMP` | how many records it has, and the fault behind them |
+//! | `split DUMP` | how many records it has, and the fault after them |
 //! | `pieces SIZE,.. DUMP` | in which pieces a joiner makes of it what `split` does |
 //! | `pieces SIZE,.. DUMP : DUMP` | the same, where `split` gets the second |
 //! | `joiner` | nothing: a joiner begins |
@@ -22,9 +22,9 @@
 //! | `class RECORD` | its class, by a word of the check list |
 //! | `field NAME RECORD` | a field of a usage record: see `fields.rt` |
 //! | `work DUMP` | a line for each step or job |
-//! | `file NAME..` | what is read of a tariff file: the body, and texts behind it |
+//! | `file NAME..` | what is read of a tariff file: the body, and texts after it |
 //! | `changed NAME TEXT -> TEXT` | the same of a text with one place changed, its first |
-//! | `repeated COUNT PIECE NAME..` | the same of texts, with a piece behind them so often |
+//! | `repeated COUNT PIECE NAME..` | the same of texts, with a piece after them so often |
 //! | `line TEXT` | the same of the row's lines so far |
 //! | `say memory` | what is said where there is no memory for a tariff file |
 //! | `flat CPU EXCP RECORD DUMP` | the tariff of three rates, and what records cost by it |
@@ -33,6 +33,7 @@
 //! | `sink SIZE WRITES HEX..` | each write to a sink over a writer that takes so much |
 #![tactic(auto)]
 
+mod answer;
 mod dump_reader;
 mod dumps;
 mod fields;

@@ -1,110 +1,93 @@
 //! What a source and a sink mark.
 
-use crate::words::{Answered, NoAnswer, hex_of};
-use hex::encode_upper;
-use std::alloc::Global;
-use std::io;
-use std::io::{ErrorKind, Write};
+use crate::answer::Answer;
+use crate::words::hex_of;
+use row_scripts::{Answered, Limits, LineFault, Taker};
 use streams::{Sink, Source};
 
 /// The most reads of one line.
 const MOST_READS: u64 = 1_000;
 
-/// Adds the bytes of a read, if it did not fail.
-fn push_bytes(alloc: Global, out: &mut String, bytes: Option<&[u8]>) -> Answered {
-    match bytes {
-        None => out.push_str("READ NONE")?,
-        Some([]) => out.push_str("READ 0")?,
-        Some(bytes) => write!(out, "READ {} {}", bytes.len(), encode_upper(alloc, bytes)?)?,
+/// Adds a text where this holds.
+fn push_where(out: &mut Answer, is_so: bool, text: &str) {
+    if is_so {
+        out.text(text);
     }
-    Ok(())
+}
+
+/// Adds how many bytes a read gave, and which.
+fn push_given(out: &mut Answer, bytes: &[u8]) {
+    out.value("READ ", bytes.len());
+    if !bytes.is_empty() {
+        out.bytes(" ", bytes);
+    }
 }
 
 /// Adds what a source marks.
-fn push_marks(out: &mut String, source: &Source<&[u8]>) -> Answered {
-    write!(out, " ASKED {}", source.asked())?;
-    out.push_str(if source.failed() { " FAILED" } else { "" })?;
-    Ok(out.push_str(if source.ended() { " ENDED\n" } else { "\n" })?)
+fn push_marks(out: &mut Answer, source: &Source<&[u8]>) -> Answered {
+    out.value(" ASKED ", source.asked());
+    push_where(out, source.failed(), " FAILED");
+    push_where(out, source.ended(), " ENDED");
+    out.end("\n")
 }
 
 /// Adds what one read gives, if there may be one.
-fn push_read(alloc: Global, out: &mut String, source: &mut Source<&[u8]>, size: &str) -> Answered {
+fn push_read(out: &mut Answer, source: &mut Source<&[u8]>, size: &str) -> Answered {
     if source.asked() >= MOST_READS || source.failed() || source.ended() {
-        return Err(NoAnswer::Unread);
+        return Err(LineFault::Unread);
     }
-    let mut buffer = vec![in alloc; 0; usize::from(size.parse::<u16>()?)]?;
-    let bytes = match source.read(&mut buffer) {
-        Ok(count) => Some(&buffer[..count]),
-        Err(_) => None,
-    };
-    push_bytes(alloc, out, bytes)?;
+    let mut buffer = vec![in out.alloc(); 0; usize::from(size.parse::<u16>()?)]?;
+    match source.read(&mut buffer) {
+        Ok(count) => push_given(out, &buffer[..count]),
+        Err(_) => out.text("READ NONE"),
+    }
     push_marks(out, source)
 }
 
-/// Adds what each read of a source gives, and what is left behind them.
-pub(crate) fn push_reads(alloc: Global, out: &mut String, sizes: &str, dump: &[u8]) -> Answered {
+/// Adds what each read of a source gives, and what is left after them.
+pub(crate) fn push_reads(out: &mut Answer, sizes: &str, dump: &[u8]) -> Answered {
     let mut source = Source::new(dump);
     for size in sizes.split(',') {
-        push_read(alloc, out, &mut source, size)?;
+        push_read(out, &mut source, size)?;
     }
-    Ok(writeln!(out, "LEFT {}", source.into_inner().len())?)
-}
-
-/// Takes at most so many bytes at a write, and fails at each behind so many writes.
-#[derive(Drop)]
-struct Taker {
-    size: usize,
-    writes: u32,
-    taken: Vec<u8>,
-    asked: u32,
-}
-
-impl Write for Taker {
-    fn write(&mut self, bytes: &[u8]) -> io::Result<usize> {
-        self.asked = self.asked.saturating_add(1);
-        if self.asked > self.writes {
-            return Err(ErrorKind::StorageFull.into());
-        }
-        let count = bytes.len().min(self.size);
-        self.taken.extend_from_slice(&bytes[..count])?;
-        Ok(count)
-    }
-
-    fn flush(&mut self) -> io::Result<()> {
-        Ok(())
-    }
+    out.value_line("LEFT ", source.into_inner().len())
 }
 
 /// Adds what one write takes, if there may be one.
-fn push_write(out: &mut String, sink: &mut Sink<Taker>, bytes: &[u8]) -> Answered {
+fn push_write(out: &mut Answer, sink: &mut Sink<Taker>, word: &str) -> Answered {
+    let bytes = hex_of(out.alloc(), word)?;
     if sink.failed() {
-        return Err(NoAnswer::Unread);
+        return Err(LineFault::Unread);
     }
-    match sink.write(bytes) {
-        Ok(count) => write!(out, "WROTE {count}")?,
-        Err(_) => write!(out, "WROTE NONE")?,
+    match sink.write(&bytes) {
+        Ok(count) => out.value("WROTE ", count),
+        Err(_) => out.text("WROTE NONE"),
     }
-    Ok(out.push_str(if sink.failed() { " FAILED\n" } else { "\n" })?)
+    push_where(out, sink.failed(), " FAILED");
+    out.end("\n")
+}
+
+/// Adds what a writer took, and how often it was asked.
+fn push_taken(out: &mut Answer, writer: &Taker) -> Answered {
+    out.bytes("TAKEN ", &writer.taken);
+    out.value_line(" ASKED ", writer.asked)
+}
+
+/// What a writer is limited to, by how much it takes at a write, and how many writes do not fail.
+fn limits_of(size: &str, writes: &str) -> Answered<Limits> {
+    let size = usize::from(size.parse::<u16>()?);
+    let calls = writes.parse::<u32>()?;
+    Ok(Limits { size, calls })
 }
 
 /// Adds what each write to a sink takes, and what its writer took.
-pub(crate) fn push_writes(
-    alloc: Global,
-    out: &mut String,
-    size: &str,
-    writes: &str,
-    texts: &[&str],
-) -> Answered {
-    let mut sink = Sink::new(Taker {
-        size: usize::from(size.parse::<u16>()?),
-        writes: writes.parse::<u32>()?,
-        taken: Vec::new(alloc),
-        asked: 0,
-    });
-    for hex in texts {
-        push_write(out, &mut sink, &hex_of(alloc, hex)?)?;
+pub(crate) fn push_writes(out: &mut Answer, words: &[&str]) -> Answered {
+    let [size, writes, texts @ ..] = words else {
+        return Err(LineFault::Unread);
+    };
+    let mut sink = Sink::new(Taker::new(out.alloc(), limits_of(size, writes)?));
+    for text in texts {
+        push_write(out, &mut sink, text)?;
     }
-    let writer = sink.into_inner();
-    let taken = encode_upper(alloc, writer.taken)?;
-    Ok(writeln!(out, "TAKEN {taken} ASKED {}", writer.asked)?)
+    push_taken(out, &sink.into_inner())
 }

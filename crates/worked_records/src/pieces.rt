@@ -1,12 +1,27 @@
 //! A joiner that gets a dump in pieces: these make no difference.
 
-use crate::words::{Answered, dump_of, split_words};
-use row_scripts::Named;
+use crate::answer::Answer;
+use crate::words::split_words;
+use row_scripts::{Answered, LineFault, Named};
 use smf_frames::{Joiner, Layout, Split, split};
 use std::alloc::{AllocError, Global};
 
 /// More pieces and records than any dump of a script has.
 const ROUNDS: u32 = 200_000;
+
+/// Adds the record that stands, and lets it go. False where none stands.
+fn take_record(
+    alloc: Global,
+    joiner: &mut Joiner,
+    records: &mut Vec<Vec<u8>>,
+) -> Result<bool, AllocError> {
+    let Some(bytes) = joiner.record() else {
+        return Ok(false);
+    };
+    records.push(bytes.to_vec(alloc)?)?;
+    joiner.next();
+    Ok(true)
+}
 
 /// What a joiner makes of a dump that it gets in pieces of so many bytes.
 fn in_pieces(alloc: Global, layout: Layout, dump: &[u8], size: usize) -> Result<Split, AllocError> {
@@ -25,12 +40,9 @@ fn in_pieces(alloc: Global, layout: Layout, dump: &[u8], size: usize) -> Result<
                 });
             }
         }
-        match joiner.record() {
-            Some(bytes) => records.push(bytes.to_vec(alloc)?)?,
-            None if rest.is_empty() => break,
-            None => {}
+        if !take_record(alloc, &mut joiner, &mut records)? && rest.is_empty() {
+            break;
         }
-        joiner.next();
     }
     Ok(Split {
         records,
@@ -39,61 +51,89 @@ fn in_pieces(alloc: Global, layout: Layout, dump: &[u8], size: usize) -> Result<
     })
 }
 
-/// The two are the same.
-fn is_same(parts: &Split, whole: &Split) -> bool {
-    parts.records == whole.records
-        && parts.fault == whole.fault
-        && parts.is_broken == whole.is_broken
-}
-
-/// Sizes of pieces, each with a blank before it.
+/// A dump, and what is to be made of it.
 #[derive(Drop)]
-struct Found {
-    /// By which a joiner makes the same of a dump.
-    same: String,
-    other: String,
+struct Wanted {
+    layout: Layout,
+    dump: Vec<u8>,
+    whole: Split,
 }
 
-impl Found {
-    fn add(&mut self, size: usize, is_same: bool) -> Answered {
-        let sizes = if is_same {
+impl Wanted {
+    /// What `split` makes of the dump of parts, or of the one whose parts stand after a colon.
+    fn of(named: &Named, layout: Layout, parts: &[&str]) -> Answered<Wanted> {
+        let (parts, other) = split_words(parts, ":").unwrap_or((parts, parts));
+        let whole = split(named.alloc(), layout, &named.read_dump(other)?)?;
+        let dump = named.read_dump(parts)?;
+        Ok(Wanted {
+            layout,
+            dump,
+            whole,
+        })
+    }
+
+    /// A joiner makes it of pieces of so many bytes.
+    fn is_made_in(&self, alloc: Global, size: usize) -> Result<bool, AllocError> {
+        let parts = in_pieces(alloc, self.layout, &self.dump, size)?;
+        Ok(
+            parts.records == self.whole.records
+                && parts.fault == self.whole.fault
+                && parts.is_broken == self.whole.is_broken,
+        )
+    }
+}
+
+/// Sizes of pieces.
+#[derive(Drop)]
+struct Sizes {
+    /// By which a joiner makes of a dump what is wanted.
+    same: Vec<usize>,
+    other: Vec<usize>,
+}
+
+impl Sizes {
+    /// Adds a size that a word spells.
+    fn add(&mut self, alloc: Global, wanted: &Wanted, word: &str) -> Answered {
+        let size = word.parse::<usize>()?;
+        let sizes = if wanted.is_made_in(alloc, size)? {
             &mut self.same
         } else {
             &mut self.other
         };
-        Ok(write!(sizes, " {size}")?)
+        Ok(sizes.push(size)?)
     }
 }
 
 /// Adds a line of sizes, if there are any.
-fn push_sizes(out: &mut String, what: &str, sizes: &String) -> Answered {
-    if !sizes.is_empty() {
-        writeln!(out, "{what}{sizes}")?;
+fn push_sizes(out: &mut Answer, what: &str, sizes: &[usize]) -> Answered {
+    if sizes.is_empty() {
+        return Ok(());
     }
-    Ok(())
+    out.text(what);
+    for size in sizes {
+        out.value(" ", *size);
+    }
+    out.end("\n")
 }
 
 /// Adds the sizes of pieces by which a joiner makes of a dump what `split` makes of it, or of the
-/// dump behind a colon, and the others.
+/// dump after a colon, and the others.
 pub(crate) fn push_pieces(
     named: &Named,
-    out: &mut String,
+    out: &mut Answer,
     layout: Layout,
-    sizes: &str,
-    parts: &[&str],
+    words: &[&str],
 ) -> Answered {
-    let alloc = named.alloc();
-    let (parts, other) = split_words(parts, ":").unwrap_or((parts, parts));
-    let dump = dump_of(named, parts)?;
-    let whole = split(alloc, layout, &dump_of(named, other)?)?;
-    let mut found = Found {
-        same: String::new(alloc),
-        other: String::new(alloc),
+    let [sizes, parts @ ..] = words else {
+        return Err(LineFault::Unread);
+    };
+    let wanted = Wanted::of(named, layout, parts)?;
+    let mut found = Sizes {
+        same: Vec::new(out.alloc()),
+        other: Vec::new(out.alloc()),
     };
     for size in sizes.split(',') {
-        let size = size.parse::<usize>()?;
-        let is_same = is_same(&in_pieces(alloc, layout, &dump, size)?, &whole);
-        found.add(size, is_same)?;
+        found.add(out.alloc(), &wanted, size)?;
     }
     push_sizes(out, "SAME IN", &found.same)?;
     push_sizes(out, "OTHER IN", &found.other)

@@ -1,106 +1,171 @@
 //! Tariff files: which are read, the first fault of one that is not, and what records cost by them.
 
-use crate::fields::usage_of;
-use crate::words::{Answered, NoAnswer, split_words, text_of};
-use row_scripts::Named;
+use crate::answer::Answer;
+use crate::words::{split_words, text_of};
+use row_scripts::{Answered, Ask, LineFault, Named};
 use smf_frames::{Layout, split};
-use smf_text::day_text;
+use smf_type30::{Class, Type30, class};
 use std::alloc::Global;
-use tariff_rules::{Tariff, TariffFault, price};
+use tariff_rules::{Priced, Tariff, TariffFault, price};
 
 /// The most copies of a piece.
 const MOST_PIECES: usize = 2_000_000;
 
-/// A text that is named, with another text in the first place of one.
-pub(crate) fn changed(named: &Named, name: &str, words: &[&str]) -> Result<String, NoAnswer> {
-    let alloc = named.alloc();
-    let text = named.text(name).ok_or(NoAnswer::Unread)?;
-    let (old, new) = split_words(words, "->").ok_or(NoAnswer::Unread)?;
-    let (old, new) = (text_of(alloc, old)?, text_of(alloc, new)?);
-    let (before, after) = text.split_once(old.as_str()).ok_or(NoAnswer::Unread)?;
-    Ok(format!(in alloc; "{before}{new}{after}")?)
+/// A text with another in the first place of one.
+fn replaced(alloc: Global, text: &str, old: &[&str], new: &[&str]) -> Answered<String> {
+    let old = text_of(alloc, old)?;
+    if !text.contains(old.as_str()) {
+        return Err(LineFault::Unread);
+    }
+    let new = text_of(alloc, new)?;
+    Ok(text.replacen(alloc, old.as_str(), new.as_str(), 1)?)
 }
 
-/// Texts that are named, and so many copies of a piece behind them.
-pub(crate) fn repeated(
-    named: &Named,
-    count: &str,
-    piece: &str,
-    names: &[&str],
-) -> Result<String, NoAnswer> {
+/// A text that is named, with another text in the first place of one.
+fn changed(named: &Named, words: &[&str]) -> Answered<String> {
+    let [name, words @ ..] = words else {
+        return Err(LineFault::Unread);
+    };
+    let Some(text) = named.text(name) else {
+        return Err(LineFault::Unread);
+    };
+    match split_words(words, "->") {
+        Some((old, new)) => replaced(named.alloc(), text, old, new),
+        None => Err(LineFault::Unread),
+    }
+}
+
+/// So many copies of a piece.
+fn copies(alloc: Global, count: &str, piece: &str) -> Answered<String> {
     let count = count.parse::<usize>()?;
     if count > MOST_PIECES {
-        return Err(NoAnswer::Unread);
+        return Err(LineFault::Unread);
     }
-    let mut text = named.texts(names, "")?.ok_or(NoAnswer::Unread)?;
-    let piece = text_of(named.alloc(), &[piece])?;
-    for _ in 0..count {
-        text.push_str(piece.as_str())?;
-    }
+    let piece = text_of(alloc, &[piece])?;
+    Ok(piece.as_str().repeat(alloc, count)?)
+}
+
+/// Texts that are named, and so many copies of a piece after them.
+fn repeated(named: &Named, words: &[&str]) -> Answered<String> {
+    let [count, piece, names @ ..] = words else {
+        return Err(LineFault::Unread);
+    };
+    let copies = copies(named.alloc(), count, piece)?;
+    let mut text = named.read_texts(names, "")?;
+    text.push_str(copies.as_str())?;
     Ok(text)
 }
 
+/// The text of a tariff file that a line gives.
+fn file_of(named: &Named, ask: Ask<'_>) -> Answered<String> {
+    match ask.verb {
+        "file" => named.read_texts(ask.words, ask.body),
+        "changed" => changed(named, ask.words),
+        _ => repeated(named, ask.words),
+    }
+}
+
 /// Adds the number of a fault, and what it says.
-pub(crate) fn push_fault(out: &mut String, fault: TariffFault) -> Answered {
-    let number = fault.number();
-    Ok(writeln!(out, "FAULT {number}: {fault}")?)
+fn push_fault(out: &mut Answer, fault: TariffFault) -> Answered {
+    out.value("FAULT ", fault.number());
+    out.value_line(": ", fault)
+}
+
+/// Adds what is said where there is no memory for a tariff file.
+pub(crate) fn push_said(out: &mut Answer, words: &[&str]) -> Answered {
+    match words {
+        ["memory"] => push_fault(out, TariffFault::Memory),
+        _ => Err(LineFault::Unread),
+    }
 }
 
 /// Adds the first day of a tariff.
-fn push_first_day(alloc: Global, out: &mut String, tariff: &Tariff) -> Answered {
-    let day = day_text(alloc, tariff.effective())?;
-    Ok(writeln!(out, "FROM {day}")?)
+fn push_first_day(out: &mut Answer, tariff: &Tariff) -> Answered {
+    out.day("FROM ", tariff.effective());
+    out.end("\n")
 }
 
 /// Adds what is read of a tariff file.
-pub(crate) fn push_file(alloc: Global, out: &mut String, text: &str) -> Answered {
-    match Tariff::parse(alloc, text) {
-        Ok(tariff) => push_first_day(alloc, out, &tariff),
+pub(crate) fn push_file(out: &mut Answer, text: &str) -> Answered {
+    match Tariff::parse(out.alloc(), text) {
+        Ok(tariff) => push_first_day(out, &tariff),
         Err(fault) => push_fault(out, fault),
     }
 }
 
-/// Adds what each usage record of a dump costs by a tariff: the day, the centre, the shift,
-/// hundredths of a second of CPU time, blocks, and the amount in ten-thousandths.
-fn push_prices(alloc: Global, out: &mut String, tariff: &Tariff, dump: &[u8]) -> Answered {
-    for bytes in &split(alloc, Layout::Rdw, dump)?.records {
-        if let Some(Ok(usage)) = usage_of(bytes) {
-            let priced = price(tariff, &usage);
-            let day = day_text(alloc, priced.day)?;
-            let (centre, shift) = (priced.centre.text(), priced.shift.text());
-            let (cpu, blocks, amount) = (priced.cpu, priced.excp, priced.amount);
-            writeln!(out, "{day} {centre} {shift} {cpu} {blocks} {amount}")?;
-        }
+/// Adds what is read of the tariff file that a line gives.
+pub(crate) fn push_file_of(named: &Named, out: &mut Answer, ask: Ask<'_>) -> Answered {
+    push_file(out, file_of(named, ask)?.as_str())
+}
+
+/// Adds a price: the day, the centre, the shift, hundredths of a second of CPU time, blocks, and
+/// the amount in ten-thousandths.
+fn push_priced(out: &mut Answer, priced: &Priced) -> Answered {
+    out.value(" ", priced.centre.text());
+    out.value(" ", priced.shift.text());
+    out.value(" ", priced.cpu);
+    out.value(" ", priced.excp);
+    out.value_line(" ", priced.amount)
+}
+
+/// Adds what a usage record costs by a tariff: the day, and the price.
+fn push_cost(out: &mut Answer, tariff: &Tariff, usage: &Type30<'_>) -> Answered {
+    let priced = price(tariff, usage);
+    out.day("", priced.day);
+    push_priced(out, &priced)
+}
+
+/// Adds what a record costs by a tariff, if it is a usage record.
+fn push_cost_of(out: &mut Answer, tariff: &Tariff, bytes: &[u8]) -> Answered {
+    if class(bytes) != Class::Usage {
+        return Ok(());
+    }
+    match Type30::read(bytes) {
+        Ok(usage) => push_cost(out, tariff, &usage),
+        Err(_) => Ok(()),
+    }
+}
+
+/// Adds what each usage record of a dump costs by a tariff.
+fn push_costs(out: &mut Answer, tariff: &Tariff, dump: &[u8]) -> Answered {
+    let parts = split(out.alloc(), Layout::Rdw, dump)?;
+    for bytes in &parts.records {
+        push_cost_of(out, tariff, bytes)?;
     }
     Ok(())
 }
 
+/// Adds the first day of a tariff, and what records cost by it.
+fn push_days(out: &mut Answer, tariff: &Tariff, dump: &[u8]) -> Answered {
+    push_first_day(out, tariff)?;
+    push_costs(out, tariff, dump)
+}
+
+/// The tariff of three rates, if there is one.
+fn flat_of(alloc: Global, rates: [&str; 3]) -> Answered<Option<Tariff>> {
+    let [cpu, excp, record] = rates;
+    let cpu = cpu.parse::<u64>()?;
+    let excp = excp.parse::<u64>()?;
+    let record = record.parse::<u64>()?;
+    Ok(Tariff::flat(alloc, cpu, excp, record))
+}
+
 /// Adds the tariff of three rates, and what records cost by it.
-pub(crate) fn push_flat(
-    alloc: Global,
-    out: &mut String,
-    [cpu, excp, record]: [&str; 3],
-    dump: &[u8],
-) -> Answered {
-    let (cpu, excp, record) = (
-        cpu.parse::<u64>()?,
-        excp.parse::<u64>()?,
-        record.parse::<u64>()?,
-    );
-    match Tariff::flat(alloc, cpu, excp, record) {
-        Some(tariff) => {
-            push_first_day(alloc, out, &tariff)?;
-            push_prices(alloc, out, &tariff, dump)
-        }
-        None => Ok(writeln!(out, "NO TARIFF")?),
+pub(crate) fn push_flat(named: &Named, out: &mut Answer, words: &[&str]) -> Answered {
+    let [cpu, excp, record, parts @ ..] = words else {
+        return Err(LineFault::Unread);
+    };
+    let dump = named.read_dump(parts)?;
+    match flat_of(out.alloc(), [*cpu, *excp, *record])? {
+        Some(tariff) => push_days(out, &tariff, &dump),
+        None => out.line("NO TARIFF"),
     }
 }
 
-/// Adds what records cost by a tariff file that is named.
-pub(crate) fn push_price(named: &Named, out: &mut String, name: &str, dump: &[u8]) -> Answered {
-    let text = named.text(name).ok_or(NoAnswer::Unread)?;
-    match Tariff::parse(named.alloc(), text) {
-        Ok(tariff) => push_prices(named.alloc(), out, &tariff, dump),
+/// Adds what records cost by a tariff file.
+pub(crate) fn push_prices(out: &mut Answer, text: &str, dump: &[u8]) -> Answered {
+    match Tariff::parse(out.alloc(), text) {
+        Ok(tariff) => push_costs(out, &tariff, dump),
         Err(fault) => push_fault(out, fault),
     }
 }

@@ -1,60 +1,75 @@
 //! Days, as records, tariffs and reports write them, code page 037, and the names of centres.
 
-use crate::words::{Answered, NoAnswer, text_of};
-use hex::encode_upper;
-use smf_text::{FIRST_DAY, LAST_DAY, Name, day_text, encode, packed_day, show, weekday};
-use std::alloc::Global;
+use crate::answer::Answer;
+use crate::words::{hex_in, text_of};
+use row_scripts::{Answered, LineFault};
+use smf_text::{FIRST_DAY, LAST_DAY, Name, day_of_text, encode, packed_day, show, weekday};
 
 /// What a buffer holds before a text is written into it.
 const BEFORE: u8 = 9;
 
 /// Adds a day: its number, counted from 1970-01-01, its text, and its weekday, 1 for Monday.
-pub(crate) fn push_day(alloc: Global, out: &mut String, day: Option<i32>) -> Answered {
-    let Some(day) = day.filter(|day| FIRST_DAY <= *day && *day <= LAST_DAY) else {
-        return Ok(writeln!(out, "NO DAY")?);
-    };
-    let text = day_text(alloc, day)?;
-    let of_week = weekday(day);
-    Ok(writeln!(out, "DAY {day} {text} WEEKDAY {of_week}")?)
+fn push_day(out: &mut Answer, day: i32) -> Answered {
+    if day < FIRST_DAY || LAST_DAY < day {
+        return out.line("NO DAY");
+    }
+    out.value("DAY ", day);
+    out.day(" ", day);
+    out.value_line(" WEEKDAY ", weekday(day))
+}
+
+/// Adds the day of a number.
+pub(crate) fn push_date(out: &mut Answer, words: &[&str]) -> Answered {
+    match words {
+        [number] => push_day(out, number.parse::<i32>()?),
+        _ => Err(LineFault::Unread),
+    }
+}
+
+/// Adds the day of a text.
+pub(crate) fn push_day_of(out: &mut Answer, words: &[&str]) -> Answered {
+    match day_of_text(text_of(out.alloc(), words)?.as_str()) {
+        Some(day) => push_day(out, day),
+        None => out.line("NO DAY"),
+    }
 }
 
 /// Adds the day of a packed date, or its fault.
-pub(crate) fn push_packed(alloc: Global, out: &mut String, bytes: &[u8]) -> Answered {
-    let [first, second, third, fourth] = *bytes else {
-        return Err(NoAnswer::Unread);
+pub(crate) fn push_packed(out: &mut Answer, words: &[&str]) -> Answered {
+    let bytes = hex_in(out.alloc(), words)?;
+    let Some(date) = bytes.as_array() else {
+        return Err(LineFault::Unread);
     };
-    match packed_day(&[first, second, third, fourth]) {
-        Ok(day) => push_day(alloc, out, Some(day)),
-        Err(fault) => Ok(writeln!(out, "FAULT {}", fault.number())?),
+    match packed_day(date) {
+        Ok(day) => push_day(out, day),
+        Err(fault) => out.value_line("FAULT ", fault.number()),
     }
 }
 
 /// Adds bytes as people read them.
-pub(crate) fn push_shown(alloc: Global, out: &mut String, bytes: &[u8]) -> Answered {
-    let shown = show(alloc, bytes)?;
-    Ok(writeln!(out, "\"{shown}\"")?)
+pub(crate) fn push_shown(out: &mut Answer, words: &[&str]) -> Answered {
+    let shown = show(out.alloc(), &hex_in(out.alloc(), words)?)?;
+    out.value("\"", shown.as_str());
+    out.end("\"\n")
 }
 
 /// Adds how many bytes of a buffer a text takes, or its fault, and what the buffer holds then.
-pub(crate) fn push_encoded(
-    alloc: Global,
-    out: &mut String,
-    size: &str,
-    words: &[&str],
-) -> Answered {
-    let mut buffer = vec![in alloc; BEFORE; usize::from(size.parse::<u8>()?)]?;
-    match encode(text_of(alloc, words)?.as_str(), &mut buffer) {
-        Ok(count) => write!(out, "WROTE {count} ")?,
-        Err(fault) => write!(out, "FAULT {} ", fault.number())?,
+pub(crate) fn push_encoded(out: &mut Answer, words: &[&str]) -> Answered {
+    let [size, words @ ..] = words else {
+        return Err(LineFault::Unread);
+    };
+    let mut buffer = vec![in out.alloc(); BEFORE; usize::from(size.parse::<u8>()?)]?;
+    match encode(text_of(out.alloc(), words)?.as_str(), &mut buffer) {
+        Ok(count) => out.value("WROTE ", count),
+        Err(fault) => out.value("FAULT ", fault.number()),
     }
-    Ok(writeln!(out, "{}", encode_upper(alloc, buffer)?)?)
+    out.bytes_line(" ", &buffer)
 }
 
 /// Adds the name with a text.
-pub(crate) fn push_name(out: &mut String, text: &str) -> Answered {
-    match Name::of(text) {
-        Some(name) => writeln!(out, "NAME {}", name.text())?,
-        None => writeln!(out, "NO NAME")?,
+pub(crate) fn push_name(out: &mut Answer, words: &[&str]) -> Answered {
+    match Name::of(text_of(out.alloc(), words)?.as_str()) {
+        Some(name) => out.value_line("NAME ", name.text()),
+        None => out.line("NO NAME"),
     }
-    Ok(())
 }

@@ -1,43 +1,23 @@
-//! What words spell, and why a line has no answer.
+//! What words spell.
 
-use row_scripts::{Named, push_hex};
+use row_scripts::{Answered, LineFault, push_hex};
 use std::alloc::{AllocError, Global};
-use std::num::ParseIntError;
-
-/// Why a line has no answer.
-#[derive(Clone, Copy)]
-pub(crate) enum NoAnswer {
-    Unread,
-    Memory(AllocError),
-}
-
-/// What comes of a line whose answer is added to a text.
-pub(crate) type Answered = Result<(), NoAnswer>;
-
-impl From<AllocError> for NoAnswer {
-    fn from(error: AllocError) -> NoAnswer {
-        NoAnswer::Memory(error)
-    }
-}
-
-impl From<ParseIntError> for NoAnswer {
-    fn from(_: ParseIntError) -> NoAnswer {
-        NoAnswer::Unread
-    }
-}
-
-/// The dump of parts.
-pub(crate) fn dump_of(named: &Named, parts: &[&str]) -> Result<Vec<u8>, NoAnswer> {
-    named.dump(parts)?.ok_or(NoAnswer::Unread)
-}
 
 /// The bytes that a word spells.
-pub(crate) fn hex_of(alloc: Global, word: &str) -> Result<Vec<u8>, NoAnswer> {
+pub(crate) fn hex_of(alloc: Global, word: &str) -> Answered<Vec<u8>> {
     let mut bytes = Vec::new(alloc);
     if push_hex(&mut bytes, word)? {
         Ok(bytes)
     } else {
-        Err(NoAnswer::Unread)
+        Err(LineFault::Unread)
+    }
+}
+
+/// The bytes that a line of one word spells.
+pub(crate) fn hex_in(alloc: Global, words: &[&str]) -> Answered<Vec<u8>> {
+    match words {
+        [word] => hex_of(alloc, word),
+        _ => Err(LineFault::Unread),
     }
 }
 
@@ -48,13 +28,13 @@ pub(crate) fn text_of(alloc: Global, words: &[&str]) -> Result<String, AllocErro
     text.as_str().replace(alloc, "\\s", " ")
 }
 
-/// The words before the first of these, and those behind it, if it is there.
+/// The words before the first of these, and those after it, if it is there.
 pub(crate) fn split_words<'a, 'b>(
     words: &'a [&'b str],
     between: &str,
 ) -> Option<(&'a [&'b str], &'a [&'b str])> {
     let at = words.iter().position(|word| *word == between)?;
     let (before, rest) = words.split_at(at);
-    let (_, behind) = rest.split_first()?;
-    Some((before, behind))
+    let (_, after) = rest.split_first()?;
+    Some((before, after))
 }
