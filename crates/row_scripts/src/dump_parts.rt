@@ -108,16 +108,20 @@ fn push_numbered(
     Ok(())
 }
 
+/// The place that a word spells; where it is empty, the end of so many bytes.
+fn end_of(place: &str, len: usize) -> Option<usize> {
+    if place.is_empty() {
+        Some(len)
+    } else {
+        place.parse::<usize>().ok()
+    }
+}
+
 /// The bytes from one place up to another, if they are there.
 fn slice_of<'a>(bytes: &'a [u8], places: &str) -> Option<&'a [u8]> {
     let (from, to) = places.split_once("..")?;
     let from = from.parse::<usize>().ok()?;
-    let to = if to.is_empty() {
-        bytes.len()
-    } else {
-        to.parse::<usize>().ok()?
-    };
-    bytes.get(from..to)
+    bytes.get(from..end_of(to, bytes.len())?)
 }
 
 /// The bytes of a dump that is named, or those at some places of it.
@@ -126,14 +130,20 @@ fn named<'a>(dumps: &'a Dumps, part: &str) -> Option<&'a [u8]> {
     slice_of(dumps.get(name)?.as_slice(), places)
 }
 
-/// Adds a dump that is named, or bytes of it, once or as often as the number after a star says, and
-/// then, if a place comes after an at sign, with the number of each copy there.
+/// Adds so many copies of bytes, with the number of each at the place after an at sign, if any.
+fn push_times(alloc: Global, out: &mut Vec<u8>, bytes: &[u8], times: &str) -> Answered {
+    match times.split_once('@') {
+        None => push_copies(out, bytes, times),
+        Some((count, place)) => push_numbered(alloc, out, bytes, count, place),
+    }
+}
+
+/// Adds a dump that is named, or bytes of it, once or as often as is said after a star.
 fn push_named(alloc: Global, dumps: &Dumps, out: &mut Vec<u8>, part: &str) -> Answered {
     let (part, count) = part.split_once('*').unwrap_or((part, "1"));
-    let bytes = named(dumps, part).ok_or(LineFault::Unread)?;
-    match count.split_once('@') {
-        None => push_copies(out, bytes, count),
-        Some((count, place)) => push_numbered(alloc, out, bytes, count, place),
+    match named(dumps, part) {
+        Some(bytes) => push_times(alloc, out, bytes, count),
+        None => Err(LineFault::Unread),
     }
 }
 

@@ -13,6 +13,17 @@ pub struct Named {
     texts: BTreeMap<String, String>,
 }
 
+/// Gives a value a name.
+fn keep<V: Drop>(
+    alloc: Global,
+    values: &mut BTreeMap<String, V>,
+    name: &str,
+    value: V,
+) -> Answered {
+    values.insert(String::from_str(alloc, name)?, value)?;
+    Ok(())
+}
+
 impl Named {
     /// Nothing is named yet.
     pub fn new(alloc: Global) -> Named {
@@ -42,14 +53,19 @@ impl Named {
         Some(self.texts.get(name)?.as_str())
     }
 
+    /// Adds a text that is named.
+    fn push_text(&self, text: &mut String, name: &str) -> Answered {
+        match self.text(name) {
+            Some(other) => Ok(text.push_str(other)?),
+            None => Err(LineFault::Unread),
+        }
+    }
+
     /// A body, and the texts that are named after it.
     pub fn read_texts(&self, names: &[&str], body: &str) -> Answered<String> {
         let mut text = String::from_str(self.alloc, body)?;
         for name in names {
-            let Some(other) = self.text(name) else {
-                return Err(LineFault::Unread);
-            };
-            text.push_str(other)?;
+            self.push_text(&mut text, name)?;
         }
         Ok(text)
     }
@@ -72,9 +88,7 @@ impl Named {
             return Err(LineFault::Unread);
         };
         let dump = self.read_dump_and(parts, body)?;
-        let name = String::from_str(self.alloc, name)?;
-        self.dumps.insert(name, dump)?;
-        Ok(())
+        keep(self.alloc, &mut self.dumps, name, dump)
     }
 
     /// Names a text, by a name, and texts that are named, which come after a body.
@@ -83,8 +97,6 @@ impl Named {
             return Err(LineFault::Unread);
         };
         let text = self.read_texts(names, body)?;
-        let name = String::from_str(self.alloc, name)?;
-        self.texts.insert(name, text)?;
-        Ok(())
+        keep(self.alloc, &mut self.texts, name, text)
     }
 }

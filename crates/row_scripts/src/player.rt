@@ -133,17 +133,26 @@ impl<A: Answers> Player<A> {
         Ok(asking)
     }
 
+    /// Plays a line, after the one that asks, and gives what is asked then.
+    fn step<'a>(
+        &mut self,
+        asking: Option<&'a str>,
+        line: &'a str,
+    ) -> Result<Option<&'a str>, AllocError> {
+        let Some(body) = line.strip_prefix('|') else {
+            return self.turn(asking, line);
+        };
+        self.push_body(body)?;
+        push_line(&mut self.played.text, line)?;
+        Ok(asking)
+    }
+
     /// Plays a script.
     pub(crate) fn play(&mut self, script: &str) -> Result<(), AllocError> {
         self.played = Played::new(self.named.alloc());
         let mut asking = None;
         for line in script.lines() {
-            if let Some(body) = line.strip_prefix('|') {
-                self.push_body(body)?;
-                push_line(&mut self.played.text, line)?;
-            } else {
-                asking = self.turn(asking, line)?;
-            }
+            asking = self.step(asking, line)?;
         }
         self.finish(asking)
     }

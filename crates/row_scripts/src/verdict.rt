@@ -10,8 +10,14 @@ const SHOWN: usize = 40;
 
 /// How many lines two texts have in common, up to the first that differs.
 fn same_lines(got: &str, want: &str) -> usize {
-    let pairs = got.lines().zip(want.lines());
-    pairs.take_while(|(line, other)| line == other).count()
+    let mut same: usize = 0;
+    for (line, other) in got.lines().zip(want.lines()) {
+        if line != other {
+            break;
+        }
+        same = same.saturating_add(1);
+    }
+    same
 }
 
 /// Prints how many rows and answers a script has.
@@ -20,14 +26,19 @@ fn print_counts(rt: &HostRuntime, name: &str, played: &Played) -> io::Result<()>
     print!(rt; "{name}: {rows} rows, {answers} answers, {unread} not understood, ")
 }
 
+/// Prints some lines of a text, after so many.
+fn print_lines(rt: &HostRuntime, text: &str, after: usize) -> io::Result<()> {
+    for line in text.lines().skip(after).take(SHOWN) {
+        println!(rt; "{line}")?;
+    }
+    Ok(())
+}
+
 /// Prints where a script was answered otherwise, and how.
 fn print_other(rt: &HostRuntime, got: &str, want: &str) -> io::Result<()> {
     let same = same_lines(got, want);
     println!(rt; "OTHER IN LINE {}", same.saturating_add(1))?;
-    for line in got.lines().skip(same).take(SHOWN) {
-        println!(rt; "{line}")?;
-    }
-    Ok(())
+    print_lines(rt, got, same)
 }
 
 /// Prints how many rows and answers a script has, and whether it was answered as it is written.

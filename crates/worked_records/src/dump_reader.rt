@@ -1,4 +1,4 @@
-//! A reader of dumps without any books, as docs/READING_DUMPS.md shows it.
+//! A reader of dumps without any books, as the README of smf_type30 shows it.
 
 use smf_frames::{Layout, split};
 use smf_text::{day_text, show};

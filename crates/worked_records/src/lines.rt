@@ -5,12 +5,12 @@ use crate::dumps::{push_class, push_header, push_parts, push_work};
 use crate::fields::push_field;
 use crate::joined::push_joined;
 use crate::marks::{push_reads, push_writes};
-use crate::pieces::push_pieces;
+use crate::pieces::{push_pieces, split_of};
 use crate::tariffs::{push_file, push_file_of, push_flat, push_prices, push_said};
 use crate::texts::{push_date, push_day_of, push_encoded, push_name, push_packed, push_shown};
 use crate::words::text_of;
 use row_scripts::{Answered, Answers, Ask, LineFault, Named, if_read};
-use smf_frames::{Joiner, Layout, split};
+use smf_frames::{Joiner, Layout};
 use std::alloc::{AllocError, Global};
 
 /// What the lines of a row have set so far.
@@ -120,15 +120,15 @@ impl RecordLines {
 
     /// Adds what is read of the row's lines so far, with one more.
     fn push_line(&mut self, out: &mut Answer, words: &[&str]) -> Answered {
-        self.file.push_str(text_of(out.alloc(), words)?.as_str())?;
+        let line = text_of(out.alloc(), words)?;
+        self.file.push_str(line.as_str())?;
         self.file.push('\n')?;
         push_file(out, self.file.as_str())
     }
 
     /// Adds what a dump is cut into.
     fn push_split(&self, named: &Named, out: &mut Answer, words: &[&str]) -> Answered {
-        let dump = named.read_dump(words)?;
-        push_parts(out, &split(out.alloc(), self.layout, &dump)?)
+        push_parts(out, &split_of(named, self.layout, words)?)
     }
 
     /// Adds the answer to a line.

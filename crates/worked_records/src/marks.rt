@@ -1,7 +1,7 @@
 //! What a source and a sink mark.
 
 use crate::answer::Answer;
-use crate::words::hex_of;
+use crate::words::{bytes_of, hex_of};
 use row_scripts::{Answered, Limits, LineFault, Taker};
 use streams::{Sink, Source};
 
@@ -31,17 +31,22 @@ fn push_marks(out: &mut Answer, source: &Source<&[u8]>) -> Answered {
     out.end("\n")
 }
 
-/// Adds what one read gives, if there may be one.
-fn push_read(out: &mut Answer, source: &mut Source<&[u8]>, size: &str) -> Answered {
+/// Adds what one read into a buffer gives, if there may be one.
+fn push_read_into(out: &mut Answer, source: &mut Source<&[u8]>, buffer: &mut [u8]) -> Answered {
     if source.asked() >= MOST_READS || source.failed() || source.ended() {
         return Err(LineFault::Unread);
     }
-    let mut buffer = vec![in out.alloc(); 0; usize::from(size.parse::<u16>()?)]?;
-    match source.read(&mut buffer) {
+    match source.read(buffer) {
         Ok(count) => push_given(out, &buffer[..count]),
         Err(_) => out.text("READ NONE"),
     }
     push_marks(out, source)
+}
+
+/// Adds what one read of so many bytes gives.
+fn push_read(out: &mut Answer, source: &mut Source<&[u8]>, size: &str) -> Answered {
+    let mut buffer = bytes_of(out.alloc(), 0, size)?;
+    push_read_into(out, source, &mut buffer)
 }
 
 /// Adds what each read of a source gives, and what is left after them.
@@ -54,17 +59,25 @@ pub(crate) fn push_reads(out: &mut Answer, sizes: &str, dump: &[u8]) -> Answered
 }
 
 /// Adds what one write takes, if there may be one.
-fn push_write(out: &mut Answer, sink: &mut Sink<Taker>, word: &str) -> Answered {
-    let bytes = hex_of(out.alloc(), word)?;
+fn push_write(out: &mut Answer, sink: &mut Sink<Taker>, bytes: &[u8]) -> Answered {
     if sink.failed() {
         return Err(LineFault::Unread);
     }
-    match sink.write(&bytes) {
+    match sink.write(bytes) {
         Ok(count) => out.value("WROTE ", count),
         Err(_) => out.text("WROTE NONE"),
     }
     push_where(out, sink.failed(), " FAILED");
     out.end("\n")
+}
+
+/// Adds what one write takes of the bytes that each word spells.
+fn push_each(out: &mut Answer, sink: &mut Sink<Taker>, words: &[&str]) -> Answered {
+    for word in words {
+        let bytes = hex_of(out.alloc(), word)?;
+        push_write(out, sink, &bytes)?;
+    }
+    Ok(())
 }
 
 /// Adds what a writer took, and how often it was asked.
@@ -86,8 +99,6 @@ pub(crate) fn push_writes(out: &mut Answer, words: &[&str]) -> Answered {
         return Err(LineFault::Unread);
     };
     let mut sink = Sink::new(Taker::new(out.alloc(), limits_of(size, writes)?));
-    for text in texts {
-        push_write(out, &mut sink, text)?;
-    }
+    push_each(out, &mut sink, texts)?;
     push_taken(out, &sink.into_inner())
 }

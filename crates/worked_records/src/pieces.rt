@@ -3,11 +3,22 @@
 use crate::answer::Answer;
 use crate::words::split_words;
 use row_scripts::{Answered, LineFault, Named};
-use smf_frames::{Joiner, Layout, Split, split};
+use smf_frames::{FrameFault, Joiner, Layout, Split, split};
 use std::alloc::{AllocError, Global};
 
 /// More pieces and records than any dump of a script has.
 const ROUNDS: u32 = 200_000;
+
+/// Gives a joiner a piece of so many bytes. What it left of all.
+fn take_piece<'a>(
+    joiner: &mut Joiner,
+    bytes: &'a [u8],
+    size: usize,
+) -> Result<&'a [u8], FrameFault> {
+    let (piece, _) = bytes.split_at(size.min(bytes.len()));
+    let taken = joiner.feed(piece)?;
+    Ok(&bytes[taken..])
+}
 
 /// Adds the record that stands, and lets it go. False where none stands.
 fn take_record(
@@ -23,31 +34,37 @@ fn take_record(
     Ok(true)
 }
 
+/// Adds the records that a joiner makes of a dump that it gets in pieces of so many bytes. The
+/// fault at which it stops, if it does.
+fn take_records(
+    alloc: Global,
+    joiner: &mut Joiner,
+    records: &mut Vec<Vec<u8>>,
+    dump: &[u8],
+    size: usize,
+) -> Result<Option<FrameFault>, AllocError> {
+    let mut rest = dump;
+    for _ in 0..ROUNDS {
+        match take_piece(joiner, rest, size) {
+            Ok(later) => rest = later,
+            Err(fault) => return Ok(Some(fault)),
+        }
+        if !take_record(alloc, joiner, records)? && rest.is_empty() {
+            break;
+        }
+    }
+    Ok(None)
+}
+
 /// What a joiner makes of a dump that it gets in pieces of so many bytes.
 fn in_pieces(alloc: Global, layout: Layout, dump: &[u8], size: usize) -> Result<Split, AllocError> {
     let mut joiner = Joiner::new(alloc, layout)?;
     let mut records = Vec::new(alloc);
-    let mut rest = dump;
-    for _ in 0..ROUNDS {
-        let (piece, _) = rest.split_at(size.min(rest.len()));
-        match joiner.feed(piece) {
-            Ok(taken) => rest = &rest[taken..],
-            Err(fault) => {
-                return Ok(Split {
-                    records,
-                    fault: Some(fault),
-                    is_broken: true,
-                });
-            }
-        }
-        if !take_record(alloc, &mut joiner, &mut records)? && rest.is_empty() {
-            break;
-        }
-    }
+    let fault = take_records(alloc, &mut joiner, &mut records, dump, size)?;
     Ok(Split {
         records,
-        fault: joiner.finish().err(),
-        is_broken: false,
+        fault: fault.or(joiner.finish().err()),
+        is_broken: fault.is_some(),
     })
 }
 
@@ -59,11 +76,16 @@ struct Wanted {
     whole: Split,
 }
 
+/// What a dump of parts is cut into.
+pub(crate) fn split_of(named: &Named, layout: Layout, parts: &[&str]) -> Answered<Split> {
+    let dump = named.read_dump(parts)?;
+    Ok(split(named.alloc(), layout, &dump)?)
+}
+
 impl Wanted {
-    /// What `split` makes of the dump of parts, or of the one whose parts stand after a colon.
-    fn of(named: &Named, layout: Layout, parts: &[&str]) -> Answered<Wanted> {
-        let (parts, other) = split_words(parts, ":").unwrap_or((parts, parts));
-        let whole = split(named.alloc(), layout, &named.read_dump(other)?)?;
+    /// Of the dump of some parts what the dump of others is cut into.
+    fn of(named: &Named, layout: Layout, parts: &[&str], other: &[&str]) -> Answered<Wanted> {
+        let whole = split_of(named, layout, other)?;
         let dump = named.read_dump(parts)?;
         Ok(Wanted {
             layout,
@@ -102,18 +124,38 @@ impl Sizes {
         };
         Ok(sizes.push(size)?)
     }
+
+    /// Adds the sizes that words spell, a comma between two.
+    fn add_all(&mut self, alloc: Global, wanted: &Wanted, words: &str) -> Answered {
+        for word in words.split(',') {
+            self.add(alloc, wanted, word)?;
+        }
+        Ok(())
+    }
 }
 
 /// Adds a line of sizes, if there are any.
-fn push_sizes(out: &mut Answer, what: &str, sizes: &[usize]) -> Answered {
+fn push_sizes(out: &mut Answer, what: &str, sizes: &[usize]) {
     if sizes.is_empty() {
-        return Ok(());
+        return;
     }
     out.text(what);
     for size in sizes {
         out.value(" ", *size);
     }
-    out.end("\n")
+    out.text("\n");
+}
+
+/// Adds the sizes of pieces by which a joiner makes what is wanted, and the others.
+fn push_made(out: &mut Answer, wanted: &Wanted, words: &str) -> Answered {
+    let mut sizes = Sizes {
+        same: Vec::new(out.alloc()),
+        other: Vec::new(out.alloc()),
+    };
+    sizes.add_all(out.alloc(), wanted, words)?;
+    push_sizes(out, "SAME IN", &sizes.same);
+    push_sizes(out, "OTHER IN", &sizes.other);
+    out.end("")
 }
 
 /// Adds the sizes of pieces by which a joiner makes of a dump what `split` makes of it, or of the
@@ -127,14 +169,7 @@ pub(crate) fn push_pieces(
     let [sizes, parts @ ..] = words else {
         return Err(LineFault::Unread);
     };
-    let wanted = Wanted::of(named, layout, parts)?;
-    let mut found = Sizes {
-        same: Vec::new(out.alloc()),
-        other: Vec::new(out.alloc()),
-    };
-    for size in sizes.split(',') {
-        found.add(out.alloc(), &wanted, size)?;
-    }
-    push_sizes(out, "SAME IN", &found.same)?;
-    push_sizes(out, "OTHER IN", &found.other)
+    let (parts, other) = split_words(parts, ":").unwrap_or((parts, parts));
+    let wanted = Wanted::of(named, layout, parts, other)?;
+    push_made(out, &wanted, sizes)
 }

@@ -12,13 +12,22 @@ use tariff_rules::{Priced, Tariff, TariffFault, price};
 const MOST_PIECES: usize = 2_000_000;
 
 /// A text with another in the first place of one.
-fn replaced(alloc: Global, text: &str, old: &[&str], new: &[&str]) -> Answered<String> {
-    let old = text_of(alloc, old)?;
-    if !text.contains(old.as_str()) {
-        return Err(LineFault::Unread);
+fn replaced(alloc: Global, text: &str, old: &str, new: &str) -> Answered<String> {
+    if text.contains(old) {
+        Ok(text.replacen(alloc, old, new, 1)?)
+    } else {
+        Err(LineFault::Unread)
     }
+}
+
+/// A text with the text of words in the first place of that of others, an arrow between the two.
+fn changed_by(alloc: Global, text: &str, words: &[&str]) -> Answered<String> {
+    let Some((old, new)) = split_words(words, "->") else {
+        return Err(LineFault::Unread);
+    };
+    let old = text_of(alloc, old)?;
     let new = text_of(alloc, new)?;
-    Ok(text.replacen(alloc, old.as_str(), new.as_str(), 1)?)
+    replaced(alloc, text, old.as_str(), new.as_str())
 }
 
 /// A text that is named, with another text in the first place of one.
@@ -26,11 +35,8 @@ fn changed(named: &Named, words: &[&str]) -> Answered<String> {
     let [name, words @ ..] = words else {
         return Err(LineFault::Unread);
     };
-    let Some(text) = named.text(name) else {
-        return Err(LineFault::Unread);
-    };
-    match split_words(words, "->") {
-        Some((old, new)) => replaced(named.alloc(), text, old, new),
+    match named.text(name) {
+        Some(text) => changed_by(named.alloc(), text, words),
         None => Err(LineFault::Unread),
     }
 }
@@ -151,15 +157,20 @@ fn flat_of(alloc: Global, rates: [&str; 3]) -> Answered<Option<Tariff>> {
 }
 
 /// Adds the tariff of three rates, and what records cost by it.
+fn push_flat_days(out: &mut Answer, rates: [&str; 3], dump: &[u8]) -> Answered {
+    match flat_of(out.alloc(), rates)? {
+        Some(tariff) => push_days(out, &tariff, dump),
+        None => out.line("NO TARIFF"),
+    }
+}
+
+/// The same of three rates, and a dump.
 pub(crate) fn push_flat(named: &Named, out: &mut Answer, words: &[&str]) -> Answered {
     let [cpu, excp, record, parts @ ..] = words else {
         return Err(LineFault::Unread);
     };
     let dump = named.read_dump(parts)?;
-    match flat_of(out.alloc(), [*cpu, *excp, *record])? {
-        Some(tariff) => push_days(out, &tariff, &dump),
-        None => out.line("NO TARIFF"),
-    }
+    push_flat_days(out, [*cpu, *excp, *record], &dump)
 }
 
 /// Adds what records cost by a tariff file.

@@ -1,7 +1,7 @@
 //! Days, as records, tariffs and reports write them, code page 037, and the names of centres.
 
 use crate::answer::Answer;
-use crate::words::{hex_in, text_of};
+use crate::words::{bytes_of, hex_in, text_of};
 use row_scripts::{Answered, LineFault};
 use smf_text::{FIRST_DAY, LAST_DAY, Name, day_of_text, encode, packed_day, show, weekday};
 
@@ -54,16 +54,22 @@ pub(crate) fn push_shown(out: &mut Answer, words: &[&str]) -> Answered {
 }
 
 /// Adds how many bytes of a buffer a text takes, or its fault, and what the buffer holds then.
+fn push_written(out: &mut Answer, text: &str, buffer: &mut [u8]) -> Answered {
+    match encode(text, buffer) {
+        Ok(count) => out.value("WROTE ", count),
+        Err(fault) => out.value("FAULT ", fault.number()),
+    }
+    out.bytes_line(" ", buffer)
+}
+
+/// The same of a buffer of some size, and a text.
 pub(crate) fn push_encoded(out: &mut Answer, words: &[&str]) -> Answered {
     let [size, words @ ..] = words else {
         return Err(LineFault::Unread);
     };
-    let mut buffer = vec![in out.alloc(); BEFORE; usize::from(size.parse::<u8>()?)]?;
-    match encode(text_of(out.alloc(), words)?.as_str(), &mut buffer) {
-        Ok(count) => out.value("WROTE ", count),
-        Err(fault) => out.value("FAULT ", fault.number()),
-    }
-    out.bytes_line(" ", &buffer)
+    let text = text_of(out.alloc(), words)?;
+    let mut buffer = bytes_of(out.alloc(), BEFORE, size)?;
+    push_written(out, text.as_str(), &mut buffer)
 }
 
 /// Adds the name with a text.

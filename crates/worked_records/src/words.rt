@@ -33,8 +33,16 @@ pub(crate) fn split_words<'a, 'b>(
     words: &'a [&'b str],
     between: &str,
 ) -> Option<(&'a [&'b str], &'a [&'b str])> {
-    let at = words.iter().position(|word| *word == between)?;
-    let (before, rest) = words.split_at(at);
-    let (_, after) = rest.split_first()?;
-    Some((before, after))
+    for (at, word) in words.iter().enumerate() {
+        if *word == between {
+            return Some((&words[..at], &words[at + 1..]));
+        }
+    }
+    None
+}
+
+/// As many bytes as a word says, each this one.
+pub(crate) fn bytes_of(alloc: Global, byte: u8, count: &str) -> Answered<Vec<u8>> {
+    let count = usize::from(count.parse::<u16>()?);
+    Ok(vec![in alloc; byte; count]?)
 }
