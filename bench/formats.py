@@ -1,0 +1,280 @@
+"""What docs/FORMATS.md says of dumps, requests and texts, once more apart from the program: `hostile` holds each answer against
+it. Of a dump, a receipt and a refusal it knows every byte; of reports, audits and what is said on standard error, the form."""
+import calendar
+import collections
+import re
+import struct
+
+COMPLETE, FIRST, LAST, BETWEEN = 0, 1, 2, 3
+DESCRIPTOR, MOST_DATA, EXTENDED = 4, 65_531, 0x8000
+MOST_HEAD, MOST_FIELDS, MOST_BODY = 16_384, 64, 16_777_216
+DAY_END = 8_640_000
+
+# The first day of the tariff that all books here have first, as a packed date without its sign.
+FIRST_DAY = "0124001"
+CLOSED_THROUGH = "2024-01-31"
+
+
+def block_fault(length):
+    return 3 if length >= EXTENDED else 2 if length < DESCRIPTOR else 0
+
+
+def segment_fault(is_begun, left, length, kind, size):
+    """The first test that a segment's descriptor fails, or 0."""
+    if length < DESCRIPTOR:
+        return 1
+    if left is not None and left < length:
+        return 4
+    if is_begun != (kind in (LAST, BETWEEN)):
+        return 6 if is_begun else 5
+    return 7 if size + length - DESCRIPTOR > MOST_DATA else 0
+
+
+def framed(dump, layout):
+    """The records of a dump, each joined behind its descriptor, and last why there are no more."""
+    at, left, parts, size = 0, None, [], 0
+    while left is None or left >= DESCRIPTOR:
+        if len(dump) - at < DESCRIPTOR:
+            break
+        length, kind = struct.unpack_from(">HB", dump, at)
+        is_block = layout == "bdw" and left is None
+        fault = block_fault(length) if is_block else segment_fault(parts != [], left, length, kind & 3, size)
+        if fault:
+            yield "FRAME %d" % fault
+            return
+        if is_block:
+            at, left = at + DESCRIPTOR, (length - DESCRIPTOR) or None
+            continue
+        if len(dump) - at < length:
+            break
+        parts.append(dump[at + DESCRIPTOR:at + length])
+        at, size, left = at + length, size + length - DESCRIPTOR, left and (left - length) or None
+        if kind & 3 in (COMPLETE, LAST):
+            yield struct.pack(">HH", size + DESCRIPTOR, 0) + b"".join(parts)
+            parts, size = [], 0
+    else:
+        yield "FRAME 4"
+        return
+    yield "FRAME 8" if left is not None or at < len(dump) else "FRAME 6" if parts else "END"
+
+
+def is_day(packed):
+    digits = packed.hex()
+    if not re.fullmatch("0[01][0-9]{5}[cf]", digits):
+        return False
+    year = 1900 + 100 * int(digits[1]) + int(digits[2:4])
+    return 1 <= int(digits[4:7]) <= 365 + calendar.isleap(year)
+
+
+def has_accounts(record):
+    """Its accounting fields lie inside it."""
+    at, _, count = struct.unpack_from(">IHH", record, 64)
+    for _ in range(count):
+        if at >= len(record):
+            return False
+        at += 1 + record[at]
+        if at > len(record):
+            return False
+    return True
+
+
+def damage_of(record):
+    """The number of the first damage of a work record that measures CPU time, or 0."""
+    if not is_day(record[10:14]):
+        return 2
+    if struct.unpack_from(">I", record, 6)[0] >= DAY_END:
+        return 3
+    if record[38:40] == b"\0\0":
+        return 4
+    for at, least, damage in ((32, 72, 5), (56, 12, 6), (40, 8, 7), (48, 4, 8)):
+        offset, length, count = struct.unpack_from(">IHH", record, at)
+        if count and (length < least or offset + length > len(record)):
+            return damage
+    return 0 if has_accounts(record) else 9
+
+
+def class_of(record):
+    """The class of a joined record, as the check list shows it."""
+    if len(record) < 18:
+        return "DAMAGED 1"
+    if record[5] != 30:
+        return {2: "HEADER", 3: "TRAILER", 7: "LOST"}.get(record[5], "OTHER")
+    if len(record) < 24:
+        return "DAMAGED 1"
+    if record[22:24] not in (b"\0\4", b"\0\5"):
+        return "OTHER"
+    if len(record) < 72:
+        return "DAMAGED 1"
+    if record[62:64] == b"\0\0":
+        return "CONTINUED"
+    damage = damage_of(record)
+    return "DAMAGED %d" % damage if damage else "USAGE"
+
+
+def check_list(dump, layout):
+    """The check list of a dump, and why it stops."""
+    *records, stop = framed(dump, layout)
+    lines = ["%d TYPE %s %s\n" % (at, record[5] if len(record) >= 18 else "-", class_of(record))
+             for at, record in enumerate(records, 1)]
+    return "".join(lines + ["RECORDS %d STOP %s\n" % (len(records), stop)]).encode(), stop
+
+
+COUNTED = "KEPT KNOWN UNPRICED OTHER HEADERS TRAILERS LOST CONTINUED DAMAGED".split()
+PLURALS = {"HEADER": "HEADERS", "TRAILER": "TRAILERS"}
+
+
+class Books:
+    """What books hold, of which the first tariff is in force from a day on."""
+
+    def __init__(self, first_day=FIRST_DAY):
+        self.first_day, self.held = first_day, set()
+
+    def counted(self, record, new):
+        """What the receipt counts a record as. New data join the others that are new."""
+        kind = class_of(record).split()[0]
+        if kind != "USAGE":
+            return PLURALS.get(kind, kind)
+        if record[10:14].hex()[:7] < self.first_day:
+            return "UNPRICED"
+        if record[DESCRIPTOR:] in self.held or record[DESCRIPTOR:] in new:
+            return "KNOWN"
+        new.add(record[DESCRIPTOR:])
+        return "KEPT"
+
+    def receipt(self, dump, layout):
+        """The receipt line of an import, why it stops, and the data that are new."""
+        counts, new, stop = collections.Counter(), set(), None
+        for record in framed(dump, layout):
+            if isinstance(record, str):
+                stop = record
+            else:
+                counts[self.counted(record, new)] += 1
+        words = ["%s %d" % (word, counts[word]) for word in COUNTED]
+        return (" ".join(words) + " STOP %s\n" % stop).encode(), stop, new
+
+
+# The head of a request, as RFC 9112 has it; a line may end with LF alone.
+TOKEN = rb"[!#$%&'*+.^_`|~0-9A-Za-z-]+"
+HEAD = re.compile(rb"(?:\r?\n)*(" + TOKEN + rb") ([!-~\x80-\xff]+) HTTP/1\.[01]\r?\n"
+                  rb"((?:" + TOKEN + rb":[\t -~\x80-\xff]*\r?\n)*)\r?\n")
+FIELD = re.compile(rb"([^:\r\n]+):([^\r\n]*)\r?\n")
+PATH = re.compile(rb"/(?:(periods|disputes)|(statement|statement-csv|adjustments)/([1-9][0-9]{0,3})|(import)(-bdw)?)")
+LENGTH = re.compile(rb"[0-9]{1,19}")
+PHRASES = {200: "OK", 400: "Bad Request", 403: "Forbidden", 404: "Not Found", 405: "Method Not Allowed",
+           411: "Length Required", 413: "Payload Too Large", 422: "Unprocessable Entity", 503: "Service Unavailable"}
+
+# What a request is to be answered: the status, the method that `Allow` names, the report, or the dump that is imported.
+Asked = collections.namedtuple("Asked", "status allow report layout body", defaults=(None,) * 4)
+
+
+def is_text(target):
+    try:
+        target.decode()
+    except UnicodeDecodeError:
+        return False
+    return True
+
+
+def asked(request, last_period):
+    """What a request asks of books with so many periods."""
+    head = HEAD.match(request, 0, MOST_HEAD)
+    fields = FIELD.findall(head[3]) if head else ()
+    if not head or len(fields) > MOST_FIELDS or not is_text(head[2]):
+        return Asked(400)
+    names = {name.lower() for name, _ in fields}
+    lengths = [value.strip(b" \t") for name, value in fields if name.lower() == b"content-length"]
+    if len(lengths) > 1 or lengths and not LENGTH.fullmatch(lengths[0]):
+        return Asked(400)
+    path = PATH.fullmatch(head[2].split(b"?")[0])
+    if not path:
+        return Asked(404)
+    method = b"POST" if path[4] else b"GET"
+    if head[1] != method:
+        return Asked(405, method)
+    if method == b"POST":
+        return asked_import(request, head.end(), names, lengths, "bdw" if path[5] else "rdw")
+    if path[3] and int(path[3]) > last_period:
+        return Asked(404)
+    return Asked(200, report=(path[1] or path[2], int(path[3] or 0)))
+
+
+def asked_import(request, end, names, lengths, layout):
+    if b"origin" in names:
+        return Asked(403)
+    if not lengths or b"transfer-encoding" in names:
+        return Asked(411)
+    length = int(lengths[0])
+    if length > MOST_BODY:
+        return Asked(413)
+    body = request[end:end + length]
+    return Asked(200, layout=layout, body=body) if len(body) == length else Asked(400)
+
+
+def answer(status, body=None, kind="plain", allow=None):
+    """An answer as it is sent: without a body it tells its status alone."""
+    phrase = "%d %s" % (status, PHRASES[status])
+    body = (phrase + "\n").encode() if body is None else body
+    line = "Allow: %s\r\n" % allow.decode() if allow else ""
+    return ("HTTP/1.1 %s\r\nContent-Type: text/%s; charset=us-ascii\r\n%sContent-Length: %d\r\nConnection: close\r\n\r\n"
+            % (phrase, kind, line, len(body))).encode() + body
+
+
+# The forms of texts.
+SHOWN = r"(?:[ -\[\]-~]|\\[0-9A-F]{2})*"
+DAY, NAME, AMOUNT = r"[12][0-9]{3}-[01][0-9]-[0-3][0-9]", r"[A-Z0-9-]{1,16}", r"[0-9]+\.[0-9]{4}"
+SUMS = r" +[0-9]+ +[0-9]+\.[0-9]{2} +[0-9]+ +" + AMOUNT + r"\n"
+OF_PERIOD = {0: r"PERIOD [0-9]+ (?:OPEN|CLOSED THROUGH %s)\n" % DAY, 1: r"PERIOD 1 CLOSED THROUGH %s\n" % CLOSED_THROUGH,
+             2: r"PERIOD 2 OPEN\n"}
+COLUMNS = ("%-10s %-16s %-16s %8s %19s %18s %21s\n" % ("DAY", "CENTRE", "SHIFT", "COUNT", "CPU", "BLOCKS", "AMOUNT"))
+TEXTS = {
+    "statement": COLUMNS + r"(?:(?=.{114}\n)%s %s +%s%s)*(?=.{114}\n)TOTAL%s" % (DAY, NAME, NAME, SUMS, SUMS),
+    "adjustments": r"(?:(?:PLUS |MINUS) %s %s +%s +-?%s [0-9a-f]{64} %s\n)*TOTAL +-?%s\n"
+                   % (DAY, NAME, NAME, AMOUNT, SHOWN, AMOUNT)}
+CSV = (r"period,day,centre,shift,count,cpu,blocks,amount\n(?:%%s,%s,%s,%s,[0-9]+,[0-9]+\.[0-9]{2},[0-9]+,%s\n)*"
+       % (DAY, NAME, NAME, AMOUNT))
+MOMENT = r"[0-9A-F]{8} [0-9A-F]{8}"
+DISPUTES = (r"DISPUTES [0-9]+\n(?:%s READER %s SUBTYPE [45] STEP [0-9]+(?: START %s)?\n"
+            r"(?:  [0-9a-f]{64} %s +%s (?:[0-9A-F]{4}/[0-9A-F]{4}|----) %s\n){2,})*"
+            % (SHOWN, MOMENT, MOMENT, DAY, AMOUNT, SHOWN))
+PERIODS = r"PERIODS 2\n1 CLOSED THROUGH %s\n2 OPEN\n" % CLOSED_THROUGH
+SOUND = "SOUND\n" + "".join(word + " [0-9]+\n" for word in "RECORDS TARIFFS CLOSES CHOICES ROWS LINES".split())
+UNSOUND = r"UNSOUND [ -~]+: [ -~]+\n"
+RECEIPT = " ".join(word + " [0-9]+" for word in COUNTED) + r" STOP (END|FRAME [1-8]|READ|READLIMIT|LEDGER [0-9]+)\n"
+CHECKED = (r"(?:[0-9]+ TYPE (?:[0-9]+|-) (?:HEADER|TRAILER|LOST|OTHER|CONTINUED|USAGE|DAMAGED [1-9])\n)*"
+           r"RECORDS [0-9]+ STOP (?:END|FRAME [1-8])\n")
+
+
+def form(text):
+    return re.compile(text.encode())
+
+
+def report_form(name, period):
+    """The form of a report that books with two periods give, of which the first is closed; with period 0 of any books."""
+    if name in TEXTS:
+        return form(name.upper() + " " + OF_PERIOD[period] + TEXTS[name])
+    return form(CSV % (period or "[0-9]+") if name == "statement-csv" else {"disputes": DISPUTES, "periods": PERIODS}[name])
+
+
+SERVED = {(name.encode(), period): report_form(name, period)
+          for name, periods in (("periods", (0,)), ("disputes", (0,)), ("statement", (1, 2)), ("statement-csv", (1, 2)),
+                                ("adjustments", (1, 2))) for period in periods}
+OF_COMMANDS = {name: report_form(name, 0) for name in ("statement", "statement-csv", "adjustments", "disputes")}
+OF_COMMANDS |= {"audit": form(SOUND + "|" + UNSOUND), "import": form(RECEIPT), "ruling": form("DONE\n|ALREADY\n"),
+                "check": form(CHECKED), "init": form(""), "explain": form(r"[ -~]+\n[ -~]+\n"),
+                "version": form(r"chargectl [0-9.]+\n"), "help": form(r"[ -~\n]*Usage: chargectl[ -~\n]*")}
+OF_COMMANDS["trial"] = form(RECEIPT + "STATEMENT PERIOD 1 OPEN\n" + TEXTS["statement"] + DISPUTES)
+
+# Of books that are damaged a report begins as it has to. Its rows say what the file says, which may be no name and no day.
+OF_DAMAGED = OF_COMMANDS | {
+    name: form(front + r"(?s:.*)\n") for name, front in (
+        ("statement", "STATEMENT " + OF_PERIOD[0] + COLUMNS), ("statement-csv", "period,day,centre,shift,count,cpu,blocks,amount"),
+        ("adjustments", "ADJUSTMENTS " + OF_PERIOD[0]), ("disputes", "DISPUTES [0-9]+"))}
+
+ERROR = re.compile(rb"chargectl: (?:(io)|exists|word|frame [1-8]|tariff [1-6](?: [a-z_]+)?|ledger (?:4|5|6|7|9 [0-9]+|1[0-3])"
+                   rb"|(unsound|ledger 2|ledger 3|ledger 16)|(ledger 1))\n")
+
+
+def status_of(line):
+    """The status that goes with a line on standard error; None where it is no such line."""
+    said = ERROR.fullmatch(line)
+    return said and (1 if said[1] else 4 if said[2] else 5 if said[3] else 3)
