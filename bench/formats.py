@@ -1,5 +1,6 @@
-"""What docs/FORMATS.md says of dumps, requests and texts, once more apart from the program: `hostile` holds each answer against
-it. Of a dump, a receipt and a refusal it knows every byte; of reports, audits and what is said on standard error, the form."""
+"""What docs/FORMATS.md says of dumps, requests and texts, once more apart from the program: `hostile`
+holds each answer against it. Of a dump, a receipt and a refusal it knows every byte; of reports, audits
+and what is said on standard error, the form."""
 import calendar
 import collections
 import re
@@ -38,7 +39,8 @@ def framed(dump, layout):
             break
         length, kind = struct.unpack_from(">HB", dump, at)
         is_block = layout == "bdw" and left is None
-        fault = block_fault(length) if is_block else segment_fault(parts != [], left, length, kind & 3, size)
+        fault = (block_fault(length) if is_block
+                 else segment_fault(parts != [], left, length, kind & 3, size))
         if fault:
             yield "FRAME %d" % fault
             return
@@ -158,12 +160,15 @@ TOKEN = rb"[!#$%&'*+.^_`|~0-9A-Za-z-]+"
 HEAD = re.compile(rb"(?:\r?\n)*(" + TOKEN + rb") ([!-~\x80-\xff]+) HTTP/1\.[01]\r?\n"
                   rb"((?:" + TOKEN + rb":[\t -~\x80-\xff]*\r?\n)*)\r?\n")
 FIELD = re.compile(rb"([^:\r\n]+):([^\r\n]*)\r?\n")
-PATH = re.compile(rb"/(?:(periods|disputes)|(statement|statement-csv|adjustments)/([1-9][0-9]{0,3})|(import)(-bdw)?)")
+PATH = re.compile(rb"/(?:(periods|disputes)|(statement|statement-csv|adjustments)/([1-9][0-9]{0,3})"
+                  rb"|(import)(-bdw)?)")
 LENGTH = re.compile(rb"[0-9]{1,19}")
-PHRASES = {200: "OK", 400: "Bad Request", 403: "Forbidden", 404: "Not Found", 405: "Method Not Allowed",
-           411: "Length Required", 413: "Payload Too Large", 422: "Unprocessable Entity", 503: "Service Unavailable"}
+PHRASES = {200: "OK", 400: "Bad Request", 403: "Forbidden", 404: "Not Found",
+           405: "Method Not Allowed", 411: "Length Required", 413: "Payload Too Large",
+           422: "Unprocessable Entity", 503: "Service Unavailable"}
 
-# What a request is to be answered: the status, the method that `Allow` names, the report, or the dump that is imported.
+# What a request is to be answered: the status, the method that `Allow` names, the report, or the dump
+# that is imported.
 Asked = collections.namedtuple("Asked", "status allow report layout body", defaults=(None,) * 4)
 
 
@@ -215,33 +220,38 @@ def answer(status, body=None, kind="plain", allow=None):
     phrase = "%d %s" % (status, PHRASES[status])
     body = (phrase + "\n").encode() if body is None else body
     line = "Allow: %s\r\n" % allow.decode() if allow else ""
-    return ("HTTP/1.1 %s\r\nContent-Type: text/%s; charset=us-ascii\r\n%sContent-Length: %d\r\nConnection: close\r\n\r\n"
-            % (phrase, kind, line, len(body))).encode() + body
+    return ("HTTP/1.1 %s\r\nContent-Type: text/%s; charset=us-ascii\r\n%sContent-Length: %d\r\n"
+            "Connection: close\r\n\r\n" % (phrase, kind, line, len(body))).encode() + body
 
 
 # The forms of texts.
 SHOWN = r"(?:[ -\[\]-~]|\\[0-9A-F]{2})*"
 DAY, NAME, AMOUNT = r"[12][0-9]{3}-[01][0-9]-[0-3][0-9]", r"[A-Z0-9-]{1,16}", r"[0-9]+\.[0-9]{4}"
 SUMS = r" +[0-9]+ +[0-9]+\.[0-9]{2} +[0-9]+ +" + AMOUNT + r"\n"
-OF_PERIOD = {0: r"PERIOD [0-9]+ (?:OPEN|CLOSED THROUGH %s)\n" % DAY, 1: r"PERIOD 1 CLOSED THROUGH %s\n" % CLOSED_THROUGH,
-             2: r"PERIOD 2 OPEN\n"}
-COLUMNS = ("%-10s %-16s %-16s %8s %19s %18s %21s\n" % ("DAY", "CENTRE", "SHIFT", "COUNT", "CPU", "BLOCKS", "AMOUNT"))
+OF_PERIOD = {0: r"PERIOD [0-9]+ (?:OPEN|CLOSED THROUGH %s)\n" % DAY,
+             1: r"PERIOD 1 CLOSED THROUGH %s\n" % CLOSED_THROUGH, 2: r"PERIOD 2 OPEN\n"}
+COLUMNS = ("%-10s %-16s %-16s %8s %19s %18s %21s\n"
+           % ("DAY", "CENTRE", "SHIFT", "COUNT", "CPU", "BLOCKS", "AMOUNT"))
+WIDE = r"(?=.{114}\n)"
 TEXTS = {
-    "statement": COLUMNS + r"(?:(?=.{114}\n)%s %s +%s%s)*(?=.{114}\n)TOTAL%s" % (DAY, NAME, NAME, SUMS, SUMS),
+    "statement": COLUMNS + r"(?:%s%s %s +%s%s)*%sTOTAL%s" % (WIDE, DAY, NAME, NAME, SUMS, WIDE, SUMS),
     "adjustments": r"(?:(?:PLUS |MINUS) %s %s +%s +-?%s [0-9a-f]{64} %s\n)*TOTAL +-?%s\n"
                    % (DAY, NAME, NAME, AMOUNT, SHOWN, AMOUNT)}
-CSV = (r"period,day,centre,shift,count,cpu,blocks,amount\n(?:%%s,%s,%s,%s,[0-9]+,[0-9]+\.[0-9]{2},[0-9]+,%s\n)*"
+CSV_COLUMNS = "period,day,centre,shift,count,cpu,blocks,amount"
+CSV = (CSV_COLUMNS + r"\n(?:%%s,%s,%s,%s,[0-9]+,[0-9]+\.[0-9]{2},[0-9]+,%s\n)*"
        % (DAY, NAME, NAME, AMOUNT))
 MOMENT = r"[0-9A-F]{8} [0-9A-F]{8}"
 DISPUTES = (r"DISPUTES [0-9]+\n(?:%s READER %s SUBTYPE [45] STEP [0-9]+(?: START %s)?\n"
             r"(?:  [0-9a-f]{64} %s +%s (?:[0-9A-F]{4}/[0-9A-F]{4}|----) %s\n){2,})*"
             % (SHOWN, MOMENT, MOMENT, DAY, AMOUNT, SHOWN))
 PERIODS = r"PERIODS 2\n1 CLOSED THROUGH %s\n2 OPEN\n" % CLOSED_THROUGH
-SOUND = "SOUND\n" + "".join(word + " [0-9]+\n" for word in "RECORDS TARIFFS CLOSES CHOICES ROWS LINES".split())
+SOUND = "SOUND\n" + "".join(
+    word + " [0-9]+\n" for word in "RECORDS TARIFFS CLOSES CHOICES ROWS LINES".split())
 UNSOUND = r"UNSOUND [ -~]+: [ -~]+\n"
-RECEIPT = " ".join(word + " [0-9]+" for word in COUNTED) + r" STOP (END|FRAME [1-8]|READ|READLIMIT|LEDGER [0-9]+)\n"
-CHECKED = (r"(?:[0-9]+ TYPE (?:[0-9]+|-) (?:HEADER|TRAILER|LOST|OTHER|CONTINUED|USAGE|DAMAGED [1-9])\n)*"
-           r"RECORDS [0-9]+ STOP (?:END|FRAME [1-8])\n")
+RECEIPT = " ".join(word + " [0-9]+" for word in COUNTED)
+RECEIPT += r" STOP (END|FRAME [1-8]|READ|READLIMIT|LEDGER [0-9]+)\n"
+CLASSES = "HEADER|TRAILER|LOST|OTHER|CONTINUED|USAGE|DAMAGED [1-9]"
+CHECKED = (r"(?:[0-9]+ TYPE (?:[0-9]+|-) (?:%s)\n)*RECORDS [0-9]+ STOP (?:END|FRAME [1-8])\n" % CLASSES)
 
 
 def form(text):
@@ -249,29 +259,35 @@ def form(text):
 
 
 def report_form(name, period):
-    """The form of a report that books with two periods give, of which the first is closed; with period 0 of any books."""
+    """The form of a report that books with two periods give, of which the first is closed; with period
+    0 of any books."""
     if name in TEXTS:
         return form(name.upper() + " " + OF_PERIOD[period] + TEXTS[name])
-    return form(CSV % (period or "[0-9]+") if name == "statement-csv" else {"disputes": DISPUTES, "periods": PERIODS}[name])
+    if name == "statement-csv":
+        return form(CSV % (period or "[0-9]+"))
+    return form({"disputes": DISPUTES, "periods": PERIODS}[name])
 
 
-SERVED = {(name.encode(), period): report_form(name, period)
-          for name, periods in (("periods", (0,)), ("disputes", (0,)), ("statement", (1, 2)), ("statement-csv", (1, 2)),
-                                ("adjustments", (1, 2))) for period in periods}
-OF_COMMANDS = {name: report_form(name, 0) for name in ("statement", "statement-csv", "adjustments", "disputes")}
-OF_COMMANDS |= {"audit": form(SOUND + "|" + UNSOUND), "import": form(RECEIPT), "ruling": form("DONE\n|ALREADY\n"),
-                "check": form(CHECKED), "init": form(""), "explain": form(r"[ -~]+\n[ -~]+\n"),
-                "version": form(r"chargectl [0-9.]+\n"), "help": form(r"[ -~\n]*Usage: chargectl[ -~\n]*")}
-OF_COMMANDS["trial"] = form(RECEIPT + "STATEMENT PERIOD 1 OPEN\n" + TEXTS["statement"] + DISPUTES)
+OF_PERIODS = "statement", "statement-csv", "adjustments"
+SERVED = {(name.encode(), 0): report_form(name, 0) for name in ("periods", "disputes")}
+SERVED |= {(name.encode(), period): report_form(name, period) for name in OF_PERIODS for period in (1, 2)}
+OF_COMMANDS = {name: report_form(name, 0) for name in OF_PERIODS + ("disputes",)}
+OF_COMMANDS |= {
+    "audit": form(SOUND + "|" + UNSOUND), "import": form(RECEIPT), "ruling": form("DONE\n|ALREADY\n"),
+    "check": form(CHECKED), "init": form(""), "explain": form(r"[ -~]+\n[ -~]+\n"),
+    "version": form(r"chargectl [0-9.]+\n"), "help": form(r"[ -~\n]*Usage: chargectl[ -~\n]*"),
+    "trial": form(RECEIPT + "STATEMENT PERIOD 1 OPEN\n" + TEXTS["statement"] + DISPUTES)}
 
-# Of books that are damaged a report begins as it has to. Its rows say what the file says, which may be no name and no day.
+# Of books that are damaged a report begins as it has to. Its rows say what the file says, which may be
+# no name and no day.
 OF_DAMAGED = OF_COMMANDS | {
     name: form(front + r"(?s:.*)\n") for name, front in (
-        ("statement", "STATEMENT " + OF_PERIOD[0] + COLUMNS), ("statement-csv", "period,day,centre,shift,count,cpu,blocks,amount"),
+        ("statement", "STATEMENT " + OF_PERIOD[0] + COLUMNS), ("statement-csv", CSV_COLUMNS),
         ("adjustments", "ADJUSTMENTS " + OF_PERIOD[0]), ("disputes", "DISPUTES [0-9]+"))}
 
-ERROR = re.compile(rb"chargectl: (?:(io)|exists|word|frame [1-8]|tariff [1-6](?: [a-z_]+)?|ledger (?:4|5|6|7|9 [0-9]+|1[0-3])"
-                   rb"|(unsound|ledger 2|ledger 3|ledger 16)|(ledger 1))\n")
+# A line on standard error, by its status: 1, 4, 5, and 3 for any other.
+ERROR = re.compile(rb"chargectl: (?:(io)|(unsound|busy|ledger 2|ledger 3|ledger 16)|(ledger 1)|exists|word"
+                   rb"|frame [1-8]|tariff [1-6](?: [a-z_]+)?|ledger (?:[4-7]|9 [0-9]+|1[0-3]))\n")
 
 
 def status_of(line):

@@ -1,7 +1,9 @@
-"""Hostile inputs for `hostile`: bytes in no order, dumps and requests that are cut, spliced and turned, such tariff files, books
-and words. Each is made of a generator of random numbers of its own, so that any of them can be made again alone."""
+"""Hostile inputs for `hostile`: bytes in no order, dumps and requests that are cut, spliced and
+turned, such tariff files, books and words. Each is made of a generator of random numbers of its own,
+so that any of them can be made again alone."""
 import pathlib
 import random
+import re
 import struct
 
 import dumps
@@ -14,10 +16,16 @@ TARIFFS = [(SAMPLES / name).read_bytes() for name in ("office.toml", "february.t
 # Where records have what is turned: triplets, packed dates, other fields with their lengths.
 TRIPLETS = 24, 32, 40, 48, 56, 64
 DATES = 10, 132, 140
-FIELDS = (4, 1), (5, 1), (6, 4), (14, 4), (22, 2), (72, 8), (80, 8), (104, 8), (112, 2), (128, 4), (136, 4), (148, 4), (152, 4), (160, 4)
-SHORT = 0, 1, 2, 3, 4, 5, 12, 17, 18, 23, 24, 71, 72, 168, 255, 256, 0x7fff, 0x8000, 0xfffb, 0xfffc, 0xffff
-LONG = 0, 3, 4, 71, 72, 144, 156, 168, 169, 0xffff, 0x10000, 0x7fffffff, 0x80000000, 0xfffffffc, 0xffffffff
-DATE_PARTS = ("0", "1", "2", "9", "A"), ("00", "23", "24", "25", "99", "A0"), ("000", "001", "031", "366", "365", "367", "999", "0F1"), "FFFCDE0"
+FIELDS = ((4, 1), (5, 1), (6, 4), (14, 4), (22, 2), (72, 8), (80, 8), (104, 8), (112, 2), (128, 4),
+          (136, 4), (148, 4), (152, 4), (160, 4))
+
+# What stands there then, in two bytes and in four; and the digits of dates, in their parts.
+SHORT = (0, 1, 2, 3, 4, 5, 12, 17, 18, 23, 24, 71, 72, 168, 255, 256, 0x7fff, 0x8000, 0xfffb,
+         0xfffc, 0xffff)
+LONG = (0, 3, 4, 71, 72, 144, 156, 168, 169, 0xffff, 0x10000, 0x7fffffff, 0x80000000, 0xfffffffc,
+        0xffffffff)
+DATE_PARTS = (("0", "1", "2", "9", "A"), ("00", "23", "24", "25", "99", "A0"),
+              ("000", "001", "031", "366", "365", "367", "999", "0F1"), "FFFCDE0")
 
 
 def seeded(seed, index):
@@ -34,7 +42,8 @@ def segments(dump):
 
 # Each record as its segments.
 POOL = [list(segments(record)) for record in dumps.mixed(1000)]
-POOL += [[segment] for name in ("month", "february", "rerun") for segment in segments((SAMPLES / (name + ".smf")).read_bytes())]
+POOL += [[segment] for name in ("month.smf", "february.smf", "rerun.smf")
+         for segment in segments((SAMPLES / name).read_bytes())]
 
 
 def put(data, at, field):
@@ -95,8 +104,8 @@ def of_other_work(rng, record):
     return put(record, 72, make.name("H%07d" % rng.randrange(200)))
 
 
-TURNS = (descriptor_turned, triplet_turned, triplet_turned, date_turned, field_turned, field_turned, bytes_turned, made_shorter,
-         made_longer, with_accounts, of_other_work)
+TURNS = (descriptor_turned, triplet_turned, triplet_turned, date_turned, field_turned, field_turned,
+         bytes_turned, made_shorter, made_longer, with_accounts, of_other_work)
 
 
 def spanned(rng, data):
@@ -140,7 +149,8 @@ def blocked(rng, parts):
 
 
 def mutated(rng, data, other):
-    """Data that are cut, spliced with others, turned in places, or of which a part is new, away or there twice."""
+    """Data that are cut, spliced with others, turned in places, or of which a part is new, away or
+    there twice."""
     start, end = sorted((rng.randrange(len(data) + 1), rng.randrange(len(data) + 1)))
     way = rng.randrange(6)
     if way == 0:
@@ -174,40 +184,53 @@ def dump(rng):
 
 
 # What heads of requests are made of.
-METHODS = [b"GET"] * 8 + [b"POST"] * 8 + [b"HEAD", b"PUT", b"DELETE", b"OPTIONS", b"get", b"GE", b"POSTS", b"!#$%&'*+.^_`|~-", b"G(T",
-                                          b"", b"M" * 3_000]
-PATHS = [b"/periods", b"/disputes", b"/statement/1", b"/statement/2", b"/statement-csv/1", b"/statement-csv/2", b"/adjustments/1",
-         b"/adjustments/2", b"/import", b"/import-bdw"]
-TARGETS = PATHS * 3 + [b"/statement/3", b"/statement/0", b"/statement/01", b"/statement/9999", b"/statement/10000", b"/statement/65537",
-                       b"/statement/-1", b"/statement/+1", b"/statement/1/", b"/statement/", b"/statement", b"/statement/%31",
-                       b"/statement/{n}", b"/statement/1/2", b"/statement/1a", b"/statement-csv", b"/adjustments/0", b"/periods/",
-                       b"//periods", b"/periods?", b"/periods?a=b?c", b"/Periods", b"/%70eriods", b"/periods#1", b"/./periods",
-                       b"/import?x", b"/import-bdwx", b"/import/", b"*", b"/", b"?", b"http://127.0.0.1/periods", b"/\xc3\xa9",
-                       b"/periods?\xc3\xa9", b"/periods?\xff", b"/statement/\xd9\xa1", b"/peri\0ds", b"/per iods", b"", b"/" * 9_000]
-VERSIONS = [b" HTTP/1.1"] * 12 + [b" HTTP/1.0"] * 3 + [b" HTTP/2.0", b" HTTP/1.2", b" http/1.1", b" HTTP/1.1 ", b"  HTTP/1.1", b" HTTP/1",
-                                                       b"", b" HTTP/0.9", b"\tHTTP/1.1"]
+METHODS = [b"GET"] * 8 + [b"POST"] * 8
+METHODS += [b"HEAD", b"PUT", b"DELETE", b"OPTIONS", b"get", b"GE", b"POSTS", b"!#$%&'*+.^_`|~-",
+            b"G(T", b"", b"M" * 3_000]
+PATHS = [b"/periods", b"/disputes", b"/statement/1", b"/statement/2", b"/statement-csv/1",
+         b"/statement-csv/2", b"/adjustments/1", b"/adjustments/2", b"/import", b"/import-bdw"]
+REPORTS = PATHS[:8]
+TARGETS = PATHS * 3
+TARGETS += [b"/statement/3", b"/statement/0", b"/statement/01", b"/statement/9999",
+            b"/statement/10000", b"/statement/65537", b"/statement/-1", b"/statement/+1",
+            b"/statement/1/", b"/statement/", b"/statement", b"/statement/%31", b"/statement/{n}",
+            b"/statement/1/2", b"/statement/1a", b"/statement-csv", b"/adjustments/0", b"/statement/\xd9\xa1"]
+TARGETS += [b"/periods/", b"//periods", b"/periods?", b"/periods?a=b?c", b"/Periods", b"/%70eriods",
+            b"/periods#1", b"/./periods", b"/periods?\xc3\xa9", b"/periods?\xff", b"/peri\0ds",
+            b"/per iods", b"/import?x", b"/import-bdwx", b"/import/", b"*", b"/", b"?",
+            b"http://127.0.0.1/periods", b"/\xc3\xa9", b"", b"/" * 9_000]
+VERSIONS = [b" HTTP/1.1"] * 12 + [b" HTTP/1.0"] * 3
+VERSIONS += [b" HTTP/2.0", b" HTTP/1.2", b" http/1.1", b" HTTP/1.1 ", b"  HTTP/1.1", b" HTTP/1",
+             b"", b" HTTP/0.9", b"\tHTTP/1.1"]
 ENDS = [b"\r\n"] * 20 + [b"\n"] * 3 + [b"\r", b"\r\r\n", b"\n\r", b"\0\r\n"]
-OTHER_FIELDS = [b"Host: books", b"Expect: 100-continue", b"Connection: keep-alive", b"Accept: */*", b"X:", b"X: \t ", b"X-A: a\tb",
-                b"X: \xff\xfe", b"Content_Length: 5", b"Origins: a"]
-WRONG_FIELDS = [b" folded", b"\tfolded", b"no colon", b": no name", b"Host : books", b"A B: c", b"X: a\0b", b"X: a\x7fb", b"X\xc3: a",
-                b"X: a\rb", b"Content-Length : 5"]
-POST_FIELDS = [b"Origin: http://example.org", b"ORIGIN:", b"origin: null", b"Transfer-Encoding: chunked", b"transfer-encoding:"]
-LENGTHS = [b"", b"-1", b"+5", b"5,5", b"5 5", b"0x10", b"1e3", b"5\t", b"16777216", b"16777217", b"9999999999999999999",
-           b"18446744073709551616", b"00000000000000000005", b"0000000000000000005", b"\xd9\xa5"]
+OTHER_FIELDS = [b"Host: books", b"Expect: 100-continue", b"Connection: keep-alive", b"Accept: */*",
+                b"X:", b"X: \t ", b"X-A: a\tb", b"X: \xff\xfe", b"Content_Length: 5", b"Origins: a"]
+WRONG_FIELDS = [b" folded", b"\tfolded", b"no colon", b": no name", b"Host : books", b"A B: c",
+                b"X: a\0b", b"X: a\x7fb", b"X\xc3: a", b"X: a\rb", b"Content-Length : 5"]
+POST_FIELDS = [b"Origin: http://example.org", b"ORIGIN:", b"origin: null",
+               b"Transfer-Encoding: chunked", b"transfer-encoding:"]
+LENGTHS = [b"", b"-1", b"+5", b"5,5", b"5 5", b"0x10", b"1e3", b"5\t", b"16777216", b"16777217",
+           b"9999999999999999999", b"18446744073709551616", b"00000000000000000005",
+           b"0000000000000000005", b"\xd9\xa5"]
+
+# A length is mostly right, or off by so much.
+OFF = (0,) * 7 + (-1, 1, -40, 4_000)
 
 
 def length_field(rng, size):
     name = rng.choice((b"Content-Length: ", b"content-length:", b"CONTENT-LENGTH: \t"))
     if rng.random() < 0.75:
-        return name + b"%d" % max(0, size + rng.choice((0, 0, 0, 0, 0, 0, 0, -1, 1, -40, 4_000)))
+        return name + b"%d" % max(0, size + rng.choice(OFF))
     return name + rng.choice(LENGTHS)
 
 
 def fields(rng, size):
     """Fields of a head whose body has that size."""
     made = [rng.choice(OTHER_FIELDS) for _ in range(rng.randrange(3))]
-    made += [length_field(rng, size)] * (rng.random() < 0.7) + [length_field(rng, size)] * (rng.random() < 0.05)
-    made += [rng.choice(POST_FIELDS)] * (rng.random() < 0.1) + [rng.choice(WRONG_FIELDS)] * (rng.random() < 0.08)
+    for chance, field in ((0.7, length_field(rng, size)), (0.05, length_field(rng, size)),
+                          (0.1, rng.choice(POST_FIELDS)), (0.08, rng.choice(WRONG_FIELDS))):
+        if rng.random() < chance:
+            made.append(field)
     rng.shuffle(made)
     return made
 
@@ -228,7 +251,7 @@ def any_head(rng):
 
 
 def report(rng):
-    return head(rng, b"GET", rng.choice(PATHS[:8]), b" HTTP/1.1", [b"Host: books"])
+    return head(rng, b"GET", rng.choice(REPORTS), b" HTTP/1.1", [b"Host: books"])
 
 
 def upload(rng):
@@ -237,7 +260,9 @@ def upload(rng):
     if rng.random() < 0.05:
         layout = "rdw"
     path = b"/import" if layout == "rdw" else b"/import-bdw"
-    lines = fields(rng, len(body)) if rng.random() < 0.3 else [b"Host: books", b"Content-Length: %d" % len(body)]
+    lines = [b"Host: books", b"Content-Length: %d" % len(body)]
+    if rng.random() < 0.3:
+        lines = fields(rng, len(body))
     return head(rng, b"POST", path, b" HTTP/1.1", lines) + body
 
 
@@ -246,15 +271,18 @@ def long_head(rng):
     start = b"GET /periods HTTP/1.1\r\n"
     if rng.random() < 0.5:
         return start + b"X: y\r\n" * rng.choice((0, 1, 62, 63, 64, 65, 66, 200, 2_000)) + b"\r\n"
-    room = rng.choice((MOST_HEAD - 1, MOST_HEAD, MOST_HEAD + 1, 30_000)) - len(start) - len(b"X: \r\n\r\n")
-    return start + b"X: " + b"y" * room + b"\r\n\r\n"
+    name, end = b"X: ", b"\r\n\r\n"
+    size = rng.choice((MOST_HEAD - 1, MOST_HEAD, MOST_HEAD + 1, 30_000))
+    return start + name + b"y" * (size - len(start + name + end)) + end
 
 
 def long_body(rng):
-    """A body of about as many bytes as one may have: of records that no books hold, of one that comes again, or of zeros."""
+    """A body of about as many bytes as one may have: of records that no books hold, of one that
+    comes again, or of zeros."""
     unit = rng.choice((dumps.OTHER_TYPE[0], dumps.OTHER_TYPE[0], dumps.usage(0), bytes(4_096)))
     size = MOST_BODY + rng.choice((0, 0, -1, 1))
-    return (b"POST /import HTTP/1.1\r\nContent-Length: %d\r\n\r\n" % size) + (unit * (size // len(unit) + 1))[:size]
+    body = (unit * (size // len(unit) + 1))[:size]
+    return b"POST /import HTTP/1.1\r\nContent-Length: %d\r\n\r\n" % size + body
 
 
 def mutated_request(rng):
@@ -262,7 +290,8 @@ def mutated_request(rng):
     return mutated(rng, made, rng.choice((report, upload))(rng))
 
 
-REQUESTS = ((0.36, upload), (0.50, report), (0.70, any_head), (0.86, mutated_request), (0.96, noise), (0.9998, long_head), (1, long_body))
+REQUESTS = ((0.36, upload), (0.50, report), (0.70, any_head), (0.86, mutated_request),
+            (0.96, noise), (0.9998, long_head), (1, long_body))
 
 
 def request(rng):
@@ -272,10 +301,12 @@ def request(rng):
 
 
 # What tariff files are made of beside the samples.
-TOML = [b"[", b"]", b"[[", b"]]", b"{", b"}", b"=", b",", b".", b'"', b"'", b'"""', b"\\u0000", b"\\", b"#", b"\n", b"\r\n", b" ", b"\t", b"effective",
-        b"rates", b"step_cpu", b"shift", b"centre", b"name", b"days", b"percent", b'"2024-02-30"', b"0", b"-1", b"1e9", b"inf", b"nan",
-        b"0x1f", b"9223372036854775807", b"9223372036854775808", b"100000001", b"1979-05-27T07:32:00Z", b"true", b"\xef\xbb\xbf",
-        b"\xff", b"\0", b"effective = \"2024-03-01\"\n", b"[rates]\n", b"[[shift]]\n", b"[[centre]]\n"]
+TOML = [b"[", b"]", b"[[", b"]]", b"{", b"}", b"=", b",", b".", b'"', b"'", b'"""', b"\\u0000",
+        b"\\", b"#", b"\n", b"\r\n", b" ", b"\t", b"\xef\xbb\xbf", b"\xff", b"\0", b"effective", b"rates",
+        b"step_cpu", b"shift", b"centre", b"name", b"days", b"percent", b'"2024-02-30"', b"0",
+        b"-1", b"1e9", b"inf", b"nan", b"0x1f", b"9223372036854775807", b"9223372036854775808",
+        b"100000001", b"1979-05-27T07:32:00Z", b"true", b'effective = "2024-03-01"\n',
+        b"[rates]\n", b"[[shift]]\n", b"[[centre]]\n"]
 MOST_TARIFF = 1_048_576
 
 
@@ -283,11 +314,13 @@ def deep_tariff(rng):
     """A text of about the most bytes, deep or with many keys."""
     count = rng.choice((100, 10_000, MOST_TARIFF // 2))
     made = rng.choice((
-        lambda: b"a = " + b"[" * count, lambda: b"a = " + b"[" * count + b"]" * count, lambda: b"a = " + b"{a=" * (count // 3),
-        lambda: b"[" + b"a." * count + b"a]", lambda: b"a." * count + b"a = 1", lambda: b"#" * count * 2,
-        lambda: b"".join(b"k%d=1\n" % key for key in range(count // 10)), lambda: b"[[shift]]\n" * (count // 10),
-        lambda: b'a = "' + b"x" * count * 2, lambda: b"a = [" + b"1," * count, lambda: b"a = " + b"9" * count))()
-    return rng.choice((b"", TARIFFS[0]))[:MOST_TARIFF] + made
+        lambda: b"a = " + b"[" * count, lambda: b"a = " + b"[" * count + b"]" * count,
+        lambda: b"a = " + b"{a=" * (count // 3), lambda: b"[" + b"a." * count + b"a]",
+        lambda: b"a." * count + b"a = 1", lambda: b"#" * count * 2,
+        lambda: b"".join(b"k%d=1\n" % key for key in range(count // 10)),
+        lambda: b"[[shift]]\n" * (count // 10), lambda: b'a = "' + b"x" * count * 2,
+        lambda: b"a = [" + b"1," * count, lambda: b"a = " + b"9" * count))()
+    return rng.choice((b"", TARIFFS[0])) + made
 
 
 def tariff(rng):
@@ -298,8 +331,9 @@ def tariff(rng):
         return b"".join(rng.choices(TOML, k=rng.randrange(40)))
     made = rng.choice(TARIFFS)
     if way < 0.4:
-        day = b"2%03d-%02d-%02d" % (rng.randrange(20, 26), rng.randrange(14), rng.randrange(33))
-        return made.replace(b"2024-0", day + b" " * (rng.random() < 0.1), 1)[:rng.choice((len(made), 9_999))]
+        day = b"%04d-%02d-%02d" % (rng.choice((1899, 1900, 2023, 2024, 2025, 2099, 2100)),
+                                   rng.randrange(14), rng.randrange(33))
+        return re.sub(rb"2024-\d\d-\d\d", day, made)
     if way < 0.6:
         lines = made.splitlines(True)
         line = rng.randrange(len(lines))
@@ -319,23 +353,27 @@ def pages_turned(rng, file):
     pages = [file[at:at + PAGE] for at in range(0, len(file), PAGE)]
     one, other = rng.randrange(len(pages)), rng.randrange(len(pages))
     way = rng.randrange(3)
-    pages[one], pages[other] = ((bytes(PAGE), pages[other]), (pages[other], pages[other]), (pages[other], pages[one]))[way]
+    pages[one], pages[other] = ((bytes(PAGE), pages[other]), (pages[other], pages[other]),
+                                (pages[other], pages[one]))[way]
     return b"".join(pages)
 
 
 def front_turned(rng, file):
     """A byte or a number turned where a page begins, or in the head of the file."""
     at = rng.choice((0, rng.randrange(max(1, len(file) // PAGE)) * PAGE)) + rng.randrange(110)
-    return put(file, at, rng.choice((rng.randbytes(1), rng.randbytes(2), b"\xff\xff\xff\xff", bytes(4))))[:len(file)]
+    number = rng.choice((rng.randbytes(1), rng.randbytes(2), b"\xff\xff\xff\xff", bytes(4)))
+    return put(file, at, number)[:len(file)]
 
 
 def book(rng, file):
     """A file of books that is damaged."""
     way = rng.random()
     if way < 0.04:
-        return rng.choice((b"", noise(rng), file[:rng.randrange(101)] + noise(rng), file[:16] + rng.randbytes(PAGE), file[:PAGE]))
+        return rng.choice((b"", noise(rng), file[:rng.randrange(101)] + noise(rng),
+                           file[:16] + rng.randbytes(PAGE), file[:PAGE]))
     if way < 0.2:
-        return file[:rng.choice((rng.randrange(len(file)), rng.randrange(len(file) // PAGE) * PAGE))]
+        page = rng.randrange(len(file) // PAGE) * PAGE
+        return file[:rng.choice((rng.randrange(len(file)), page))]
     if way < 0.55:
         return front_turned(rng, file)
     if way < 0.7:
@@ -343,12 +381,14 @@ def book(rng, file):
     return bytes_turned(rng, file) if way < 0.9 else mutated(rng, file, file)
 
 
-COMMANDS = ("init tariff import close choose adopt statement adjustments disputes audit trial check explain help serve --help -h "
-            "--version -V").split()
-WORDS = ("books nothing tariff dump . .. books/ books-wal 0 1 2 3 65535 65536 -1 1e3 0x1 ١ 2024-01-31 2024-02-30 2024-02-29 2024-1-1 --layout "
-         "--layout=bdw --layout=xyz rdw bdw --quiet --quiet=1 --csv --cpu --cpu=100000000 --cpu=100000001 --excp --record --record=-1 -- - "
-         "-q --help -h -- --port --requests frame ledger tariff damaged").split()
-WORDS += ["", " ", "\n", "é", "x" * 300, "y" * 100_000, "/dev/null/x", "%s%n", "0" * 64, "ab" * 32, "AB" * 32, "zz" * 32]
+COMMANDS = ("init tariff import close choose adopt statement adjustments disputes audit trial "
+            "check explain help serve --help -h --version -V").split()
+WORDS = ("books nothing tariff dump . .. books/ books-wal 0 1 2 3 65535 65536 -1 1e3 0x1 ١ "
+         "2024-01-31 2024-02-30 2024-02-29 2024-1-1 --layout --layout=bdw --layout=xyz rdw bdw --quiet "
+         "--quiet=1 --csv --cpu --cpu=100000000 --cpu=100000001 --excp --record --record=-1 -- - -q "
+         "--help -h --port --requests frame ledger tariff damaged").split()
+WORDS += ["", " ", "\n", "é", "x" * 300, "y" * 100_000, "/dev/null/x", "%s%n", "0" * 64, "ab" * 32,
+          "AB" * 32, "zz" * 32]
 
 
 def words(rng):
@@ -362,5 +402,6 @@ def words(rng):
         made = [word for word in made if not word.startswith("--port")]
     made = [word.encode() for word in made]
     if rng.random() < 0.05:
-        made.insert(rng.randrange(len(made) + 1), rng.choice((b"\xff", b"a\xc3", b"\xed\xa0\x80")))
+        word = rng.choice((b"\xff", b"a\xc3", b"\xed\xa0\x80"))
+        made.insert(rng.randrange(len(made) + 1), word)
     return made
