@@ -1,6 +1,6 @@
-"""What docs/FORMATS.md says of dumps, requests and texts, once more apart from the program: `hostile`
-holds each answer against it. Of a dump, a receipt and a refusal it knows every byte; of reports, audits
-and what is said on standard error, the form."""
+"""What docs/FORMATS.md says of dumps, requests and texts, once more apart from the program:
+`hostile` holds each answer against it. Of a check list, a receipt and a refused request it knows
+every byte; of reports, audits and lines on standard error, the form."""
 import calendar
 import collections
 import re
@@ -167,8 +167,8 @@ PHRASES = {200: "OK", 400: "Bad Request", 403: "Forbidden", 404: "Not Found",
            405: "Method Not Allowed", 411: "Length Required", 413: "Payload Too Large",
            422: "Unprocessable Entity", 503: "Service Unavailable"}
 
-# What a request is to be answered: the status, the method that `Allow` names, the report, or the dump
-# that is imported.
+# What a request is to be answered: the status, the method that `Allow` names, the report, or the
+# dump that is imported.
 Asked = collections.namedtuple("Asked", "status allow report layout body", defaults=(None,) * 4)
 
 
@@ -234,7 +234,8 @@ COLUMNS = ("%-10s %-16s %-16s %8s %19s %18s %21s\n"
            % ("DAY", "CENTRE", "SHIFT", "COUNT", "CPU", "BLOCKS", "AMOUNT"))
 WIDE = r"(?=.{114}\n)"
 TEXTS = {
-    "statement": COLUMNS + r"(?:%s%s %s +%s%s)*%sTOTAL%s" % (WIDE, DAY, NAME, NAME, SUMS, WIDE, SUMS),
+    "statement": COLUMNS + r"(?:%s%s %s +%s%s)*%sTOTAL%s"
+                 % (WIDE, DAY, NAME, NAME, SUMS, WIDE, SUMS),
     "adjustments": r"(?:(?:PLUS |MINUS) %s %s +%s +-?%s [0-9a-f]{64} %s\n)*TOTAL +-?%s\n"
                    % (DAY, NAME, NAME, AMOUNT, SHOWN, AMOUNT)}
 CSV_COLUMNS = "period,day,centre,shift,count,cpu,blocks,amount"
@@ -251,7 +252,8 @@ UNSOUND = r"UNSOUND [ -~]+: [ -~]+\n"
 RECEIPT = " ".join(word + " [0-9]+" for word in COUNTED)
 RECEIPT += r" STOP (END|FRAME [1-8]|READ|READLIMIT|LEDGER [0-9]+)\n"
 CLASSES = "HEADER|TRAILER|LOST|OTHER|CONTINUED|USAGE|DAMAGED [1-9]"
-CHECKED = (r"(?:[0-9]+ TYPE (?:[0-9]+|-) (?:%s)\n)*RECORDS [0-9]+ STOP (?:END|FRAME [1-8])\n" % CLASSES)
+CHECKED = (r"(?:[0-9]+ TYPE (?:[0-9]+|-) (?:%s)\n)*" % CLASSES
+           + r"RECORDS [0-9]+ STOP (?:END|FRAME [1-8])\n")
 
 
 def form(text):
@@ -259,8 +261,8 @@ def form(text):
 
 
 def report_form(name, period):
-    """The form of a report that books with two periods give, of which the first is closed; with period
-    0 of any books."""
+    """The form of a report of books with two periods, of which the first is closed; with period 0
+    of any books."""
     if name in TEXTS:
         return form(name.upper() + " " + OF_PERIOD[period] + TEXTS[name])
     if name == "statement-csv":
@@ -270,24 +272,28 @@ def report_form(name, period):
 
 OF_PERIODS = "statement", "statement-csv", "adjustments"
 SERVED = {(name.encode(), 0): report_form(name, 0) for name in ("periods", "disputes")}
-SERVED |= {(name.encode(), period): report_form(name, period) for name in OF_PERIODS for period in (1, 2)}
+SERVED |= {(name.encode(), period): report_form(name, period)
+           for name in OF_PERIODS for period in (1, 2)}
 OF_COMMANDS = {name: report_form(name, 0) for name in OF_PERIODS + ("disputes",)}
 OF_COMMANDS |= {
-    "audit": form(SOUND + "|" + UNSOUND), "import": form(RECEIPT), "ruling": form("DONE\n|ALREADY\n"),
-    "check": form(CHECKED), "init": form(""), "explain": form(r"[ -~]+\n[ -~]+\n"),
-    "version": form(r"chargectl [0-9.]+\n"), "help": form(r"[ -~\n]*Usage: chargectl[ -~\n]*"),
+    "audit": form(SOUND + "|" + UNSOUND), "import": form(RECEIPT),
+    "ruling": form("DONE\n|ALREADY\n"), "check": form(CHECKED), "init": form(""),
+    "explain": form(r"[ -~]+\n[ -~]+\n"),
+    "version": form(r"chargectl [0-9.]+\n"),
+    "help": form(r"[ -~\n]*Usage: chargectl[ -~\n]*"),
     "trial": form(RECEIPT + "STATEMENT PERIOD 1 OPEN\n" + TEXTS["statement"] + DISPUTES)}
 
-# Of books that are damaged a report begins as it has to. Its rows say what the file says, which may be
-# no name and no day.
+# Of books that are damaged a report begins as it has to. Its rows say what the file says, which may
+# be no name and no day.
 OF_DAMAGED = OF_COMMANDS | {
     name: form(front + r"(?s:.*)\n") for name, front in (
         ("statement", "STATEMENT " + OF_PERIOD[0] + COLUMNS), ("statement-csv", CSV_COLUMNS),
         ("adjustments", "ADJUSTMENTS " + OF_PERIOD[0]), ("disputes", "DISPUTES [0-9]+"))}
 
 # A line on standard error, by its status: 1, 4, 5, and 3 for any other.
-ERROR = re.compile(rb"chargectl: (?:(io)|(unsound|busy|ledger 2|ledger 3|ledger 16)|(ledger 1)|exists|word"
-                   rb"|frame [1-8]|tariff [1-6](?: [a-z_]+)?|ledger (?:[4-7]|9 [0-9]+|1[0-3]))\n")
+ERROR = re.compile(
+    rb"chargectl: (?:(io)|(unsound|busy|ledger 2|ledger 3|ledger 16)|(ledger 1)|exists|word"
+    rb"|frame [1-8]|tariff [1-6](?: [a-z_]+)?|ledger (?:[4-7]|9 [0-9]+|1[0-3]))\n")
 
 
 def status_of(line):

@@ -1,6 +1,6 @@
-"""Hostile inputs for `hostile`: bytes in no order, dumps and requests that are cut, spliced and
-turned, such tariff files, books and words. Each is made of a generator of random numbers of its own,
-so that any of them can be made again alone."""
+"""Inputs for `hostile`: bytes in no order, dumps and requests that are cut, spliced and turned,
+such tariff files, books and words. Each is made by a generator of random numbers of its own, so
+that any of them can be made again alone."""
 import pathlib
 import random
 import re
@@ -194,7 +194,8 @@ TARGETS = PATHS * 3
 TARGETS += [b"/statement/3", b"/statement/0", b"/statement/01", b"/statement/9999",
             b"/statement/10000", b"/statement/65537", b"/statement/-1", b"/statement/+1",
             b"/statement/1/", b"/statement/", b"/statement", b"/statement/%31", b"/statement/{n}",
-            b"/statement/1/2", b"/statement/1a", b"/statement-csv", b"/adjustments/0", b"/statement/\xd9\xa1"]
+            b"/statement/1/2", b"/statement/1a", b"/statement-csv", b"/adjustments/0",
+            b"/statement/\xd9\xa1"]
 TARGETS += [b"/periods/", b"//periods", b"/periods?", b"/periods?a=b?c", b"/Periods", b"/%70eriods",
             b"/periods#1", b"/./periods", b"/periods?\xc3\xa9", b"/periods?\xff", b"/peri\0ds",
             b"/per iods", b"/import?x", b"/import-bdwx", b"/import/", b"*", b"/", b"?",
@@ -302,9 +303,9 @@ def request(rng):
 
 # What tariff files are made of beside the samples.
 TOML = [b"[", b"]", b"[[", b"]]", b"{", b"}", b"=", b",", b".", b'"', b"'", b'"""', b"\\u0000",
-        b"\\", b"#", b"\n", b"\r\n", b" ", b"\t", b"\xef\xbb\xbf", b"\xff", b"\0", b"effective", b"rates",
-        b"step_cpu", b"shift", b"centre", b"name", b"days", b"percent", b'"2024-02-30"', b"0",
-        b"-1", b"1e9", b"inf", b"nan", b"0x1f", b"9223372036854775807", b"9223372036854775808",
+        b"\\", b"#", b"\n", b"\r\n", b" ", b"\t", b"\xef\xbb\xbf", b"\xff", b"\0", b"effective",
+        b"rates", b"step_cpu", b"shift", b"centre", b"name", b"days", b"percent", b'"2024-02-30"',
+        b"0", b"-1", b"1e9", b"inf", b"nan", b"0x1f", b"9223372036854775807", b"9223372036854775808",
         b"100000001", b"1979-05-27T07:32:00Z", b"true", b'effective = "2024-03-01"\n',
         b"[rates]\n", b"[[shift]]\n", b"[[centre]]\n"]
 MOST_TARIFF = 1_048_576
@@ -384,9 +385,9 @@ def book(rng, file):
 COMMANDS = ("init tariff import close choose adopt statement adjustments disputes audit trial "
             "check explain help serve --help -h --version -V").split()
 WORDS = ("books nothing tariff dump . .. books/ books-wal 0 1 2 3 65535 65536 -1 1e3 0x1 ١ "
-         "2024-01-31 2024-02-30 2024-02-29 2024-1-1 --layout --layout=bdw --layout=xyz rdw bdw --quiet "
-         "--quiet=1 --csv --cpu --cpu=100000000 --cpu=100000001 --excp --record --record=-1 -- - -q "
-         "--help -h --port --requests frame ledger tariff damaged").split()
+         "2024-01-31 2024-02-30 2024-02-29 2024-1-1 --layout --layout=bdw --layout=xyz rdw bdw "
+         "--quiet --quiet=1 --csv --cpu --cpu=100000000 --cpu=100000001 --excp --record "
+         "--record=-1 -- - -q --help -h --port --requests frame ledger tariff damaged").split()
 WORDS += ["", " ", "\n", "é", "x" * 300, "y" * 100_000, "/dev/null/x", "%s%n", "0" * 64, "ab" * 32,
           "AB" * 32, "zz" * 32]
 

@@ -1,0 +1,216 @@
+"""Hostile inputs to commands, a process each; for `hostile`."""
+import collections
+import hashlib
+import os
+import pathlib
+import resource
+import shutil
+import subprocess
+import time
+import tomllib
+
+import formats
+import inputs
+from by_http import Server
+from loopback import CHARGECTL, post
+from outcome import FEBRUARY, MONTH, MOST_MEMORY, MOST_SECONDS, SAMPLES, audited, new_books
+
+Ran = collections.namedtuple("Ran", "status out err")
+
+
+def named(ran):
+    """What is wrong with the end of a command, if anything: a status of no name, or other words than
+    go with it."""
+    if ran.status < 0:
+        return "ended by signal %d" % -ran.status
+    if ran.status == 0:
+        return "status 0, and words on standard error" if ran.err else None
+    if ran.status == 2:
+        return None if ran.err and not ran.out else "status 2, and other words than of usage"
+    return None if formats.status_of(ran.err) == ran.status else "status %d" % ran.status
+
+
+class Commands:
+    """The part of a batch that goes to commands, in a folder of its own."""
+
+    def __init__(self, folder, outcome):
+        self.folder, self.outcome, self.index = folder, outcome, None
+        self.book, self.place = folder / "imported", folder / "place"
+        self.words_at = folder / "words"
+        self.model = new_books(self.book)
+        self.place.mkdir()
+        self.words_at.mkdir()
+        self.file, self.logged, self.log = self.sound_files()
+        (self.words_at / "books").write_bytes(self.file)
+        (self.words_at / "dump").write_bytes(MONTH)
+        (self.words_at / "tariff").write_bytes(inputs.TARIFFS[1])
+
+    def sound_files(self):
+        """Books in one file; and others, with the log that lies beside them while a server runs."""
+        book = self.folder / "logged"
+        new_books(book)
+        file = book.read_bytes()
+        server = Server(book, 2)
+        server.asked(post(FEBRUARY))
+        server.line()
+        logged, log = (pathlib.Path(str(book) + tail).read_bytes() for tail in ("", "-wal"))
+        server.asked(b"")
+        server.process.wait(MOST_SECONDS)
+        return file, logged, log
+
+    def run(self, given, *words, stdin=os.devnull, cwd=None):
+        """How a command ends. It has bounds of time and memory."""
+        begun = time.monotonic()
+        try:
+            with open(stdin, "rb") as source:
+                ended = subprocess.run([CHARGECTL, *words], stdin=source, capture_output=True,
+                                       timeout=MOST_SECONDS, cwd=cwd)
+        except subprocess.TimeoutExpired:
+            self.fault("it did not end: %s" % (words,), given)
+            return Ran(None, b"", b"")
+        ran = Ran(ended.returncode, ended.stdout, ended.stderr)
+        self.outcome.took("commands", time.monotonic() - begun)
+        megabytes = resource.getrusage(resource.RUSAGE_CHILDREN).ru_maxrss / 1024
+        if megabytes > MOST_MEMORY >= self.outcome.memory.get("commands", 0):
+            self.fault("%.1f MB: %s" % (megabytes, words), given)
+        self.outcome.used("commands", megabytes)
+        wrong = named(ran)
+        if wrong:
+            self.fault("%s: %s: %r %r" % (wrong, words, ran.out[:300], ran.err[:300]), given)
+        return ran
+
+    def fault(self, text, given=b""):
+        self.outcome.fault(self.index, text, given)
+
+    def count(self, title, ran):
+        said = ran.err.decode(errors="replace").replace("chargectl: ", "").split()[:2]
+        told = {0: "done", 2: "usage"}.get(ran.status, " ".join(said))
+        self.outcome.answers[title, told] += 1
+
+    def hold(self, title, given, ran, want):
+        """Counts a command, which has to end so."""
+        self.count(title, ran)
+        if ran != want:
+            self.fault("%s: %r in place of %r" % (title, ran, want), given)
+
+    def end_of(self, stop, out):
+        if stop == "END":
+            return Ran(0, out, b"")
+        return Ran(3, out, b"chargectl: %s\n" % stop.lower().encode())
+
+    def dump(self, rng):
+        layout, dump = inputs.dump(rng)
+        path = self.folder / "dump"
+        path.write_bytes(dump)
+        is_named = layout == "bdw" or rng.random() < 0.5
+        return dump, path, layout, ["--layout", layout] if is_named else []
+
+    def check(self, rng):
+        dump, path, layout, words = self.dump(rng)
+        out, stop = formats.check_list(dump, layout)
+        self.hold("check", dump, self.run(dump, "check", path, *words), self.end_of(stop, out))
+
+    def import_dump(self, rng):
+        dump, path, layout, words = self.dump(rng)
+        line, stop, new = self.model.receipt(dump, layout)
+        ran = self.run(dump, "import", self.book, path, *words)
+        self.hold("import", dump, ran, self.end_of(stop, line))
+        self.model.held |= new
+
+    def trial(self, rng):
+        dump, path, layout, words = self.dump(rng)
+        line, stop, _ = formats.Books("0000000").receipt(dump, layout)
+        for name in ("--cpu", "--excp", "--record"):
+            if rng.random() < 0.5:
+                words += [name, rng.choice(("0", "1", "20000", "100000000"))]
+        ran = self.run(dump, "trial", *words, stdin=path)
+        self.hold("trial", dump, ran, self.end_of(stop, ran.out))
+        if not ran.out.startswith(line) or not formats.OF_COMMANDS["trial"].fullmatch(ran.out):
+            self.fault("trial: %r" % ran.out, dump)
+
+    def tariff(self, rng):
+        file, path = inputs.tariff(rng), self.folder / "tariff"
+        path.write_bytes(file)
+        ran = self.run(file, "tariff", self.book, path)
+        self.count("tariff", ran)
+        answers = (b"DONE\n", b"ALREADY\n") if ran.status == 0 else (b"",)
+        if ran.out not in answers or ran.status not in (0, 3):
+            self.fault("tariff: %r" % (ran,), file)
+        if len(file) < 10_000 and not is_toml(file) and ran.err != b"chargectl: tariff 1\n":
+            self.fault("no TOML: %r" % (ran,), file)
+
+    def words(self, rng):
+        words = inputs.words(rng)
+        ran = self.run(b"\0".join(words), *words, cwd=self.words_at)
+        self.count("words", ran)
+        forms = formats.OF_COMMANDS.values()
+        if ran.status == 0 and not any(form.fullmatch(ran.out) for form in forms):
+            self.fault("words: %r: %r" % (words, ran.out), b"\0".join(words))
+
+    def damaged_books(self, rng):
+        """A command on books that are damaged, some with a log beside them."""
+        book = self.place / "book"
+        shutil.rmtree(self.place)
+        self.place.mkdir()
+        file, log = (self.logged, self.log) if rng.random() < 0.3 else (self.file, None)
+        if log is None or rng.random() < 0.3:
+            file = inputs.book(rng, file)
+        if log is not None:
+            beside = rng.choice((log, inputs.book(rng, log), inputs.noise(rng)))
+            pathlib.Path(str(book) + "-wal").write_bytes(beside)
+        book.write_bytes(file)
+        title, form, *words = rng.choice(self.asked_of_books())
+        ran = self.run(file, title, book, *words)
+        self.count("damaged books", ran)
+        if ran.status not in (0, 3, 4):
+            self.fault("damaged books: %s: %r" % (title, ran), file)
+        if (ran.out or ran.status == 0) and not formats.OF_DAMAGED[form].fullmatch(ran.out):
+            self.fault("damaged books: %s: %r" % (title, ran), file)
+        if log is None:
+            self.left_behind(title, ran, file, book)
+
+    def asked_of_books(self):
+        """Commands with the forms of what they print."""
+        name = hashlib.sha256(inputs.make.RIGHT).hexdigest()
+        tariff, month, february = (
+            SAMPLES / name for name in ("february.toml", "month.smf", "february.smf"))
+        return (("audit", "audit"), ("audit", "audit"), ("disputes", "disputes"),
+                ("adopt", "ruling"), ("choose", "ruling", name), ("statement", "statement", "1"),
+                ("statement", "statement", "2"), ("statement", "statement-csv", "1", "--csv"),
+                ("adjustments", "adjustments", "2"), ("close", "ruling", "2", "2024-02-29"),
+                ("tariff", "ruling", tariff), ("import", "import", month),
+                ("import", "import", february))
+
+    def left_behind(self, title, ran, file, book):
+        """Books are one file after a command; a refused one, and an audit, changed no byte of it."""
+        left = os.listdir(self.place)
+        if left != ["book"]:
+            self.fault("damaged books: %s left %s: %r" % (title, left, ran), file)
+        may_change = ran.status == 0 and title != "audit" or title == "import"
+        if not may_change and book.read_bytes() != file:
+            self.fault("damaged books: %s changed them: %r" % (title, ran), file)
+
+    def one(self, seed, index):
+        self.index, rng = index, inputs.seeded(seed, index)
+        ways = ((0.26, self.check), (0.42, self.trial), (0.58, self.import_dump),
+                (0.70, self.tariff), (0.88, self.damaged_books), (1, self.words))
+        at = rng.random()
+        next(way for most, way in ways if at < most)(rng)
+
+
+def is_toml(file):
+    try:
+        tomllib.loads(file.decode())
+    except (tomllib.TOMLDecodeError, UnicodeDecodeError):
+        return False
+    except (RecursionError, ValueError):
+        return True
+    return True
+
+
+def command_all(folder, seed, indexes, outcome):
+    """The part of a batch that goes by commands."""
+    commands = Commands(folder, outcome)
+    for index in indexes:
+        commands.one(seed, index)
+    audited(commands.book, commands.model, outcome, indexes[-1])
