@@ -11,16 +11,16 @@ import tomllib
 
 import formats
 import inputs
-from by_http import Server
-from loopback import CHARGECTL, post
+from by_http import Broken, Server
+from loopback import CHARGECTL, get, post
 from outcome import FEBRUARY, MONTH, MOST_MEMORY, MOST_SECONDS, SAMPLES, audited, new_books
 
 Ran = collections.namedtuple("Ran", "status out err")
 
 
 def named(ran):
-    """What is wrong with the end of a command, if anything: a status of no name, or other words than
-    go with it."""
+    """What is wrong with the end of a command, if anything: a status of no name, or other words
+    than go with it."""
     if ran.status < 0:
         return "ended by signal %d" % -ran.status
     if ran.status == 0:
@@ -159,6 +159,9 @@ class Commands:
             beside = rng.choice((log, inputs.book(rng, log), inputs.noise(rng)))
             pathlib.Path(str(book) + "-wal").write_bytes(beside)
         book.write_bytes(file)
+        if rng.random() < 0.1:
+            self.serve_damaged(book, file)
+            return
         title, form, *words = rng.choice(self.asked_of_books())
         ran = self.run(file, title, book, *words)
         self.count("damaged books", ran)
@@ -168,6 +171,24 @@ class Commands:
             self.fault("damaged books: %s: %r" % (title, ran), file)
         if log is None:
             self.left_behind(title, ran, file, book)
+
+    def serve_damaged(self, book, file):
+        """A server for damaged books gives answers of some status that the formats name, or none
+        where it can't have the books, or not again after their store failed."""
+        requests = get(b"/statement/2"), post(FEBRUARY), get(b"/disputes"), get(b"/periods")
+        try:
+            server = Server(book, len(requests))
+            for request in requests:
+                answer, line = server.asked(request), server.line()
+                self.outcome.answers["damaged books served", line] += 1
+                if not formats.ANSWER.match(answer) or line != "SERVED %s" % answer[9:12].decode():
+                    self.fault("damaged books: %s with %r" % (line, answer[:300]), file)
+            status = server.process.wait(MOST_SECONDS)
+        except Broken as broken:
+            status = broken.status
+            self.outcome.answers["damaged books served", "status %s" % status] += 1
+        if status not in (0, 4):
+            self.fault("damaged books: the server ended with status %s" % status, file)
 
     def asked_of_books(self):
         """Commands with the forms of what they print."""
@@ -182,7 +203,7 @@ class Commands:
                 ("import", "import", february))
 
     def left_behind(self, title, ran, file, book):
-        """Books are one file after a command; a refused one, and an audit, changed no byte of it."""
+        """Books are one file after a command; a refused one, or an audit, changed no byte."""
         left = os.listdir(self.place)
         if left != ["book"]:
             self.fault("damaged books: %s left %s: %r" % (title, left, ran), file)

@@ -13,7 +13,7 @@ import inputs
 from loopback import CHARGECTL
 from outcome import MOST_SECONDS, audited, new_books
 
-# Of a hundred clients one resets before it is accepted, one when it has sent, and ten send in pieces.
+# Of a hundred clients one resets before it is accepted, one after it has sent; ten send in pieces.
 EARLY, GONE, IN_PIECES = 50, 51, 3
 
 # Ports that no client gets.
@@ -21,7 +21,11 @@ FIRST_PORT, PORTS = 10_000, 20_000
 
 
 class Broken(Exception):
-    """The server answers nothing more."""
+    """The server answers nothing more. It ended with this status, or None where it did not end."""
+
+    def __init__(self, text, status=None):
+        super().__init__(text)
+        self.status = status
 
 
 class Server:
@@ -38,7 +42,9 @@ class Server:
                 if self.line() == "READY":
                     return
             except Broken:
-                pass
+                # Another program may have the port.
+                if self.process.returncode != 1:
+                    raise
         raise Broken("it does not listen")
 
     def line(self):
@@ -50,7 +56,8 @@ class Server:
                 raise Broken("it says nothing")
             piece = os.read(self.process.stdout.fileno(), 4_096)
             if not piece:
-                raise Broken("it ended with status %d" % self.process.wait(MOST_SECONDS))
+                status = self.process.wait(MOST_SECONDS)
+                raise Broken("it ended with status %d" % status, status)
             self.said += piece
         line, _, self.said = self.said.partition(b"\n")
         return line.decode()

@@ -224,6 +224,13 @@ def answer(status, body=None, kind="plain", allow=None):
             "Connection: close\r\n\r\n" % (phrase, kind, line, len(body))).encode() + body
 
 
+# The head of an answer of any status.
+STATUSES = "|".join("%d %s" % named for named in PHRASES.items())
+ANSWER = re.compile((
+    "HTTP/1\\.1 (?:%s)\r\nContent-Type: text/(?:plain|csv); charset=us-ascii\r\n"
+    "(?:Allow: (?:GET|POST)\r\n)?Content-Length: [0-9]+\r\nConnection: close\r\n\r\n"
+    % STATUSES).encode())
+
 # The forms of texts.
 SHOWN = r"(?:[ -\[\]-~]|\\[0-9A-F]{2})*"
 DAY, NAME, AMOUNT = r"[12][0-9]{3}-[01][0-9]-[0-3][0-9]", r"[A-Z0-9-]{1,16}", r"[0-9]+\.[0-9]{4}"

@@ -305,7 +305,8 @@ def request(rng):
 TOML = [b"[", b"]", b"[[", b"]]", b"{", b"}", b"=", b",", b".", b'"', b"'", b'"""', b"\\u0000",
         b"\\", b"#", b"\n", b"\r\n", b" ", b"\t", b"\xef\xbb\xbf", b"\xff", b"\0", b"effective",
         b"rates", b"step_cpu", b"shift", b"centre", b"name", b"days", b"percent", b'"2024-02-30"',
-        b"0", b"-1", b"1e9", b"inf", b"nan", b"0x1f", b"9223372036854775807", b"9223372036854775808",
+        b"0", b"-1", b"1e9", b"inf", b"nan", b"0x1f", b"9223372036854775807",
+        b"9223372036854775808",
         b"100000001", b"1979-05-27T07:32:00Z", b"true", b'effective = "2024-03-01"\n',
         b"[rates]\n", b"[[shift]]\n", b"[[centre]]\n"]
 MOST_TARIFF = 1_048_576
@@ -392,11 +393,28 @@ WORDS += ["", " ", "\n", "é", "x" * 300, "y" * 100_000, "/dev/null/x", "%s%n", 
           "AB" * 32, "zz" * 32]
 
 
+# What a command's words are, as often as not: books, a file, a period, a date, a name, a number.
+PLACES = {
+    "init": "B", "tariff": "BF", "import": "BF", "close": "BPD", "choose": "BN", "adopt": "B",
+    "statement": "BP", "adjustments": "BP", "disputes": "B", "audit": "B", "trial": "",
+    "check": "F", "explain": "KP", "serve": "B"}
+PLACED = {
+    "B": ("books", "books", "books", "dump", "tariff", "nothing", "other", ".", "/dev/null/x", ""),
+    "F": ("dump", "dump", "tariff", "books", "nothing", ".", "/dev/zero", "/dev/null"),
+    "P": ("0", "1", "2", "3", "17", "65535", "65536", "-1", "x"),
+    "D": ("2024-01-31", "2024-02-29", "2023-02-29", "2099-12-31", "1899-12-31", "2024-1-31", ""),
+    "N": ("0" * 64, "ab" * 32, "AB" * 32, "zz" * 32, "0" * 63, ""),
+    "K": ("frame", "ledger", "tariff", "damaged", "other")}
+
+
 def words(rng):
     """Words of a command line, as bytes. `serve` gets no port, or it would wait."""
-    made = [rng.choice(COMMANDS)] + [rng.choice(WORDS) for _ in range(rng.randrange(6))]
-    if rng.random() < 0.5:
-        made[1:1] = ["books"]
+    command = rng.choice(COMMANDS)
+    made = [rng.choice(WORDS) for _ in range(rng.randrange(5))]
+    if rng.random() < 0.6:
+        made = [rng.choice(PLACED[place]) for place in PLACES.get(command, "")]
+        made += [rng.choice(WORDS)] * (rng.random() < 0.2)
+    made.insert(0, command)
     if rng.random() < 0.1:
         rng.shuffle(made)
     if "serve" in made:
