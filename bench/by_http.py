@@ -32,7 +32,7 @@ class Broken(Exception):
 
 
 class Server:
-    """A server that ends after so many connections. Whatever it does not do in time is a fault."""
+    """A server that ends after a given number of connections. Whatever it does not do in time is a fault."""
 
     def __init__(self, book, connections):
         self.said = b""
@@ -72,7 +72,7 @@ class Server:
         return client
 
     def asked(self, request, pieces=1):
-        """All that is answered to a request that is sent in so many pieces."""
+        """All that is answered to a request that is sent in a given number of pieces."""
         with self.connect() as client:
             try:
                 if pieces > 1:

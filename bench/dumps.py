@@ -36,7 +36,7 @@ def work_of_a_job(day):
 
 
 def pieces(record):
-    """What stands before, between and behind the fields that `usage` fills in."""
+    """What is before, between and after the fields that `usage` fills in."""
     starts = (0, JOB + 8, JOB_ID + 8, BLOCKS + 4, TCB_TIME + 4)
     ends = (JOB, JOB_ID, BLOCKS, TCB_TIME, len(record))
     return [record[start:end] for start, end in zip(starts, ends)]
@@ -102,7 +102,7 @@ def day_by_day(records):
 
 
 def a_thousand():
-    """What stands at each place of a thousand records: mostly usage records."""
+    """What is at each place of a thousand records: mostly usage records."""
     kinds = [usage] * 1000
     kinds[3::20] = [day_by_day(OTHER_TYPE)] * 50
     kinds[13::20] = [day_by_day(OTHER_SUBTYPE)] * 50

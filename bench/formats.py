@@ -1,5 +1,5 @@
-"""What docs/FORMATS.md says of dumps, requests and texts, once more apart from the program:
-`hostile` holds each answer against it. Of a check list, a receipt and a refused request it knows
+"""What docs/FORMATS.md says about dumps, requests and texts, once more apart from the program:
+`hostile` compares each answer with it. Of a check list, a receipt and a refused request it knows
 every byte; of reports, audits and lines on standard error, the form."""
 import calendar
 import collections
@@ -32,7 +32,7 @@ def segment_fault(is_begun, left, length, kind, size):
 
 
 def framed(dump, layout):
-    """The records of a dump, each joined behind its descriptor, and last why there are no more."""
+    """The records of a dump, each joined after its descriptor, and last why there are no more."""
     at, left, parts, size = 0, None, [], 0
     while left is None or left >= DESCRIPTOR:
         if len(dump) - at < DESCRIPTOR:
@@ -126,7 +126,7 @@ PLURALS = {"HEADER": "HEADERS", "TRAILER": "TRAILERS"}
 
 
 class Books:
-    """What books hold, of which the first tariff is in force from a day on."""
+    """What books hold whose first tariff is in force from a day on."""
 
     def __init__(self, first_day=FIRST_DAY):
         self.first_day, self.held = first_day, set()
@@ -181,7 +181,7 @@ def is_text(target):
 
 
 def asked(request, last_period):
-    """What a request asks of books with so many periods."""
+    """What a request asks of books with a given number of periods."""
     head = HEAD.match(request, 0, MOST_HEAD)
     fields = FIELD.findall(head[3]) if head else ()
     if not head or len(fields) > MOST_FIELDS or not is_text(head[2]):
@@ -216,7 +216,7 @@ def asked_import(request, end, names, lengths, layout):
 
 
 def answer(status, body=None, kind="plain", allow=None):
-    """An answer as it is sent: without a body it tells its status alone."""
+    """An answer as it is sent: without a body it gives its status alone."""
     phrase = "%d %s" % (status, PHRASES[status])
     body = (phrase + "\n").encode() if body is None else body
     line = "Allow: %s\r\n" % allow.decode() if allow else ""
@@ -268,7 +268,7 @@ def form(text):
 
 
 def report_form(name, period):
-    """The form of a report of books with two periods, of which the first is closed; with period 0
+    """The form of a report of books with two periods, the first of which is closed; with period 0
     of any books."""
     if name in TEXTS:
         return form(name.upper() + " " + OF_PERIOD[period] + TEXTS[name])

@@ -19,7 +19,7 @@ DATES = 10, 132, 140
 FIELDS = ((4, 1), (5, 1), (6, 4), (14, 4), (22, 2), (72, 8), (80, 8), (104, 8), (112, 2), (128, 4),
           (136, 4), (148, 4), (152, 4), (160, 4))
 
-# What stands there then, in two bytes and in four; and the digits of dates, in their parts.
+# What is put there, in two bytes and in four; and the digits of dates, in their parts.
 SHORT = (0, 1, 2, 3, 4, 5, 12, 17, 18, 23, 24, 71, 72, 168, 255, 256, 0x7fff, 0x8000, 0xfffb,
          0xfffc, 0xffff)
 LONG = (0, 3, 4, 71, 72, 144, 156, 168, 169, 0xffff, 0x10000, 0x7fffffff, 0x80000000, 0xfffffffc,
@@ -126,7 +126,7 @@ def long_record(rng):
 
 
 def record(rng):
-    """The segments of a record of which a part may be turned."""
+    """The segments of a record, a part of which may be changed."""
     if rng.random() < 0.003:
         return long_record(rng)
     parts = rng.choice(POOL)
@@ -137,7 +137,7 @@ def record(rng):
 
 
 def blocked(rng, parts):
-    """Segments in blocks, of which some have a wrong descriptor."""
+    """Segments in blocks, some of which have a wrong descriptor."""
     blocks, at = [], 0
     while at < len(parts):
         count = rng.randrange(1, 6)
@@ -149,8 +149,8 @@ def blocked(rng, parts):
 
 
 def mutated(rng, data, other):
-    """Data that are cut, spliced with others, turned in places, or of which a part is new, away or
-    there twice."""
+    """Data that are cut, spliced with others, changed in places, or a part of which is new, missing
+    or there twice."""
     start, end = sorted((rng.randrange(len(data) + 1), rng.randrange(len(data) + 1)))
     way = rng.randrange(6)
     if way == 0:
@@ -268,7 +268,7 @@ def upload(rng):
 
 
 def long_head(rng):
-    """A head near one of its limits: so many fields, or so many bytes."""
+    """A head near one of its limits: a number of fields, or of bytes."""
     start = b"GET /periods HTTP/1.1\r\n"
     if rng.random() < 0.5:
         return start + b"X: y\r\n" * rng.choice((0, 1, 62, 63, 64, 65, 66, 200, 2_000)) + b"\r\n"

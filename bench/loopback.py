@@ -36,7 +36,7 @@ def free_port():
 
 
 class Server:
-    """A server on a port of its own, which ends after so many connections. The word None stands for the port."""
+    """A server on a port of its own, which ends after a given number of connections. The word None stands for the port."""
 
     def __init__(self, words):
         self.port = free_port()
@@ -94,7 +94,7 @@ def post(body):
 
 
 def seconds_each(words, request, requests, rounds, status=200):
-    """The best time of a request that is answered with that status, over several rounds of so many."""
+    """The best time of a request that is answered with that status, over several rounds of a given number."""
     taken = []
     for _ in range(rounds):
         server = Server(words)

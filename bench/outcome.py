@@ -1,4 +1,4 @@
-"""What came of hostile inputs, and the books to which they go; for `hostile`."""
+"""The results of hostile inputs, and the books to which they go; for `hostile`."""
 import collections
 import subprocess
 import sys

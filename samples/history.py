@@ -38,7 +38,7 @@ def table(kind, **terms):
 WORKING_DAYS, ALL_DAYS = [1, 2, 3, 4, 5], [1, 2, 3, 4, 5, 6, 7]
 EVENING = {"from": "18:00", "to": "24:00", "percent": 50}
 
-# What stands behind the day of a tariff file and its price of CPU time.
+# What stands after the day of a tariff file and its price of CPU time.
 TEXTS = {
     "free_jobs": "step_excp = 500\nstep_record = 0\njob_cpu = 0\njob_excp = 0\njob_record = 0\n",
     "paid_jobs": "step_excp = 333\nstep_record = 100\njob_cpu = 0\njob_excp = 0\njob_record = 2500\n",
@@ -60,7 +60,7 @@ RULES = ("free_jobs evenings by_job", "paid_jobs nights weekends by_field", "no_
 # What has to come, each of it more than once.
 NEEDED = ["import " + kind for kind in (
     "repeated", "unpriced", "in time", "late", "variant", "variant of a late record", "variant of a posted record",
-    "later variant of a posted record", "third variant", "variant behind a choice", "other")]
+    "later variant of a posted record", "third variant", "variant after a choice", "other")]
 NEEDED += ["tariff " + answer for answer in (
     "DONE", "ALREADY", "ledger 6", "ledger 7", "that changed prices", "that changed prices in dispute", "tariff 1",
     "tariff 2 step_record", "tariff 3 job_cpu", "tariff 4", "tariff 5")]
@@ -72,7 +72,7 @@ NEEDED += ["adopt " + answer for answer in (
     "ALREADY", "ledger 14", "set free a posted record", "set free a late record", "set free a record in time",
     "set free by an older choice", "a choice that is alone", "left in dispute")]
 NEEDED += ["import under the second rule " + kind for kind in (
-    "a run of its own", "variant behind a choice that was alone", "variant", "variant of a posted record")]
+    "a run of its own", "variant after a choice that was alone", "variant", "variant of a posted record")]
 
 
 class Numbers:
@@ -205,7 +205,7 @@ class History:
             self.step_of(name + "_again_other", name + "_again 160:00000503")
 
     def around_the_adoption(self, today):
-        """The commands of a day on which steps that ran twice come before a close and behind it, and some are chosen;
+        """The commands of a day on which steps that ran twice come before a close and after it, and some are chosen;
         then the second rule is adopted, and more of them come."""
         self.runs(range(801, 811), today)
         self.runs(range(811, 814), today + 1)
@@ -259,7 +259,7 @@ class History:
         others = [held for held in books.held.values() if books.identity(held) == books.identity(record)]
         is_late, posted = record.day <= books.before(books.open), books.posted()
         if books.identity(record) in books.chosen():
-            return "variant behind a choice" + (" that was alone" if len(others) == 1 else "")
+            return "variant after a choice" + (" that was alone" if len(others) == 1 else "")
         if len(others) != 1:
             runs = [held for held in books.held.values() if held.identity[:24] == record.identity[:24]]
             return "third variant" if others else "a run of its own" if runs else "late" if is_late else "in time"

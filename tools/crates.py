@@ -23,7 +23,7 @@ def times():
 
 
 def below(name, of=None):
-    """The crates that one stands on, lowest first."""
+    """The crates that one uses, lowest first."""
     of = of or uses()
     wanted, waiting = set(), [name]
     while waiting:
@@ -35,6 +35,6 @@ def below(name, of=None):
 
 
 def above(name, of=None):
-    """The crates that stand on one, lowest first."""
+    """The crates that use one, lowest first."""
     of = of or uses()
     return [crate for crate in of if name in below(crate, of)]

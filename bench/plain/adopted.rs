@@ -7,7 +7,7 @@ use crate::sqlite::{Database, Statement, Value};
 
 const SECOND_RULE: i64 = 2;
 
-/// The records that are not charged and are to be, by identity and name, behind the last of them that was read.
+/// The records that are not charged and are to be, by identity and name, after the last of them that was read.
 const DUE: &str = "
     SELECT ident, name, posted, day, centre, shift, cpu, blocks, amount FROM record AS due
         WHERE charged = 0 AND (ident, name) > (?1, ?2)
@@ -18,7 +18,7 @@ const DUE: &str = "
 
 /// Where a record is charged from now on.
 enum Charged {
-    /// The last close charged it, and a line took it back.
+    /// The last close charged it, and a line reversed it.
     Before,
     /// It came late, and a line adds it.
     Late,

@@ -18,7 +18,7 @@ pub struct Rates {
 }
 
 impl Rates {
-    /// What a record costs at so many percent, rounded once.
+    /// What a record costs at a given percent, rounded once.
     pub fn amount(&self, percent: u64, cpu: u64, blocks: u64) -> u64 {
         let price = 10 * u128::from(cpu) * u128::from(self.cpu)
             + u128::from(blocks) * u128::from(self.excp)

@@ -40,7 +40,7 @@ pub struct Dump<R> {
     left: Option<usize>,
     /// Segments of the record are still to come.
     is_begun: bool,
-    /// The record, behind four bytes.
+    /// The record, after four bytes.
     record: Vec<u8>,
 }
 

@@ -26,7 +26,7 @@ DAY_KEY = "period = 1 AND day = ? AND centre = ? AND shift = ?"
 
 
 def add_day(db, key, change):
-    """Adds to a day's row, or takes away."""
+    """Adds to a day's row, or subtracts from it."""
     if db.execute("SELECT count FROM day_sum WHERE " + DAY_KEY, key).fetchone() is None:
         db.execute("INSERT INTO day_sum VALUES (1, ?, ?, ?, ?, ?, ?, ?)", key + change)
     else:

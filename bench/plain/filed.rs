@@ -76,7 +76,7 @@ impl Filed {
         }
     }
 
-    /// Adds so many records with their sums to a day's row, or takes them away.
+    /// Adds a number of records with their sums to a day's row, or subtracts them.
     fn change_day(&self, day: i64, count: i64, cpu: i64, blocks: i64, amount: i64) {
         let key = [Value::Int(day), Value::Text(CENTRE), Value::Text(SHIFT)];
         let found = self.find_day.query(&key, |row| [row.int(0), row.int(1), row.int(2), row.int(3)]);

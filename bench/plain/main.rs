@@ -2,7 +2,7 @@
 //! for `run` to measure them against. The formats are those of docs/FORMATS.md.
 //!
 //! `plain check FILE LAYOUT` and `plain trial LAYOUT CPU EXCP RECORD` print what chargectl prints. One
-//! thing is done otherwise, and no text shows it: chargectl keeps each record by its name, the SHA-256 of
+//! thing is done differently, and no text shows it: chargectl keeps each record by its name, the SHA-256 of
 //! its data. Here a record is known by the data itself, and only those of a dispute list are named.
 //!
 //! Built with `--cfg books`, `plain import BOOK FILE CPU EXCP RECORD` keeps books in a file, by SQLite's own

@@ -9,7 +9,7 @@ pub const STEP_END: u16 = 4;
 pub const JOB_END: u16 = 5;
 pub const HUNDREDTHS_PER_DAY: u32 = 8_640_000;
 
-/// Where the triplets of the sections stand.
+/// Where the triplets of the sections are.
 pub const IDENTIFICATION: usize = 32;
 pub const IO_ACTIVITY: usize = 40;
 pub const COMPLETION: usize = 48;

@@ -1,5 +1,5 @@
 //! A tariff that comes late, by SQLite's own library: in one transaction each record that is dated on its first day or later
-//! costs from then on what it says, and the charge rows of the open period follow.
+//! then costs what it says, and the charge rows of the open period follow.
 
 use crate::books::MAX_TOTAL;
 use crate::dumps::DESCRIPTOR_LEN;
@@ -16,7 +16,7 @@ const TARIFF_EXISTS: u8 = 7;
 /// place again.
 pub const BATCH: usize = 1_000;
 
-/// A record as it lies in a dump, of which a row has the data. It is filled anew for each row.
+/// A record as it lies in a dump; a row has its data. It is filled again for each row.
 pub struct Joined(Vec<u8>);
 
 impl Joined {
@@ -37,7 +37,7 @@ impl Joined {
 pub struct Changes(BTreeMap<(i64, String, String), [i64; 4]>);
 
 impl Changes {
-    /// So many records of these sums join the row of a place.
+    /// A number of records with these sums join the row of a place.
     pub fn add(&mut self, day: i64, centre: &str, shift: &str, sums: [i64; 4]) {
         let row = self.0.entry((day, centre.to_string(), shift.to_string())).or_default();
         for (sum, more) in row.iter_mut().zip(sums) {
@@ -88,7 +88,7 @@ pub fn text(row: &Statement, at: i32) -> &str {
     std::str::from_utf8(row.lent(at)).expect("a name is ASCII")
 }
 
-/// Reads a batch of the records that the tariff is for, behind a name: their names and new prices. What is charged of them
+/// Reads a batch of the records that the tariff is for, after a name: their names and new prices. What is charged of them
 /// changes charge rows.
 fn priced_behind<'t>(
     dated: &Statement,

@@ -11,7 +11,7 @@ use std::net::{TcpListener, TcpStream};
 
 const LONGEST_HEAD: usize = 16_384;
 
-/// A head, and what came behind it.
+/// A head, and what came after it.
 fn read_head(stream: &mut TcpStream) -> io::Result<(String, Vec<u8>)> {
     let (mut bytes, mut piece) = (Vec::new(), [0; LONGEST_HEAD]);
     loop {

@@ -9,7 +9,7 @@ use std::collections::HashMap;
 
 const HUNDREDTHS_PER_MINUTE: u32 = 6_000;
 
-/// What stands under a heading: its keys, and their values as they are written.
+/// What is under a heading: its keys, and their values as they are written.
 struct Section<'a> {
     heading: &'a str,
     values: HashMap<&'a str, &'a str>,
@@ -61,7 +61,7 @@ fn whole(text: &str) -> u64 {
     text.trim().parse().expect("a whole number")
 }
 
-/// A line without what is noted behind a `#` that is in no text.
+/// A line without what is noted after a `#` that is in no text.
 fn without_note(line: &str) -> &str {
     let mut is_text = false;
     let note = line.find(|character| {
@@ -71,7 +71,7 @@ fn without_note(line: &str) -> &str {
     line[..note.unwrap_or(line.len())].trim()
 }
 
-/// The sections of a file, of which the first has no heading.
+/// The sections of a file, the first of which has no heading.
 fn sections(file: &str) -> Vec<Section<'_>> {
     let mut sections = vec![Section::new("")];
     for line in file.lines().map(without_note) {
@@ -84,7 +84,7 @@ fn sections(file: &str) -> Vec<Section<'_>> {
     sections
 }
 
-/// A shift, which charges so many percent at some hours of some weekdays, of which Monday is 1.
+/// A shift, which charges a given percent at some hours of some weekdays; Monday is 1.
 struct Shift {
     name: String,
     days: Vec<u64>,

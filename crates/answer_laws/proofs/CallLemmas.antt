@@ -11,13 +11,13 @@ use Rattle.office.proofs.LeavingLemmas.{Leaves, work_leaves}
 use Rattle.answer_laws.specs.CallLaws.{IsCalled, OneAnswer, OneRefusal, OneBook}
 use Rattle.answer_laws.specs.CallLaws.{RefusalChangesNothing}
 
--- another fault is none of the store
+-- another fault is not one of the store
 pub not_store : (V : Type 0) (fault : LedgerFault) → fault ≢ Store
     → is_store {V = V} (Err fault) ≡ false
 not_store V Store other = absurd (other refl)
 not_store V fault other = refl
 
--- a refusal of open books that is neither want of memory nor a fault of the store is the outcome's
+-- a refusal of open books that is neither a lack of memory nor a store's fault is the outcome's
 pub refused_as : {V A : Type 0} (view : V → A) (outcome : Outcome A) (fault : LedgerFault)
     (events : List Event) → fault ≢ Memory → fault ≢ Store
     → is_reopen {V = V} (Err fault) ≡ false → Makes view outcome (Err fault) events
@@ -35,7 +35,7 @@ made_none view outcome Store events store made = absurd (store refl)
 made_none view outcome Reopen events store made = made
 made_none view outcome fault events store made = made.1
 
--- what a call that was no fault of the store came to
+-- what came of a call that was no fault of the store
 called : {V A : Type 0} {view : V → A} {outcome : Book → Outcome A} {naming : Naming} {start : Book}
     {old new : Seen} {result : Result V LedgerFault}
     → IsCalled view outcome naming start old new result → is_store result ≡ false

@@ -24,7 +24,7 @@ abbrev fault_or : ReportFault → Result (Unit {0}) ReportFault → ReportFault
 fault_or other (Ok done) = other
 fault_or other (Err fault) = fault
 
--- the refusal that a report's fault tells
+-- the refusal that a report's fault gives
 abbrev refusal_or : LedgerFault → ReportFault → LedgerFault
 refusal_or other (Ledger fault) = fault
 refusal_or other fault = other
@@ -38,7 +38,7 @@ text_of : (answer : Result (List ℕ) LedgerFault) (output : Output)
 text_of (Ok text) output passed = record { text = text; is = refl; written = passed }
 text_of (Err fault) output passed = absurd (ok_not_err passed.refusal)
 
--- so is one of which a front was passed on
+-- so is one that was passed on in part
 front_of : (answer : Result (List ℕ) LedgerFault) (output : Output)
     → IsPassedOn answer output (Err Write) → HasFront answer output
 front_of (Ok text) output passed = record {
@@ -51,7 +51,7 @@ front_of (Ok text) output passed = record {
 front_of (Err fault) output passed =
     absurd (refusal_not_write fault (ap (fault_or Memory) passed.refusal) refl)
 
--- the refusal that a report tells is the one that it was answered
+-- the refusal that a report gives is the one that it was answered
 told_is : (answered fault : LedgerFault) → Ledger fault ≡ report_fault_of answered
     → (answered ≡ fault) × (answered ≢ ledger.Memory)
 told_is ledger.Memory fault same = absurd (never same)
@@ -70,7 +70,7 @@ refusal_of (Err answered) fault output passed =
       subst (λ fault. fault ≢ ledger.Memory) told.0 told.1,
     )
 
--- the call of a report, where this is its answer
+-- the call of a report, if this is its answer
 called_for : {asked : Report} {naming : Naming} {start : Book} {books : Books} {output : Output}
     {result : Result (Unit {0}) ReportFault} (answer : Result (List ℕ) LedgerFault)
     (come : IsReported asked naming start books output result) → come.report.answer ≡ answer

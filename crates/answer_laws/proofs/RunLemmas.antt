@@ -91,7 +91,7 @@ run_opened naming (asked ∷ requests) (answer ∷ answers) was before events is
     (run_opened naming requests answers made.between (after_all made.early before) made.late is
     made.next is_open)
 
--- requests on open books were told so, and left this book
+-- requests on open books were answered so, and left this book
 record AreAs (naming : Naming) (requests : List Asked)
     (answers : List (Result Answer LedgerFault)) (before : Book) (events : List Event) : Type 0
   where
@@ -136,7 +136,7 @@ requests_are naming (asked ∷ requests) (answer ∷ answers) was before events 
     Free : Result Answer LedgerFault → Type 0
     Free answer = is_hindered (told_by answer) ≡ false
 
--- the law of it
+-- the law
 pub one_run : {L : Type 0} (seen : L → Seen) → OneRun seen
 one_run seen naming start old new requests answers come =
     let work : IsWork (seen old) (seen new) (Runs naming requests answers) =

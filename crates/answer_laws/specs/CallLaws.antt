@@ -6,14 +6,14 @@ use Rattle.book_model.specs.Words.{Naming, Book, after_all, Outcome}
 use Rattle.book_core.specs.Ledgers.{Seen, IsOpenAt}
 use Rattle.book_core.specs.Calls.{IsCall, listed}
 
--- a call of a ledger that was open with this book, on what is honest to the end
+-- a call of a ledger that was open with this book, on a store that is honest to the end
 pub record IsCalled {V A : Type 0} (view : V → A) (outcome : Book → Outcome A) (naming : Naming)
     (start : Book) (old new : Seen) (result : Result V LedgerFault) : Type 0 where
   pub opened : IsOpenAt naming start old
   pub honest : new.is_honest
   pub call : IsCall view old new result outcome
 
--- A value that is answered is the one that the definitions give of the book.
+-- A value that is answered is the one that the definitions give for the book.
 abbrev pub OneAnswer : {L : Type 0} (V A : Type 0) → (L → Seen) → Type 0
 OneAnswer {L} V A seen =
     (view : V → A) (outcome : Book → Outcome A) (naming : Naming) (start : Book)
@@ -21,7 +21,7 @@ OneAnswer {L} V A seen =
     → IsCalled view outcome naming start (seen old) (seen new) (Ok value)
     → (outcome start).answer ≡ Ok (view value)
 
--- So is a refusal. Want of memory and a fault of the store may stand in place of any answer; and
+-- So is a refusal. Out of memory and a fault of the store may be in place of any answer; and
 -- that the books are to be reopened is never answered by open ones.
 abbrev pub OneRefusal : {L : Type 0} (V A : Type 0) → (L → Seen) → Type 0
 OneRefusal {L} V A seen =
@@ -30,8 +30,8 @@ OneRefusal {L} V A seen =
     → IsCalled view outcome naming start (seen old) (seen new) (Err fault)
     → (outcome start).answer ≡ Err fault
 
--- Where a value was answered, the ledger is open with the book behind the definitions' event, or
--- with the one that it had where there is none.
+-- If a value was answered, the ledger is open with the book after the definitions' event, or
+-- with the one that it had if there is no event.
 abbrev pub OneBook : {L : Type 0} (V A : Type 0) → (L → Seen) → Type 0
 OneBook {L} V A seen =
     (view : V → A) (outcome : Book → Outcome A) (naming : Naming) (start : Book)
@@ -39,8 +39,8 @@ OneBook {L} V A seen =
     → IsCalled view outcome naming start (seen old) (seen new) (Ok value)
     → IsOpenAt naming (after_all (listed (outcome start).event) start) (seen new)
 
--- A refusal changes nothing: the ledger is open with the book that it had. Of a fault of the store
--- only the next open tells.
+-- A refusal changes nothing: the ledger is open with the book that it had. After a fault of the
+-- store only the next open shows the book.
 abbrev pub RefusalChangesNothing : {L : Type 0} (V A : Type 0) → (L → Seen) → Type 0
 RefusalChangesNothing {L} V A seen =
     (view : V → A) (outcome : Book → Outcome A) (naming : Naming) (start : Book)

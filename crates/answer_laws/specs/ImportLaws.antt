@@ -18,8 +18,8 @@ imported_into naming dump book =
     let found = front dump.layout dump.bytes in
     import_of_records naming book (stop_behind dump.cut found) found.records
 
--- A dump was imported into a ledger that was open with this book, and is open now, on what is
--- honest to the end. Neither want of memory nor the store stopped the import.
+-- A dump was imported into a ledger that was open with this book, and is open now, on a store that
+-- is honest to the end. Neither a lack of memory nor the store stopped the import.
 pub record IsImported (naming : Naming) (start : Book) (old new : Seen) (dump : Dump)
     (receipt : Receipt) : Type 0 where
   pub opened : IsOpenAt naming start old
@@ -27,13 +27,13 @@ pub record IsImported (naming : Naming) (start : Book) (old new : Seen) (dump : 
   pub work : IsWork old new (Imports old.naming dump.layout dump.cut dump.bytes receipt)
   pub unhindered : IsUnhindered receipt
 
--- the receipt is the definitions' one, and the ledger is open with the book behind the import
+-- the receipt is the definitions' one, and the ledger is open with the book after the import
 pub record ImportsAsDefined (naming : Naming) (start : Book) (new : Seen) (dump : Dump)
     (receipt : Receipt) : Type 0 where
   pub receipt_is : receipt ≡ (imported_into naming dump start).receipt
   pub left : IsOpenAt naming (after_all (imported_into naming dump start).events start) new
 
--- So it is with every import.
+-- This holds for every import.
 abbrev pub OneReceipt : {L : Type 0} → (L → Seen) → Type 0
 OneReceipt {L} seen =
     (naming : Naming) (start : Book) (old new : L) (dump : Dump) (receipt : Receipt)

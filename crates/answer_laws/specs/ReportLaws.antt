@@ -1,4 +1,4 @@
--- Laws of reports: what is written of books is the definitions' text of them.
+-- Laws of reports: what is written about books is the text that the definitions give.
 use Rattle.std.specs.Prelude.{◌≡◌, ◌≢◌, ◌<◌, ℕ, List, length, take, Result, Ok, Err}
 use Rattle.std.specs.Io.KnownBytes.{Appends}
 use Rattle.streams.specs.Sides.{Output}
@@ -12,20 +12,20 @@ use Rattle.book_reports.specs.declared.report.Report.{Report}
 use Rattle.book_reports.specs.BookTexts.{report_outcome}
 use Rattle.book_reports.specs.Reports.{IsReport}
 
--- a report of a ledger that was open with this book, on what is honest to the end
+-- a report of a ledger that was open with this book, on a store that is honest to the end
 pub record IsReported (asked : Report) (naming : Naming) (start : Book) (books : Books)
     (output : Output) (result : Result (Unit {0}) ReportFault) : Type 0 where
   pub opened : IsOpenAt naming start books.old
   pub honest : books.new.is_honest
   pub report : IsReport asked books output result
 
--- the answer is a text, and the writer has it more
+-- the answer is a text, and the writer has all of it more
 pub record HasText (answer : Result (List ℕ) LedgerFault) (output : Output) : Type 0 where
   pub text : List ℕ
   pub is : answer ≡ Ok text
   pub written : Appends output.old.holds output.new.holds text
 
--- the answer is a text, and the writer has a front of it more, which is not the whole
+-- the answer is a text, and the writer has a prefix of it more, which is not the whole
 pub record HasFront (answer : Result (List ℕ) LedgerFault) (output : Output) : Type 0 where
   pub text : List ℕ
   pub is : answer ≡ Ok text
@@ -33,14 +33,14 @@ pub record HasFront (answer : Result (List ℕ) LedgerFault) (output : Output) :
   pub less : count < length text
   pub written : Appends output.old.holds output.new.holds (take count text)
 
--- What was written whole is the text that the definitions give of the book.
+-- What was written whole is the text that the definitions give for the book.
 abbrev pub OneText : {L : Type 0} → (L → Seen) → Type 0
 OneText {L} seen =
     (asked : Report) (naming : Naming) (start : Book) (old new : L) (output : Output)
     → IsReported asked naming start (books seen old new) output (Ok tt)
     → HasText (report_outcome naming asked start).answer output
 
--- Where a write failed, a front of that text was written.
+-- If a write failed, a prefix of that text was written.
 abbrev pub OneFront : {L : Type 0} → (L → Seen) → Type 0
 OneFront {L} seen =
     (asked : Report) (naming : Naming) (start : Book) (old new : L) (output : Output)
@@ -53,8 +53,8 @@ pub record IsRefused (answer : Result (List ℕ) LedgerFault) (fault : LedgerFau
   pub is : answer ≡ Err fault
   pub none : output.new ≡ output.old
 
--- What a report tells that the books refused is what the definitions refuse, but for a fault of the
--- store; want of memory is told otherwise.
+-- A refusal of the books that a report gives is one that the definitions give, but for a fault of
+-- the store; out of memory is reported otherwise.
 abbrev pub OneRefusedReport : {L : Type 0} → (L → Seen) → Type 0
 OneRefusedReport {L} seen =
     (asked : Report) (naming : Naming) (start : Book) (old new : L) (output : Output)

@@ -11,21 +11,21 @@ use Rattle.office.specs.Laws.{IsStillOpen}
 use Rattle.office.specs.Requests.{Told, told_by}
 use Rattle.office.specs.Runs.{Runs, dump_here}
 
--- what the definitions tell of requests, one after another
+-- what the definitions answer to requests, one after another
 abbrev pub told_to : Naming → List Asked → Book → List (Result Told LedgerFault)
 told_to naming [] book = []
 told_to naming (asked ∷ later) book =
     let done = does naming asked (dump_here asked) book in
     done.told ∷ told_to naming later (after_all done.events book)
 
--- the book behind them
+-- the book after them
 abbrev pub book_behind : Naming → List Asked → Book → Book
 book_behind naming [] book = book
 book_behind naming (asked ∷ later) book =
     book_behind naming later (after_all (does naming asked (dump_here asked) book).events book)
 
--- Requests were run on a ledger that was open with this book, and is open now, on what is honest to
--- the end. Neither want of memory nor the store hindered one.
+-- Requests were run on a ledger that was open with this book, and is open now, on a store that is
+-- honest to the end. Neither a lack of memory nor the store hindered one.
 pub record IsRun (naming : Naming) (start : Book) (old new : Seen) (requests : List Asked)
     (answers : List (Result Answer LedgerFault)) : Type 0 where
   pub opened : IsOpenAt naming start old
@@ -33,13 +33,13 @@ pub record IsRun (naming : Naming) (start : Book) (old new : Seen) (requests : L
   pub work : IsWork old new (Runs old.naming requests answers)
   pub free : All (λ answer. is_hindered (told_by answer) ≡ false) answers
 
--- what was told is what the definitions tell, and the ledger is open with the book behind them
+-- the answers are those of the definitions, and the ledger is open with the book after them
 pub record RunsAsDefined (naming : Naming) (start : Book) (new : Seen) (requests : List Asked)
     (answers : List (Result Answer LedgerFault)) : Type 0 where
   pub told : map told_by answers ≡ told_to naming requests start
   pub left : IsOpenAt naming (book_behind naming requests start) new
 
--- So it is with all requests, imports with them.
+-- This holds for all requests, including imports.
 abbrev pub OneRun : {L : Type 0} → (L → Seen) → Type 0
 OneRun {L} seen =
     (naming : Naming) (start : Book) (old new : L) (requests : List Asked)

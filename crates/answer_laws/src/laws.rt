@@ -1,5 +1,5 @@
-//! Laws of single calls, which hold over the definitions alone. Each stands on a function that does
-//! nothing.
+//! Laws of single calls, which hold of the definitions alone. Each is the contract of a function
+//! that does nothing.
 
 ghost use Rattle.answer_laws.specs.CallLaws.{OneAnswer, OneBook, OneRefusal, RefusalChangesNothing};
 ghost use Rattle.answer_laws.specs.RunLaws.{OneRun};
@@ -13,12 +13,12 @@ pub fn one_answer<L: Ledger, V, A>()
     ensures { OneAnswer V A L.seen }
 {}
 
-/// So is a refusal, but for want of memory and a fault of the store.
+/// So is a refusal, but for a lack of memory and a fault of the store.
 pub fn one_refusal<L: Ledger, V, A>()
     ensures { OneRefusal V A L.seen }
 {}
 
-/// Where a value was answered, the book is the one behind the definitions' event, if there is one.
+/// If a value was answered, the book is the one after the definitions' event, if there is one.
 pub fn one_book<L: Ledger, V, A>()
     ensures { OneBook V A L.seen }
 {}
@@ -33,22 +33,22 @@ pub fn one_text<L: Ledger>()
     ensures { OneText L.seen }
 {}
 
-/// What was written before a write failed is a front of that text, and not the whole.
+/// What was written before a write failed is a prefix of that text, and not the whole.
 pub fn one_front<L: Ledger>()
     ensures { OneFront L.seen }
 {}
 
-/// A refusal of the books that a report tells is the definitions' one, and nothing was written.
+/// A refusal of the books that a report gives is the definitions' one, and nothing was written.
 pub fn one_refused_report<L: Ledger>()
     ensures { OneRefusedReport L.seen }
 {}
 
-/// The receipt of an import is the definitions' one, and so is the book behind it.
+/// The receipt of an import is the definitions' one, and so is the book after it.
 pub fn one_receipt<L: Ledger>()
     ensures { OneReceipt L.seen }
 {}
 
-/// The answers to a list of requests are the definitions' ones, and so is the book behind them.
+/// The answers to a list of requests are the definitions' ones, and so is the book after them.
 pub fn one_run<L: Ledger>()
     ensures { OneRun L.seen }
 {}

@@ -1,6 +1,6 @@
 //! Laws of single calls of a ledger, and of what is made of them: a call, a report, an import and a
-//! list of requests have one answer, by the book before them. So whatever body meets their contracts
-//! answers that, save for want of memory and faults of the store.
+//! list of requests have one answer, by the book before them. So any body that meets the contracts
+//! gives that answer, except when memory runs out or the store fails.
 #![tactic(auto)]
 
 mod laws;

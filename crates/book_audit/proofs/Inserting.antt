@@ -1,4 +1,4 @@
--- What a map of byte texts has, once an entry was put into it.
+-- What a map of byte texts has after an entry was put into it.
 use Rattle.std.proofs.Common.{◌≡◌, ◌∙◌, ℕ, Bool, true, false, cond, List, [], ◌∷◌}
 use Rattle.std.proofs.Common.{Option, Ordering, Less, Equal, Greater, Some, ap, refl, sym, true≢false}
 use Rattle.std.specs.BTreeMap.{insert_entry}
@@ -8,7 +8,7 @@ use Rattle.std.specs.FinMap.{nat_cmp-IsAntisymmetric, slice_cmp-IsAntisymmetric}
 use Rattle.std.specs.Map.{lookup}
 use Rattle.std.specs.Ordering.{is_eq, match_ordering, nat_cmp}
 
--- texts that compare alike are one
+-- texts that compare equal are equal
 exact : (a b : List ℕ) → is_eq (slice_cmp nat_cmp a b) ≡ true → a ≡ b
 exact a b same =
     slice_cmp-IsAntisymmetric nat_cmp-IsAntisymmetric a b
@@ -43,7 +43,7 @@ module _ {K : Type 0} (items : K → List ℕ) where
       ∙ ap (λ bytes. is_eq (slice_cmp nat_cmp (items k) bytes)) (sym same)
       ∙ ap is_eq (tied_itself (lists_total nat_cmp_total) (items k))))
 
-  -- the new value stands under its text, and what stood under another text stays
+  -- the new value is stored under its text, and what was stored under another text stays
   pub lookup-insert_entry : {X : Type 0} (text : List ℕ) (k : K) (v : X) (es : List (K × X))
       → lookup (is_of text) (insert_entry by_items es k v)
       ≡ cond (is_of text k) (Some v) (lookup (is_of text) es)

@@ -1,4 +1,4 @@
--- Which record was chosen last of an identity.
+-- Which record of an identity was chosen last.
 use Rattle.std.specs.Prelude.{ℕ, Bool, false, List, Option}
 use Rattle.std.specs.BTreeMap.{get_by}
 use Rattle.std.specs.Cmp.Lexicographic.{slice_cmp}
@@ -7,7 +7,7 @@ use Rattle.std.specs.Ordering.{nat_cmp}
 use Rattle.book_model.specs.Words.{same_bytes}
 use Rattle.book_audit.specs.declared.choices.Chosen.{Chosen}
 
--- the name of the record that was chosen last of an identity, if one was chosen
+-- the name of the record of an identity that was chosen last, if one was chosen
 abbrev pub name_of : Chosen → List ℕ → Option (List ℕ)
 name_of chosen identity = get_by (λ key. slice_cmp nat_cmp identity key.items) chosen.names
 

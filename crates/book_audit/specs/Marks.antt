@@ -6,9 +6,9 @@ use Rattle.std.specs.Prelude.{◌&&◌, ◌||◌, not, Bool, true, false, Option
 abbrev pub is_charged : Bool → Bool → Bool
 is_charged shared chosen = not shared || chosen
 
--- Whether a record is posted as the last close charged it, by its two marks, by whether it is dated no
--- later than that close, and by what the line of the open period says, if there is one: as it is charged
--- now, but for what the line changed since.
+-- Whether a record is posted as the last close charged it, by its two marks, by whether it is dated on
+-- or before that close, and by what the line of the open period says, if there is one: as it is charged
+-- now, except for what the line changed since.
 abbrev pub is_posted_so : Bool → Bool → Bool → Option Bool → Bool
 is_posted_so true posted true None = posted
 is_posted_so false posted true None = not posted

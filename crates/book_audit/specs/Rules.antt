@@ -14,7 +14,7 @@ never_adopted = 0
 abbrev pub is_period : ℕ → Bool
 is_period period = nat_lt 0 period && nat_le period last_period
 
--- The rule of a number and of a period of adoption: the first was never adopted, and the second in
+-- The rule for a number and a period of adoption: the first was never adopted, and the second in
 -- a period. No books have another pair.
 abbrev pub rule_of : ℕ → ℕ → Option IdentityRule
 rule_of number adopted =
@@ -27,7 +27,7 @@ abbrev pub is_by : ℕ → IdentityRule → Bool
 is_by period First = true
 is_by period (SecondSince adopted) = nat_le adopted period
 
--- it was adopted in this period or later, so that identities that were one then may be two
+-- it was adopted in this period or later, so that identities that were equal then may now differ
 abbrev pub parts : ℕ → IdentityRule → Bool
 parts period First = false
 parts period (SecondSince adopted) = nat_le period adopted

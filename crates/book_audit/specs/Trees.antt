@@ -23,7 +23,7 @@ number_of Marks = 7
 number_of Choices = 8
 number_of ChoiceNames = 9
 
--- whether the row behind the first that has the key has it too
+-- whether the row after the first that has the key has it too
 pub record FindsTwo (key : Row) (rows : List Row) (row : Row) (two : Bool) : Type 0 where
   pub there : Bool
   pub behind : IsFirst (past_key key (from_key plain key rows)) row there

@@ -16,7 +16,7 @@ pub struct Counts {
 /// What came of an audit.
 #[derive(Clone, Copy, Drop)]
 pub enum Audited {
-    /// Each row is as the records and the tariffs want it.
+    /// Each row is as the records and the tariffs require.
     Sound(Counts),
     /// The first thing that is not.
     Unsound(Finding),

@@ -63,7 +63,7 @@ fn wrong_by_data(
     Ok(wrong_by_usage(rulings, stored, &usage))
 }
 
-/// Name, identity and price of a record are those of its data.
+/// The name, identity and price of a record are those of its data.
 pub(crate) fn check_data(
     alloc: Global,
     rulings: &Rulings,

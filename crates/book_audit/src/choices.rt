@@ -80,7 +80,7 @@ impl Chosen {
         None
     }
 
-    /// The record of the next choice is the last of its identity from now on.
+    /// Makes the record of the next choice the last chosen of its identity.
     fn put(&mut self, identity: Vec<u8>, choice: &Choice) -> Result<(), AllocError>
         ensures count { OnOk result (self.new.count ≡ choice.now.number) }
         ensures since { OnOk result (self.new.since ≡ choice.now.period) }
@@ -94,7 +94,7 @@ impl Chosen {
         Ok(())
     }
 
-    /// Whether a record was chosen last of its identity.
+    /// Whether a record was the last chosen of its identity.
     pub(crate) fn is_last(&self, identity: &[u8], name: &[u8; 32]) -> bool
         ensures { result ≡ is_last self.now identity.now name.now }
     {
@@ -106,7 +106,7 @@ impl Chosen {
 }
 
 /// The identity of the record that a choice names. It is held, and is not alone in its identity
-/// where no adoption can have parted it from the others.
+/// unless an adoption can have parted it from the others.
 fn chosen_identity<S: Store>(
     alloc: Global,
     trees: &mut Trees<S>,
@@ -157,7 +157,7 @@ fn check_choice<S: Store>(
 }
 
 /// Reads all choices, the last of which was made in the open period or before it, and the tree that
-/// finds them. What is kept of them grows with the identities that were chosen among, and not with
+/// finds them. The memory for them grows with the identities that were chosen among, and not with
 /// the records.
 pub(crate) fn read_choices<S: Store, W: Watch>(
     alloc: Global,

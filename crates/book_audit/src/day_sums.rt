@@ -19,7 +19,7 @@ use tariff_rules::Priced;
 use tree_tables::{DayPlace, count_at, day_at, name_at, period_at};
 
 /// How many records there are at a place, and what they measure and cost together. All sums are
-/// taken modulo 2^64, as a record that a line takes back may come before it is counted.
+/// taken modulo 2^64, as a record that a line reverses may come before it is counted.
 #[derive(Clone, Copy, PartialEq, Eq)]
 struct DaySums {
     count: u64,
@@ -28,7 +28,7 @@ struct DaySums {
     amount: u64,
 }
 
-/// Of no record.
+/// For no records.
 const NOTHING: DaySums = DaySums {
     count: 0,
     cpu: 0,
@@ -37,7 +37,7 @@ const NOTHING: DaySums = DaySums {
 };
 
 impl DaySums {
-    /// With a record more.
+    /// With one more record.
     fn with(self, priced: &Priced) -> DaySums {
         DaySums {
             count: self.count.wrapping_add(1),
@@ -47,7 +47,7 @@ impl DaySums {
         }
     }
 
-    /// With a record less.
+    /// With one record less.
     fn without(self, priced: &Priced) -> DaySums {
         DaySums {
             count: self.count.wrapping_sub(1),
@@ -76,7 +76,7 @@ pub(crate) struct Places {
 }
 
 impl Places {
-    /// Of no records.
+    /// For no records.
     pub(crate) fn new(alloc: Global) -> Places {
         Places {
             sums: BTreeMap::new(alloc),
@@ -90,14 +90,14 @@ impl Places {
         Ok(())
     }
 
-    /// A record is counted no more at its place.
+    /// A record is no longer counted at its place.
     pub(crate) fn discount(&mut self, priced: &Priced) -> Result<(), AllocError> {
         let sums = self.sums.entry(place_of(priced))?.or_insert(NOTHING);
         *sums = sums.without(priced);
         Ok(())
     }
 
-    /// What is wrong with the sums of a charge row. Its place is done then.
+    /// What is wrong with the sums of a charge row. After this its place is done.
     fn wrong_with(&mut self, place: &RowKey, said: DaySums) -> Option<Wrong> {
         let sums = self.sums.remove(place).unwrap_or(NOTHING);
         if said.count == 0 {
@@ -120,7 +120,7 @@ impl Places {
     }
 }
 
-/// Where a charge row stands.
+/// Where a charge row is.
 fn place_in(row: &Row) -> Result<DayPlace, StoreError> {
     Ok(DayPlace {
         period: period_at(row, 0)?,
@@ -164,7 +164,7 @@ fn check_left(rulings: &Rulings, places: &Places) -> Result<(), Stop> {
     Err(unsound(Place::Day(DayPlace { period, place }), Wrong::NoRow))
 }
 
-/// Reads all charge rows, which have to be the sums of the places. Answers how many there are.
+/// Reads all charge rows, which must be the sums of the places. Returns how many there are.
 pub(crate) fn check_rows<S: Store, W: Watch>(
     alloc: Global,
     trees: &mut Trees<S>,

@@ -83,7 +83,7 @@ pub enum Place {
     File,
     /// A tree.
     Tree(Tree),
-    /// The tariff of a first day.
+    /// The tariff with a first day.
     Tariff(i32),
     /// The close of a period.
     Close(u16),
@@ -104,9 +104,9 @@ pub enum Wrong {
     Pages,
     /// A page or a row can't be read.
     Unreadable,
-    /// The rows do not stand in the order of their keys.
+    /// The rows are not in the order of their keys.
     Order,
-    /// The tree has more rows than one.
+    /// The tree has more than one row.
     MoreRows,
     /// The row of the book has another number, a rule that no books have, or a period of adoption
     /// that does not go with its rule or is still to come.
@@ -117,9 +117,9 @@ pub enum Wrong {
     Amount,
     /// The text is no tariff, or one of another day.
     TariffText,
-    /// A period is left out, or the day is none or not later than that of the close before.
+    /// A period is left out, or the day is invalid or not later than that of the close before.
     CloseOrder,
-    /// There are more closes than periods can be closed.
+    /// There are more closes than periods that can be closed.
     Closes,
     /// A number is left out: the choices have the numbers from 1 on.
     ChoiceNumber,
@@ -135,7 +135,7 @@ pub enum Wrong {
     Choices,
     /// The name is not the digest of the data.
     Name,
-    /// The data are those of no usage record.
+    /// The data are not those of a usage record.
     NoUsage,
     /// The identity is not that of the bytes.
     Identity,
@@ -156,9 +156,9 @@ pub enum Wrong {
     Entries,
     /// A line's record is not held.
     NoRecord,
-    /// A line's record is dated after the close before the line's period, or there is none.
+    /// A line's record is dated after the close before the line's period, or there is no close.
     LineDate,
-    /// A charge row is not one of its day's period.
+    /// A charge row is not in its day's period.
     Period,
     /// A charge row counts no record.
     NoCount,

@@ -10,16 +10,16 @@ const FIRST_RULE: u64 = 1;
 /// The rule that is adopted later.
 const SECOND_RULE: u64 = 2;
 
-/// The period of its adoption in books that did not adopt it.
+/// The period of its adoption, in books that did not adopt it.
 const NEVER_ADOPTED: u64 = 0;
 
-/// The last period that there is.
+/// The last possible period.
 const LAST_PERIOD: u64 = 9_999;
 
 /// The rule of identity that is in force.
 #[derive(Clone, Copy, Debug, PartialEq, Eq)]
 pub(crate) enum IdentityRule {
-    /// That under which books begin.
+    /// The one under which books begin.
     First,
     /// Time and date of the initiation are part of an identity. It was adopted while this period was
     /// open.
@@ -29,7 +29,7 @@ pub(crate) enum IdentityRule {
 impl IdentityRule {
     ghost use Rattle.std.specs.Prelude.{◌≡◌, true};
 
-    /// The rule of a number and of a period of adoption, if books may have both.
+    /// The rule for a number and a period of adoption, if books may have both.
     pub(crate) fn of(number: u64, adopted: u64) -> Option<IdentityRule>
         ensures { result ≡ spec.rule_of number adopted }
     {
@@ -42,7 +42,7 @@ impl IdentityRule {
         None
     }
 
-    /// Whether it can be in force where this period is open: no adoption is still to come.
+    /// Whether it can be in force when this period is open: no adoption is still to come.
     pub(crate) fn is_by(self, open_period: u16) -> bool
         ensures { result ≡ spec.is_by open_period self }
     {

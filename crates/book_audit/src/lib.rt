@@ -1,5 +1,5 @@
-//! A second reading of books: each row of each tree is held against the bytes of the records and the
-//! texts of the tariffs. It rests on no sum and no mark that a ledger keeps, and writes nothing.
+//! A second reading of books: each row of each tree is compared with the bytes of the records and
+//! the texts of the tariffs. It relies on no sum and no mark of a ledger, and writes nothing.
 #![tactic(auto)]
 
 mod audited;

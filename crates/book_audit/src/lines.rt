@@ -13,13 +13,13 @@ use sqlite_value::row::Row;
 use std::alloc::Global;
 use tree_tables::{hash_at, mark_at, period_at};
 
-/// A line as its row says.
+/// A line as its row gives it.
 #[derive(Clone, Copy)]
 struct Line {
     period: u16,
     /// The name of the record.
     name: [u8; 32],
-    /// It adds the record, or takes it back.
+    /// It adds the record, or reverses it.
     plus: bool,
 }
 
@@ -32,8 +32,8 @@ fn line_in(row: &Row) -> Result<Line, StoreError> {
     })
 }
 
-/// A line names a record that is held and is dated by the close before its period. What it adds its
-/// record's charge row does not count, and what it takes back that row does.
+/// A line names a record that is held and is dated on or before the close before its period. The
+/// record's charge row counts it if the line reverses it, and does not if the line adds it.
 fn check_line<S: Store>(
     alloc: Global,
     trees: &mut Trees<S>,
@@ -59,7 +59,7 @@ fn check_line<S: Store>(
     Ok(())
 }
 
-/// Reads all lines. Answers how many there are.
+/// Reads all lines. Returns how many there are.
 pub(crate) fn check_lines<S: Store, W: Watch>(
     alloc: Global,
     trees: &mut Trees<S>,

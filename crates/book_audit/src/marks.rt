@@ -11,14 +11,14 @@ use crate::trees::Trees;
 use sqlite_trees::store::Store;
 use tree_tables::StoredRecord;
 
-/// Whether a record is to be charged: where it is alone in its identity, or was chosen last of it.
+/// Whether a record is to be charged: if it is alone in its identity, or was chosen last of it.
 fn is_charged(is_shared: bool, is_chosen: bool) -> bool
     ensures { result ≡ spec.is_charged is_shared is_chosen }
 {
     !is_shared || is_chosen
 }
 
-/// Whether a record is posted as the last close charged it: as it is charged now, but for what a
+/// Whether a record is posted as the last close charged it: as it is charged now, except for what a
 /// line of the open period changed since. A record that is dated later was not posted.
 fn is_posted_so(stored: &StoredRecord, is_closed: bool, line: Option<bool>) -> bool
     ensures { result ≡ spec.is_posted_so stored.now.charged stored.now.posted is_closed line }
@@ -62,7 +62,7 @@ fn wrong_by_trees<S: Store>(
     Ok(None)
 }
 
-/// Whether a record is posted as its day, its mark and the lines of the open period want it.
+/// Whether a record is posted as its day, its mark and the lines of the open period require.
 fn is_posted_right<S: Store>(
     trees: &mut Trees<S>,
     rulings: &Rulings,
@@ -75,7 +75,7 @@ fn is_posted_right<S: Store>(
     Ok(is_posted_so(record, is_closed, line))
 }
 
-/// A record is found by its identity and its mark, is charged where it is alone in its identity or
+/// A record is found by its identity and its mark, is charged if it is alone in its identity or
 /// was chosen last of it, and is posted as the last close charged it.
 pub(crate) fn check_marks<S: Store>(
     trees: &mut Trees<S>,

@@ -21,7 +21,7 @@ struct Held {
     amount: u64,
 }
 
-/// A record is as its data, the tariffs and the other trees want it. Where it is charged, its place
+/// A record is as its data, the tariffs and the other trees require. If it is charged, its place
 /// counts it.
 fn check_record<S: Store>(
     alloc: Global,
@@ -56,13 +56,13 @@ fn read_records<S: Store, W: Watch>(
         }
         let record = read_record(walk.row(), alloc).map_err(|error| met(tree, error))?;
         check_record(alloc, trees, rulings, places, &record)?;
-        // Each amount is the price of its record: no sum of so many comes near 2^64.
+        // Each amount is the price of its record: no sum of that many comes near 2^64.
         amount = amount.wrapping_add(record.priced.amount);
     }
     Err(endless(tree))
 }
 
-/// Reads all records and the trees that find them; the row of the book has to be their sum. Answers
+/// Reads all records and the trees that find them; the row of the book must be their sum. Returns
 /// how many there are.
 pub(crate) fn check_records<S: Store, W: Watch>(
     alloc: Global,

@@ -18,7 +18,7 @@ use std::alloc::Global;
 use tariff_rules::{Tariff, TariffFault};
 use tree_tables::{Close, StoredTariff, count_at, day_at, period_at, text_at};
 
-/// The most periods that are closed.
+/// The highest number of closed periods.
 const MAX_CLOSES: usize = 9_998;
 
 /// What the office ruled, and what the row of the book says of the records.
@@ -47,7 +47,7 @@ struct BookRow {
     amount: u64,
 }
 
-/// What the row of the book says. None where it has another number, or a rule that no books have.
+/// What the row of the book says. None if it has another number, or a rule that no books have.
 fn book_in(row: &Row) -> Result<Option<BookRow>, StoreError> {
     let number = count_at(row, 0)?;
     let rule = IdentityRule::of(count_at(row, 1)?, count_at(row, 2)?);
@@ -83,7 +83,7 @@ fn tariff_in(alloc: Global, row: &Row) -> Result<StoredTariff, StoreError> {
     })
 }
 
-/// The tariff of a row, whose text has to be one that says the row's day.
+/// The tariff of a row, which must have the text of a tariff with the row's day.
 fn parsed(alloc: Global, stored: &StoredTariff) -> Result<Tariff, Stop> {
     match Tariff::parse(alloc, &stored.body) {
         Err(TariffFault::Memory) => Err(Stop::Fault(LedgerFault::Memory)),
@@ -92,7 +92,7 @@ fn parsed(alloc: Global, stored: &StoredTariff) -> Result<Tariff, Stop> {
     }
 }
 
-/// Reads the tariffs, whose keys are their first days.
+/// Reads the tariffs, which have their first days as keys.
 fn read_tariffs<S: Store>(alloc: Global, trees: &mut Trees<S>) -> Result<Vec<Tariff>, Stop> {
     let tree = Tree::Tariffs;
     let mut walk = Walk::over(alloc, tree);
@@ -115,7 +115,7 @@ fn close_in(row: &Row) -> Result<Close, StoreError> {
     })
 }
 
-/// Whether a close is the next one behind those of these days: of the next period, through a later
+/// Whether a close is the next one after those of these days: of the next period, through a later
 /// day.
 fn is_next(days: &[i32], close: &Close) -> bool {
     let number = usize::from(close.period);

@@ -1,4 +1,4 @@
-//! Why an audit ends before its end.
+//! Why an audit stops early.
 
 use crate::finding::{Finding, Place, Tree, Wrong};
 use book_model::LedgerFault;
@@ -19,8 +19,8 @@ pub(crate) fn unsound(place: Place, wrong: Wrong) -> Stop {
     Stop::Unsound(Finding { place, wrong })
 }
 
-/// What an error of the store at a tree stands for. A damaged page, and a row that is none of its
-/// table, are unsound; what the disk refuses says nothing of the books.
+/// What an error of the store at a tree stands for. A damaged page, and a row that is not of its
+/// table, are unsound; what the disk refuses says nothing about the books.
 pub(crate) fn met(tree: Tree, error: StoreError) -> Stop {
     match error {
         StoreError::OutOfMemory => Stop::Fault(LedgerFault::Memory),

@@ -1,4 +1,4 @@
-//! What is printed of an audit.
+//! What is printed for an audit.
 
 use crate::audited::{Audited, Counts};
 use crate::finding::{Finding, Place, Wrong};
@@ -46,7 +46,7 @@ fn wrong_text(wrong: Wrong) -> &'static str {
     }
 }
 
-/// Adds a day, or its number where it is none.
+/// Adds a day, or its number if it is not a valid day.
 fn push_day(alloc: Global, out: &mut String, day: i32) -> Result<(), AllocError> {
     if FIRST_DAY <= day && day <= LAST_DAY {
         return out.push_str(day_text(alloc, day)?.as_str());
@@ -54,7 +54,7 @@ fn push_day(alloc: Global, out: &mut String, day: i32) -> Result<(), AllocError>
     write!(out, "{day}")
 }
 
-/// Adds where a charge row stands.
+/// Adds where a charge row is.
 fn push_spot(alloc: Global, out: &mut String, spot: &DayPlace) -> Result<(), AllocError> {
     let period = spot.period;
     write!(out, "day_sum {period} ")?;
@@ -102,7 +102,7 @@ fn push_finding(alloc: Global, out: &mut String, finding: &Finding) -> Result<()
     out.push_str("\n")
 }
 
-/// Adds a line of a word and a number.
+/// Adds a line with a word and a number.
 fn push_count(out: &mut String, word: &str, count: u64) -> Result<(), AllocError> {
     writeln!(out, "{word} {count}")
 }

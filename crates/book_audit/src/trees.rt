@@ -56,7 +56,7 @@ impl<S: Store> Trees<S> {
         self.store
     }
 
-    /// Reads the first row behind that of a key over `row`, or the very first where the key has no
+    /// Reads the first row after that of a key into `row`, or the very first if the key has no
     /// columns; or answers that there is none.
     pub(crate) fn row_behind(
         &mut self,
@@ -77,7 +77,7 @@ impl<S: Store> Trees<S> {
         first_after(&mut self.store, number, key, row)
     }
 
-    /// Whether a row of a tree has the key; it is found then.
+    /// Whether a row of a tree has the key; it is then found.
     fn finds(&mut self, tree: Tree) -> Result<bool, StoreError>
         ensures found { IfOk result (λ hit. IsClean (S.Store.view self.new.store)
             → Finds self.old.key ((S.Store.view self.old.store).trees (number_of tree))
@@ -129,7 +129,7 @@ impl<S: Store> Trees<S> {
         self.finds(Tree::ChoiceNames)
     }
 
-    /// Whether two entries or more have an identity: whether the row behind the first that has it
+    /// Whether two or more entries have an identity: whether the row after the first that has it
     /// has it too.
     pub(crate) fn is_shared(&mut self, identity: &[u8]) -> Result<bool, StoreError>
         ensures found { IfOk result (λ shared. IsClean (S.Store.view self.new.store)

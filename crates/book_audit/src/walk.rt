@@ -51,7 +51,7 @@ impl Walk {
         &self.row
     }
 
-    /// Reads the next row, or answers that there is none. A row whose key is not behind that of the
+    /// Reads the next row, or answers that there is none. A row whose key is not after that of the
     /// row before is unsound, so a walk ends whatever the tree holds.
     pub(crate) fn next<S: Store>(&mut self, trees: &mut Trees<S>) -> Result<bool, Stop>
         ensures next { IfOk result (λ there. IsClean (S.Store.view trees.new.store)

@@ -2,8 +2,8 @@
 
 use crate::finding::Tree;
 
-/// Is told over and over how far an audit is.
+/// Receives, over and over, how far an audit is.
 pub trait Watch {
-    /// So many rows of a tree were read.
+    /// This many rows of a tree were read.
     fn read(&mut self, tree: Tree, rows: u64);
 }

@@ -37,7 +37,7 @@ fn read_trees<S: Store, W: Watch>(
     })
 }
 
-/// Reads the books in a store through, and answers what came of it; a fault is that memory or the
+/// Reads through the books in a store, and returns what came of it; a fault is that memory or the
 /// store failed, or that there are no books. The store is given back.
 pub fn audit_trees<S: Store, W: Watch>(
     alloc: Global,

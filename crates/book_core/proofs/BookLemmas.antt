@@ -46,7 +46,7 @@ read_of read (Some one) period is =
     unwrap_ok (Ok one) other = one
     unwrap_ok (Err fault) other = other
 
--- what is made of the first elements of a list, and of the one behind them
+-- what is made of the first elements of a list, and of the one after them
 map-take_suc : {X Y : Type 0} (f : X → Y) (xs : List X) (i : ℕ) (x : X) → i < length xs
     → x ≡ get_or xs i x → map f (take i xs) ++ f x ∷ [] ≡ map f (take (suc i) xs)
 map-take_suc f [] i x within is = absurd (omega arith)
@@ -81,7 +81,7 @@ pub open_number-by : (tariffs : List Tariffed) (entries : List Entry) (posted : 
 open_number-by tariffs entries posted closed choices adopted =
     ap (λ n. n + 1) (length-map closed (λ period. period.through))
 
--- by the tests of its number, a period is the open one, or stands among those that are closed
+-- by the tests of its number, a period is the open one, or is among those that are closed
 period_by_tests : (book : Book) (number : ℕ) (none next : Bool)
     → (number == 0) ≡ none → (number == open_number book) ≡ next
     → period_of book number
@@ -95,7 +95,7 @@ period_by_tests book number none next is_none is_next =
 not_none : (number : ℕ) → 1 ≤ number → (number == 0) ≡ false
 not_none number some = grind (arith, nat_tests)
 
--- a number is not the next one where something stands there
+-- a number is not the next one where something is there
 not_next : {X : Type 0} (xs : List X) (number : ℕ) (x : X) → slice_get xs (number - 1) ≡ Some x
     → (number == length xs + 1) ≡ false
 not_next xs number x found =

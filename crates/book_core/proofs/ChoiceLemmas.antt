@@ -91,7 +91,7 @@ module _ (adopted : Option ℕ) where
       ∙ ap (last_or None) (filter-map own chosen_bytes choices)
       ∙ last_or-map chosen_bytes None (filter (of_it identity) choices)
 
-  -- so the last choice of a record's identity tells whether the record is chosen
+  -- so the last choice of a record's identity determines whether the record is chosen
   pub is_chosen-by : (choices : List ChosenRecord) (held : HeldRecord) (identity : List ℕ)
       (found : Option ChosenRecord)
       → identity ≡ identity_by (ruled []) (record_of held)

@@ -75,7 +75,7 @@ choose_calls naming name old new meant result found answer changed =
     (answers_itself result _ (ap (chosen_answer old) found ∙ answer))
     (changed ∙ ap (λ one. after_any (choose_event one result) old) (sym found))
 
--- whether there are so many, by the comparison
+-- whether there are that many, by the comparison
 pub at_least : (most n : ℕ) → most ≤ n → true ≡ nat_le most n
 at_least most n many = grind (arith, nat_tests)
 
@@ -85,7 +85,7 @@ below most n few = grind (arith, nat_tests)
 module _ {naming : Naming} {rulings : Rulings} {entries : List Entry} {total : ℕ}
     (kept : AreBooked naming rulings entries total)
     (rising : IsStrictlySortedBy by_bytes (keys_of entries)) where
-  -- no record is meant where none stands under the name
+  -- no record is meant where none has the name
   named-missing : (name : List ℕ) → under_name name entries ≡ None
       → record_named naming (held_in entries) name ≡ None
   named-missing name missing =
@@ -116,7 +116,7 @@ module _ {naming : Naming} (tariffs : List Tariffed) (closed : List ClosedPeriod
     (choices : List ChosenRecord) (adopted : Option ℕ) {entries : List Entry} {total : ℕ}
     (kept : AreBooked naming (ruled_by tariffs closed choices adopted) entries total)
     (rising : IsStrictlySortedBy by_bytes (keys_of entries)) where
-  -- the call, where no record stands under the name
+  -- the call, where no record has the name
   pub choose_calls-missing : (posted : Names) (name : List ℕ) → under_name name entries ≡ None
       → IsBookCall (λ (value : Ruled). value)
       (book_with tariffs entries posted closed choices adopted)

@@ -1,4 +1,4 @@
--- Work on books that are those of a history goes on with it.
+-- Work on books that are those of a history continues it.
 use Rattle.std.proofs.Common.{◌≡◌, ◌∙◌, ℕ, Bool, true, false, List, [], ◌++◌, refl, sym, ap, subst}
 use Rattle.std.proofs.Common.{Result, Ok, Err, ◌⊎◌, inl, inr, append_assoc, not}
 use Rattle.std.proofs.lemmas.Bool.{eqb-true}
@@ -41,7 +41,7 @@ after_all-book_of events history =
     ap (after_all events) (sym (books_follow_history history))
     ∙ sym (after_all-append events history new_book) ∙ books_follow_history (events ++ history)
 
--- so work whose events are answered follows the history
+-- so work that has its events answered follows the history
 pub follows : (old new : Seen) (Made : Work) → MakesAnswered old.naming Made
     → IsWork old new Made → FollowsHistory old new Made
 follows old new Made answers work honest books history of book stands =
@@ -82,7 +82,7 @@ called_events view outcome (Err Store) events is = is
 called_events view outcome (Err Reopen) events is = inl is
 called_events view outcome (Err fault) events is = inl is.1
 
--- a call whose outcome's event is answered
+-- a call that has its outcome's event answered
 pub calls_answered : {V A : Type 0} (naming : Naming) (view : V → A) (outcome : Book → Outcome A)
     (result : Result V LedgerFault)
     → ((history : List Event) → IsAnswered naming history
@@ -115,7 +115,7 @@ terms_event-answered naming text terms history (Ok Done) is answered = (is, answ
 terms_event-answered naming text terms history (Ok Already) is answered = answered
 terms_event-answered naming text terms history (Err fault) is answered = answered
 
--- the event of the answer to a tariff's text, by what reading it gives
+-- the event of the answer to a tariff's text, by the result of reading it
 tariff_event-answered : (naming : Naming) (text : List ℕ) (said : Result Terms TariffFault)
     (history : List Event) → IsAnswered naming history
     → IsAnswered naming
@@ -125,7 +125,7 @@ tariff_event-answered naming text (Ok terms) history answered =
     (terms_answer (book_after history) text terms) refl answered
 tariff_event-answered naming text (Err fault) history answered = answered
 
--- a tariff that is handed in
+-- a tariff that is submitted
 pub tariff_answered : {V : Type 0} (naming : Naming) (view : V → Ruled) (text : List ℕ)
     (result : Result V LedgerFault)
     → MakesAnswered naming (Calls view (tariff_outcome text) result)

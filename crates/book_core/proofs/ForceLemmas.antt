@@ -1,4 +1,4 @@
--- The identity in force, of work whose identity by the second rule is known.
+-- The identity in force, of work with a known identity by the second rule.
 use Rattle.std.proofs.Common.{◌≡◌, ◌∙◌, ℕ, ◌-◌, List, [], ◌++◌, length, take, refl, sym, ap, subst}
 use Rattle.std.proofs.Common.{true, false, true≢false, Option, Some, None, is_some, replicate}
 use Rattle.std.proofs.Common.{append-nil}
@@ -9,12 +9,12 @@ use Rattle.book_model.specs.Words.{Rulings, identification, identity_by, identit
 use Rattle.book_model.specs.Words.{identity2_length, part_in}
 use Rattle.book_core.specs.Identities.{IsPadded, identity_in, padded}
 
--- what stands in front
+-- what is at the start
 front_of : (front zeros : List ℕ) (len : ℕ) → length front ≡ len → take len (front ++ zeros) ≡ front
 front_of front zeros len long =
     ap (λ n. take n (front ++ zeros)) (sym long) ∙ take-append_seam front zeros
 
--- bytes in front of zeros are kept as an identity is
+-- bytes at the start of zeros are kept as an identity is
 pub padded_at_front : (front zeros : List ℕ) (len : ℕ) → length front ≡ len
     → replicate (identity2_length - len) 0 ≡ zeros → IsPadded (front ++ zeros) len
 padded_at_front front zeros len long fill =
@@ -39,7 +39,7 @@ pub all_in_force : (adopted : Option ℕ) (second : List ℕ) → is_some adopte
 all_in_force None second some = absurd (true≢false (sym some))
 all_in_force (Some period) second some = refl
 
--- where it was not, those in front are
+-- where it was not, those at the start are
 pub front_in_force : (adopted : Option ℕ) (second front zeros : List ℕ)
     → is_some adopted ≡ false → length front ≡ identity_length
     → front ≡ take identity_length second
@@ -48,7 +48,7 @@ front_in_force None second front zeros none long is =
     front_of front zeros identity_length long ∙ is
 front_in_force (Some period) second front zeros none long is = absurd (true≢false none)
 
--- by the first rule the front of the second rule's bytes is taken
+-- by the first rule a prefix of the second rule's bytes is taken
 pub first_in_second : (bytes second : List ℕ) → second ≡ identity2_of bytes
     → length (identity_of bytes) ≡ identity_length
     → take identity_length second ≡ identity_of bytes

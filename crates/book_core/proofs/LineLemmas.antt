@@ -1,4 +1,4 @@
--- Adjustment lines of entries: one for each that a period adds or takes back.
+-- Adjustment lines of entries: one for each that a period adds or reverses.
 use Rattle.std.proofs.Common.{◌≡◌, ◌∙◌, ℕ, ◌≤◌, List, [], ◌∷◌, ◌++◌, map, refl, sym, ap, subst}
 use Rattle.std.proofs.Common.{Bool, true, false, cond, Option, Some, None, is_some, get_or, arith}
 use Rattle.std.specs.Prelude.{All, filter, sum_by}
@@ -31,7 +31,7 @@ use Rattle.book_core.specs.Shares.{is_added, is_taken, line_of, line_at, records
 use Rattle.book_core.proofs.HeldLemmas.{bytes_of, each_named, each_priced, records_differ}
 
 module _ (share : Entry → Option Share) where
-  -- the lines of entries by their shares, as the entries stand
+  -- the lines of entries by their shares, in the entries' order
   abbrev pub lines_at : List Entry → List Line
   lines_at entries = filter_map (λ entry. line_at (share entry) entry) entries
 
@@ -43,7 +43,7 @@ module _ (share : Entry → Option Share) where
   abbrev added : List Entry → List Entry
   added entries = filter (λ entry. is_added (share entry)) entries
 
-  -- the entries that it takes back
+  -- the entries that it reverses
   abbrev taken : List Entry → List Entry
   taken entries = filter (λ entry. is_taken (share entry)) entries
 
@@ -64,7 +64,7 @@ module _ (share : Entry → Option Share) where
         | Some Taken ↦ ap (λ names. entry.0 ∷ names) rest
       ]
 
-  -- the lines are a plus for each entry that is added, and a minus for each that is taken back
+  -- the lines are a plus for each entry that is added, and a minus for each that is reversed
   both_signs : (entries : List Entry)
       → IsPermutation (lines_at entries)
       (map (line_of true) (added entries) ++ map (line_of false) (taken entries))

@@ -62,7 +62,7 @@ after_listed : (event : Option Event) (book : Book) → after_any event book
 after_listed None book = refl
 after_listed (Some event) book = refl
 
--- A call that answered as the outcome says, and whose event is what changed of the book.
+-- A call that answered as the outcome says, with an event that is what changed of the book.
 pub call_in_memory : {V A : Type 0} (view : V → A) (naming : Naming) (old new : Book)
     (result : Result V LedgerFault) (outcome : Book → Outcome A)
     → IsOfBooks (outcome old).answer

@@ -1,4 +1,4 @@
--- Names: what stands under each, and what sets and maps by name say of the entries.
+-- Names: what is under each, and what sets and maps by name say of the entries.
 use Rattle.std.proofs.Common.{◌≡◌, ◌∙◌, ℕ, List, [], ◌∷◌, ◌++◌, refl, sym, ap, subst, Bool, true}
 use Rattle.std.proofs.Common.{false, cond, Option, Some, None, get_or, map}
 use Rattle.std.proofs.lemmas.List.Elements.{All-push}
@@ -34,7 +34,7 @@ use Rattle.book_core.specs.Shares.{is_taken}
 use Rattle.book_core.proofs.EntryLemmas.{insert_entry-alike}
 use Rattle.book_core.proofs.HeldLemmas.{bytes_of}
 
--- what is found with one entry more behind
+-- what is found with one more entry at the end
 lookup-behind : (test : List ℕ → Bool) (done : List Entry) (entry : Entry)
     → lookup test (done ++ entry ∷ [])
     ≡ option_or (lookup test done) (cond (test entry.0) (Some entry.1) None)
@@ -47,7 +47,7 @@ lookup-behind test (e ∷ done) entry =
       | false ↦ lookup-behind test done entry
     ]
 
--- what stands under a name, with one entry more behind, whose name none has
+-- what is under a name, with one more entry at the end that has a name that none has
 under_name-more : (done : List Entry) (entry : Entry) (name : List ℕ)
     → under_name entry.0 done ≡ None
     → under_name name (done ++ entry ∷ [])
@@ -71,7 +71,7 @@ under_name-more done entry name missing =
     nothing_or None = refl
     nothing_or (Some h) = refl
 
--- an entry's name stands under none before it
+-- an entry's name is that of none before it
 missing_so_far : (all done rest : List Entry) (entry : Entry) → all ≡ done ++ entry ∷ rest
     → IsStrictlySortedBy by_bytes (keys_of all) → under_name entry.0 done ≡ None
 missing_so_far all done rest entry is rising =
@@ -96,7 +96,7 @@ missing_so_far all done rest entry is rising =
         ap (λ b. cond b (Some e.1) (under_name entry.0 done)) other
         ∙ missing done (IsDistinct-tail (eq_by_cmp by_bytes) e.0 later apart)
 
--- so the name of what a loop over the entries takes next stands under none that it took before
+-- so the name of what a loop over the entries takes next is that of none that it took before
 pub missing_next : {A : Type 0} (shows : A → Entry) (all start now after : List Entry)
     (taken : List A) (next : Option A) (one : A) → start ≡ all
     → Yields (TakesFirst shows) start taken now → next ≡ Some one
@@ -187,7 +187,7 @@ shares-skip share done entry shares missing are is name =
     (sym (under_name-more done entry name missing))
 
 module _ (entries : List Entry) (rising : IsStrictlySortedBy by_bytes (keys_of entries)) where
-  -- each entry stands under its name
+  -- each entry is under its name
   pub own_name : All (λ (entry : Entry). under_name entry.0 entries ≡ Some entry.1) entries
   own_name k d within =
       lookup_from_place (eq_by_cmp_equiv nat_list_cmp_total) entries k (get_or entries k d).0

@@ -22,7 +22,7 @@ use Rattle.book_core.proofs.HeldLemmas.{under_name, held_in-more}
 
 module _ {K X E : Type 0} (Holds : X → Type 0) (is_key : K → Bool) (key : K) (value : X)
     (before after : List (K × X)) where
-  -- What holds of each value holds of each one after another was put in of which it holds too, or
+  -- What holds of each value still holds of each one after another was put in that it holds of, or
   -- after that was refused.
   pub put_in : (result : Result (Option X) E)
       → IfOk result (λ old. MatchOption old (IsPermutation ((key, value) ∷ before) after)

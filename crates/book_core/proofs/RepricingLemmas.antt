@@ -1,4 +1,4 @@
--- The records that are held, each at the price that it has under one tariff more: nothing else of
+-- The records that are held, each at the price that it has under one more tariff: nothing else of
 -- them changes.
 use Rattle.std.proofs.Common.{◌≡◌, ◌∙◌, ℕ, List, [], ◌∷◌, ◌++◌, refl, sym, ap, subst, map, Bool}
 use Rattle.std.proofs.Common.{true}
@@ -105,7 +105,7 @@ module _ {terms : Terms} {entries anew : List Entry} (is : AreRepriced terms ent
       } in
       λ i. map (λ period. each period i) closed
 
-  -- so the book changes nowhere but in what its records cost
+  -- so the book changes only in what its records cost
   pub book_stays : (tariffs : List Tariffed) (posted : Names) (closed : List ClosedPeriod)
       (choices : List ChosenRecord) (adopted : Option ℕ)
       → book_with tariffs anew posted closed choices adopted
@@ -132,7 +132,7 @@ module _ {terms : Terms} {entries anew : List Entry} (is : AreRepriced terms ent
         past = λ k d within name none. named.past k d within name (was_missing name none);
       }
 
--- a list with an element behind it, where there was room for it
+-- a list with one more element at the end, where there was room for it
 pub pushed : {X : Type 0} (after now old : List X) (x : X) (ok : Bool)
     → after ≡ (if ok then now ++ x ∷ [] else now) → ok ≡ true → now ≡ old
     → after ≡ old ++ x ∷ []

@@ -40,7 +40,7 @@ pub where-agree : (p q : Entry → Bool) (entries : List Entry) → All (λ e. p
 where-agree p q entries agree =
     ap (λ chosen. set_of by_bytes (entry_records chosen)) (filter-agree p q entries agree)
 
--- those of all records that pass a test are the records of the entries whose record passes it
+-- those of all records that pass a test are the records of the entries with records that pass it
 pub those-held : (p : List ℕ → Bool) (entries : List Entry)
     → those p (held_in entries) ≡ records_where (λ e. p (bytes_of e)) entries
 those-held p entries =

@@ -1,4 +1,4 @@
--- Work on a ledger, piece by piece.
+-- Work on a ledger, part by part.
 use Rattle.std.proofs.Common.{◌≡◌, ◌∙◌, Bool, true, false, List, [], ◌∷◌, ◌++◌, refl, sym, ap}
 use Rattle.std.proofs.Common.{subst, ◌||◌, Err, ◌⊎◌}
 use Rattle.book_model.specs.declared.fault.LedgerFault.{LedgerFault}

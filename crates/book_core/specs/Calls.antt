@@ -13,9 +13,9 @@ listed None = []
 listed (Some event) = event ∷ []
 
 -- The call answered as the outcome says, by a view of what it returns, and made the outcome's
--- event, its one commit. Want of memory, a fault of the store or Reopen may stand in place of any
--- answer; of a fault of the store only the next open tells whether the event was made. A refusal
--- makes none.
+-- event, its one commit. A lack of memory, a fault of the store or Reopen may replace any answer;
+-- of a fault of the store only the next open shows whether the event was made. A refusal makes
+-- none.
 abbrev pub Makes : {V A : Type 0} → (V → A) → Outcome A → Result V LedgerFault → List Event → Type 0
 Makes view outcome (Ok value) events =
     (outcome.answer ≡ Ok (view value)) × (events ≡ listed outcome.event)

@@ -1,4 +1,4 @@
--- Work on a ledger whose books are those of a history.
+-- Work on a ledger with the books of a history.
 use Rattle.std.specs.Prelude.{◌≡◌, List, ◌++◌}
 use Rattle.book_model.specs.Words.{Book, Event, book_of, IsAnswered}
 use Rattle.book_core.specs.Ledgers.{Seen, StandsAt}
@@ -8,7 +8,7 @@ use Rattle.book_core.specs.Work.{Work}
 abbrev pub AreOf : List Event → Seen → Type 0
 AreOf history seen = (book : Book) → StandsAt seen book → book ≡ book_of history
 
--- the book of the history that goes on with what the work made; where calls made the history, they
+-- the book of the history continued by what the work made; where calls made the history, they
 -- made all of it
 pub record Continues (history : List Event) (old new : Seen) (Made : Work) (book : Book)
     : Type 0 where

@@ -3,8 +3,8 @@ use Rattle.std.specs.Prelude.{◌≡◌, Bool, true, false}
 use Rattle.book_model.specs.Words.{Naming, Book}
 
 -- What is seen of a ledger: its book; how it names records; the books that the next open may find,
--- if the program stops now; that it is to be reopened, since a store failed; that what it is kept
--- on has returned what was written; and that a ledger wrote what is kept there.
+-- if the program stops now; that it is to be reopened, since a store failed; that its storage
+-- has returned what was written; and that a ledger wrote what is stored there.
 pub record Seen : Type 1 where
   pub book : Book
   pub naming : Naming
@@ -34,7 +34,7 @@ StandsAt seen book = stands_by seen.must_reopen seen book
 abbrev pub IsSettled : Seen → Type 0
 IsSettled seen = seen.must_reopen ≡ false → (book : Book) → seen.left book → book ≡ seen.book
 
--- The ledger is open and has this book, and what it is kept on is honest and holds books. So are
+-- The ledger is open and has this book, and its storage is honest and holds books. So are
 -- ledgers that were just made.
 pub record IsOpenAt (names : Naming) (start : Book) (seen : Seen) : Type 0 where
   pub book : seen.book ≡ start

@@ -1,4 +1,4 @@
--- What the records that are held cost under one tariff more, which begins later than every other
+-- What the records that are held cost under one more tariff, which begins later than every other
 -- one.
 use Rattle.std.specs.Prelude.{◌≡◌, ℕ, List, map, sum_by, int_lt, nat_lt, if◌then◌else◌, Option}
 use Rattle.std.specs.Prelude.{Some, None, Result, Ok, Err}

@@ -32,7 +32,7 @@ share_of true true false = None
 share_of false true new = Some Taken
 share_of false false new = None
 
--- each way to have a record, told from the others
+-- each way to have a record, kept apart from the others
 abbrev pub is_counted : Option Share → Bool
 is_counted (Some Counted) = true
 is_counted share = false
@@ -59,7 +59,7 @@ line_at (Some Added) entry = Some (line_of true entry)
 line_at (Some Taken) entry = Some (line_of false entry)
 line_at share entry = None
 
--- whose work the record measures, by the rule that is in force at the period's end
+-- which work the record measures, by the rule that is in force at the period's end
 abbrev pub identity_at : Ending → HeldRecord → List ℕ
 identity_at ending held = identity_by (ruled_by [] [] [] ending.adopted) (record_of held)
 
@@ -109,7 +109,7 @@ period_with share entries = record {
   taken = records_where (λ entry. is_taken (share entry)) entries;
 }
 
--- what stands under a name
+-- what is under a name
 abbrev pub under_name : List ℕ → List Entry → Option HeldRecord
 under_name name entries = lookup (map.is_at (by_bytes name)) entries
 

@@ -23,7 +23,7 @@ pub record Then (First Next : Work) (was : Bool) (before : Book) (events : List 
   pub next : Next between (after_all early before) late is
   pub all : events ≡ late ++ early
 
--- a book that work made of one at which the ledger stood
+-- a book that work made of one at which the ledger was
 pub record ComesFrom (old new : Seen) (Made : Work) (book : Book) : Type 0 where
   pub before : Book
   pub events : List Event
@@ -40,7 +40,7 @@ pub record IsLeftAlone (old new : Seen) : Type 0 where
   pub reopen : new.must_reopen ≡ true
   pub left : (book : Book) → old.left book → new.left book
 
--- Such work was done on a ledger. Records are named as before. Where what it is kept on is honest
+-- Such work was done on a ledger. Records are named as before. Where its storage is honest
 -- to the end, and held books in the beginning, it holds books in the end, and the work made them.
 -- Where the ledger was to be reopened, it is left alone.
 pub record IsWork (old new : Seen) (Made : Work) : Type 0 where

@@ -7,12 +7,12 @@ use crate::identity::Identity;
 use std::alloc::AllocError;
 use std::rc::RcSlice;
 
-/// A choice: the record that was chosen, whose bytes it shares with the one that is held, and the
+/// A choice: the record that was chosen, which shares its bytes with the one that is held, and the
 /// period that was open then.
 #[derive(Drop)]
 pub(crate) struct ChosenRecord {
     pub(crate) bytes: RcSlice<u8>,
-    /// Whose work it measures, by the second rule. By the first rule it is the front of this.
+    /// Which work it measures, by the second rule. By the first rule it is a prefix of this.
     pub(crate) identity: [u8; 32],
     pub(crate) period: u16,
     ghost first: { take identity_length identity ≡ identity_of (rc_slice_items bytes) },
@@ -36,7 +36,7 @@ impl ChosenRecord {
         })
     }
 
-    /// Whose work the record measures, by the rule in force.
+    /// Which work the record measures, by the rule in force.
     pub(crate) fn identity_by(&self, adopted: Option<u16>) -> Identity
         ensures { result
             ≡ identity_by (ruled_by [] [] [] adopted) (rc_slice_items self.now.bytes) }

@@ -57,7 +57,7 @@ pub enum LineChange {
     AddPlus([u8; 32]),
     /// It does not after all.
     DropPlus([u8; 32]),
-    /// The period takes back what an earlier one charged.
+    /// The period reverses what an earlier one charged.
     AddMinus([u8; 32]),
     /// It does not after all.
     DropMinus([u8; 32]),
@@ -125,7 +125,7 @@ pub fn plan_charge(through: Option<i32>, member: &Member) -> Effects
     }
 }
 
-/// A record whose identity is new is charged.
+/// A record with a new identity is charged.
 fn charged(through: Option<i32>, name: [u8; 32], priced: &Priced) -> Effects
     ensures { result ≡ charge through name priced.now }
 {

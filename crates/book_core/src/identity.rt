@@ -15,10 +15,10 @@ const FIRST_LENGTH: usize = 24;
 /// The bytes of an identity by the second rule.
 const SECOND_LENGTH: usize = 32;
 
-/// Whose work a record measures, by the rule in force. A contract sees it as its bytes.
+/// Which work a record measures, by the rule in force. A contract sees it as its bytes.
 #[derive(Clone, Copy)]
 pub(crate) struct Identity {
-    /// The bytes, and zeros behind them.
+    /// The bytes, followed by zeros.
     bytes: [u8; SECOND_LENGTH],
     /// How many bytes there are.
     len: u8,
@@ -46,7 +46,7 @@ impl Identity {
     ghost use Rattle.book_core.specs.Identities.{identity_in};
 
     /// The identity in force, of work that has this one by the second rule. The first rule takes
-    /// the front of it.
+    /// a prefix of it.
     pub(crate) fn in_force(adopted: Option<u16>, second: &[u8; 32]) -> Identity
         ensures { result ≡ identity_in adopted second.now }
     {

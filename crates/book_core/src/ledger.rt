@@ -11,12 +11,12 @@ use book_model::{Accepted, ChargeRow, Dispute, LedgerFault, Line, Ruled};
 
 /// The books of an office, however they are kept. Each call is at most one change of them: it is
 /// made whole, or not at all. After `Store` every call answers `Reopen`, and only the next open of
-/// the books tells whether the change was made.
+/// the books shows whether the change was made.
 pub trait Ledger {
     /// What is seen of the books, and what a stop leaves of them.
     ghost seen: { Self → Seen };
 
-    /// Hands in a tariff file. Its tariff is in force from its first day on, where that day is
+    /// Submits a tariff file. Its tariff is in force from its first day on, where that day is
     /// later than the last close and every other tariff's; the records that are held and dated on
     /// it or after it are priced anew, where the books have room for what all of them cost then.
     fn tariff(&mut self, text: &str) -> Result<Ruled, LedgerFault>
@@ -43,7 +43,7 @@ pub trait Ledger {
         ensures { IsCall (λ ruled. ruled) (seen self.old) (seen self.new) result
             (adopt_outcome rule) };
 
-    /// Hands in a record, which is held from now on where it is new, a tariff is in force on its
+    /// Submits a record, which is held from now on where it is new, a tariff is in force on its
     /// day, and there is room for it.
     fn accept(&mut self, bytes: &[u8]) -> Result<Accepted, LedgerFault>
         requires { IsUsageRecord bytes.now }
@@ -62,7 +62,7 @@ pub trait Ledger {
             (adjustments_outcome (seen self.old).naming period) }
         ensures shown { IfOk result (λ lines. AreLines lines.items) };
 
-    /// The identities of two or more records that are held and of which none was chosen, by their
+    /// The identities of two or more records that are held, where none was chosen, by their
     /// bytes, each with its records by name.
     fn disputes(&mut self) -> Result<Vec<Dispute>, LedgerFault>
         ensures disputes { IsCall (λ found. map dispute_shown found.items)
@@ -70,7 +70,7 @@ pub trait Ledger {
         ensures shown { IfOk result (λ found. AreDisputes (map dispute_shown found.items)) };
 
     /// The days through which periods were closed, in order, from 1970-01-01. The open period comes
-    /// behind them.
+    /// after them.
     fn periods(&mut self) -> Result<Vec<i32>, LedgerFault>
         ensures days { IsCall (λ days. days.items) (seen self.old) (seen self.new) result
             periods_outcome }

@@ -1,4 +1,4 @@
-//! The books of a chargeback office: what they mean, and a plain ledger that keeps them in memory.
+//! The calls of any ledger, and a plain ledger that keeps its books in memory.
 #![tactic(auto)]
 
 mod accepted_tariff;

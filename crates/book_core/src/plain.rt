@@ -60,7 +60,7 @@ impl<N: Naming + Drop> PlainLedger<N> {
         Ok(PlainLedger::under(alloc, naming, Vec::new(alloc)))
     }
 
-    /// New books under one tariff, which stands for every day from its first on.
+    /// New books under one tariff, which is in force on every day from its first on.
     pub fn flat(alloc: Global, naming: N, tariff: Tariff) -> Result<PlainLedger<N>, AllocError>
         ensures { IfOk result (λ ledger. IsOpenAt (N.name_of naming) (flat_book tariff)
             (⟦<PlainLedger<N> as Ledger>⟧.seen ledger)) }

@@ -36,7 +36,7 @@ impl Recalled {
         }
     }
 
-    /// Recalls a record from now on, in place of another of its identity. Want of memory costs time
+    /// Recalls a record from now on, in place of another of its identity. Lack of memory costs time
     /// later, and nothing else: a record that is not recalled is found by its name.
     pub(crate) fn recall(&mut self, identity: [u8; 32], bytes: RcSlice<u8>)
         ensures { (test : _) → AllPass test self.old → test (rc_slice_items bytes) ≡ true

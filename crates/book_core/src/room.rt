@@ -16,7 +16,7 @@ pub fn name_of<N: Naming>(naming: &N, bytes: &[u8]) -> [u8; 32]
     naming.name(data)
 }
 
-/// There is no room for a record that costs so much beside so many, which cost so much together.
+/// There is no room for a record of this cost beside this many others, with this cost together.
 pub fn is_full(count: usize, total: u64, amount: u64) -> bool
     requires total { total ≤ most_cost }
     requires amount { amount ≤ most_amount }

@@ -10,7 +10,7 @@ pub(crate) enum Share {
     Counted,
     /// A plus line charges the record, which came late.
     Added,
-    /// A minus line takes back what the record was charged before.
+    /// A minus line reverses what the record was charged before.
     Taken,
 }
 

@@ -1,5 +1,5 @@
-//! The books in a store, and the store of a file, which is closed behind a visit. What is done to open
-//! books is written over any store, so that the prover does it once.
+//! The books in a store, and the store of a file, which is closed after a visit. What is done to
+//! open books is written for any store, so that it is proved once.
 
 ghost use Rattle.sqlite_store.specs.FileStore.{view};
 ghost use Rattle.sqlite_trees.specs.View.{IsClean};
@@ -17,7 +17,7 @@ use std::alloc::Global;
 use table_ledger::TableLedger;
 use tree_tables::TreeTables;
 
-/// Visits the books that a store keeps. They name records by SHA-256. The store is given back.
+/// Visits the books in a store. They name records by SHA-256. The store is given back.
 fn visit_in<S: Store, V: Visit + Drop>(
     alloc: Global,
     store: S,
@@ -34,7 +34,7 @@ fn visit_in<S: Store, V: Visit + Drop>(
     }
 }
 
-/// Makes new books in a store that keeps none. The store is given back.
+/// Makes new books in a store that has none. The store is given back.
 fn make_in<S: Store>(alloc: Global, store: S) -> (Result<(), LedgerFault>, S)
     requires { IsClean (S.Store.view store) → HasShapes (S.Store.view store) }
 {
@@ -44,7 +44,7 @@ fn make_in<S: Store>(alloc: Global, store: S) -> (Result<(), LedgerFault>, S)
     }
 }
 
-/// Whether nothing was handed in to books yet, if their row is there.
+/// Whether nothing was submitted to books yet, if their row is there.
 fn are_new<S: Store>(
     alloc: Global,
     tables: &mut TreeTables<S>,
@@ -58,7 +58,7 @@ fn are_new<S: Store>(
     Ok(Some(has_none && book.held == 0 && book.adopted == 0))
 }
 
-/// What a fault of the store stands for.
+/// What a fault of the store means.
 fn fault_of(error: StoreError) -> ShelfFault {
     ShelfFault::Ledger(match error {
         StoreError::OutOfMemory => LedgerFault::Memory,
@@ -66,8 +66,8 @@ fn fault_of(error: StoreError) -> ShelfFault {
     })
 }
 
-/// Goes on with new books where a stop came while they were made, with or without their row. Books
-/// to which anything was handed in are somebody's.
+/// Continues new books that were stopped while they were made, with or without their row. Books to
+/// which anything was submitted belong to somebody.
 fn go_on_in<S: Store>(alloc: Global, store: S) -> (Result<(), ShelfFault>, S)
     requires { IsClean (S.Store.view store) → HasShapes (S.Store.view store) }
 {
@@ -86,14 +86,14 @@ fn go_on_in<S: Store>(alloc: Global, store: S) -> (Result<(), ShelfFault>, S)
 }
 
 /// Closes the store of a file, and brings what its log holds into the file. A fault here loses
-/// nothing, and is let go. Until the files that are given back are dropped nobody else has them.
+/// nothing, and is ignored. Until the files that are given back are dropped nobody else has them.
 fn close<D: Disk>(store: FileStore<D>) -> Files<D> {
     let mut store = store;
     let _ = shut(&mut store);
     store.close()
 }
 
-/// What came of open books, behind which the file is closed.
+/// What came of open books, after which the file is closed.
 fn closed<D: Disk, T: Drop>(
     came: (Result<T, LedgerFault>, FileStore<D>),
 ) -> (Result<T, ShelfFault>, Files<D>) {
@@ -122,7 +122,7 @@ pub(crate) fn make_and_close<D: Disk>(
     closed(make_in(alloc, store))
 }
 
-/// Goes on with new books in a file that was left while they were made, and closes it.
+/// Continues new books in a file that was left while they were made, and closes it.
 pub(crate) fn go_on_and_close<D: Disk>(
     alloc: Global,
     store: FileStore<D>,
@@ -133,8 +133,8 @@ pub(crate) fn go_on_and_close<D: Disk>(
     (answer, close(store))
 }
 
-/// Looks the books in a file that was opened through, and lets it go. Nothing was written, and what
-/// its log holds is left there.
+/// Audits the books in a file that was opened, and drops it. Nothing was written, and what its log
+/// holds is left there.
 pub(crate) fn audit_and_close<D: Disk, W: Watch>(
     alloc: Global,
     store: FileStore<D>,

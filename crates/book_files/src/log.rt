@@ -4,7 +4,7 @@ use book_trees::needs_no_log;
 use std::fs::File;
 use std::{fs, io};
 
-/// The log of a file, by its path, and whether it lay there before the file was opened.
+/// The log of a file, by its path, and whether it was there before the file was opened.
 #[derive(Drop)]
 pub(crate) struct Log<'a> {
     rt: &'a HostRuntime,
@@ -13,9 +13,9 @@ pub(crate) struct Log<'a> {
 }
 
 impl<'a> Log<'a> {
-    /// The log of a file that is there. It lies beside the file to which a link leads. An open makes
-    /// it, and then brings the names in the folder to the disk: a folder that refuses this refuses
-    /// it here, before there is a log that would stay.
+    /// The log of a file that is there. It lies beside the file to which a link leads. Opening
+    /// makes it, and then syncs the names in the folder to the disk: a folder that refuses this
+    /// refuses it here, before there is a log that would stay.
     pub(crate) fn of(rt: &'a HostRuntime, book: &str) -> io::Result<Log<'a>> {
         let real = fs::canonicalize(rt, book)?;
         let path = format!(in rt.alloc(); "{}-wal", real.as_str())?;
@@ -29,9 +29,9 @@ impl<'a> Log<'a> {
     }
 
     /// Takes the log away where it holds nothing, and says whether none is left. The caller still
-    /// has the file open, and with it the lock under which alone a log is made or written, so no
-    /// other program has this one. Nothing is lost: by `needs_no_log` the file alone holds the same
-    /// books, and what was committed was synced there before the log was cut so short.
+    /// has the file open, and with it the lock without which no log is made or written, so no other
+    /// program has this one. Nothing is lost: by `needs_no_log` the file alone holds the same
+    /// books, and what was committed was synced there before the log was cut short.
     pub(crate) fn take_away(&self) -> bool {
         let path = self.path.as_str();
         match fs::symlink_metadata(self.rt, path) {
@@ -48,9 +48,8 @@ impl<'a> Log<'a> {
         let _ = fs::remove_file(self.rt, self.path.as_str());
     }
 
-    /// Lets the files of an open go, behind which they are to be as they were: a log that the open
-    /// made is taken away. Where there are no files another program may have them, and nothing is
-    /// touched.
+    /// Drops the files of an opening that must leave them as they were: a log that the opening made
+    /// is removed. Where there are no files another program may have them, and nothing is touched.
     pub(crate) fn leave<F: Drop>(&self, files: Option<F>) {
         if files.is_some() && !self.was_there {
             self.take_away();
@@ -68,7 +67,7 @@ pub(crate) fn is_there(rt: &HostRuntime, path: &str) -> io::Result<bool> {
     }
 }
 
-/// Brings the names in the folder of a file to the disk.
+/// Syncs the names in the folder of a file to the disk.
 pub(crate) fn sync_folder(rt: &HostRuntime, book: &str) -> io::Result<()> {
     let mut folder = fs::canonicalize(rt, book)?;
     folder.pop();

@@ -1,5 +1,5 @@
 //! New books are made under a second name, and get their own once they are whole: a stop at any
-//! moment leaves books of that name, or nothing.
+//! moment leaves whole books under that name, or nothing.
 
 use crate::books::{go_on_and_close, make_and_close};
 use crate::log::{Log, is_there, sync_folder};
@@ -13,8 +13,8 @@ use std::fs::File;
 use std::{fs, io};
 
 impl<P: Supposed> Files<'_, P> {
-    /// Makes new books of a name that nothing has. Where they can't be made, what this call began is
-    /// taken away; what a stop left of an earlier call is gone on with.
+    /// Makes new books under a name that nothing has. Where they can't be made, what this call
+    /// began is removed; what a stopped earlier call left is continued.
     pub(crate) fn make_new(&self, book: &str) -> Result<(), ShelfFault> {
         self.expect_none(book)?;
         let begun = beside(self.rt, book, "new").map_err(|error| failed(&error))?;
@@ -43,8 +43,8 @@ impl<P: Supposed> Files<'_, P> {
         named
     }
 
-    /// Makes the file in which books are begun, and says whether it was not there. Where it was not,
-    /// a log or a journal of it is somebody's.
+    /// Makes the file in which books are begun, and says whether it was not there. Where it was
+    /// not, a log or a journal of it belongs to somebody.
     fn begin(&self, begun: &str) -> Result<bool, ShelfFault> {
         match is_there(self.rt, begun) {
             Ok(true) => return Ok(false),
@@ -58,9 +58,9 @@ impl<P: Supposed> Files<'_, P> {
         }
     }
 
-    /// Takes away what this call began. While the file is locked it is emptied first: a stop on the
-    /// way leaves an empty one, with which the next call begins. A file that was not opened is empty;
-    /// a call that has it by now finds none to rename.
+    /// Removes what this call began. While the file is locked it is emptied first: a stop on the
+    /// way leaves an empty one, with which the next call begins. A file that was not opened is
+    /// empty; another call that has opened it by now finds nothing to rename.
     fn take_back(&self, begun: &str, log: &Log<'_>, is_locked: bool) {
         if is_locked {
             let _ = fs::write(self.rt, begun, b"".as_slice());
@@ -70,8 +70,8 @@ impl<P: Supposed> Files<'_, P> {
         log.take_away();
     }
 
-    /// Nothing may have the name, nor that of a log or a journal beside it: new books would be taken
-    /// for what that holds.
+    /// Nothing may have the name, nor that of a log or a journal beside it, whose contents would be
+    /// taken for new books' own.
     fn expect_none(&self, book: &str) -> Result<(), ShelfFault> {
         match has_traces(self.rt, book) {
             Ok(false) => Ok(()),
@@ -99,7 +99,7 @@ impl<P: Supposed> Files<'_, P> {
         }
     }
 
-    /// Goes on with books whose trees are all there. Any other file is somebody's.
+    /// Continues books whose trees are all there. Any other file belongs to somebody.
     fn go_on_in(
         &self,
         begun: &str,
@@ -116,9 +116,9 @@ impl<P: Supposed> Files<'_, P> {
     }
 
     /// Gives books that are whole, in one file, their name. They are still locked: of two calls at
-    /// once only one comes here, so the name is not taken between the look and the change. Where
-    /// the name does not get to the disk, a power cut leaves the second one, and the next call goes
-    /// on with it.
+    /// once only one gets here, so the name is not taken between the test and the change. Where the
+    /// name does not reach the disk, a power cut leaves the second one, and the next call continues
+    /// with it.
     fn give_name(&self, begun: &str, log: &Log<'_>, book: &str) -> Result<(), ShelfFault> {
         if !log.take_away() {
             return Err(ShelfFault::Ledger(LedgerFault::Store));

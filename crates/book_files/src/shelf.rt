@@ -14,7 +14,7 @@ use std::{fs, io};
 /// What every database of SQLite begins with, and so each file of books from the first on.
 const BEGINNING: [u8; 16] = *b"SQLite format 3\0";
 
-/// What is supposed of files as they are opened. No code can read it: the clauses of an open are
+/// What is supposed of files as they are opened. No code can read it: the clauses of opening are
 /// proved of whatever is supposed, as long as it is nothing, or what a ledger left.
 pub trait Supposed {
     /// Stands for what one opening finds.
@@ -24,8 +24,8 @@ pub trait Supposed {
     fn start(&self) -> Self::Start;
 }
 
-/// For a program to name: nothing is known of what its files hold. What is proved of openings is
-/// proved of any `Supposed`.
+/// For a program to name: nothing is known about what its files hold. What is proved of openings is
+/// proved for any `Supposed`.
 pub struct Anything;
 
 impl Supposed for Anything {
@@ -49,7 +49,7 @@ impl<'a, P: Supposed> Files<'a, P> {
         Files { rt, supposed }
     }
 
-    /// A number that no one can foresee, for the digests of a store.
+    /// A number that nobody can foresee, for the digests of a store.
     pub(crate) fn seed(&self) -> Result<u64, ShelfFault> {
         match RandomState::new(self.rt) {
             Ok(state) => Ok(state.hash_one(&0u8)),
@@ -69,7 +69,7 @@ impl<'a, P: Supposed> Files<'a, P> {
     }
 }
 
-/// Whether a file begins as books do. What is no regular file is not read: it might never end.
+/// Whether a file begins as books do. What is not a regular file is not read: it might never end.
 fn begins_as_books(rt: &HostRuntime, book: &str) -> io::Result<bool> {
     if !fs::metadata(rt, book)?.is_file() {
         return Err(ErrorKind::Unsupported.into());
@@ -83,7 +83,7 @@ fn begins_as_books(rt: &HostRuntime, book: &str) -> io::Result<bool> {
     }
 }
 
-/// What a file that failed stands for.
+/// What the failure of a file means.
 pub(crate) fn failed(error: &io::Error) -> ShelfFault {
     match error.kind() {
         ErrorKind::AlreadyExists => ShelfFault::Exists,
@@ -92,7 +92,7 @@ pub(crate) fn failed(error: &io::Error) -> ShelfFault {
     }
 }
 
-/// What it stands for that books were not opened or made.
+/// What it means that books were not opened or made.
 pub(crate) fn refused(fault: OpenFault) -> ShelfFault {
     match fault {
         OpenFault::NotBooks => ShelfFault::Ledger(LedgerFault::NotBooks),
@@ -103,7 +103,7 @@ pub(crate) fn refused(fault: OpenFault) -> ShelfFault {
     }
 }
 
-/// What is answered where a file was not looked through.
+/// What is answered where a file was not audited.
 fn not_looked_through(fault: LookFault) -> Result<Audited, ShelfFault> {
     match fault {
         LookFault::Pages => Ok(Audited::Unsound(Finding {
@@ -124,13 +124,13 @@ impl<P: Supposed> Shelf for Files<'_, P> {
         }
     }
 
-    /// Makes new books of a name that is not there yet.
+    /// Makes new books under a name that is not there yet.
     fn make(&self, book: &str) -> Result<(), ShelfFault> {
         self.make_new(book)
     }
 
-    /// Visits the books of a file that is there. What a ledger left in it is opened at the same cost
-    /// whatever it holds: the file is not read through. Behind the visit the books are one file.
+    /// Visits the books of a file that is there. What a ledger left in it is opened at the same
+    /// cost whatever it holds: the whole file is not read. After the visit the books are one file.
     fn open<V: Visit + Drop>(&self, book: &str, visit: V) -> Result<V::Answer, ShelfFault> {
         let log = self.log_of(book)?;
         match open_at(self.rt, book, self.seed()?, self.supposed.start()) {
@@ -149,8 +149,8 @@ impl<P: Supposed> Shelf for Files<'_, P> {
 }
 
 impl<P: Supposed> AuditedShelf for Files<'_, P> {
-    /// Looks the whole file through: all of its pages, and then each row of its trees. The files are
-    /// left as they were.
+    /// Audits the whole file: all of its pages, and then each row of its trees. The files are left
+    /// as they were.
     fn audit<W: Watch>(&self, book: &str, watch: &mut W) -> Result<Audited, ShelfFault> {
         let log = self.log_of(book)?;
         match look_through_at(self.rt, book, self.seed()?, self.supposed.start()) {

@@ -4,7 +4,7 @@ use Rattle.std.proofs.Math.Seq.{take-append-add}
 use Rattle.std.proofs.KnownBytes.{Appends-trans}
 use Rattle.std.specs.Io.KnownBytes.{Appends}
 
--- the whole of one text and a front of the next are a front of both
+-- the whole of one text and a prefix of the next are a prefix of both
 pub front_behind : (held between holds : Option (List ℕ)) (first next : List ℕ) (count : ℕ)
     → count < length next → Appends held between first → Appends between holds (take count next)
     → (n : ℕ) × (n < length (first ++ next)) × Appends held holds (take n (first ++ next))

@@ -1,4 +1,4 @@
--- What is answered to what a head asks, whatever comes behind the bytes that were taken.
+-- What is answered to what a head asks, whatever follows the bytes that were taken.
 use Rattle.std.proofs.Common.{◌≡◌, ◌∙◌, ℕ, ◌<◌, ◌≤◌, Bool, true, List, ◌++◌, length, take, refl}
 use Rattle.std.proofs.Common.{sym, ap, subst, arith, length-append, append-nil, Option}
 use Rattle.std.proofs.lemmas.Bool.{le-ltb, lt-ltb}
@@ -38,7 +38,7 @@ answered old new asked behind reply work =
     (UnlessMemory (AnswersAsked old.naming asked behind reply) reply)
     (λ was before events is made. done made) work
 
--- want of memory is an answer to anything
+-- a lack of memory is an answer to anything
 pub wanting : (seen : Seen) (Made : Work)
     → IsWork seen seen (UnlessMemory Made (refusal Unavailable))
 wanting seen Made =
@@ -46,7 +46,7 @@ wanting seen Made =
     (UnlessMemory Made (refusal Unavailable)) (λ was before events is refused. no_memory refused)
     (refuses seen (refusal Unavailable))
 
--- a body that came whole is imported, whatever comes behind it
+-- a body that came whole is imported, whatever follows it
 pub whole_body : (old new : Seen) (ended : Bool) (layout : Layout) (size : ℕ)
     (came body : List ℕ) (reply : Reply) → size ≤ length came → body ≡ take size came
     → IsWork old new (AnswersImport old.naming layout body reply)

@@ -1,4 +1,4 @@
--- What the bytes of a body's reads make of it, behind those that came with the head.
+-- What the bytes of a body's reads make of it, after those that came with the head.
 use Rattle.std.proofs.Common.{◌≡◌, ◌∙◌, ℕ, ◌+◌, ◌<◌, ◌≤◌, ◌⊎◌, inl, inr, List, ◌++◌, length, take}
 use Rattle.std.proofs.Common.{drop, refl, sym, ap, subst, arith, Result, Ok, Err, length-append, take_all}
 use Rattle.std.proofs.Common.{take-append-drop, length-take-le}
@@ -10,7 +10,7 @@ use Rattle.book_http.specs.declared.body.BodyFault.TheVariants.{Short, Read, Mem
 use Rattle.book_http.specs.Bodies.{BodyComes, IsWholeBody}
 use Rattle.book_http.specs.Reads.{IsDueForBody}
 
--- a body is whole whose front came with the head
+-- a body whose first bytes came with the head is whole
 comes_whole : (front bytes body : List ℕ) (had size : ℕ) → (had ≡ size) ⊎ (had < size)
     → had ≤ length front → (had < size → had ≡ length front) → length body ≡ size
     → take had body ≡ take had front → bytes ≡ drop had body
@@ -31,7 +31,7 @@ comes_whole front bytes body had size (inr less) few rest long same is =
       bytes = joined ∙ sym (take_all size (front ++ bytes) (omega arith));
     }
 
--- a body is whole, or too short, behind what came with the head
+-- a body is whole, or too short, after what came with the head
 pub fill_comes : (front bytes body : List ℕ) (had size : ℕ) (result : Result (Unit {0}) BodyFault)
     → had ≤ size → had ≤ length front → (had < size → had ≡ length front) → length body ≡ size
     → take had body ≡ take had front → OnOk result (bytes ≡ drop had body)
@@ -45,14 +45,14 @@ fill_comes front bytes body had size (Err Short) within few rest long same is sh
 fill_comes front bytes body had size (Err Read) within few rest long same is short = tt
 fill_comes front bytes body had size (Err Memory) within few rest long same is short = tt
 
--- what was copied stands in the front
+-- what was copied is at the beginning
 pub copied_front : (front copied rest : List ℕ) (had : ℕ) → had ≤ length front
     → copied ≡ take had front → take had (copied ++ rest) ≡ take had front
 copied_front front copied rest had within is =
     let long : length copied ≡ had = rw is (length-take-le had front within) in
     take-append-le had copied rest (omega arith) ∙ take_all had copied (omega arith) ∙ is
 
--- a fault tells the same of any body of the size
+-- a fault says the same of any body of that size
 pub same_fault : {A B : Type 0} (one : A → List ℕ) (other : B → List ℕ) (size same : ℕ)
     (came : List ℕ) (fault : BodyFault) → size ≡ same → BodyComes one size came (Err fault)
     → BodyComes other same came (Err fault)
@@ -60,7 +60,7 @@ same_fault one other size same came Short is few = subst (λ n. length came < n)
 same_fault one other size same came Read is failed = tt
 same_fault one other size same came Memory is none = tt
 
--- a vector whose bytes were written all
+-- a vector, all of whose bytes were written
 pub all_written : (body rest : List ℕ) (size : ℕ) → length body ≡ size
     → take size (body ++ rest) ≡ body
 all_written body rest size long =
@@ -74,7 +74,7 @@ same_body size same came body other is alike whole = record {
   bytes = alike ∙ whole.bytes ∙ ap (λ n. take n came) is;
 }
 
--- so a read for the rest of it is due behind what came with the head
+-- so a read for the rest of it is due after what came with the head
 pub due_behind_front : (front : List ℕ) (had size : ℕ) → (had < size → had ≡ length front)
     → (came : List ℕ) (room : ℕ) → IsDueForBody size (had + length came) room
     → IsDueForBody size (length (front ++ came)) room

@@ -52,14 +52,14 @@ empty_is : (rows : RowsOf Key) → is_empty rows ≡ true → rows ≡ []
 empty_is [] e = refl
 empty_is (row ∷ rows) e = absurd (true≢false (sym e))
 
--- no parameter stands in the rows along these bytes
+-- there is no parameter in the rows along these bytes
 abbrev pub is_plain_along : List ℕ → RowsOf Key → Bool
 is_plain_along [] rows = true
 is_plain_along (b ∷ front) rows =
     (is_empty (step param_token rows) && is_empty (step catch_all_token rows))
     && is_plain_along front (step b rows)
 
--- the rows behind these bytes
+-- the rows after these bytes
 abbrev pub rows_along : List ℕ → RowsOf Key → RowsOf Key
 rows_along [] rows = rows
 rows_along (b ∷ front) rows = rows_along front (step b rows)
@@ -117,7 +117,7 @@ lone_found key (d ∷ rest) some digits =
       seek_end (length (d ∷ rest) - 1) (([], key) ∷ []) rest (omega arith),
     ) refl
 
--- a path with digits behind a front is found by the one row there
+-- a path with digits after a prefix is found by the one row there
 pub numbered_found : (front text : List ℕ) (key : Key) → is_plain_along front route_rows ≡ true
     → rows_along front route_rows ≡ (param_token ∷ [], key) ∷ []
     → 0 < length text → list_all is_ascii_digit text ≡ true

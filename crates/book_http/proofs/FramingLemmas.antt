@@ -14,7 +14,7 @@ use Rattle.book_http.specs.Framing.{with_length, with_field, declared, has_field
 use Rattle.book_http.specs.Numbers.{number}
 use Rattle.std.specs.List.{list_any}
 
--- what stands where a list of fields has none
+-- what holds where a list of fields has none
 abbrev pub no_field : HeaderSpan
 no_field = record { name = record { start = 0; end = 0 }; value = record { start = 0; end = 0 } }
 

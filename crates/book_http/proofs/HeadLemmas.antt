@@ -26,13 +26,13 @@ head_before bytes h rest more it = record {
   fields = it.fields;
 }
 
--- bytes that no head of few enough fields begins with, whatever follows, are no front of one
+-- bytes with which no head of few enough fields begins, whatever follows, are no prefix of one
 pub overflow_refuses : (ended : Bool) (bytes : List ℕ) → RequestOverflows 64 bytes
     → NoHeadComes ended bytes
 overflow_refuses ended bytes over more none h rest it =
     let many = over more h rest it.reads in let few = it.fields in absurd (omega arith)
 
--- a head that fits the front is a head of the front
+-- a head that fits within the prefix is a head of the prefix
 front_head : (bytes more : List ℕ) (h : RequestHead) (rest : List ℕ)
     → ReadsRequest (bytes ++ more) h rest → length (print_request h) ≤ length bytes
     → ReadsRequest bytes h (drop (length (print_request h)) bytes)
@@ -43,7 +43,7 @@ front_head bytes more h rest reads fits =
     ∙ take-append_seam (print_request h) rest in
     (reads.0, sym (take-append-drop n bytes) ∙ ap (λ l. l ++ drop n bytes) same)
 
--- as many bytes as a head may have, with no head at their front, are no front of one
+-- as many bytes as a head may have, without a head at their beginning, are no prefix of one
 pub full_refuses : (ended : Bool) (bytes : List ℕ) → 16384 ≤ length bytes → HasNoRequest bytes
     → NoHeadComes ended bytes
 full_refuses ended bytes full no_head more none h rest it =
@@ -51,7 +51,7 @@ full_refuses ended bytes full no_head more none h rest it =
     no_head h (drop (length (print_request h)) bytes)
     (front_head bytes more h rest it.reads (omega arith))
 
--- at the input's end, bytes with no head at their front are no front of one
+-- at the input's end, bytes without a head at their beginning are no prefix of one
 pub end_refuses : (ended : Bool) (bytes : List ℕ) → ended ≡ true → HasNoRequest bytes
     → NoHeadComes ended bytes
 end_refuses ended bytes is_end no_head more none h rest it =

@@ -42,7 +42,7 @@ report_none naming asked reply was before events is answers =
       | inr all ↦ all
     ]
 
--- an import tells a receipt
+-- an import answers a receipt
 pub record IsCounted (naming : Naming) (dump : Dump) (told : Result Told LedgerFault) (was : Bool)
     (before : Book) (events : List Event) (is : Bool) : Type 0 where
   pub receipt : Receipt

@@ -1,4 +1,4 @@
--- A request behind one that was hindered.
+-- A request after one that was hindered.
 use Rattle.std.proofs.Common.{◌≡◌, ◌∙◌, ◌⊎◌, inl, inr, ℕ, Bool, true, false, List, [], ◌++◌, length}
 use Rattle.std.proofs.Common.{take, None, ltb, sym, ap, subst, append-nil}
 use Rattle.httparse.specs.Grammar.{RequestHead}
@@ -41,7 +41,7 @@ import_left naming stop records before told events is handled unhindered =
     ap (λ events. after_all events before)
     (sym (is_whole naming stop records before told events is handled unhindered).told.events)
 
--- the same import behind one that was hindered, or that did nothing
+-- the same import after one that was hindered, or that did nothing
 import_mended : (short : Bool) (naming : Naming) (layout : Layout) (body : List ℕ)
     (once twice alone : Reply) (before : Book) (first second all : List Event)
     (between is end : Bool)
@@ -79,7 +79,7 @@ import_mended false naming layout body once twice alone before first second all 
           (whole.apart b.receipt counted) ∙ sym left
     ]
 
--- what a head asks, behind a request that was hindered, or that did nothing
+-- what a head asks, after a request that was hindered, or that did nothing
 asked_mended : (wanted : Asked) (naming : Naming) (behind : List ℕ) (once twice alone : Reply)
     (before : Book) (first second all : List Event) (between is end : Bool)
     → (first ≡ []) ⊎ AnswersAsked naming wanted behind once false before first between
@@ -108,7 +108,7 @@ asked_mended (asks.Import layout size) naming behind once twice alone before fir
     import_mended (ltb (length behind) size) naming layout (take size behind) once twice alone before
     first second all between is end one two whole single unhindered
 
--- what is answered to a head is that to any other at the front of the same bytes
+-- what is answered to a head is the answer to any other at the beginning of the same bytes
 asked_same : (naming : Naming) (bytes : List ℕ) (head other : RequestHead) (behind rest : List ℕ)
     (reply : Reply) (before : Book) (events : List Event) (is : Bool) → HasHead bytes head behind
     → HasHead bytes other rest → AnswersAsked naming (asked other) rest reply false before events is

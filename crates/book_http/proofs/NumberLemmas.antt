@@ -9,7 +9,7 @@ use Rattle.std.specs.Str.Parse.{AllDigits, digits_value}
 use Rattle.std.proofs.lemmas.Str.Parse.{digit_from_value, digits_value_short}
 use Rattle.std.proofs.lemmas.Str.Parse.{numerals_by_value, tells_digits}
 
--- so many digits write a number below that power of ten
+-- that many digits write a number below that power of ten
 pub few_digits : (most : ℕ) (text : List ℕ) → AllDigits 10 text → length text ≤ most
     → digits_value 10 text < 10 ^ most
 few_digits most text digits few =

@@ -71,7 +71,7 @@ reports_same naming wanted one other was before first second is_one is_other a s
           ∙ sym (report_none naming wanted other was before second is_other b);
     }
 
--- where a fault of the books stands behind the last record, the import stops with one
+-- where a fault of the books follows the last record, the import stops with one
 stops_by_books : (answers : Answering) (fault : LedgerFault) (records : List (List ℕ))
     (so_far : Imported)
     → is_stop_of_books (handle_all answers (Ledger fault) records so_far).receipt.stop ≡ true

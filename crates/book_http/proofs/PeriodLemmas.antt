@@ -1,4 +1,4 @@
--- A text that names a period is the number's own text, and it is no other.
+-- A text that names a period is the number's own text, and no other.
 use Rattle.std.proofs.Common.{◌≡◌, ◌≢◌, ℕ, ◌<◌, ◌≤◌, ◌^◌, Bool, true, false, ◌&&◌, arith, rules}
 use Rattle.std.proofs.Common.{◌+◌, List, [], ◌∷◌, ◌++◌, length, map, take, drop, get_or, codes}
 use Rattle.std.proofs.Common.{Option, Some, None, IfSome, refl, sym, ap, ◌∙◌, take-append-drop}
@@ -75,7 +75,7 @@ period_named text = by (starts_with nat_eq text (codes "0")) refl
     by true e = tt
     by false e = behind (is_number 4 text) refl e
 
--- a path that names a period behind a front is that front and the number's text
+-- a path that names a period after a prefix is that prefix and the number's text
 pub behind_named : (front path : List ℕ)
     → IfSome (period_behind front path) (λ n. (path ≡ front ++ decimal n) × IsNamed n)
 unfolding period_behind
@@ -102,7 +102,7 @@ two_pass true true e = (refl, refl)
 two_pass true false e = absurd (true≢false (sym e))
 two_pass false b e = absurd (true≢false (sym e))
 
--- digits of which the first is above 0 do not begin with 0
+-- digits, the first of which is above 0, do not begin with 0
 first_shown : (digits : List ℕ) → 0 < get_or digits 0 0
     → starts_with nat_eq (map (λ d. 48 + d) digits) (codes "0") ≡ false
 first_shown [] some = absurd (omega arith)
@@ -128,7 +128,7 @@ period_found n named =
     let high : nat_le (length (decimal n)) 4 ≡ true = grind (arith, nat_tests) in
     rw (first, low, high, digits, shown.1) refl
 
--- and so it does behind a front
+-- and so it does after a prefix
 pub behind_found : (front : List ℕ) (n : ℕ) → IsNamed n
     → period_behind front (front ++ decimal n) ≡ Some n
 unfolding period_behind

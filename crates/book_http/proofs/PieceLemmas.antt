@@ -1,11 +1,11 @@
--- What one more read into the rest of a buffer adds to its front.
+-- What one more read into the rest of a buffer adds to its filled part.
 use Rattle.std.proofs.Common.{◌≡◌, ℕ, ◌+◌, ◌≤◌, List, ◌++◌, length, take}
 use Rattle.std.proofs.Common.{length-append, length-take-le, refl}
 use Rattle.std.proofs.Math.Seq.{take-append-add}
 use Rattle.std.proofs.lemmas.List.{take-append-le}
 use borrow.Rule.Slice.PartMut.{put_mid, post_of}
 
--- the front of the buffer after one more read into its rest
+-- the filled part of the buffer after one more read into the rest
 pub grown_front : (at room count : ℕ) (buffer given : List ℕ)
     → at ≤ length buffer → count ≤ length given
     → take (at + count) (put_mid at room buffer given) ≡ take at buffer ++ take count given

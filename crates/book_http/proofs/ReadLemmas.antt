@@ -1,4 +1,4 @@
--- One read more, and reads behind reads.
+-- One more read, and reads after reads.
 use Rattle.std.proofs.Common.{◌≡◌, ◌∙◌, ℕ, ◌+◌, List, [], ◌∷◌, ◌++◌, length, Option, refl}
 use Rattle.std.proofs.Common.{◌<◌, ◌≤◌, ◌-◌, take, drop, ap, Ok, Err, arith, append-nil}
 use Rattle.std.proofs.Common.{sym, subst, length-take-le, length-append, append_assoc}
@@ -38,7 +38,7 @@ not_read remaining MayAnswer IsDue source = record {
   taken = Consumes-nil (remaining (reader_of source));
 }
 
--- one read more
+-- one more read
 pub read_on : {R : Type 0} {answers : _} {bytes : _} (remaining : R → Option (List ℕ))
     (MayAnswer : Answering R) (IsDue : List ℕ → ℕ → Type 0)
     (old between new : Source R answers bytes)
@@ -64,7 +64,7 @@ read_on remaining MayAnswer IsDue old between new reads room answer given so_far
       taken = Consumes-trans _ _ _ _ _ so_far.taken taken;
     }
 
--- a read into the rest of the buffer for a head is due where none stands in its front
+-- a read into the rest of the buffer for a head is due where there is none in its filled part
 pub due_for_head : (came buffer : List ℕ) (filled : ℕ) → came ≡ take filled buffer
     → filled ≤ length buffer → length buffer ≡ 16384
     → (0 < filled → HasNoRequest (take filled buffer))
@@ -78,7 +78,7 @@ due_for_head came buffer filled is within size none may_come =
       may_come = λ some. may_come (rw long at some);
     })
 
--- what a read gave stands behind what stood in the front of the buffer
+-- what a read gave follows what was in the filled part of the buffer
 pub more_came : (came buffer given : List ℕ) (filled room count : ℕ) → came ≡ take filled buffer
     → filled ≤ length buffer → count ≤ length given
     → came ++ take count given ≡ take (filled + count) (put_mid filled room buffer given)
@@ -107,7 +107,7 @@ nothing_filled had body within =
     let long : length (take had body) ≡ had = length-take-le had body within in
     sym (drop_all had (take had body) (omega arith))
 
--- what a read gave stands behind what was filled from a place on
+-- what a read gave follows what was filled from a place on
 pub more_filled : (came body given : List ℕ) (had filled room count : ℕ)
     → came ≡ drop had (take filled body) → had ≤ filled → filled ≤ length body
     → count ≤ length given
@@ -145,7 +145,7 @@ read_as remaining MayAnswer IsDue IsDueToo old new reads weaker it = record {
   taken = it.taken;
 }
 
--- reads behind reads
+-- reads after reads
 bytes_behind : {R : Type 0} (later before : List (OneRead R))
     → bytes_of (later ++ before) ≡ bytes_of before ++ bytes_of later
 bytes_behind [] before = sym (append-nil (bytes_of before))
@@ -207,7 +207,7 @@ pub head_read : {R : Type 0} {answers : _} {bytes : _} (remaining : R → Option
 head_read remaining MayAnswer old new reads it =
     read_as remaining MayAnswer IsDueForHead IsDue old new reads (λ came room due. for_head due) it
 
--- behind a head, so was one that was due for what the head asks
+-- after a head, so was one that was due for what the head asks
 pub behind_head : (bytes front behind : List ℕ) (head : RequestHead) → bytes ≡ front
     → HasHead front head behind → (came : List ℕ) (room : ℕ)
     → IsDueBehind (asked head) (behind ++ came) room → IsDue (bytes ++ came) room

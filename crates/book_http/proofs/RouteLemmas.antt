@@ -99,7 +99,7 @@ on_page : (found : Page) (path : List ℕ) (asked : Route) → page_of path ≡ 
     → route_at found path ≡ Some asked → route path ≡ Some asked
 on_page found path asked is_page is_for = ap (λ p. route_on p path) is_page ∙ is_for
 
--- a report on the period that stands behind the front
+-- a report on the period that follows the prefix
 at_front : (make : ℕ → Report) (front : List ℕ) (n : ℕ) → IsNamed n
     → report_behind make front (front ++ decimal n) ≡ Some (route_to.Report (make n))
 at_front make front n named =

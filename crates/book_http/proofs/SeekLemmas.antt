@@ -61,7 +61,7 @@ suffix_keys F suffix ((tokens, key) ∷ rest) h =
       | false ↦ suffix_keys F suffix rest h.1
     ]
 
--- the rows that go on behind a parameter
+-- the rows that continue after a parameter
 rest_keys : (F : Key → Type 0) (rows : RowsOf Key) (path : List ℕ) → OfKeys F rows
     → OfKeys F (cond {A = ℕ × RowsOf Key} (has_slash path) (0, []) (length path, rows)).1
 rest_keys F rows path h =
@@ -137,7 +137,7 @@ has_wild_at : (walked tokens : List ℕ) (x : ℕ) → 256 ≤ x → has_wild (w
 has_wild_at [] tokens x h = rw (le-leb 256 x h) refl
 has_wild_at (w ∷ walked) tokens x h = rw (has_wild_at walked tokens x h) (or-true (leb 256 w))
 
--- the keys behind a parameter have one
+-- the keys after a parameter have one
 wild_keys : (walked : List ℕ) (token : ℕ) (rows : RowsOf Key) → 256 ≤ token → StandAt walked rows
     → OfKeys (λ key. has_wild key.pattern ≡ true) (step token rows)
 wild_keys walked token [] wild h = tt

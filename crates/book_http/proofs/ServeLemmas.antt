@@ -13,7 +13,7 @@ use Rattle.book_http.proofs.AskedLemmas.{refuses}
 use Rattle.book_http.proofs.HeadLemmas.{head_before}
 use Rattle.book_http.proofs.LawLemmas.{request_done}
 
--- bytes behind which no head comes are refused
+-- bytes after which no head can come are refused
 pub refused_answer : (seen : Seen) (ended : Bool) (taken : List ℕ) → 0 < length taken
     → NoHeadComes ended taken → IsAnswer seen seen ended taken (refusal BadRequest)
 refused_answer seen ended taken some never more none =
@@ -24,7 +24,7 @@ refused_answer seen ended taken some never more none =
     (λ was before events is refused. no_head long (never more none) refused)
     (refuses seen (refusal BadRequest)))
 
--- the answer to what a head asks is the answer to the bytes that it stands at the front of
+-- the answer to what a head asks is the answer to the bytes that begin with it
 pub head_answer : (old new : Seen) (ended : Bool) (front behind bytes : List ℕ) (head : RequestHead)
     (reply : Reply) → HasHead front head behind
     → IsAnswerTo old new ended (asked head) (behind ++ bytes) reply

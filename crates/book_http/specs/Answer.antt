@@ -26,14 +26,14 @@ abbrev pub kind_of : Report → Kind
 kind_of (report.StatementTable period) = Csv
 kind_of report = Text
 
--- What the office told, as a reply. No ruling is asked over HTTP.
+-- What the office answered, as a reply. No ruling is asked over HTTP.
 abbrev pub office_reply : Kind → Result Told LedgerFault → Reply
 office_reply kind (Ok (tells.Text text)) = success kind text
 office_reply kind (Ok (tells.Count receipt)) = receipt_reply receipt
 office_reply kind (Err NoSuchPeriod) = refusal NotFound
 office_reply kind told = refusal Unavailable
 
--- the office was asked, and what it told is the reply
+-- the office was asked, and its answer is the reply
 pub record AnswersOffice (kind : Kind) (Making : Result Told LedgerFault → Work) (reply : Reply)
     (was : Bool) (before : Book) (events : List Event) (is : Bool) : Type 0 where
   pub told : Result Told LedgerFault
@@ -61,7 +61,7 @@ abbrev pub AnswersBody : Bool → Naming → Layout → List ℕ → Reply → W
 AnswersBody true naming layout body reply = Refuses (refusal BadRequest) reply
 AnswersBody false naming layout body reply = AnswersImport naming layout body reply
 
--- what is asked is answered, by the bytes behind the head
+-- what is asked is answered, by the bytes after the head
 abbrev pub AnswersAsked : Naming → Asked → List ℕ → Reply → Work
 AnswersAsked naming (asks.Refusal status) behind reply = Refuses (refusal status) reply
 AnswersAsked naming (asks.OtherMethod method) behind reply = Refuses (other_method method) reply
@@ -69,14 +69,14 @@ AnswersAsked naming (asks.Report report) behind reply = AnswersReport naming rep
 AnswersAsked naming (asks.Import layout size) behind reply =
     AnswersBody (nat_lt (length behind) size) naming layout (take size behind) reply
 
--- This was done and replied; or, for want of memory, nothing was done, and the reply tells that.
+-- This was done and replied; or memory ran out, nothing was done, and the reply says so.
 pub data UnlessMemory (Made : Work) (reply : Reply) (was : Bool) (before : Book)
     (events : List Event) (is : Bool) : Type 0 where
   done : Made was before events is → UnlessMemory Made reply was before events is
   no_memory : Refuses (refusal Unavailable) reply was before events is
       → UnlessMemory Made reply was before events is
 
--- The answer to the bytes of a request: to what its head asks, where one stands at their front.
+-- The answer to the bytes of a request: to what its head asks, where they begin with one.
 pub data Answers (naming : Naming) (bytes : List ℕ) (reply : Reply) (was : Bool) (before : Book)
     (events : List Event) (is : Bool) : Type 0 where
   no_head : 0 < length bytes → HasNoHead bytes

@@ -25,7 +25,7 @@ allow_line (Some method) = codes "Allow: " ++ method_text method ++ line_end
 unfoldable pub size_line : ℕ → List ℕ
 size_line size = codes "Content-Length: " ++ decimal size ++ line_end
 
--- the lines, and the empty line behind them
+-- the lines, and the empty line after them
 unfoldable pub answer_head : Status → Kind → Option Method → ℕ → List ℕ
 answer_head status kind allow size =
     codes "HTTP/1.1 " ++ status_text status ++ line_end

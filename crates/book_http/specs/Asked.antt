@@ -18,14 +18,14 @@ use Rattle.book_http.specs.Methods.{method_text}
 use Rattle.book_http.specs.Requests.{has_origin}
 use Rattle.book_http.specs.Routes.{path_of, route}
 
--- an import takes a body whose length the head tells
+-- an import takes a body whose length the head gives
 abbrev pub asked_import : Layout → Framing → Asked
 asked_import layout Faulty = asks.Refusal BadRequest
 asked_import layout Unframed = asks.Refusal LengthRequired
 asked_import layout (Framed size) =
     if nat_lt most_body_bytes size then asks.Refusal TooLarge else asks.Import layout size
 
--- what a page in a browser hands in is refused, whatever its body's length
+-- what a page in a browser submits is refused, whatever its body's length
 abbrev pub asked_post : Layout → Bool → Framing → Asked
 asked_post layout true body = asks.Refusal Forbidden
 asked_post layout false body = asked_import layout body

@@ -8,12 +8,12 @@ use Rattle.book_http.specs.declared.body.BodyFault.TheVariants.{Short, Read, Mem
 abbrev pub most_body_bytes : ℕ
 most_body_bytes = 16777216
 
--- the body is the first so many of the bytes behind the head, which are no fewer
+-- the body is that many bytes, the first ones after the head; there are no fewer
 pub record IsWholeBody (size : ℕ) (behind body : List ℕ) : Type 0 where
   pub enough : size ≤ length behind
   pub bytes : body ≡ take size behind
 
--- What reading a body came to, by the bytes behind the head: it is whole, or they are too few.
+-- The result of reading a body, by the bytes after the head: it is whole, or they are too few.
 abbrev pub BodyComes : {A : Type 0} → (A → List ℕ) → ℕ → List ℕ → Result A BodyFault → Type 0
 BodyComes bytes size behind (Ok body) = IsWholeBody size behind (bytes body)
 BodyComes bytes size behind (Err Short) = length behind < size

@@ -17,17 +17,18 @@ most_head_bytes = 16384
 abbrev pub most_fields : ℕ
 most_fields = 64
 
--- the bytes begin with this head, which keeps within the limits, and go on with the rest
+-- the bytes begin with this head, which keeps within the limits, and the rest follows
 pub record HasHead (bytes : List ℕ) (h : RequestHead) (rest : List ℕ) : Type 0 where
   pub reads : ReadsRequest bytes h rest
   pub size : length (print_request h) ≤ most_head_bytes
   pub fields : length h.fields ≤ most_fields
 
--- no head stands at the front
+-- there is no head at the beginning
 abbrev pub HasNoHead : List ℕ → Type 0
 HasNoHead bytes = (h : RequestHead) (rest : List ℕ) → ¬ (HasHead bytes h rest)
 
--- whatever follows these bytes, nothing where the input has ended, no head stands at the front
+-- whatever follows these bytes, and nothing follows where the input has ended, there is no head at
+-- the beginning
 abbrev pub NoHeadComes : Bool → List ℕ → Type 0
 NoHeadComes ended bytes = (more : List ℕ) → (ended ≡ true → more ≡ []) → HasNoHead (bytes ++ more)
 
@@ -38,15 +39,15 @@ pub record HoldsHead
   pub is_head : HasHead bytes h (drop spans.len bytes)
   pub parts : IsRequestAt bytes fields spans h
 
--- a head came, of which this holds
+-- a head came, and this holds of it
 abbrev pub IfWhole : HeadRead → (WholeHead → Type 0) → Type 0
 IfWhole Closed P = ⊤
 IfWhole Failed P = ⊤
 IfWhole Refused P = ⊤
 IfWhole (Whole whole) P = P whole
 
--- What reading a head came to, by the bytes that were taken: the input ended before the first of
--- them, or behind them no head can come, or they stand in the buffer with a head at their front.
+-- The result of reading a head, by the bytes that were taken: the input ended before the first of
+-- them, or no head can come after them, or they are in the buffer and begin with a head.
 abbrev pub HeadComes : HeadRead → List ℕ → Bool → List ℕ → Type 0
 HeadComes Closed buffer ended bytes = (ended ≡ true) × (bytes ≡ [])
 HeadComes Failed buffer ended bytes = ⊤

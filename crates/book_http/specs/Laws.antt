@@ -24,13 +24,13 @@ AnswersAreOne =
     → Answers naming bytes other was before second is_other → other.status ≢ Unavailable
     → IsSame one other first second
 
--- The reply tells neither want of memory nor a store that failed: it is not the bare refusal, and
--- not the receipt line of an import that one of them stopped.
+-- The reply reports neither a lack of memory nor a store that failed: it is not the bare refusal,
+-- and not the receipt line of an import that one of them stopped.
 pub record IsUnhindered (reply : Reply) : Type 0 where
   pub done : reply ≢ refusal Unavailable
   pub whole : (told : Receipt) → reply ≡ receipt_reply told → imports.IsUnhindered told
 
--- Twice is once: where neither want of memory nor the store hindered the first, the same request
+-- Twice is once: where neither a lack of memory nor the store hindered the first, the same request
 -- to open books twice in a row leaves the book that one leaves, whatever hinders the second. So it
 -- is safe to repeat a request whose answer was lost.
 abbrev pub RequestTwiceIsOnce : Type 0
@@ -41,14 +41,14 @@ RequestTwiceIsOnce =
     → Answers naming bytes twice between (after_all first before) second is
     → after_all (second ++ first) before ≡ after_all first before
 
--- Nor does it tell that two records have one name.
+-- Nor does it report that two records have one name.
 pub record IsWhole (reply : Reply) : Type 0 where
   pub unhindered : IsUnhindered reply
   pub apart : (told : Receipt) → reply ≡ receipt_reply told → told.stop ≢ Ledger DigestClash
 
 -- Stops are mended: from each of the books that a request may have left, whatever hindered it, the
 -- same request leaves the books of one that nothing hindered. So it is safe to repeat a request
--- behind a stop, too.
+-- after a stop, too.
 abbrev pub RequestsAreMended : Type 0
 RequestsAreMended =
     (naming : Naming) (before : Book) (bytes : List ℕ) (once twice alone : Reply)
@@ -58,7 +58,7 @@ RequestsAreMended =
     → Answers naming bytes alone false before all end → IsUnhindered alone
     → after_all (second ++ first) before ≡ after_all all before
 
--- a history that goes on with events, and defines the book that they leave
+-- a history that continues with events, and defines the book that they leave
 pub record GoesOn (naming : Naming) (history events : List Event) : Type 0 where
   pub answered : IsAnswered naming (events ++ history)
   pub is : after_all events (book_after history) ≡ book_of (events ++ history)

@@ -5,7 +5,7 @@ use Rattle.std.specs.Char.{is_ascii_digit}
 use Rattle.std.specs.List.{list_all}
 use Rattle.std.specs.Str.Parse.{digits_value}
 
--- a text of one to so many digits
+-- a text of one to a given number of digits
 abbrev pub is_number : ℕ → List ℕ → Bool
 is_number most text =
     (nat_lt 0 (length text) && nat_le (length text) most) && list_all is_ascii_digit text

@@ -1,5 +1,5 @@
 -- How far a request is read: the reads that were made of a reader, and for each of them why it was
--- due. The reads stand in a list, newest first.
+-- due. The reads are in a list, newest first.
 use Rattle.std.specs.Prelude.{◌≡◌, ℕ, ◌+◌, ◌<◌, ◌≤◌, List, [], ◌∷◌, ◌++◌, length, take, ⊤}
 use Rattle.std.specs.Prelude.{Option, Result, Ok, Err}
 use Rattle.std.specs.Io.KnownBytes.{Consumes}
@@ -33,12 +33,12 @@ abbrev pub bytes_of : {R : Type 0} → List (OneRead R) → List ℕ
 bytes_of [] = []
 bytes_of (read ∷ before) = bytes_of before ++ bytes_given read.answer read.given
 
--- the reader behind reads of this one
+-- the reader after reads of this one
 abbrev pub reader_behind : {R : Type 0} → R → List (OneRead R) → R
 reader_behind first [] = first
 reader_behind first (read ∷ before) = read.after
 
--- Each of these reads is the reader's very answer, and was due behind the bytes of those before it,
+-- Each of these reads is what the reader answered, and was due after the bytes of those before it,
 -- for as many bytes as it had room for.
 abbrev pub AreDue : {R : Type 0} → Answering R → (List ℕ → ℕ → Type 0) → R → List (OneRead R)
     → Type 0
@@ -47,7 +47,7 @@ AreDue MayAnswer IsDue first (read ∷ before) =
     AreDue MayAnswer IsDue first before × IsDue (bytes_of before) (length read.room)
     × MayAnswer (reader_behind first before) read.room read.answer read.after read.given
 
--- From one source to the other by these reads, and no other: what they gave is what was taken.
+-- From one source to the other by these reads and no others: what they gave is what was taken.
 pub record IsReadBy {R : Type 0} {answers : _} {bytes : _} (remaining : R → Option (List ℕ))
     (MayAnswer : Answering R) (IsDue : List ℕ → ℕ → Type 0) (old new : Source R answers bytes)
     (reads : List (OneRead R)) : Type 0 where
@@ -56,20 +56,20 @@ pub record IsReadBy {R : Type 0} {answers : _} {bytes : _} (remaining : R → Op
   pub count : reads_of new ≡ reads_of old + length reads
   pub taken : Consumes (remaining (reader_of old)) (remaining (reader_of new)) (bytes_of reads)
 
--- A read is due for the head, within its limit: no head stands whole in what came, and one may
+-- A read is due for the head, within its limit: there is no whole head in what came, and one may
 -- still come.
 pub record IsDueForHead (came : List ℕ) (room : ℕ) : Type 0 where
   pub within : length came + room ≤ most_head_bytes
   pub none : 0 < length came → HasNoRequest came
   pub may_come : 0 < length came → MayBecomeRequest came
 
--- A read is due for a body, of which so many bytes came: it is not whole yet, and no byte behind it
+-- A read is due for a body of which this many bytes came: it is not whole yet, and no byte after it
 -- is asked for.
 pub record IsDueForBody (size came room : ℕ) : Type 0 where
   pub short : came < size
   pub within : came + room ≤ size
 
--- Behind a head that asks this, and these bytes, a read is due for the body of an import alone.
+-- After a head that asks this, and these bytes, a read is due only for the body of an import.
 abbrev pub IsDueBehind : Asked → List ℕ → ℕ → Type 0
 IsDueBehind (asks.Import layout size) behind room = IsDueForBody size (length behind) room
 IsDueBehind asked behind room = ⊥

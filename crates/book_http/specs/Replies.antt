@@ -34,7 +34,7 @@ success kind text = record { status = Done; kind = kind; allow = None; body = te
 abbrev pub refusal : Status → Reply
 refusal status = record { status = status; kind = Text; allow = None; body = status_body status }
 
--- the path has another method, which is told
+-- the path has another method, which the answer names
 abbrev pub other_method : Method → Reply
 other_method method = record (refusal MethodNotAllowed) { allow = Some method }
 

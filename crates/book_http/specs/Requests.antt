@@ -6,8 +6,8 @@ use Rattle.book_http.specs.declared.framing.Framing.{Framing}
 use Rattle.book_http.specs.Framing as framing
 use Rattle.book_http.specs.Framing.{has_field}
 
--- A field says of which origin the page is that sends the request, whatever it says (RFC 6454,
--- section 7). Browsers send it with each POST.
+-- There is a field that gives the origin of the page that sends the request, whatever it says (RFC
+-- 6454, section 7). Browsers send it with each POST.
 abbrev pub has_origin : RequestHead → Bool
 has_origin h = has_field (codes "origin") (map name_and_value h.fields)
 

@@ -26,12 +26,12 @@ path_of target = before_first (λ b. b == 63) target
 unfoldable pub period : List ℕ → Option ℕ
 period text = if starts_with nat_eq text (codes "0") then None else number 4 text
 
--- the period that a path names behind its front
+-- the period that a path names after its prefix
 unfoldable pub period_behind : List ℕ → List ℕ → Option ℕ
 period_behind front path =
     if starts_with nat_eq path front then period (drop (length front) path) else None
 
--- the report on the period that a path names behind its front
+-- the report on the period that a path names after its prefix
 abbrev pub report_behind : (ℕ → Report) → List ℕ → List ℕ → Option Route
 report_behind report front path =
     option_map (λ n. route_to.Report (report n)) (period_behind front path)

@@ -16,27 +16,27 @@ use Rattle.book_http.specs.Answer.{Answers, AnswersAsked, UnlessMemory}
 use Rattle.book_http.specs.Replies.{Reply, reply_bytes}
 use Rattle.book_http.specs.Statuses.{code_of}
 
--- Such work was done, and where the books were those of a history, they are those of it with the
--- events of the work more.
+-- Such work was done, and where the books were those of a history, they are those of that history
+-- with the events of the work added.
 pub record IsDone (old new : Seen) (Made : Work) : Type 0 where
   pub work : IsWork old new Made
   pub history : FollowsHistory old new Made
 
--- This is the answer to the bytes that were taken, whatever comes behind them; where the input
--- ended, nothing does.
+-- This is the answer to the bytes that were taken, whatever follows them; where the input ended,
+-- nothing does.
 abbrev pub IsAnswer : Seen → Seen → Bool → List ℕ → Reply → Type 0
 IsAnswer old new ended taken reply =
     (more : List ℕ) → (ended ≡ true → more ≡ [])
     → IsDone old new (Answers old.naming (taken ++ more) reply)
 
--- so is the answer to what a head asks, by the bytes behind it
+-- so is the answer to what a head asks, by the bytes after it
 abbrev pub IsAnswerTo : Seen → Seen → Bool → Asked → List ℕ → Reply → Type 0
 IsAnswerTo old new ended asked behind reply =
     (more : List ℕ) → (ended ≡ true → more ≡ [])
     → IsWork old new (UnlessMemory (AnswersAsked old.naming asked (behind ++ more) reply) reply)
 
--- A reply was written to a writer, where it tells: the whole; or, where a write failed, a front of
--- it that is not the whole.
+-- A reply was written to a writer, where what this holds is known: the whole; or, where a write
+-- failed, a prefix that is not the whole.
 abbrev pub IsSent : Reply → Option (List ℕ) → Option (List ℕ) → Served → Type 0
 IsSent reply held holds (Answered status) =
     (status ≡ code_of reply.status) × Appends held holds (reply_bytes reply)

@@ -24,6 +24,6 @@ phrase_of status = unwrap_or (reason_phrase (code_of status)) []
 unfoldable pub status_text : Status → List ℕ
 status_text status = code_digits (code_of status) ++ codes " " ++ phrase_of status
 
--- the body of an answer that tells its status alone
+-- the body of an answer that gives its status alone
 unfoldable pub status_body : Status → List ℕ
 status_body status = status_text status ++ codes "\n"

@@ -91,7 +91,7 @@ pub fn answer_head(status: Status, kind: Kind, allow: Option<Method>, size: usiz
     text
 }
 
-/// The body of an answer that tells its status alone.
+/// The body of an answer that gives its status alone.
 #[tactic(auto, unfolding(crate::specs::Statuses::status_body))]
 pub fn status_body(status: Status) -> AnswerText
     ensures { result.bytes ≡ statuses.status_body status }

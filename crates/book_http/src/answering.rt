@@ -1,4 +1,4 @@
-//! The answer to a request whose head stands.
+//! The answer to a request whose head was read.
 
 ghost use Rattle.std.specs.Prelude.{◌≡◌, ◌+◌, ◌≤◌, ◌^◌, ◌++◌, List, IfOk, OnErr, IsUtf8};
 ghost use Rattle.std.specs.Prelude.{false, is_err};
@@ -31,8 +31,8 @@ use streams::Reader;
 #[derive(Clone, Copy, Debug, PartialEq, Eq)]
 pub struct ReadFailed;
 
-/// Reads a body, of which the front was read before, and imports it. Of a body that ends early
-/// nothing is imported.
+/// Reads a body, the beginning of which was read before, and imports it. Nothing is imported of a
+/// body that ends early.
 fn answer_body<R: Reader + Drop, L: Ledger>(
     alloc: Global,
     source: &mut Source<R>,
@@ -65,7 +65,7 @@ fn answer_body<R: Reader + Drop, L: Ledger>(
     }
 }
 
-/// Does what a head asks, behind which these bytes were read already.
+/// Does what a head asks, after which these bytes were already read.
 fn answer_asked<R: Reader + Drop, L: Ledger>(
     alloc: Global,
     source: &mut Source<R>,

@@ -17,7 +17,7 @@ use smf_frames::Layout;
 pub enum Asked {
     /// A report.
     Report(Report),
-    /// The import of a body with so many bytes.
+    /// The import of a body with this many bytes.
     Import(Layout, u64),
     /// Nothing that is served.
     Refusal(Status),
@@ -38,8 +38,8 @@ fn asked_import(layout: Layout, framing: Framing) -> Asked
     }
 }
 
-/// What the head of an import asks that may say of which origin its sender is: a page in a browser
-/// hands in no dump.
+/// What the head of an import asks that may name the origin of its sender: a page in a browser may
+/// submit no dump.
 fn asked_post(layout: Layout, has_origin: bool, framing: Framing) -> Asked
     ensures asked { result ≡ spec.asked_post layout has_origin framing }
     ensures limit { IsServable result }

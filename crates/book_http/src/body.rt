@@ -1,4 +1,4 @@
-//! The body of a request, read in any pieces.
+//! The body of a request, read in pieces of any size.
 
 ghost use Rattle.std.specs.Prelude.{◌≡◌, ◌+◌, ◌<◌, ◌≤◌, ◌^◌, ◌++◌, List, false, true};
 ghost use Rattle.std.specs.Prelude.{length, take, drop, OnOk, IsErrOf};
@@ -25,7 +25,7 @@ pub enum BodyFault {
     Memory,
 }
 
-/// Reads the rest of a body, of which so many bytes are there.
+/// Reads the rest of a body, this many bytes of which are there.
 fn fill<R: Reader + Drop>(
     source: &mut Source<R>,
     body: &mut [u8],
@@ -62,7 +62,7 @@ fn fill<R: Reader + Drop>(
     Ok(())
 }
 
-/// Fills a body, of which the front was read behind the head.
+/// Fills a body, the beginning of which was read after the head.
 fn fill_behind<R: Reader + Drop>(
     source: &mut Source<R>,
     body: &mut [u8],
@@ -88,8 +88,8 @@ fn fill_behind<R: Reader + Drop>(
     fill(source, body, had)
 }
 
-/// The body of so many bytes, of which the front was read behind the head. Where more than the body
-/// was read there, nothing is read here.
+/// A body of this many bytes, the beginning of which was read after the head. Where more than the
+/// body was read there, nothing is read here.
 pub fn read_body<R: Reader + Drop>(
     alloc: Global,
     source: &mut Source<R>,
@@ -101,14 +101,14 @@ pub fn read_body<R: Reader + Drop>(
     requires failed { has_failed source.old ≡ false }
     requires ended { has_ended source.old ≡ false }
 
-    // The reads that were made, none of them for a byte behind the body: with their bytes the body
+    // The reads that were made, none of them for a byte after the body: with their bytes the body
     // is whole, or too short.
     ensures reads { (reads : List (OneRead R)) × IsReadBy R.remaining R.may_answer
         (λ came room. IsDueForBody size (length (front.now ++ came)) room)
         source.old source.new reads
         × BodyComes (λ body. body.items) size (front.now ++ bytes_of reads) result }
 
-    // It is called too short at the input's end alone, and a read failed at no other fault.
+    // It is called too short only at the input's end, and a read failed at no other fault.
     ensures ended { IsErrOf result BodyFault.Short → has_ended source.new ≡ true }
     ensures failed { has_failed source.new ≡ is_failed_body result }
     ensures memory { IsErrOf result BodyFault.Memory → source.new ≡ source.old }

@@ -1,4 +1,4 @@
-//! The head of a request, read in any pieces.
+//! The head of a request, read in pieces of any size.
 
 ghost use Rattle.std.specs.Prelude.{◌≡◌, ◌+◌, ◌≤◌, ◌^◌, false, List, length, take};
 ghost use Rattle.httparse.specs.Grammar.{RequestHead};
@@ -19,23 +19,23 @@ pub const MAX_HEAD: usize = 16_384;
 /// The most fields that a head may have.
 pub const MAX_FIELDS: usize = 64;
 
-/// A head that stands at the front of a buffer.
+/// A head at the beginning of a buffer.
 #[derive(Clone, Copy, Debug)]
 pub struct WholeHead {
-    /// How many bytes of the buffer were read: the head, and what came behind it.
+    /// How many bytes of the buffer were read: the head, and what came after it.
     pub filled: usize,
     /// Where the parts of the head are.
     pub spans: RequestSpans,
 }
 
-/// What reading a head came to.
+/// The result of reading a head.
 #[derive(Clone, Copy, Debug)]
 pub enum HeadRead {
     /// The input ended before its first byte.
     Closed,
     /// A read failed.
     Failed,
-    /// Whatever follows, no head stands at the front of the input.
+    /// Whatever follows, there is no head at the beginning of the input.
     Refused,
     /// A head came.
     Whole(WholeHead),
@@ -61,14 +61,14 @@ pub fn read_head<R: Reader + Drop>(
         × HeadComes result buffer.new (has_ended source.new) (bytes_of reads) }
     ensures failed { has_failed source.new ≡ is_failed_head result }
 
-    // The head that came, and how much of the buffer was read for it.
+    // The head that came, and how much of the buffer was filled for it.
     ensures filled { IfWhole result (λ whole. whole.filled ≤ length buffer.new) }
     ensures within { IfWhole result (λ whole.
         IsRequestWithin (take whole.filled buffer.new) fields.new whole.spans) }
     ensures head { IfWhole result (λ whole. (h : RequestHead)
         × HoldsHead (take whole.filled buffer.new) fields.new whole.spans h) }
 
-    // What may be read behind it.
+    // What may be read after it.
     ensures goes_on { IfWhole result (λ whole. has_ended source.new ≡ false) }
     ensures asked { reads_of source.new ≤ reads_of source.old + most_head_bytes }
     ensures left { NothingIsLeft

@@ -1,4 +1,4 @@
-//! Laws of requests, which hold over the definition of their answers alone. Each stands on a
+//! Laws of requests, which follow from the definition of their answers alone. Each belongs to a
 //! function that does nothing.
 
 ghost use Rattle.book_http.specs.Laws.{AnswersAreOne, RequestTwiceIsOnce, RequestsAreMended};
@@ -9,7 +9,7 @@ pub fn answers_are_one()
     ensures { AnswersAreOne }
 {}
 
-/// The same request twice in a row leaves the books that one leaves, where neither want of memory
+/// The same request twice in a row leaves the books that one leaves, where neither a lack of memory
 /// nor the store hindered the first; also where its answer was lost.
 pub fn request_twice_is_once()
     ensures { RequestTwiceIsOnce }

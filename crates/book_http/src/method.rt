@@ -8,7 +8,7 @@ ghost use Rattle.book_http.specs.Methods.{method_text};
 pub enum Method {
     /// A report is read.
     Get,
-    /// A dump is handed in.
+    /// A dump is submitted.
     Post,
 }
 
@@ -24,7 +24,7 @@ impl Method {
     }
 }
 
-/// The name is this method's. Methods tell capital from small letters.
+/// The name is this method's. Capital and small letters differ in methods.
 pub fn is_method(name: &[u8], method: Method) -> bool
     ensures { result ≡ bytes_eq name.now (method_text method) }
 {

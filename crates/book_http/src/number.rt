@@ -3,7 +3,7 @@
 ghost use Rattle.std.specs.Prelude.{◌≡◌, ◌<◌, ◌≤◌, ◌^◌, IfSome};
 ghost use Rattle.book_http.specs.Numbers as spec;
 
-/// The number that a text of one to so many digits writes. It has no sign and no blank.
+/// The number that a text of one to a given number of digits writes. It has no sign and no blank.
 #[tactic(auto, unfolding(crate::specs::Numbers::number))]
 pub(crate) fn number(most: usize, text: &[u8]) -> Option<u64>
     requires { most ≤ 19 }

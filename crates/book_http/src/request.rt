@@ -8,7 +8,7 @@ ghost use Rattle.book_http.specs.Requests.{Says};
 use crate::framing::{Framing, framing_in, has_field};
 use httparse::spans::{HeaderSpan, RequestSpans};
 
-/// The name of the field that says of which origin a page is that sends the request.
+/// The name of the field that gives the origin of the page that sends the request.
 const ORIGIN: &str = "origin";
 
 /// What a head says, lent from the buffer that it was read into.
@@ -16,17 +16,17 @@ const ORIGIN: &str = "origin";
 pub struct Request<'a> {
     /// The name of the method.
     pub method: &'a [u8],
-    /// What is asked for: a path, and what stands behind a question mark.
+    /// What is asked for: a path, and what follows a question mark.
     pub target: &'a [u8],
     /// What is said of the length of the body.
     pub framing: Framing,
-    /// It says of which origin the page is that sends it.
+    /// It gives the origin of the page that sends it.
     pub has_origin: bool,
-    /// The bytes that were read behind the head.
+    /// The bytes that were read after the head.
     pub behind: &'a [u8],
 }
 
-/// What the head at the front of these bytes says, whose parts are where the spans say.
+/// What the head at the beginning of these bytes says; its parts are where the spans say.
 pub fn request_in<'a>(bytes: &'a [u8], fields: &[HeaderSpan], spans: RequestSpans) -> Request<'a>
     requires { IsRequestWithin bytes.now fields.now spans }
     ensures behind { result.behind.now ≡ drop spans.len bytes.now }

@@ -18,7 +18,7 @@ use std::str;
 pub enum Route {
     /// A report is read there.
     Report(Report),
-    /// A dump in this layout is handed in there.
+    /// A dump in this layout is submitted there.
     Import(Layout),
 }
 
@@ -35,16 +35,16 @@ pub enum Page {
     Adjustments,
     /// The list of the disputes.
     Disputes,
-    /// Dumps of segments are handed in.
+    /// Dumps of segments are submitted.
     Import,
-    /// Dumps of blocks are handed in.
+    /// Dumps of blocks are submitted.
     ImportBdw,
 }
 
 /// The most digits of a period.
 const PERIOD_DIGITS: usize = 4;
 
-/// A router with one page more.
+/// A router with one more page.
 fn with_page(mut router: Router<Page>, route: &str, page: Page) -> Result<Router<Page>, InsertError>
     ensures { IfOk result (λ more. more ≡ spec.with_route route.now page router) }
 {
@@ -52,7 +52,7 @@ fn with_page(mut router: Router<Page>, route: &str, page: Page) -> Result<Router
     Ok(router)
 }
 
-/// The pages by their paths. An error is want of memory.
+/// The pages by their paths. An error means that memory ran out.
 fn pages(alloc: Global) -> Result<Router<Page>, InsertError>
     ensures { IfOk result (λ router. router ≡ route_rows) }
 {
@@ -91,7 +91,7 @@ fn period(text: &[u8]) -> Option<u16>
     }
 }
 
-/// The period that a path names behind its front.
+/// The period that a path names after its prefix.
 #[tactic(auto, unfolding(crate::specs::Routes::period_behind))]
 fn period_behind(front: &[u8], path: &[u8]) -> Option<u16>
     ensures { result ≡ spec.period_behind front.now path.now }
@@ -137,7 +137,7 @@ fn path_of(target: &str) -> &str
     }
 }
 
-/// What the path of a target is for, if anything. An error is want of memory.
+/// What the path of a target is for, if anything. An error means that memory ran out.
 pub fn find_route(alloc: Global, target: &[u8]) -> Result<Option<Route>, AllocError>
     requires { IsUtf8 target.now }
     ensures value { IfOk result (λ found. found ≡ spec.route (spec.path_of target.now)) }

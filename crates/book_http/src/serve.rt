@@ -65,9 +65,8 @@ fn answer_one<R: Reader + Drop, L: Ledger>(
     }
 }
 
-/// Serves one request: reads it, does what it asks of the books, and writes the answer. Bytes
-/// behind the request are not looked at. What a request did stays done where its answer can't be
-/// written.
+/// Serves one request: reads it, does what it asks of the books, and writes the answer. Bytes after
+/// the request are not looked at. What a request did stays done where its answer can't be written.
 pub fn serve_one<R: Reader + Drop, W: Write + Drop, L: Ledger>(
     alloc: Global,
     source: &mut Source<R>,
@@ -79,10 +78,10 @@ pub fn serve_one<R: Reader + Drop, W: Write + Drop, L: Ledger>(
     requires ended { has_ended source.old ≡ false }
     requires open { sinks.has_failed sink.old ≡ false }
 
-    // The books did what the request asks, and the writer has the answer, or a front of it: by the
-    // bytes that the reads gave, whatever may come behind them. Each read was due: while no head
-    // was there, or for the rest of the body of an import that is served. Where the source has
-    // ended, the bytes are all that a reader had which tells its bytes.
+    // The books did what the request asks, and the writer has the answer, or a prefix of it: by the
+    // bytes that the reads gave, whatever may follow them. Each read was due: while there was no
+    // head, or for the rest of the body of an import that is served. Where the source has ended,
+    // these are all the bytes of a reader whose bytes are known.
     ensures served { (reads : List (OneRead R))
         × IsReadBy R.remaining R.may_answer IsDue source.old source.new reads
         × IsServed (books L.seen ledger.old ledger.new) (bytes_of reads) (has_ended source.new)

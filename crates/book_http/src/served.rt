@@ -5,7 +5,7 @@ pub enum Served {
     Closed,
     /// A read failed: nothing was answered, and nothing was done.
     ReadFault,
-    /// A write failed: the writer has a front of the answer. What the request did stays done.
+    /// A write failed: the writer has a prefix of the answer. What the request did stays done.
     WriteFault,
     /// The answer was written, with this status.
     Answered(u16),

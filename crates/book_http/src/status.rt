@@ -10,9 +10,9 @@ use http::StatusCode;
 pub enum Status {
     /// It was done.
     Done,
-    /// Its head is none, or its body is not as long as its head says.
+    /// It has no proper head, or its body is not as long as its head says.
     BadRequest,
-    /// A page in a browser sent it, where a dump is handed in.
+    /// A page in a browser sent it, where a dump is submitted.
     Forbidden,
     /// Nothing has that path.
     NotFound,
@@ -53,7 +53,7 @@ impl Status {
         self.in_http().as_u16()
     }
 
-    /// The phrase behind the code.
+    /// The phrase after the code.
     #[tactic(auto, unfolding(crate::specs::Statuses::phrase_of))]
     pub(crate) fn phrase(self) -> &'static str
         ensures value { result.now ≡ phrase_of self }

@@ -17,7 +17,7 @@ use Rattle.book_import.proofs.ImportLemmas.{after_listed}
 abbrev pub IsLeft : Book → Imported → Type 0
 IsLeft before so_far = so_far.book ≡ after_all so_far.events before
 
--- so is the book behind a usage record that was answered so
+-- so is the book after a usage record that was answered so
 answer_left : (before : Book) (so_far : Imported) (event : Option Event)
     (answer : Result Accepted LedgerFault) → IsLeft before so_far
     → IfOk (after_answer so_far event answer) (IsLeft before)
@@ -25,7 +25,7 @@ answer_left before so_far event (Ok accepted) left =
     ap (after_any event) left ∙ after_listed event so_far.events before
 answer_left before so_far event (Err fault) left = tt
 
--- behind a record, by its class
+-- after a record, by its class
 one_left : (answers : Answering) (before : Book) (bytes : List ℕ) (so_far : Imported)
     (class : Class) → IsLeft before so_far
     → IfOk (handle_by answers bytes so_far class) (IsLeft before)
@@ -34,7 +34,7 @@ one_left answers before bytes so_far Usage left =
     left
 one_left answers before bytes so_far class left = left
 
--- and behind many
+-- and after many
 pub all_left : (answers : Answering) (stop : Stop) (before : Book) (records : List (List ℕ))
     (so_far : Imported) → IsLeft before so_far
     → IsLeft before (handle_all answers stop records so_far)
@@ -47,7 +47,7 @@ all_left answers stop before (bytes ∷ rest) so_far left =
       | Err fault ↦ λ none. left
     ] (one_left answers before bytes so_far (class_of bytes) left)
 
--- of an import into open books
+-- for an import into open books
 pub left_is : (naming : Naming) (before : Book) (stop : Stop) (records : List (List ℕ))
     → (import_of_records naming before stop records).book ≡ book_left naming before stop records
 left_is naming before stop records =

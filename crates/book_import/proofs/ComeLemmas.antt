@@ -16,7 +16,7 @@ use Rattle.book_import.proofs.GoingLemmas.{Doing, Goes, breaks, broken_done, rec
 use Rattle.book_import.proofs.PieceLemmas.{leads_on, stopped_behind, ends_behind, behind_nothing}
 use Rattle.book_import.proofs.PieceLemmas.{behind_then}
 
--- behind the records before a piece, work led from one receipt to another over those found
+-- after the records before a piece, work led from one receipt to another over those found
 abbrev pub LeadsOver : Seen → Seen → Receipt → Receipt → Doing
 LeadsOver begins now before after first found =
     IsWork begins now (Behind begins.naming first before (LeadsTo begins.naming found after))
@@ -52,7 +52,7 @@ come_broken begins now before after {old = old} {piece = piece} {fault = fault} 
     (broken_done goes fed text stood)
 
 module _ (begins now next : Seen) (before after last : Receipt) (one : List ℕ) where
-  -- one record more was handed to the books: with the work before, that was the other work
+  -- one more record was submitted to the books: with the work before, that was the other work
   then_handed : (result : Result (Unit {0}) LedgerFault) (Other : Work)
       → IsWork now next (Counts now.naming one after last result)
       → (first found : List (List ℕ)) → LeadsOver begins now before after first found

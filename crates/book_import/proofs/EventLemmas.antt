@@ -22,12 +22,12 @@ record IsAnsweredSoFar (naming : Naming) (history : List Event) (so_far : Import
   answered : IsAnswered naming (so_far.events ++ history)
   book : so_far.book ≡ book_after (so_far.events ++ history)
 
--- the same, of what came of a record
+-- the same for what came of a record
 abbrev StaysAnswered : Naming → List Event → Result Imported LedgerFault → Type 0
 StaysAnswered naming history (Ok next) = IsAnsweredSoFar naming history next
 StaysAnswered naming history (Err fault) = Unit {0}
 
--- one event more, or none
+-- one more event, or none
 book_listed : (event : Option Event) (history : List Event)
     → after_any event (book_after history) ≡ book_after (listed event ++ history)
 book_listed None history = refl

@@ -20,8 +20,8 @@ use Rattle.book_import.specs.Pieces.{TakesAll}
 abbrev pub Doing : Type 1
 Doing = List (List ℕ) → List (List ℕ) → Type 0
 
--- So far in a piece, of which this rest is left: the joiner stands after what was seen, no record
--- stands in it, and from the records before the piece to those found this was done.
+-- So far in a piece that has this rest left: the joiner is after what was seen, it holds no
+-- record, and from the records before the piece to those found this was done.
 pub record Goes (old : Joining) (piece rest : List ℕ) (joiner : Joining) (Done : Doing)
     : Type 0 where
   pub seen : List ℕ
@@ -47,7 +47,7 @@ goes_nowhere old piece Done none nothing = record {
       (nothing records);
 }
 
--- behind a text after which a joiner stands, the records of what follows come last
+-- after a text after which a joiner is, the records of what follows come last
 pub records_after : {layout : Layout} {joiner : Joining} {text : List ℕ} → joiner.layout ≡ layout
     → StandsAfter text joiner → (more : List ℕ)
     → (later : List (List ℕ))
@@ -62,14 +62,14 @@ records_after {layout = layout} {joiner = joiner} {text = text} same stands more
 module _ {old joiner mid : Joining} {piece rest : List ℕ} {Done : Doing}
     {answer : Result ℕ FrameFault} (goes : Goes old piece rest joiner Done)
     (fed : Feeds joiner rest answer mid) where
-  -- the joiner got the rest, and stands after what it took of it
+  -- the joiner got the rest, and is after what it took of it
   stands_on : (text : List ℕ) → StandsAfter text old
       → StandsAfter (text ++ (goes.seen ++ bytes_seen answer rest)) mid
   stands_on text stood =
       subst (λ b. StandsAfter b mid) (append_assoc text goes.seen (bytes_seen answer rest))
       (fed.stands (text ++ goes.seen) (goes.stands text stood))
 
-  -- the records of a text and of all that was taken behind it
+  -- the records of a text and of all that was taken after it
   records_on : {one : Option (List ℕ)} → one ≡ mid.standing → (text : List ℕ)
       → StandsAfter text old
       → (front old.layout (text ++ (goes.seen ++ bytes_seen answer rest))).records
@@ -105,7 +105,7 @@ module _ {old joiner mid : Joining} {piece rest : List ℕ} {Done : Doing} {n : 
       (sym (ap (λ s. is_some s) one_is)) in
       omega (arith, fed.within, ap length later_is, length-drop n rest)
 
-  -- more was done with a record that the rest completes, which is let go
+  -- more was done with a record that the rest completes, which is then dropped
   pub goes_on : {new : Joining} {one later : List ℕ} {Next : Doing} → Some one ≡ mid.standing
       → later ≡ drop n rest → new ≡ let_go mid
       → ((text : List ℕ) → StandsAfter text mid → StandsAfter text new)
@@ -124,12 +124,12 @@ module _ {old joiner mid : Joining} {piece rest : List ℕ} {Done : Doing} {n : 
         (more first (front old.layout (text ++ goes.seen)).records (goes.done text stood));
   }
 
-  -- where the rest completes none, the piece is what was seen and what was taken now
+  -- if the rest completes no record, the piece is what was seen and what was taken now,
   all_seen : None ≡ mid.standing → goes.seen ++ take n rest ≡ piece
   all_seen none =
       ap (λ b. goes.seen ++ b) (take_all n rest (omega (arith, fed.all (sym none)))) ∙ goes.parts
 
-  -- so this was done as far as to the records of the piece
+  -- so this was done up to the records of the piece,
   pub all_done : None ≡ mid.standing → (text : List ℕ) → StandsAfter text old
       → Done (front old.layout text).records (front old.layout (text ++ piece)).records
   all_done none text stood =
@@ -151,7 +151,7 @@ module _ {old joiner mid : Joining} {piece rest : List ℕ} {Done : Doing} {n : 
         (fed.unbroken (text ++ goes.seen) (goes.stands text stood) (sym none));
   }
 
-  -- behind the records found come the one that the rest completes, and those of all that follows
+  -- after the records found come the one that the rest completes, and those of all that follows
   pub records_follow : {one : List ℕ} → Some one ≡ mid.standing → (text more : List ℕ)
       → StandsAfter text old
       → (later : List (List ℕ)) × ((front old.layout ((text ++ piece) ++ more)).records
@@ -172,7 +172,7 @@ module _ {old joiner mid : Joining} {piece rest : List ℕ} {Done : Doing} {n : 
 
 module _ {old joiner mid : Joining} {piece rest : List ℕ} {Done : Doing} {fault : FrameFault}
     (goes : Goes old piece rest joiner Done) (fed : Feeds joiner rest (Err fault) mid) where
-  -- a descriptor in the rest has a fault, which breaks the front behind the records found
+  -- a descriptor in the rest has a fault, which breaks the front after the records found,
   pub breaks_here : (text : List ℕ) → StandsAfter text old → front old.layout (text ++ piece)
       ≡ broken_by (front old.layout (text ++ goes.seen)).records fault
   breaks_here text stood =
@@ -192,15 +192,15 @@ module _ {old joiner mid : Joining} {piece rest : List ℕ} {Done : Doing} {faul
       (fed.lasting (text ++ goes.seen) (goes.stands text stood) goes.none)) in
       lasts more ∙ here ∙ sym (ap (λ (f : Front). broken_by f.records fault) here)
 
-  -- and this was done as far as to the records of the piece
+  -- and this was done up to the records of the piece
   pub broken_done : (text : List ℕ) → StandsAfter text old
       → Done (front old.layout text).records (front old.layout (text ++ piece)).records
   broken_done text stood =
       subst (Done (front old.layout text).records)
       (sym (ap (λ (f : Front). f.records) (breaks_here text stood))) (goes.done text stood)
 
--- These bytes were taken, and with the records that they complete this was done. The joiner stands
--- after them, no record stands in it, and no fault breaks their front.
+-- These bytes were taken, and with the records that they complete this was done. The joiner is
+-- after them, it holds no record, and no fault breaks their front.
 pub record HasPassed (layout : Layout) (bytes : List ℕ) (joiner : Joining)
     (Done : List (List ℕ) → Type 0) : Type 0 where
   pub layout_is : joiner.layout ≡ layout
@@ -211,13 +211,13 @@ pub record HasPassed (layout : Layout) (bytes : List ℕ) (joiner : Joining)
 
 module _ {layout : Layout} {bytes : List ℕ} {joiner : Joining} {Done : List (List ℕ) → Type 0}
     (passed : HasPassed layout bytes joiner Done) where
-  -- what holds of each text after which the joiner stands holds of these bytes
+  -- what holds of each text after which the joiner is holds of these bytes
   pub holds_here : (Holds : Layout → List ℕ → Type 0)
       → ((text : List ℕ) → StandsAfter text joiner → Holds joiner.layout text)
       → Holds layout bytes
   holds_here Holds holds = subst (λ l. Holds l bytes) passed.layout_is (holds bytes passed.stands)
 
-  -- a piece more
+  -- one more piece
   pub passed_more : {new : Joining} {piece : List ℕ} {Next : List (List ℕ) → Type 0}
       → TakesAll joiner piece new → Next (front layout (bytes ++ piece)).records
       → HasPassed layout (bytes ++ piece) new Next
@@ -229,7 +229,7 @@ module _ {layout : Layout} {bytes : List ℕ} {joiner : Joining} {Done : List (L
     done = next;
   }
 
-  -- no more pieces come: the stop behind these bytes
+  -- no more pieces come: the stop after these bytes
   pub stop_is : (cut : Option Stop) {stop : Stop} → ((text : List ℕ) → StandsAfter text joiner
       → stop ≡ unwrap_or cut (frame_stop (front joiner.layout text).fault))
       → stop ≡ stop_behind cut (front layout bytes)

@@ -1,4 +1,4 @@
--- Records that are handed to the books one after another.
+-- Records that are submitted to the books one after another.
 use Rattle.std.proofs.Common.{◌≡◌, ◌∙◌, ℕ, ◌+◌, ◌<◌, ◌≤◌, Bool, false, ◌||◌, List, [], ◌∷◌, ◌++◌}
 use Rattle.std.proofs.Common.{length, take, get_or, take_all, refl, sym, ap, subst, Result, Ok, Err}
 use Rattle.std.proofs.Common.{Option, None, Some, append_assoc, append-nil}
@@ -22,7 +22,7 @@ use Rattle.book_import.specs.Imports.{IsCounted, HandsIn, counts_by, Counts, Han
 use Rattle.book_import.specs.Imports.{out_of_memory}
 use Rattle.book_import.specs.Pieces.{so_far_at, LeadsTo}
 
--- a usage record that was handed in is counted by the answer
+-- a usage record that was submitted is counted by the answer
 pub usage_counts : (naming : Naming) (bytes : List ℕ) (old new : Receipt)
     (result : Result (Unit {0}) LedgerFault) (was : Bool) (before : Book) (events : List Event)
     (is : Bool) → class_of bytes ≡ Usage → (answer : Result Accepted LedgerFault)
@@ -126,7 +126,7 @@ counted_by naming bytes class receipt next was before early late is counts = rec
   });
 }
 
--- one record more, whatever comes of it
+-- one more record, whatever comes of it
 pub one_more_handled : (answers : Answering) (records : List (List ℕ)) (i : ℕ) (before : Book)
     (so_far : Imported) → i < length records
     → ((stop : Stop) (rest : List (List ℕ))
@@ -142,7 +142,7 @@ one_more_handled answers records i before so_far within leads stop rest =
     (append_assoc (take i records) (get_or records i [] ∷ []) rest)
     ∙ leads stop (get_or records i [] ∷ rest)
 
--- one record more, which was counted
+-- one more record, which was counted
 pub one_more : (naming : Naming) (records : List (List ℕ)) (i : ℕ) (receipt next : Receipt)
     → i < length records → (was : Bool) (before : Book) (events : List Event) (is : Bool)
     → Then (LeadsTo naming (take i records) receipt)
@@ -185,7 +185,7 @@ all_handled naming records i receipt told stop end as_told was before events is 
       events = ap (λ (one : Imported). one.events) handled;
     })
 
--- no record was handled, for want of memory
+-- no record was handled, because memory ran out
 pub none_handled : (naming : Naming) (stop : Stop) (records : List (List ℕ)) (told : Receipt)
     → told ≡ receipt_stopped (Ledger Memory)
     → (was : Bool) (before : Book) (events : List Event) (is : Bool) → NoEvent was before events is

@@ -19,7 +19,7 @@ use Rattle.book_import.proofs.ImportLemmas.{none_yet}
 use Rattle.book_import.proofs.GoingLemmas.{HasPassed, holds_here, passed_more, stop_is}
 use Rattle.book_import.proofs.PieceLemmas.{ends_behind, behind_done}
 
--- the records were handled, which led to this receipt
+-- the records were handled, leading to this receipt
 abbrev pub LeadsFrom : Seen → Seen → Receipt → List (List ℕ) → Type 0
 LeadsFrom begins now receipt records = IsWork begins now (LeadsTo begins.naming records receipt)
 
@@ -39,7 +39,7 @@ joins_nothing begins layout joiner receipt is stands found so = record {
 
 module _ (begins now : Seen) (receipt : Receipt) {layout : Layout} {bytes : List ℕ}
     {joiner : Joining} (joins : HasPassed layout bytes joiner (LeadsFrom begins now receipt)) where
-  -- what becomes of all with a piece, under the naming and the layout of the beginning
+  -- what becomes of everything with a piece, under the naming and the layout of the beginning
   with_piece : (next : Seen) (Made : Naming → Layout → List ℕ → Work)
       → ((text : List ℕ) → StandsAfter text joiner → IsWork now next (Behind now.naming
       (front joiner.layout text).records receipt (Made now.naming joiner.layout text)))
@@ -56,7 +56,7 @@ module _ (begins now : Seen) (receipt : Receipt) {layout : Layout} {bytes : List
       (front joiner.layout text).records receipt (Made naming joiner.layout text)))
       joins.done.naming (handled text stood))))
 
-  -- a piece more
+  -- one more piece
   pub joins_more : {new : Joining} {piece : List ℕ} (next : Seen) (later : Receipt)
       → TakesAll joiner piece new
       → ((text : List ℕ) → StandsAfter text joiner → IsWork now next

@@ -41,7 +41,7 @@ event_kept bytes (Ok Kept) older kept = kept
 event_kept bytes (Ok accepted) older kept = kept
 event_kept bytes (Err fault) older kept = kept
 
--- what came of one record more
+-- what came of one more record
 abbrev GoesOn : Result Imported LedgerFault → Type 0
 GoesOn (Ok next) = AreKept next.events
 GoesOn (Err fault) = Unit {0}
@@ -64,7 +64,7 @@ class_kept : (was : Bool) (naming : Naming) (bytes : List ℕ) (so_far : Importe
 class_kept was naming bytes so_far Usage kept = usage_kept was naming bytes so_far kept
 class_kept was naming bytes so_far class kept = kept
 
--- so it is of all records
+-- the same holds for all records
 all_kept : (was : Bool) (naming : Naming) (stop : Stop) (records : List (List ℕ))
     (so_far : Imported) → AreKept so_far.events
     → AreKept (handle_all (answers_of was naming) stop records so_far).events

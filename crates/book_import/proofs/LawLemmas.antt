@@ -1,4 +1,4 @@
--- What books hold after an import of which they refused no record.
+-- What books hold after an import in which they refused no record.
 use Rattle.std.proofs.Common.{◌≡◌, ◌∙◌, ℕ, List, [], ◌∷◌, ◌++◌, refl, sym, ap, subst, append-nil}
 use Rattle.std.proofs.Common.{Bool, true, false, true≢false, cond, ◌&&◌, ◌||◌, Option, Some, None}
 use Rattle.std.proofs.Common.{is_some, Result, Ok, Err}
@@ -29,11 +29,11 @@ use Rattle.book_import.specs.Laws.{all_records, book_after_batches, AreUnrefused
 use Rattle.book_import.specs.Laws.{CutsMakeNoDifference}
 use Rattle.book_import.proofs.BookLemmas.{left_is}
 
--- two records are one
+-- two records are equal
 abbrev pub is_same : List ℕ → List ℕ → Bool
 is_same = eq_by_cmp by_bytes
 
--- A record was handed in: the new book holds it too where it counts, and nothing else is different.
+-- A record was submitted: the new book holds it too if it counts, and nothing else is different.
 pub record HoldsIt (counts : Bool) (bytes : List ℕ) (old new : Book) : Type 0 where
   pub held : (other : List ℕ)
       → has new.held other ≡ (has old.held other || (counts && is_same other bytes))
@@ -41,7 +41,7 @@ pub record HoldsIt (counts : Bool) (bytes : List ℕ) (old new : Book) : Type 0 
   pub posted : new.posted ≡ old.posted
   pub past : new.past ≡ old.past
 
--- a record that does not count, where the book stays
+-- a record that does not count, if the book stays
 stays_without : (bytes : List ℕ) (book : Book) → HoldsIt false bytes book book
 stays_without bytes book =
     record {
@@ -52,14 +52,14 @@ stays_without bytes book =
       past = refl;
     }
 
--- what is there at a place is there already, where it counts at that place alone
+-- what is at a place is there already, if it counts only at that place
 there_already : (counts same is : Bool) → (same ≡ true → is ≡ true) → is ≡ (is || (counts && same))
 there_already counts same true there = refl
 there_already true true false there = there refl
 there_already true false false there = refl
 there_already false same false there = refl
 
--- a record that is held already, where the book stays
+-- a record that is held already, if the book stays
 stays_with : (counts : Bool) (bytes : List ℕ) (book : Book) → has book.held bytes ≡ true
     → HoldsIt counts bytes book book
 stays_with counts bytes book holds = record {
@@ -82,16 +82,16 @@ is_kept bytes book = record {
   past = refl;
 }
 
--- the answer to a usage record, by whether it is held, whether its name is another's, and its price
+-- the answer to a usage record, by whether it is held, whether another has its name, and its price
 abbrev pub answer_by : Book → Bool → Bool → Option Priced → Result Accepted LedgerFault
 answer_by book known clash price =
     if known then Ok Known else if clash then Err DigestClash else accept_priced book price
 
--- a usage record was handed in, and this was the answer
+-- a usage record was submitted, and this was the answer
 abbrev pub answered : List ℕ → Imported → Result Accepted LedgerFault → Result Imported LedgerFault
 answered bytes so_far answer = after_answer so_far (accept_event bytes answer) answer
 
--- a usage record that the books do not refuse counts where it has a price
+-- a usage record that the books do not refuse counts if it has a price
 usage_handled : (bytes : List ℕ) (so_far : Imported) (known clash : Bool) (price : Option Priced)
     → has so_far.book.held bytes ≡ known
     → IfOk (answered bytes so_far (answer_by so_far.book known clash price))
@@ -108,11 +108,11 @@ usage_handled bytes so_far false false (Some priced) new =
       | false ↦ is_kept bytes so_far.book
     ]
 
--- a record of a class counts where the class is that of usage records, and it has a price
+-- a record of a class counts if the class is that of usage records, and it has a price
 abbrev pub is_priced_by : Class → Rulings → List ℕ → Bool
 is_priced_by class rulings bytes = is_class_of_usage class && is_some (price_in rulings bytes)
 
--- a record that the books do not refuse counts where it is usage and has a price
+-- a record that the books do not refuse counts if it is usage and has a price
 pub one_handled : (naming : Naming) (bytes : List ℕ) (so_far : Imported) (class : Class)
     → IfOk (handle_by (accept_outcome naming) bytes so_far class)
     (λ next. HoldsIt (is_priced_by class so_far.book.rulings bytes) bytes so_far.book next.book)
@@ -121,7 +121,7 @@ one_handled naming bytes so_far Usage =
     (price_in so_far.book.rulings bytes) refl
 one_handled naming bytes so_far class = stays_without bytes so_far.book
 
--- who is among the priced usage records of a list: its first, if it is one, and those of the rest
+-- what is among the priced usage records of a list: its first, if it is one, and those of the rest
 has-first : (rulings : Rulings) (bytes : List ℕ) (rest : List (List ℕ)) (other : List ℕ)
     → has (priced_usage rulings (bytes ∷ rest)) other
     ≡ ((is_priced_usage rulings bytes && is_same other bytes)
@@ -165,7 +165,7 @@ none_came book = record {
   past = refl;
 }
 
--- from any point of an import on, the books hold what came, where they refuse no record
+-- from any point of an import on, the books hold what came, if they refuse no record
 holds_from : (naming : Naming) (stop : Stop) (records : List (List ℕ)) (so_far : Imported)
     → IsUnrefused (handle_all (accept_outcome naming) stop records so_far)
     → HoldsMore (priced_usage so_far.book.rulings records) so_far.book
@@ -184,14 +184,14 @@ holds_from naming stop (bytes ∷ rest) so_far unrefused =
       | Err fault ↦ λ one unrefused. absurd (true≢false unrefused)
     ] (one_handled naming bytes so_far (class_of bytes)) unrefused
 
--- the law of it
+-- the law
 pub holds_what_came : HoldsWhatCame
 holds_what_came naming before stop records unrefused =
     subst (HoldsMore (priced_usage before.rulings records) before)
     (left_is naming before stop records)
     (holds_from naming stop records (start_of before) unrefused)
 
--- who is among the priced usage records of two lists
+-- what is among the priced usage records of two lists
 has-both : (rulings : Rulings) (records later : List (List ℕ)) (other : List ℕ)
     → has (priced_usage rulings (records ++ later)) other
     ≡ (has (priced_usage rulings records) other || has (priced_usage rulings later) other)
@@ -226,7 +226,7 @@ then_later records later {old} {between} one more = record {
   past = more.past ∙ one.past;
 }
 
--- after batches of which none was refused a record, the books hold what came of all of them
+-- after batches in which no record was refused, the books hold what came of all of them
 holds_batches : (naming : Naming) (before : Book) (batches : List Batch)
     → AreUnrefused naming before batches
     → HoldsMore (priced_usage before.rulings (all_records batches)) before
@@ -247,7 +247,7 @@ same_priced rulings records others same =
     ∙ ap (those priced) same
     ∙ those-set_of nat_list_cmp_total exact_bytes priced others
 
--- one book alone holds so much more than another, with nothing else different
+-- only one book holds that much more than another, with nothing else different
 same_book : {records : Records} {before one other : Book} → HoldsMore records before one
     → HoldsMore records before other → one ≡ other
 same_book {one} {other} first second =
@@ -260,7 +260,7 @@ same_book {one} {other} first second =
       past = (first.past ∙ sym second.past) i;
     }
 
--- the law of it
+-- the law
 pub cuts_make_no_difference : CutsMakeNoDifference
 cuts_make_no_difference naming before batches others same unrefused other_unrefused =
     let after : Book = book_after_batches naming before others in
@@ -269,7 +269,7 @@ cuts_make_no_difference naming before batches others same unrefused other_unrefu
     let priced = sym (same_priced before.rulings (all_records batches) (all_records others) same) in
     same_book first (subst (λ came. HoldsMore came before after) priced second)
 
--- the same of two dumps, each in one import
+-- the same for two dumps, each in one import
 pub one_import_each : (naming : Naming) (before : Book) (stop other_stop : Stop)
     (records others : List (List ℕ))
     → set_of by_bytes records ≡ set_of by_bytes others

@@ -1,6 +1,6 @@
--- Records that are handed in, and what stops an import; how a joiner goes through a dump, and what
+-- Records that are submitted, and what stops an import; how a joiner goes through a dump, and what
 -- an import does with the records that it finds, and how far it reads; the events that it makes; the book that those
--- leave, what it holds, and the same import again, also behind a stop; what a stop tells.
+-- leave, what it holds, and the same import again, also after a stop; what a stop says.
 pub mod ImportLemmas
 pub mod StopLemmas
 pub mod PieceLemmas

@@ -1,4 +1,4 @@
--- The same import behind one that was stopped.
+-- The same import after one that was stopped.
 use Rattle.std.proofs.Common.{◌≡◌, ◌≢◌, ◌∙◌, ℕ, zero, suc, List, [], ◌∷◌, take, refl, sym, ap, subst}
 use Rattle.std.proofs.Common.{Bool, true, false, true≢false, Option, Some, None, is_some}
 use Rattle.std.proofs.Common.{Result, Ok, Err}
@@ -31,14 +31,14 @@ AreAlike (Ok again) (Ok first) = again.book ≡ first.book
 AreAlike (Err again) (Err first) = again ≡ first
 AreAlike again first = ⊥
 
--- so it is with one answer
+-- the same holds for one answer,
 answered_alike : (so_far again : Imported) (event : Option Event)
     (answer : Result Accepted LedgerFault) → again.book ≡ so_far.book
     → AreAlike (after_answer again event answer) (after_answer so_far event answer)
 answered_alike so_far again event (Ok accepted) same = ap (after_any event) same
 answered_alike so_far again event (Err fault) same = refl
 
--- and with one record, where the books are the same
+-- and for one record, if the books are the same
 handled_alike : (naming : Naming) (bytes : List ℕ) (class : Class) (so_far again : Imported)
     → again.book ≡ so_far.book
     → AreAlike (handle_by (accept_outcome naming) bytes again class)
@@ -50,7 +50,7 @@ handled_alike naming bytes Usage so_far again same =
     (answered_alike so_far again (accept_event bytes answer) answer same)
 handled_alike naming bytes class so_far again same = same
 
--- what comes behind the record leaves the same books then
+-- what comes after the record then leaves the same books
 gone_alike : (later later_again : Imported → Imported) (so_far again : Imported)
     (handled handled_again : Result Imported LedgerFault) → again.book ≡ so_far.book
     → ((next after : Imported) → after.book ≡ next.book
@@ -64,7 +64,7 @@ gone_alike later later_again so_far again (Ok next) (Err fault_again) same rest 
     absurd alike
 gone_alike later later_again so_far again (Err fault) (Ok after) same rest alike = absurd alike
 
--- the books that records leave do not depend on what was counted, nor on the stop behind them
+-- the books that records leave do not depend on what was counted, nor on the stop after them
 same_left : (naming : Naming) (stop other : Stop) (records : List (List ℕ))
     (so_far again : Imported) → again.book ≡ so_far.book
     → (handle_all (accept_outcome naming) other records again).book
@@ -77,7 +77,7 @@ same_left naming stop other (bytes ∷ rest) so_far again same =
     (λ next after alike. same_left naming stop other rest next after alike)
     (handled_alike naming bytes (class_of bytes) so_far again same)
 
--- a usage record that is held where it counts is refused for the name of another alone
+-- a usage record that is held if it counts is refused only because another has its name
 known_or_clash : (bytes : List ℕ) (again : Imported) (known clash : Bool) (price : Option Priced)
     (fault : LedgerFault) → (is_some price ≡ true → known ≡ true)
     → answered bytes again (answer_by again.book known clash price) ≡ Err fault
@@ -88,7 +88,7 @@ known_or_clash bytes again false false None fault there refused = cc
 known_or_clash bytes again false false (Some priced) fault there refused =
     absurd (true≢false (sym (there refl)))
 
--- so any record is
+-- the same holds for any record
 settled_refused : (naming : Naming) (bytes : List ℕ) (again : Imported) (class : Class)
     (fault : LedgerFault)
     → (is_priced_by class again.book.rulings bytes ≡ true → has again.book.held bytes ≡ true)
@@ -98,7 +98,7 @@ settled_refused naming bytes again Usage fault there refused =
     (price_in again.book.rulings bytes) fault there refused
 settled_refused naming bytes again class fault there refused = cc
 
--- behind the first records all of them leave the books of a whole import
+-- after the first records all of them leave the books of a whole import
 mended : (naming : Naming) (stop other next : Stop) (count : ℕ) (records : List (List ℕ))
     (so_far again : Imported)
     → again.book ≡ (handle_all (accept_outcome naming) other (take count records) so_far).book
@@ -142,7 +142,7 @@ mended naming stop other next (suc count) (bytes ∷ rest) so_far again same apa
           (refused_again naming bytes (class_of bytes) so_far again fault kept is) ∙ kept
     ] refl (one_handled naming bytes so_far (class_of bytes)) same
 
--- the law of it
+-- the law
 pub stops_are_mended : StopsAreMended
 stops_are_mended naming before stop again records once twice first second between is handled
     handled_again unhindered apart =

@@ -36,7 +36,7 @@ still_settled bytes grows settled = λ priced.
     grows.held bytes
     (settled (sym (ap (λ rulings. is_priced_usage rulings bytes) grows.rulings) ∙ priced))
 
--- a record that was handed in
+-- a record that was submitted,
 grows_by : {counts : Bool} {old new : Book} (bytes : List ℕ) → HoldsIt counts bytes old new
     → Grows old new
 grows_by {counts} bytes one = record {
@@ -44,7 +44,7 @@ grows_by {counts} bytes one = record {
   rulings = one.rulings;
 }
 
--- it is settled then
+-- is then settled
 pub settled_by : {old new : Book} (bytes : List ℕ)
     → HoldsIt (is_priced_usage old.rulings bytes) bytes old new
     → IsSettled new bytes
@@ -56,7 +56,7 @@ settled_by {old} bytes one = λ priced.
     ∙ ap (λ b. has old.held bytes || b) same
     ∙ or-true (has old.held bytes)
 
--- where what would be added is there already, nothing is
+-- if what would be added is there already, nothing is added
 not_more : (counts same is : Bool) → (counts ≡ true → same ≡ true → is ≡ true)
     → (is || (counts && same)) ≡ is
 not_more counts same true there = refl
@@ -107,7 +107,7 @@ all_grow naming stop (bytes ∷ rest) so_far =
       | Err fault ↦ λ one. grows_none so_far.book
     ] (one_handled naming bytes so_far (class_of bytes))
 
--- what books answered with a fault they refuse whatever was counted
+-- a fault that books answered they answer again, whatever was counted
 still_refused : (so_far again : Imported) (event : Option Event)
     (answer : Result Accepted LedgerFault)
     (fault : LedgerFault) → after_answer so_far event answer ≡ Err fault
@@ -115,7 +115,7 @@ still_refused : (so_far again : Imported) (event : Option Event)
 still_refused so_far again event (Err refusal) fault refused = refused
 still_refused so_far again event (Ok accepted) fault refused = cc
 
--- the same, by the record's class, where the books are the same
+-- the same, by the record's class, if the books are the same
 pub refused_again : (naming : Naming) (bytes : List ℕ) (class : Class) (so_far again : Imported)
     (fault : LedgerFault) → again.book ≡ so_far.book
     → handle_by (accept_outcome naming) bytes so_far class ≡ Err fault
@@ -126,7 +126,7 @@ refused_again naming bytes Usage so_far again fault same refused =
     (still_refused so_far again (accept_event bytes answer) answer fault refused)
 refused_again naming bytes class so_far again fault same refused = cc
 
--- a record that is settled leaves the books, and what comes behind it leaves them too
+-- a record that is settled leaves the books as they are, and so does what comes after it
 once_more : (naming : Naming) (bytes : List ℕ) (again : Imported) (later : Imported → Imported)
     (end : Book)
     → again.book ≡ end → IsSettled again.book bytes

@@ -1,4 +1,4 @@
--- Records that are handed to the books as the pieces of a dump complete them.
+-- Records that are submitted to the books as the pieces of a dump complete them.
 use Rattle.std.proofs.Common.{◌≡◌, ◌∙◌, ℕ, ◌+◌, ◌<◌, Bool, List, [], ◌∷◌, ◌++◌, length, take}
 use Rattle.std.proofs.Common.{get_or, take_all, refl, sym, ap, subst, arith, Ok, Err, append_assoc}
 use Rattle.std.proofs.Common.{length-append}
@@ -16,7 +16,7 @@ use Rattle.book_import.specs.Pieces.{LeadsTo, Behind}
 use Rattle.book_import.proofs.ImportLemmas.{one_more, all_handled}
 use Rattle.book_import.proofs.StopLemmas.{stopped_at}
 
--- the first records are those before the next, and the next stands behind them
+-- the first records are those before the next, and the next comes after them
 record Parts (first rest : List (List ℕ)) (bytes : List ℕ) : Type 0 where
   before : take (length first) (first ++ bytes ∷ rest) ≡ first
   here : get_or (first ++ bytes ∷ rest) (length first) [] ≡ bytes
@@ -29,7 +29,7 @@ parts first rest bytes = record {
   within = omega (arith, length-append first (bytes ∷ rest));
 }
 
--- the work behind the first records, seen as behind so many of them all
+-- the work after the first records, seen as work after that many of them all
 at_parts : (first rest : List (List ℕ)) (bytes : List ℕ) (First : List (List ℕ) → Work)
     (Next : List ℕ → Work) (was : Bool) (before : Book) (events : List Event) (is : Bool)
     → Then (First first) (Next bytes) was before events is
@@ -41,7 +41,7 @@ at_parts first rest bytes First Next was before events is both =
     before events is) (sym cut.before)
     (subst (λ one. Then (First first) (Next one) was before events is) (sym cut.here) both)
 
--- a record more, which was counted
+-- one more record, which was counted
 pub leads_on : (naming : Naming) (first : List (List ℕ)) (bytes : List ℕ) (receipt next : Receipt)
     (was : Bool) (before : Book) (events : List Event) (is : Bool)
     → Then (LeadsTo naming first receipt) (Counts naming bytes receipt next (Ok tt)) was before
@@ -56,7 +56,7 @@ leads_on naming first bytes receipt next was before events is both =
     subst (λ front. LeadsTo naming front next was before events is)
     (take_all (length first + 1) all (omega (arith, length-append first (bytes ∷ [])))) one
 
--- a record more, which the books refused, whatever records follow
+-- one more record, which the books refused, whatever records follow
 pub stopped_behind : (naming : Naming) (first rest : List (List ℕ)) (bytes : List ℕ)
     (receipt next told : Receipt) (stop : Stop) (fault : LedgerFault) → next ≡ receipt
     → told ≡ record next { stop = Ledger fault }
@@ -71,7 +71,7 @@ stopped_behind naming first rest bytes receipt next told stop fault same as_told
     (at_parts first rest bytes (λ front. LeadsTo naming front receipt)
     (λ one. Counts naming one receipt next (Err fault)) was before events is both)
 
--- no record more
+-- no more records
 pub ends_behind : (naming : Naming) (records : List (List ℕ)) (receipt told : Receipt) (stop : Stop)
     → told ≡ record receipt { stop = stop }
     → (was : Bool) (before : Book) (events : List Event) (is : Bool)
@@ -83,7 +83,7 @@ ends_behind naming records receipt told stop as_told was before events is leads 
     events is
     (subst (λ front. LeadsTo naming front receipt was before events is) (sym all) leads)
 
--- behind work that led to a receipt, and nothing more
+-- after work that led to a receipt, and nothing more
 pub behind_nothing : (naming : Naming) (first : List (List ℕ)) (receipt : Receipt) (was : Bool)
     (before : Book) (events : List Event) (is : Bool) → NoEvent was before events is
     → Behind naming first receipt (LeadsTo naming first receipt) was before events is
@@ -112,7 +112,7 @@ behind_then naming first receipt Made Next Other implies was before events is bo
       all = ap (λ made. made ++ early) both.all ∙ append_assoc both.late both.early early;
     })
 
--- the work that led to the receipt, and then what is behind it
+-- the work that led to the receipt, and then what comes after it
 pub behind_done : (naming : Naming) (first : List (List ℕ)) (receipt : Receipt) (Made : Work)
     (was : Bool) (before : Book) (events : List Event) (is : Bool)
     → Then (LeadsTo naming first receipt) (Behind naming first receipt Made) was before events is

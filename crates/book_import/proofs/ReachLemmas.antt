@@ -16,7 +16,7 @@ use Rattle.book_import.specs.Receipts.{counted, is_stop_of_books}
 use Rattle.book_import.specs.Reach.{is_early, EndsBy, IsNoFurther, IsReadFor}
 use Rattle.book_import.proofs.GoingLemmas.{Doing}
 
--- from so many counted records before a piece to so many now: each that was found was counted
+-- from this many counted records before a piece to this many now: each that was found was counted
 abbrev pub CountsOver : ℕ → ℕ → Doing
 CountsOver before now first found = length found + before ≤ length first + now
 
@@ -45,7 +45,7 @@ ends_early soon failed ended = record {
   read_out = λ late. absurd (true≢false (sym soon ∙ late));
 }
 
--- the receipt with its stop, where the front of what came is not broken
+-- the receipt with its stop, if the front of what came is not broken
 not_early : (layout : Layout) (bytes : List ℕ) (receipt told : Receipt) (stop : Stop)
     → told ≡ record receipt { stop = stop } → is_stop_of_books stop ≡ false
     → (front layout bytes).is_broken ≡ false → is_early (front layout bytes) told.stop ≡ false
@@ -68,7 +68,7 @@ module _ (layout : Layout) (AreDone : List (List ℕ) → Type 0) (input : Input
     done = subst (λ (f : Front). AreDone f.records) (sym (front_of_nothing layout)) done;
   }
 
-  -- all that came stood before the end, or before the last read that was allowed
+  -- all that came preceded the end, or the last read that was allowed
   pub all_needed : (bytes : List ℕ) → (front layout bytes).is_broken ≡ false
       → AreDone (front layout bytes).records
       → input.new.reads ≤ input.old.reads + length bytes + 1
@@ -102,7 +102,7 @@ module _ (layout : Layout) (AreDone : List (List ℕ) → Type 0) (input : Input
     done = done;
   }
 
--- nothing was read, as memory had run out
+-- nothing was read, because memory had run out
 pub read_nothing : (layout : Layout) (allowed : ℕ) (told : Receipt) (input : Input)
     → is_stop_of_books told.stop ≡ true → input.new.left ≡ input.old.left
     → input.new.reads ≡ input.old.reads
@@ -116,8 +116,8 @@ read_nothing layout allowed told input stopped same asked failed ended = record 
       (omega arith) asked;
 }
 
--- No more came: the stop is that of the end, or of what cut the reading short. At least a byte came
--- with each read but the last.
+-- No more came: the stop is that of the end, or of what cut the reading short. At least one byte
+-- came with each read but the last.
 pub read_to_end : (layout : Layout) (allowed : ℕ) (bytes : List ℕ) (receipt told : Receipt)
     (stop : Stop) (input : Input) → told ≡ record receipt { stop = stop }
     → is_stop_of_books stop ≡ false → (front layout bytes).is_broken ≡ false
@@ -135,7 +135,7 @@ read_to_end layout allowed bytes receipt told stop input so other whole all read
           all) reads;
     }
 
--- The import was stopped in the piece that came last. At least a byte came with each read before.
+-- The import was stopped in the piece that came last. At least one byte came with each read before.
 pub read_to_stop : (layout : Layout) (allowed : ℕ) (bytes part : List ℕ)
     (receipt later told : Receipt) (stop : Stop) (input : Input)
     → told ≡ record later { stop = stop } → (front layout bytes).is_broken ≡ false

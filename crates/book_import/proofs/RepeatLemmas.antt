@@ -14,7 +14,7 @@ use Rattle.book_import.specs.Repeats.{IsUnhindered, TwiceIsOnce}
 use Rattle.book_import.proofs.BookLemmas.{left_is}
 use Rattle.book_import.proofs.OnceLemmas.{again_from}
 
--- memory ran out behind the first records, or one of them was refused, as it is in the whole import
+-- memory ran out after the first records, or one of them was refused, as it is in the whole import
 memory_or_whole : (naming : Naming) (stop : Stop) (count : ℕ) (records : List (List ℕ))
     (so_far : Imported)
     → ((handle_all (accept_outcome naming) (Ledger Memory) (take count records) so_far).receipt.stop
@@ -39,7 +39,7 @@ pub record IsWhole (naming : Naming) (stop : Stop) (records : List (List ℕ)) (
   pub stays_open : is ≡ false
   pub told : IsTold (import_of_records naming before stop records) once events
 
--- where neither memory nor the store stopped it, the import is a whole one
+-- if neither a lack of memory nor the store stopped it, the import is a whole one
 pub is_whole : (naming : Naming) (stop : Stop) (records : List (List ℕ)) (before : Book)
     (once : Receipt) (events : List Event) (is : Bool)
     → Handles naming stop records once false before events is → IsUnhindered once
@@ -62,7 +62,7 @@ is_whole naming stop records before once events is
     (store_failed count kept open_before reopen within either stopped so made) unhindered =
     absurd (unhindered.store stopped)
 
--- The events are those of so many of the records, with some stop behind them.
+-- The events are those of the first so many records, with some stop after them.
 pub record AreOfFirst (naming : Naming) (records : List (List ℕ)) (before : Book)
     (made : List Event) : Type 0 where
   pub count : ℕ
@@ -86,7 +86,7 @@ of_first naming stop records before told made is
     (store_failed count kept open_before reopen within either stopped so events) =
     record { count = kept; stop = Ledger Store; events = events }
 
--- so many of the records again leave the book of an import of them all
+-- the first so many records again leave the book of an import of them all
 first_again : (naming : Naming) (before book : Book) (stop other : Stop) (count : ℕ)
     (records : List (List ℕ)) → book ≡ book_left naming before stop records
     → book_left naming book other (take count records) ≡ book
@@ -96,7 +96,7 @@ first_again naming before book stop other count records left =
     sym (left_is naming book other (take count records))
     ∙ again_from naming stop other count records (start_of before) (start_of book) is ∙ sym is
 
--- the law of it
+-- the law
 pub twice_is_once : TwiceIsOnce
 twice_is_once naming before stop again records once twice first second between is handled unhindered
     handled_again =

@@ -33,13 +33,13 @@ abbrev fault_of : Result (Unit {0}) LedgerFault → LedgerFault
 fault_of (Ok done) = Memory
 fault_of (Err fault) = fault
 
--- where a usage record was handed in and not counted, and how that came
+-- if a usage record was submitted and not counted, and how that came
 record IsRefusal (naming : Naming) (bytes : List ℕ) (fault : LedgerFault) (was : Bool)
     (before : Book) (late : List Event) (is : Bool) : Type 0 where
   usage : class_of bytes ≡ Usage
   fails : Fails (accept_outcome naming bytes before) fault was late is
 
--- that the record was not counted is the answer of the books
+-- that the record was not counted follows from the answer of the books
 usage_refused : (naming : Naming) (bytes : List ℕ) (receipt next : Receipt) (fault : LedgerFault)
     (was : Bool) (before : Book) (late : List Event) (is : Bool)
     (answer : Result Accepted LedgerFault)
@@ -76,7 +76,7 @@ events_more : (naming : Naming) (bytes : List ℕ) (stop : Stop) (receipt : Rece
 events_more naming bytes stop receipt before early (Ok given) = refl
 events_more naming bytes stop receipt before early (Err fault) = refl
 
--- a usage record that was not counted, behind those that were
+-- a usage record that was not counted, after those that were
 module _ (naming : Naming) (records : List (List ℕ)) (i : ℕ) (receipt : Receipt) (stop : Stop)
     (fault : LedgerFault) (within : i < length records)
     (usage : class_of (get_or records i []) ≡ Usage)
@@ -84,7 +84,7 @@ module _ (naming : Naming) (records : List (List ℕ)) (i : ℕ) (receipt : Rece
     (leads : (stop : Stop) (rest : List (List ℕ))
     → handle_all (answers_of was naming) stop (take i records ++ rest) (start_of before)
     ≡ handle_all (answers_of was naming) stop rest (so_far_at receipt before early)) where
-  -- those before it, with a fault behind them
+  -- those before it, with a fault after them,
   first_told : (cause : LedgerFault)
       → handle_first (answers_of was naming) i cause records before
       ≡ stop_with (Ledger cause) (so_far_at receipt before early)
@@ -112,7 +112,7 @@ module _ (naming : Naming) (records : List (List ℕ)) (i : ℕ) (receipt : Rece
       ∙ ap (λ answer. go_on (handle_all answers stop (drop (i + 1) records)) so_far
       (after_answer so_far event answer)) answer
 
-  -- memory ran out, or the store failed, behind so many events
+  -- memory ran out, or the store failed, after this many events
   told_first : (cause : LedgerFault) (events : List Event) → cause ≡ fault → events ≡ early
       → IsTold (handle_first (answers_of was naming) i cause records before)
       (record receipt { stop = Ledger fault }) events
@@ -122,7 +122,7 @@ module _ (naming : Naming) (records : List (List ℕ)) (i : ℕ) (receipt : Rece
     events = ap (λ (one : Imported). one.events) (first_told cause) ∙ sym none;
   }
 
-  -- the events where the books made the record's too
+  -- the events if the books made the record's too
   kept_too : was ≡ false → (events late : List Event) → events ≡ late ++ early
       → late ≡ listed (accept_outcome naming (get_or records i []) (after_all early before)).event
       → (handle_first (answers_of was naming) (i + 1) Store records before).events ≡ events
@@ -184,7 +184,7 @@ module _ (naming : Naming) (records : List (List ℕ)) (i : ℕ) (receipt : Rece
             ∙ sym (all ∙ ap (λ late. late ++ early) none);
       })
 
--- the last record was not counted, and changed nothing of the receipt
+-- the last record was not counted, and changed nothing in the receipt
 pub stopped_at : (naming : Naming) (records : List (List ℕ)) (i : ℕ)
     (receipt next told : Receipt) (stop : Stop) (fault : LedgerFault) → i < length records
     → next ≡ receipt → told ≡ record next { stop = Ledger fault }

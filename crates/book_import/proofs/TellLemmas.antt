@@ -1,4 +1,4 @@
--- What the stop of an import tells of the books.
+-- What the stop of an import says about the books.
 use Rattle.std.proofs.Common.{◌≡◌, ◌≢◌, ◌∙◌, ℕ, Bool, true, false, true≢false, List, [], ◌∷◌, refl}
 use Rattle.std.proofs.Common.{sym, ap, subst, Option, None, Some, Result, Ok, Err, ◌⊎◌, inl, inr}
 use Rattle.std.proofs.Common.{take, ◌||◌}
@@ -23,7 +23,7 @@ use Rattle.book_import.specs.Imports.{Handles, whole, out_of_memory, store_faile
 use Rattle.book_import.specs.Laws.{is_class_of_usage}
 use Rattle.book_import.specs.Stops.{has_usage, StaysToReopen, TellsStore, StopsTell}
 
--- a stop that comes where books are open and no store failed
+-- a stop that comes when books are open and no store failed
 abbrev IsCalm : Stop → Type 0
 IsCalm (Ledger Store) = ⊥
 IsCalm (Ledger Reopen) = ⊥
@@ -119,7 +119,7 @@ open_tells naming stop records told before events is dump
       no_reopen = λ other. subst IsStore (sym stopped ∙ other) tt;
     }
 
--- What came of records where the books were to be reopened: no event; and the stop is Reopen from
+-- What came of records when the books were to be reopened: no event; and the stop is Reopen from
 -- the first usage record on.
 record IsUntouched (stop : Stop) (records : List (List ℕ)) (so_far imported : Imported) : Type 0
   where
@@ -127,7 +127,7 @@ record IsUntouched (stop : Stop) (records : List (List ℕ)) (so_far imported : 
     reopen : has_usage records ≡ true → imported.receipt.stop ≡ Ledger Reopen
     either : (imported.receipt.stop ≡ Ledger Reopen) ⊎ (imported.receipt.stop ≡ stop)
 
--- the same of one record
+-- the same for one record
 abbrev LeavesEvents : Class → Imported → Result Imported LedgerFault → Type 0
 LeavesEvents class so_far (Ok next) =
     (next.events ≡ so_far.events) × (is_class_of_usage class ≡ false)
@@ -167,7 +167,7 @@ not_store : (stop other : Stop) → (stop ≡ Ledger Reopen) ⊎ (stop ≡ other
 not_store stop other (inl reopen) calm is = subst IsStore (sym is ∙ reopen) tt
 not_store stop other (inr same) calm is = subst IsCalm (sym same ∙ is) calm
 
--- of books that were to be reopened
+-- for books that were to be reopened
 closed_tells : (naming : Naming) (stop : Stop) (records : List (List ℕ)) (told : Receipt)
     (before : Book) (events : List Event) (is : Bool) → is_stop_of_books stop ≡ false
     → Handles naming stop records told true before events is
@@ -198,6 +198,6 @@ closed_tells naming stop records told before events is dump
     (store_failed count kept open_before reopen within either stopped so made) =
     absurd (true≢false open_before)
 
--- the law of it
+-- the law
 pub stops_tell : StopsTell
 stops_tell = record { closed = closed_tells; open_books = open_tells }

@@ -1,4 +1,4 @@
--- Records that are handed to the books one after another.
+-- Records that are submitted to the books one after another.
 use Rattle.std.specs.Prelude.{ℕ, Bool, true, false, List, [], ◌∷◌, ◌++◌, Option, None, Result, Ok}
 use Rattle.std.specs.Prelude.{Err, take}
 use Rattle.smf_type30.specs.declared.classes.Class.{Class}
@@ -18,7 +18,7 @@ use Rattle.book_import.specs.Receipts.{receipt_stopped, count_class, count_accep
 abbrev pub Answering : Type 0
 Answering = List ℕ → Book → Outcome Accepted
 
--- as the definitions say where the books are open, and Reopen where they are to be reopened
+-- as the definitions say if the books are open, and Reopen if they are to be reopened
 abbrev pub answers_of : Bool → Naming → Answering
 answers_of false naming bytes book = accept_outcome naming bytes book
 answers_of true naming bytes book = record { answer = Err Reopen; event = None }
@@ -59,13 +59,13 @@ handle_by answers bytes so_far class =
 abbrev pub handle : Answering → List ℕ → Imported → Result Imported LedgerFault
 handle answers bytes so_far = handle_by answers bytes so_far (class_of bytes)
 
--- a record that was refused ends the import; behind any other it goes on
+-- a record that was refused ends the import; after any other it goes on
 abbrev pub go_on : (Imported → Imported) → Imported → Result Imported LedgerFault → Imported
 go_on later so_far (Err fault) = stop_with (Ledger fault) so_far
 go_on later so_far (Ok next) = later next
 
--- records in order, up to the first that the books refuse; where they refuse none, there is this
--- stop behind the last
+-- records in order, up to the first that the books refuse; if they refuse none, there is this
+-- stop after the last
 abbrev pub handle_all : Answering → Stop → List (List ℕ) → Imported → Imported
 handle_all answers stop [] so_far = stop_with stop so_far
 handle_all answers stop (bytes ∷ rest) so_far =

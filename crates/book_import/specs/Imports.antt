@@ -23,7 +23,7 @@ abbrev pub IsCounted : Result Accepted LedgerFault → Receipt → Receipt
 IsCounted (Ok accepted) old new result = (new ≡ count_accepted accepted old) × (result ≡ Ok tt)
 IsCounted (Err fault) old new result = (new ≡ old) × (result ≡ Err fault)
 
--- a usage record was handed to the books
+-- a usage record was submitted to the books
 pub record HandsIn (naming : Naming) (bytes : List ℕ) (old new : Receipt)
     (result : Result (Unit {0}) LedgerFault) (was : Bool) (before : Book) (events : List Event)
     (is : Bool) : Type 0 where
@@ -48,7 +48,7 @@ counts_by class naming bytes old new result = CountsOther class old new result
 abbrev pub Counts : Naming → List ℕ → Receipt → Receipt → Result (Unit {0}) LedgerFault → Work
 Counts naming bytes = counts_by (class_of bytes) naming bytes
 
--- the import is told by this receipt and these events
+-- the import is described by this receipt and these events
 pub record IsTold (imported : Imported) (told : Receipt) (made : List Event) : Type 0 where
   pub receipt : imported.receipt ≡ told
   pub events : imported.events ≡ made

@@ -1,5 +1,5 @@
--- What becomes of the records of a dump that is handed to the books piece by piece. Words of the
--- code alone.
+-- What becomes of the records of a dump that is submitted to the books piece by piece. These are
+-- words of the code alone.
 use Rattle.std.specs.Prelude.{◌≡◌, ℕ, ◌+◌, ◌≤◌, Bool, true, false, List, ◌++◌, length, Option}
 use Rattle.std.specs.Prelude.{Some, None}
 use Rattle.smf_frames.specs.declared.dump.Layout.{Layout}
@@ -17,7 +17,7 @@ abbrev pub so_far_at : Receipt → Book → List Event → Imported
 so_far_at receipt before events =
     record { receipt = receipt; book = after_all events before; events = events }
 
--- Whatever comes behind the first records, handling them leads to this receipt and these events.
+-- Whatever comes after the first records, handling them leads to this receipt and these events.
 -- The books are open or not as they were.
 pub record LeadsTo (naming : Naming) (first : List (List ℕ)) (receipt : Receipt) (was : Bool)
     (before : Book) (events : List Event) (is : Bool) : Type 0 where
@@ -26,7 +26,7 @@ pub record LeadsTo (naming : Naming) (first : List (List ℕ)) (receipt : Receip
       → handle_all (answers_of was naming) stop (first ++ rest) (start_of before)
       ≡ handle_all (answers_of was naming) stop rest (so_far_at receipt before events)
 
--- Behind work that led to this receipt over the first records: with it, the work is such.
+-- After work that led to this receipt over the first records: together with that, the work is such.
 abbrev pub Behind : Naming → List (List ℕ) → Receipt → Work → Work
 Behind naming first receipt Made was before events is =
     (begun : Book) (early : List Event) → before ≡ after_all early begun
@@ -37,7 +37,7 @@ abbrev pub StopsAt : Naming → Layout → List ℕ → Receipt → Work
 StopsAt naming layout text told was before events is = (more : List ℕ) (cut : Option Stop)
     → Imports naming layout cut (text ++ more) told was before events is
 
--- a piece behind a text was handled: all of it, or up to a stop
+-- a piece after a text was handled: all of it, or up to a stop
 abbrev pub HandlesPiece : Naming → Layout → List ℕ → List ℕ → Receipt → Receipt → Option Stop
     → Work
 HandlesPiece naming layout text piece old new None = Behind naming (front layout text).records old
@@ -46,7 +46,7 @@ HandlesPiece naming layout text piece old new (Some stop) =
     Behind naming (front layout text).records old
     (StopsAt naming layout (text ++ piece) (record new { stop = stop }))
 
--- each record that a piece completes behind a text was counted; or the import was stopped early
+-- each record that a piece completes after a text was counted; or the import was stopped early
 abbrev pub CountsPiece : Layout → List ℕ → List ℕ → Receipt → Receipt → Option Stop → Type 0
 CountsPiece layout text piece old new None =
     length (front layout (text ++ piece)).records + counted old
@@ -54,7 +54,7 @@ CountsPiece layout text piece old new None =
 CountsPiece layout text piece old new (Some stop) =
     (is_early (front layout (text ++ piece)) stop ≡ true) × (counted old ≤ counted new)
 
--- a joiner took all of a piece that breaks no front, and no record stands
+-- a joiner took all of a piece that breaks no front, and holds no record
 pub record TakesAll (old : Joining) (piece : List ℕ) (new : Joining) : Type 0 where
   pub layout_is : new.layout ≡ old.layout
   pub none : new.standing ≡ None

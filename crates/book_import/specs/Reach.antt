@@ -15,7 +15,7 @@ use Rattle.book_import.specs.Receipts.{counted, is_stop_of_books}
 abbrev pub is_early : Front → Stop → Bool
 is_early front stop = is_stop_of_books stop || front.is_broken
 
--- Behind an early stop the reader had neither failed nor come to its end. Behind any other the
+-- After an early stop the reader had neither failed nor come to its end. After any other stop the
 -- reading went on to the input's end, to a failure, or to the last read that was allowed.
 pub record EndsBy (allowed : ℕ) (early : Bool) (input : Input) : Type 0 where
   pub in_midst : early ≡ true
@@ -24,8 +24,8 @@ pub record EndsBy (allowed : ℕ) (early : Bool) (input : Input) : Type 0 where
       → input.new.reads ≡ input.old.reads + allowed
 
 -- No read was made once the stop was known. Of the bytes that came, these came before the last read,
--- one or more with each: they have no fault at a descriptor, and this was done with their records.
--- With the last read came a piece at most; and nothing, where it failed or was the end.
+-- one or more for each: they have no fault at a descriptor, and this was done with their records.
+-- With the last read came at most a piece; and nothing, if it failed or was the end.
 pub record IsNoFurther (layout : Layout) (bytes : List ℕ) (AreDone : List (List ℕ) → Type 0)
     (input : Input) : Type 0 where
   pub before : List ℕ
@@ -37,7 +37,7 @@ pub record IsNoFurther (layout : Layout) (bytes : List ℕ) (AreDone : List (Lis
   pub unbroken : (front layout before).is_broken ≡ false
   pub done : AreDone (front layout before).records
 
--- These bytes were taken from the reader for this receipt, and no more than it wanted: it counts
+-- These bytes were taken from the reader for this receipt, and no more than it needed: it counts
 -- each record that was whole before the last read.
 pub record IsReadFor (layout : Layout) (allowed : ℕ) (bytes : List ℕ) (told : Receipt)
     (input : Input) : Type 0 where

@@ -1,4 +1,4 @@
--- The same import twice in a row, and behind a stop.
+-- The same import twice in a row, and after a stop.
 use Rattle.std.specs.Prelude.{◌≡◌, ◌≢◌, ℕ, Bool, false, List, ◌++◌}
 use Rattle.book_model.specs.declared.fault.LedgerFault.TheVariants.{DigestClash, Memory, Store}
 use Rattle.book_model.specs.Words.{Naming, Book, Event, after_all}
@@ -8,14 +8,14 @@ use Rattle.book_import.specs.declared.receipt.Stop.TheVariants.{Ledger}
 use Rattle.book_import.specs.Imports.{Handles}
 use Rattle.book_import.specs.Laws.{book_left}
 
--- neither want of memory nor the store stopped the import
+-- neither a lack of memory nor the store stopped the import
 pub record IsUnhindered (told : Receipt) : Type 0 where
   pub memory : told.stop ≢ Ledger Memory
   pub store : told.stop ≢ Ledger Store
 
--- Twice is once: where neither want of memory nor the store stopped the import of records into open
+-- Twice is once: if neither a lack of memory nor the store stopped the import of records into open
 -- books, the same records imported again leave the books as they are, whatever else stopped either
--- import, and also where the books refused a record.
+-- import, even if the books refused a record.
 abbrev pub TwiceIsOnce : Type 0
 TwiceIsOnce =
     (naming : Naming) (before : Book) (stop again : Stop) (records : List (List ℕ))
@@ -25,8 +25,8 @@ TwiceIsOnce =
     → after_all (second ++ first) before ≡ after_all first before
 
 -- Stops are mended: from each of the books that an import may have left, whatever stopped it, the
--- same records imported again leave the books of one whole import, where neither want of memory nor
--- the store stops that, nor two records of one name.
+-- same records imported again leave the books of one whole import, if that is not stopped by a lack
+-- of memory, by the store, or by two records of one name.
 abbrev pub StopsAreMended : Type 0
 StopsAreMended =
     (naming : Naming) (before : Book) (stop again : Stop) (records : List (List ℕ))

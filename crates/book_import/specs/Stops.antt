@@ -1,4 +1,4 @@
--- What the stop of an import tells of the books.
+-- What the stop of an import says about the books.
 use Rattle.std.specs.Prelude.{◌≡◌, ◌≢◌, ◌⊎◌, ℕ, Bool, true, false, List, []}
 use Rattle.std.specs.List.{list_any}
 use Rattle.book_model.specs.Words.{class_of, Naming, Book, Event}
@@ -24,14 +24,14 @@ pub record StaysToReopen (records : List (List ℕ)) (told : Receipt) (events : 
       → (told.stop ≡ Ledger Reopen) ⊎ (told.stop ≡ Ledger Memory)
   pub no_store : told.stop ≢ Ledger Store
 
--- The import of open books: they are to be reopened now exactly where the stop is Store, and no
+-- The import of open books: they are to be reopened now exactly if the stop is Store, and no
 -- record is answered Reopen.
 pub record TellsStore (told : Receipt) (is : Bool) : Type 0 where
   pub store : told.stop ≡ Ledger Store → is ≡ true
   pub fails : is ≡ true → told.stop ≡ Ledger Store
   pub no_reopen : told.stop ≢ Ledger Reopen
 
--- Where the stop behind the last record is that of a dump, the receipt's stop tells whether a store
+-- If the stop after the last record is that of a dump, the receipt's stop shows whether a store
 -- failed, and whether the books were to be reopened.
 pub record StopsTell : Type 0 where
   pub closed :

@@ -23,7 +23,7 @@ pub(crate) fn cut<R: Read + Drop>(source: &Source<R>) -> Option<Stop>
     }
 }
 
-/// The stop behind the last record, where what a joiner took is the whole dump.
+/// The stop after the last record, if what a joiner took is the whole dump.
 pub(crate) fn dump_end(joiner: &Joiner) -> Stop
     ensures stop { (text : List ℕ) → StandsAfter text joiner.now
         → result ≡ frame_stop (front joiner.now.layout text).fault }
@@ -35,8 +35,8 @@ pub(crate) fn dump_end(joiner: &Joiner) -> Stop
     }
 }
 
-/// The stop behind the last record of what a joiner took of a source that is read no further. Where
-/// something cut the reading short, that is the stop, and not what is undone for want of more.
+/// The stop after the last record of what a joiner took from a source that is read no further. If
+/// something cut the reading short, that is the stop, and not what is undone for lack of more.
 pub fn reading_end<R: Read + Drop>(source: &Source<R>, joiner: &Joiner) -> Stop
     ensures stop { (text : List ℕ) → StandsAfter text joiner.now → result
         ≡ unwrap_or (cut_of source.now) (frame_stop (front joiner.now.layout text).fault) }

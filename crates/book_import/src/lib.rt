@@ -1,4 +1,4 @@
-//! Dumps into a ledger, and the receipts for them.
+//! Imports of dumps into a ledger, and the receipts for them.
 #![tactic(auto)]
 
 mod ending;

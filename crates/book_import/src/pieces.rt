@@ -9,7 +9,7 @@ use crate::records::handle;
 use book_core::Ledger;
 use smf_frames::Joiner;
 
-/// Hands the records that a piece completes to the books, in order. Gives the stop, where a
+/// Submits the records that a piece completes to the books, in order. Returns the stop, if a
 /// descriptor has a fault or the books refuse a record.
 pub(crate) fn import_piece<L: Ledger>(
     ledger: &mut L,

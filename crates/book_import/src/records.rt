@@ -21,7 +21,7 @@ fn count_accepted(receipt: &mut Receipt, accepted: Accepted)
     }
 }
 
-/// Counts a record of a class that the books are not asked about.
+/// Counts a record of a class about which the books are not asked.
 fn count_class(receipt: &mut Receipt, class: Class)
     requires { counted receipt.old < 2 ^ 63 }
     ensures { receipt.new ≡ spec.count_class class receipt.old }
@@ -37,7 +37,7 @@ fn count_class(receipt: &mut Receipt, class: Class)
     }
 }
 
-/// Hands one record to the books where it is usage, and counts it.
+/// Submits one record to the books if it is usage, and counts it.
 pub(crate) fn handle<L: Ledger>(
     ledger: &mut L,
     receipt: &mut Receipt,

@@ -16,9 +16,9 @@ use smf_frames::{Joiner, Layout};
 use std::alloc::Global;
 use std::io::Read;
 
-/// Reads a dump to its end, in at most so many reads, and hands its records to the books in order.
-/// Where it stops before, nothing more is read. No more than a piece and a record of the dump is
-/// held at a time.
+/// Reads a dump to its end, in at most so many reads, and submits its records to the books in
+/// order. If it stops before the end, nothing more is read. At most a piece and a record of the
+/// dump are held at a time.
 pub fn import<R: Read + Drop, L: Ledger>(
     alloc: Global,
     source: &mut Source<R>,
@@ -31,8 +31,8 @@ pub fn import<R: Read + Drop, L: Ledger>(
     requires ended { has_ended source.old ≡ false }
     requires reads { reads ≤ most_reads }
 
-    // These bytes were taken from the reader, up to the stop and no further, and booked. Where the
-    // source has ended, they are all that a reader had which tells its bytes.
+    // These bytes were taken from the reader, up to the stop and no further, and booked. If the
+    // source has ended, they are all the bytes of a reader that shows its bytes.
     ensures booked { (bytes : List ℕ)
         × IsReadFor layout reads bytes result (input R.remaining source.old source.new)
         × IsWork (L.seen ledger.old) (L.seen ledger.new)
@@ -57,7 +57,7 @@ pub fn import<R: Read + Drop, L: Ledger>(
     receipt.stopped_by(reading_end(source, &joiner))
 }
 
-/// Hands the records of a dump to the books, in order. These bytes are the whole dump.
+/// Submits the records of a dump to the books, in order. These bytes are the whole dump.
 pub fn import_bytes<L: Ledger>(
     alloc: Global,
     ledger: &mut L,

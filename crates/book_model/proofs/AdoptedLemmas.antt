@@ -68,7 +68,7 @@ module _ (rulings : Rulings) (held : Records) (chosen : All (IsChoiceOf held) ru
     abbrev ruled : Rulings
     ruled = with_second_rule rulings
 
-    -- who had no rival has none
+    -- a record that had no rival has none
     unrivalled_still : (one : List ℕ) → has held one ≡ true
         → is_unrivalled rulings held one ≡ true → is_unrivalled ruled held one ≡ true
     unrivalled_still one there alone =
@@ -126,7 +126,7 @@ module _ (rulings : Rulings) (held : Records) (chosen : All (IsChoiceOf held) ru
             ap (λ x. u' || x) (second both) ∙ or-true u'
 
 -- Records that measure work and have one identity by the second rule have one by the first: its
--- bytes stand in front.
+-- bytes come first.
 pub identities_split : (a b : List ℕ) → IsUsage a → IsUsage b
     → same_bytes (identity2_of a) (identity2_of b) ≡ true
     → same_bytes (identity_of a) (identity_of b) ≡ true

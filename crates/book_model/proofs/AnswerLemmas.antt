@@ -47,7 +47,7 @@ accept_event-refused : (bytes : List ℕ) (fault : LedgerFault)
     → accept_event bytes (Err fault) ≡ None
 accept_event-refused bytes fault = refl
 
--- a record that was handed in
+-- a record that was submitted
 pub accept_calls : (naming : Naming) (bytes : List ℕ) (old new : Book)
     (result : Result Accepted LedgerFault)
     → Answers (λ (value : Accepted). value) result (accept_answer naming old bytes)
@@ -63,7 +63,7 @@ pub tariff_event-refused : (text : List ℕ) (said : Result Terms TariffFault) (
 tariff_event-refused text (Ok terms) fault = refl
 tariff_event-refused text (Err refused) fault = refl
 
--- a tariff file that was handed in
+-- a tariff file that was submitted
 pub tariff_calls : (text : List ℕ) (old new : Book) (result : Result Ruled LedgerFault)
     → Answers (λ (value : Ruled). value) result (tariff_answer old text (terms_in text))
     → new ≡ after_any (tariff_event text (terms_in text) result) old

@@ -43,7 +43,7 @@ chosen_held held (choice ∷ choices) all one among =
       | false ↦ λ apart among. rest among
     ] refl among
 
--- the last of those of a list that pass a test passes it, and is one of the list, or stood before
+-- the last of those of a list that pass a test passes it, and is one of the list, or came before
 pub last_passes : {X : Type 0} (p : List ℕ → Bool) (list : List (List ℕ)) (was : Option (List ℕ))
     (one : List ℕ) → last_or was (filter p list) ≡ Some one
     → (was ≡ Some one → X)

@@ -30,7 +30,7 @@ module _ {N V Y : Type 0} {R : N → N → Ordering} {S : Y → Y → Ordering} 
   joined None ys = ys
   joined (Some y) ys = insert_key S ys y
 
-  -- to put it in front of a list is to put it in its place
+  -- to put it at the head of a list is to put it in its place
   in_place : (given : Option Y) (ys : List Y)
       → ordered (cons_option given ys) ≡ joined given (ordered ys)
   in_place None ys = refl
@@ -60,7 +60,7 @@ module _ {N V Y : Type 0} {R : N → N → Ordering} {S : Y → Y → Ordering} 
             | false ↦ λ e. refl
           ] refl
 
-  -- an entry more, in its place or in front
+  -- one more entry, in its place or at the head
   read-put : (k : N) (v : V) (es : List (N × V)) → find R k es ≡ None
       → ordered (filter_map give (put R k v es)) ≡ ordered (filter_map give ((k, v) ∷ es))
   read-put k v [] none = refl

@@ -78,7 +78,7 @@ module _ {N V : Type 0} {R : N → N → Ordering} (o : IsTotalOrder R) (exact :
         (λ q. sym (get-entries m q) ∙ get-from_entries o es q)
 
     module _ (p : N × V → Bool) where
-      -- an entry more, in its place or in front
+      -- one more entry, in its place or at the head
       filter-put : (n : N) (v : V) (es : List (N × V)) → find R n es ≡ None
           → IsPermutation (filter p (put R n v es)) (filter p ((n, v) ∷ es))
       filter-put n v [] none = IsPermutation-refl (filter p ((n, v) ∷ []))

@@ -27,7 +27,7 @@ map-filter_map {Z = Z} f g (x ∷ xs) =
 
 module _ {N : Type 0} {R : N → N → Ordering} (o : IsTotalOrder R) (exact : IsAntisymmetric R)
     {V : Type 0} where
-  -- An entry that one element makes, in front of others or not: it is found at its key, and the
+  -- An entry that one element makes, before others or not: it is found at its key, and the
   -- others are found as before, where none of them has its key.
   behind : (given : Option (N × V)) (old new : List (N × V)) (n : N) (v : V) (q : N)
       → find R n (cons_option given old) ≡ None
@@ -52,7 +52,7 @@ module _ {N : Type 0} {R : N → N → Ordering} (o : IsTotalOrder R) (exact : I
             (λ other. refl)
       ] refl none
 
-  -- an entry in front is found at its key
+  -- an entry at the head is found at its key
   at_front : (given : Option (N × V)) (rest : List (N × V)) (n : N) (v : V) → given ≡ Some (n, v)
       → find R n (cons_option given rest) ≡ Some v
   at_front given rest n v is =
@@ -68,8 +68,8 @@ module _ {N : Type 0} {R : N → N → Ordering} (o : IsTotalOrder R) (exact : I
       ap (λ b. cond b (Some entry.1) (find R n rest)) first ∙ none
 
   module _ {K : Type 0} {S : K → K → Ordering} (e : K → Option (N × V)) where
-    -- A list in order with one element more, which makes an entry whose key no other has: the entry
-    -- is found at its key, and the others are found as before.
+    -- A list in order with one more element, which makes an entry with a key that no other has: the
+    -- entry is found at its key, and the others are found as before.
     pub find-insert_key : IsAntisymmetric S → (k : K) (n : N) (v : V) → e k ≡ Some (n, v)
         → (xs : List K)
         → find R n (filter_map e xs) ≡ None → (q : N)

@@ -56,11 +56,11 @@ pub held_all : (k : ℕ) (history : List Event) → length (closes history) < k
     → held_before k history ≡ held_after history
 held_all k history after = ap (λ before. set_of by_bytes (kept before)) (before_all k history after)
 
--- a choice that was made before the close that came after so many others
+-- a choice that was made before the close that came after the given number of others
 abbrev pub made_before : ℕ → Choice → Bool
 made_before others choice = nat_le choice.period (suc others)
 
--- a choice that is made then stands behind the others before a close to come
+-- a choice that is made then comes after the others before a close to come
 chosen_last : (others : ℕ) (bytes : List ℕ) (older : List Event) → length (closes older) ≤ others
     → filter (made_before others) (choices (RecordChosen bytes ∷ older))
     ≡ filter (made_before others) (choices older)
@@ -119,7 +119,7 @@ adopted_all others (SecondRuleAdopted ∷ older) to_come =
     adopted_then others (open_after older) (adopted older) (omega arith)
     (adopted_all others older to_come)
 
--- and an adoption does not stand before a close that came
+-- and an adoption does not come before a close that came
 adopted_late : (others period : ℕ) (was : Option ℕ) → suc others < period
     → option_and_then (if_before others) (Some (unwrap_or was period))
     ≡ option_and_then (if_before others) was
@@ -127,7 +127,7 @@ adopted_late others period None late =
     ap (λ b. cond b (Some period) None) (lt-leb period (suc others) late)
 adopted_late others period (Some first) late = refl
 
--- all rulings stood before a close that comes next
+-- all rulings came before a close that comes next
 pub rulings_all : (history : List Event)
     → rulings_before (length (closes history)) (rulings history) ≡ rulings history
 rulings_all history =
@@ -286,7 +286,7 @@ charged_stays (suc k) event older came =
     ∙ charged_by-tariffs (rulings_before k (rulings older)) (tariffs (event ∷ older))
     (day_of_close (suc k) older) (held_before (suc k) older)
 
--- the rulings before a close are all that stood when it came
+-- the rulings before a close are all that there were when it came
 pub rulings_closed : (day : ℤ) (older : List Event)
     → rulings_before (length (closes older)) (rulings (PeriodClosed day ∷ older)) ≡ rulings older
 rulings_closed day older =

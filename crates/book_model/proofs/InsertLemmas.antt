@@ -39,7 +39,7 @@ module _ {K : Type 0} {R : K → K → Ordering} (o : IsTotalOrder R) where
             ∙ ap (λ r. placed r a x (insert_key R xs b)) a_more)
       ] refl
     where
-      -- the first is behind the lesser one
+      -- the first comes after the lesser one
       below : R a x ≡ Less → a ∷ insert_key R (x ∷ xs) b ≡ insert_key R (insert_key R (x ∷ xs) b) a
       below a_less =
           elim (R b x) as (λ r. R b x ≡ r

@@ -1,4 +1,4 @@
--- Tariffs that stand in the order of their first days: the latest that has begun is the last.
+-- Tariffs in the order of their first days: the latest that has begun is the last.
 use Rattle.std.proofs.Common.{◌≡◌, ℕ, List, [], ◌∷◌, ◌++◌, refl, sym, ap, ◌∙◌, cond, true, false}
 use Rattle.std.proofs.Common.{Bool, not, ◌&&◌, Option, Some, None}
 use Rattle.std.specs.Prelude.{ℤ, int_lt, filter, find, reverse}
@@ -35,7 +35,7 @@ later-before day rulings later = first_of _ _ (sym (is_later-by day rulings) ∙
 abbrev pub precedes : Tariffed → Tariffed → Bool
 precedes one other = int_lt one.terms.effective other.terms.effective
 
--- behind others, one more is after a day where they are, and it is
+-- after others, one more is after a day where they are, and it is
 all-behind : (p : Tariffed → Bool) (tariffs : List Tariffed) (later : Tariffed)
     → list_all p tariffs ≡ true → p later ≡ true → list_all p (tariffs ++ later ∷ []) ≡ true
 all-behind p [] later all one = ap (λ b. b && true) one
@@ -154,7 +154,7 @@ price_under-found tariffs bytes day found rise is at =
     ∙ ap (priced_by bytes) (begun-last tariffs day rise ∙ sym at)
     ∙ priced_by-found bytes found
 
--- behind tariffs that begin before it, a tariff that has begun is the latest that has
+-- after tariffs that begin before it, a tariff that has begun is the latest that has
 latest_new : (begun : Tariffed → Bool) (tariffs : List Tariffed) (new : Tariffed)
     → list_all (λ tariff. precedes tariff new) tariffs ≡ true → begun new ≡ true
     → latest (filter begun (tariffs ++ new ∷ [])) ≡ Some new

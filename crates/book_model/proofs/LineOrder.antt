@@ -141,7 +141,7 @@ rising_too (line ∷ lines) rising = (all_above lines rising.0, rising_too lines
       all_above others above.1,
     )
 
--- lines of different names that stand by day, then name, strictly rise
+-- lines of different names that are in order by day, then name, strictly rise
 lines_rise : (lines : List Line) → IsDistinct same_bytes (map (λ line. line.name) lines)
     → IsSorted by_day_and_name lines → IsStrictlySortedBy by_line lines
 lines_rise lines distinct in_order =

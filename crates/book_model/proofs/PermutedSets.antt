@@ -49,7 +49,7 @@ module _ {X K : Type 0} (f : X → K) (p : X → Bool) where
         | false ↦ rest
       ]
 
-  -- what a function tells apart of all elements, it tells apart of some
+  -- what a function keeps apart of all elements, it keeps apart of some
   pub IsDistinct-map_filter : (e : K → K → Bool) (xs : List X) → IsDistinct e (map f xs)
       → IsDistinct e (map f (filter p xs))
   IsDistinct-map_filter e [] distinct = distinct
@@ -63,13 +63,13 @@ module _ {X K : Type 0} (f : X → K) (p : X → Bool) where
       ]
 
 module _ {K Y : Type 0} (R : K → K → Ordering) (give : K → Option Y) where
-  -- the same, and something more or nothing in front of both
+  -- the same, and something more or nothing at the head of both
   cons_permuted : (first : Option Y) (xs ys : List Y) → IsPermutation xs ys
       → IsPermutation (cons_option first xs) (cons_option first ys)
   cons_permuted None xs ys same = same
   cons_permuted (Some y) xs ys same = IsPermutation-cons y xs ys same
 
-  -- two in front may change places
+  -- the first two may change places
   cons_swapped : (first second : Option Y) (xs : List Y)
       → IsPermutation (cons_option first (cons_option second xs))
       (cons_option second (cons_option first xs))
@@ -77,7 +77,7 @@ module _ {K Y : Type 0} (R : K → K → Ordering) (give : K → Option Y) where
   cons_swapped (Some y) None xs = IsPermutation-refl (y ∷ xs)
   cons_swapped (Some y) (Some z) xs = IsPermutation-middle (y ∷ []) z xs
 
-  -- what is given of an element in its place stands among what is given of the others
+  -- what is given of an element in its place is among what is given of the others
   insert_given : (k : K) (xs : List K) → list_any (eq_by_cmp R k) xs ≡ false
       → IsPermutation (filter_map give (insert_key R xs k)) (filter_map give (k ∷ xs))
   insert_given k [] new = IsPermutation-refl (filter_map give (k ∷ []))
@@ -118,7 +118,7 @@ given_itself : {K : Type 0} (ks : List K) → filter_map Some ks ≡ ks
 given_itself [] = refl
 given_itself (k ∷ ks) = ap (λ rest. k ∷ rest) (given_itself ks)
 
--- the set of a list whose elements are apart has them, in another order
+-- the set of a list with elements that are apart has them, in another order
 pub members_permuted : {K : Type 0} (R : K → K → Ordering) → IsTotalOrder R → (ks : List K)
     → Apart (eq_by_cmp R) ks → IsPermutation (members (set_of R ks)) ks
 members_permuted {K} R o ks apart =
@@ -203,7 +203,7 @@ module _ {K : Type 0} {R : K → K → Ordering} (o : IsTotalOrder R) where
             absurd (true≢false (sym (ap is_lt below) ∙ in_order))
       ] refl differ
 
-  -- distinct elements that stand in order strictly rise
+  -- distinct elements that are in order strictly rise
   pub rising_from_sorted : (xs : List K) → IsDistinct (eq_by_cmp R) xs → IsSorted R xs
       → IsStrictlySortedBy R xs
   rising_from_sorted [] distinct in_order = subst (IsStrictlySortedBy R) (members-empty R)

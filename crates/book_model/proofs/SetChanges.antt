@@ -164,7 +164,7 @@ none_of : (k : List ℕ) (ks : List (List ℕ)) → AllByRecursion (λ y. by_byt
 none_of k [] below = refl
 none_of k (x ∷ xs) below = λ i. is_eq (below.0 i) || none_of k xs below.1 i
 
--- of a list that rises, an element behind the first is not the first
+-- of a list that rises, an element after the first is not the first
 pub not_first : (k : List ℕ) (ks : List (List ℕ)) → IsStrictlySortedBy by_bytes (k ∷ ks)
     → (bytes : List ℕ) → list_any (is bytes) ks ≡ true → is bytes k ≡ false
 not_first k ks rising bytes among =

@@ -1,4 +1,4 @@
--- What is answered to a record that is handed in.
+-- What is answered to a record that is submitted.
 use Rattle.std.specs.Prelude.{ℕ, Bool, ◌+◌, ◌||◌, nat_lt, nat_le, if◌then◌else◌, List, length}
 use Rattle.std.specs.Prelude.{sum_by, Option, Some, None, Result, Ok, Err}
 use Rattle.std.specs.List.{list_any}
@@ -22,7 +22,7 @@ clashes naming held bytes =
 abbrev pub total_of : Rulings → Records → ℕ
 total_of rulings records = sum_by (λ priced. priced.amount) (prices rulings records)
 
--- so many records are held, or so much do they cost with this one, that it cannot be held too
+-- the record cannot be held too: too many are held, or they would cost too much with this one
 abbrev pub is_full : Book → ℕ → Bool
 is_full book amount =
     nat_le most_held (length (members book.held))

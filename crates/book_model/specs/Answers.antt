@@ -6,7 +6,7 @@ use Rattle.book_model.specs.Books.{Book}
 use Rattle.book_model.specs.Events.{Event, after_any}
 use Rattle.book_model.specs.Outcomes.{Outcome}
 
--- a call answered this, by a view of what it returns; want of memory may stand in place of any
+-- a call answered this, by a view of what it returns; or memory ran out, which may replace any
 -- answer
 abbrev pub Answers : {V A : Type 0} → (V → A) → Result V LedgerFault → Result A LedgerFault → Type 0
 Answers view (Ok value) answer = answer ≡ Ok (view value)

@@ -30,7 +30,7 @@ ledger_number OldRule = 14
 ledger_number (TariffRefused fault) = 15
 ledger_number NotBooks = 16
 
--- what a ledger answers where a tariff file was not read: want of memory is a fault of its own
+-- what a ledger answers where a tariff file was not read: a lack of memory is a fault of its own
 abbrev pub refusal_of : TariffFault → LedgerFault
 refusal_of tariff.Memory = Memory
 refusal_of fault = TariffRefused fault

@@ -55,7 +55,7 @@ SettledPricesStay =
     → is_dated_after (last_close book.rulings) bytes ≡ false
     → price_in (with_tariff (Some text) terms book.rulings) bytes ≡ price_in book.rulings bytes
 
--- Of tariffs of which each begins later than those before it, the one in force on a day is the last
+-- Of tariffs that each begin later than those before them, the one in force on a day is the last
 -- that has begun; and so are the tariffs of a history that calls made.
 pub record LatestIsLast : Type 0 where
   pub rising : (naming : Naming) (history : List Event) → IsAnswered naming history

@@ -1,4 +1,4 @@
--- Adjustment lines: what a period adds to closed periods and takes back, as it is read.
+-- Adjustment lines: what a period adds to closed periods and reverses, as it is read.
 use Rattle.std.specs.Prelude.{Bool, true, false, List, ◌++◌, ◌<◌, ◌^◌, All, sum_by}
 use Rattle.std.specs.declared.cmp.Ordering.{Ordering}
 use Rattle.std.specs.declared.cmp.Ordering.TheVariants.{Less, Equal, Greater}
@@ -43,8 +43,8 @@ lines_of naming rulings period =
     members (set_of by_line
     (lines_for naming rulings true period.added ++ lines_for naming rulings false period.taken))
 
--- lines that a list of adjustments can show: they are dated on days, and a signed number of 64 bits
--- holds the total of any of them
+-- lines that a list of adjustments can show: they are dated on days, and the total of any of them
+-- fits a signed number of 64 bits
 pub record AreLines (lines : List Line) : Type 0 where
   pub days : All (λ line. IsDay line.priced.day) lines
   pub amount : sum_by (λ line. line.priced.amount) lines < 2 ^ 63

@@ -47,7 +47,7 @@ keys_of priced = members (set_of by_key (map key_of priced))
 abbrev pub rows_of : List Priced → List ChargeRow
 rows_of priced = map (row_at priced) (keys_of priced)
 
--- prices whose sums 64 bits hold
+-- prices with sums that fit 64 bits
 pub record FitSums (priced : List Priced) : Type 0 where
   pub cpu : sum_by (λ one. one.cpu) priced < 2 ^ 64
   pub blocks : sum_by (λ one. one.excp) priced < 2 ^ 64
@@ -57,7 +57,7 @@ pub record FitSums (priced : List Priced) : Type 0 where
 abbrev pub rows_for : Rulings → Records → List ChargeRow
 rows_for rulings counted = rows_of (prices rulings counted)
 
--- rows that a statement can show: they are dated on days, and 64 bits hold their totals
+-- rows that a statement can show: they are dated on days, and their totals fit 64 bits
 pub record AreRows (rows : List ChargeRow) : Type 0 where
   pub days : All (λ row. IsDay row.day) rows
   pub count : sum_by (λ row. row.count) rows < 2 ^ 64

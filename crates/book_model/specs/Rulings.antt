@@ -1,5 +1,5 @@
 -- What the office ruled: its tariffs, its closes, its choices among disputed records and its rule
--- of identity; what a record costs by them, and whose work it measures.
+-- of identity; what a record costs by them, and which work it measures.
 use Rattle.std.specs.Prelude.{ℕ, suc, ◌+◌, nat_le, Bool, true, not, ◌&&◌, if◌then◌else◌, List, []}
 use Rattle.std.specs.Prelude.{◌∷◌, ◌++◌, filter, length, take, Option, Some, None, unwrap_or, ℤ}
 use Rattle.std.specs.Prelude.{int_lt}
@@ -37,16 +37,16 @@ no_rulings = record { tariffs = []; closes = []; choices = []; adopted = None }
 abbrev pub open_by : Rulings → ℕ
 open_by rulings = length rulings.closes + 1
 
--- the rulings with one tariff more
+-- the rulings with one more tariff
 abbrev pub with_tariff : Option (List ℕ) → Terms → Rulings → Rulings
 with_tariff text terms rulings =
     record rulings { tariffs = rulings.tariffs ++ record { text = text; terms = terms } ∷ [] }
 
--- the rulings with one close more
+-- the rulings with one more close
 abbrev pub with_close : ℤ → Rulings → Rulings
 with_close day rulings = record rulings { closes = rulings.closes ++ day ∷ [] }
 
--- the rulings with one choice more
+-- the rulings with one more choice
 abbrev pub with_choice : List ℕ → Rulings → Rulings
 with_choice bytes rulings = record rulings {
   choices = rulings.choices ++ record { chosen = bytes; period = open_by rulings } ∷ [];
@@ -58,13 +58,13 @@ abbrev pub with_second_rule : Rulings → Rulings
 with_second_rule rulings =
     record rulings { adopted = Some (unwrap_or rulings.adopted (open_by rulings)) }
 
--- a period, where it was open before the close that came after so many others
+-- a period, where it was open before the close that came after the given number of others
 abbrev pub if_before : ℕ → ℕ → Option ℕ
 if_before others period = if nat_le period (suc others) then Some period else None
 
--- The rulings before the close that came after so many others: what was ruled while a period was
--- open is before the close of that period. A tariff that came later stays among them: it changes no
--- price of a record that is dated no later than that close.
+-- The rulings before the close that came after the given number of others: what was ruled while a
+-- period was open is before the close of that period. A tariff that came later stays among them: it
+-- changes no price of a record that is dated no later than that close.
 abbrev pub rulings_before : ℕ → Rulings → Rulings
 rulings_before others rulings = record rulings {
   closes = take others rulings.closes;
@@ -109,7 +109,7 @@ price_in rulings bytes = price_under rulings.tariffs bytes
 abbrev pub prices : Rulings → Records → List Priced
 prices rulings records = filter_map (price_in rulings) (members records)
 
--- whose work a record measures, by the rule in force
+-- which work a record measures, by the rule in force
 abbrev pub identity_by : Rulings → List ℕ → List ℕ
 identity_by rulings bytes =
     option_map_or (λ period. identity2_of bytes) rulings.adopted (identity_of bytes)

@@ -1,5 +1,5 @@
 -- The words of the standard, the tariffs and the books, from one place, for the crates above. Read
--- in the order of `specs/Lib.antt` of each crate: what a word says stands there.
+-- in the order of `specs/Lib.antt` of each crate: it says what each word means.
 pub use Rattle.smf_text.specs.Day.{IsDay, date_of, day_text_of}
 pub use Rattle.smf_text.specs.Names.{IsName, is_name_character}
 pub use Rattle.smf_text.specs.CodePage.{show_text}

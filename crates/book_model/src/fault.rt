@@ -9,20 +9,20 @@ use thiserror::Error;
 #[derive(Clone, Copy, Debug, PartialEq, Eq, Error)]
 pub enum LedgerFault {
     /// A request for memory was refused.
-    #[error("want of memory")]
+    #[error("out of memory")]
     Memory,
     /// The store refused a call for another cause than memory.
     #[error("the store failed")]
     Store,
     /// An earlier call was answered `Store`: the books are to be opened again.
-    #[error("the books are to be opened again")]
+    #[error("the books have to be opened again")]
     Reopen,
     /// The books have no room: for a record, its amount, a period, or what records would cost under
     /// a tariff.
     #[error("the books are full")]
     Full,
     /// A record that is held has the name of this one, and other bytes.
-    #[error("two records have one name")]
+    #[error("two records have the same name")]
     DigestClash,
     /// A tariff's effective day is not after the last close, or not after the last tariff.
     #[error("the tariff comes into force too early")]

@@ -7,7 +7,7 @@ pub struct Line {
     pub plus: bool,
     /// The name of the record's data.
     pub name: [u8; 32],
-    /// In code page 037, as it stands in the record.
+    /// In code page 037, as it is in the record.
     pub job: [u8; 8],
     /// What the record costs.
     pub priced: Priced,

@@ -5,7 +5,7 @@ use Rattle.std.specs.Option.{option_copied}
 use Rattle.std.specs.Slice.{IsItemAt}
 use Rattle.std.proofs.lemmas.Option.{slice_get_past, slice_get_read}
 
--- the element that was looked up, copied
+-- a copy of the element that was looked up
 pub copied_item : {X : Type 0} (xs : List X) (i : ℕ) (found : Option (Bor X))
     → IsItemAt xs i found → option_copied found ≡ slice_get xs i
 copied_item xs i None is = sym (slice_get_past xs i is.3)

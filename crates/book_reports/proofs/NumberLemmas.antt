@@ -1,4 +1,4 @@
--- Lines that are numbered, one further.
+-- Numbered lines, with one line more.
 use Rattle.std.proofs.Common.{◌≡◌, ℕ, ◌+◌, List, [], ◌∷◌, ◌++◌, length, arith}
 use Rattle.std.proofs.Common.{append_assoc, append-nil}
 use Rattle.std.proofs.lemmas.Grind.{common_steps}
@@ -12,7 +12,7 @@ lines-append number [] later = grind (arith, common_steps)
 lines-append number (first ∷ rest) later =
     grind (arith, common_steps, append_assoc, lines-append (number + 1) rest later)
 
--- the lines of one record more end with the line of that record
+-- the lines with one more record end with the line of that record
 pub one_more_line : (records : List (List ℕ)) (bytes : List ℕ)
     → record_lines 1 (records ++ bytes ∷ [])
     ≡ record_lines 1 records ++ record_line (length records + 1) bytes

@@ -1,4 +1,4 @@
--- Lists that are read of a ledger, and what is made of them: one reading call stands for another.
+-- Lists that are read from a ledger, and what is made from them: a reading call stands for another.
 use Rattle.std.proofs.Common.{◌≡◌, ◌∙◌, Bool, false, List, [], ◌++◌, refl, sym, ap, subst}
 use Rattle.std.proofs.Common.{◌||◌, inl, inr, None, Result, Ok, Err}
 use Rattle.book_model.specs.declared.fault.LedgerFault.{LedgerFault}
@@ -9,7 +9,7 @@ use Rattle.book_core.specs.Work.{Then}
 use Rattle.book_core.specs.Calls.{Calls, IsCall, Makes, Reopens, listed, is_store, is_reopen}
 use Rattle.book_core.proofs.WorkLemmas.{work_then, work_as}
 
--- what a call answers of an outcome; want of memory, a fault of the store and Reopen tell nothing
+-- what a call answers of an outcome; out of memory, a fault of the store and Reopen show nothing
 abbrev pub Tells : {V A : Type 0} → (V → A) → Result V LedgerFault → Result A LedgerFault → Type 0
 Tells view (Ok value) answer = answer ≡ Ok (view value)
 Tells view (Err Memory) answer = Unit {0}
@@ -28,7 +28,7 @@ told view outcome (Err Store) events none (inr makes) = (makes ∙ ap listed non
 told view outcome (Err Reopen) events none makes = (makes, tt)
 told view outcome (Err fault) events none makes = (makes.1, makes.0)
 
--- and is made of what it tells
+-- and is made from what it shows
 made : {V A : Type 0} (view : V → A) (outcome : Outcome A) (result : Result V LedgerFault)
     (events : List Event) → outcome.event ≡ None → events ≡ []
     → Tells view result outcome.answer → Makes view outcome result events
@@ -39,7 +39,7 @@ made view outcome (Err Store) events none no_events tells = inl no_events
 made view outcome (Err Reopen) events none no_events tells = no_events
 made view outcome (Err fault) events none no_events tells = (tells, no_events)
 
--- two results reopen a ledger alike
+-- two results that both reopen a ledger or both do not
 pub record IsAlike {V U : Type 0} (one : Result V LedgerFault) (other : Result U LedgerFault)
     : Type 0 where
   pub reopen : is_reopen one ≡ is_reopen other
@@ -59,7 +59,7 @@ IsReading outcome = (book : Book) → (outcome book).event ≡ None
 
 module _ {V A U B : Type 0} {view : V → A} {show : U → B} {result : Result V LedgerFault}
     {answer : Result U LedgerFault} {outcome : Book → Outcome A} {other : Book → Outcome B} where
-  -- a reading call stands for another, where its answer tells that of the other
+  -- a reading call stands for another, if its answer gives that of the other
   pub read_as : {old new : Seen} → IsReading outcome → IsReading other → IsAlike result answer
       → ((book : Book) → Tells view result (outcome book).answer
       → Tells show answer (other book).answer)
@@ -87,7 +87,7 @@ module _ {W C V A U B : Type 0} {first : W → C} {view : V → A} {show : U →
     {result : Result V LedgerFault} {answer : Result U LedgerFault}
     {outcome_first : Book → Outcome C} {outcome : Book → Outcome A} {other : Book → Outcome B}
   where
-    -- a list is read, and then another: both tell of one book
+    -- a list is read, and then another: both show one book
     pub read_then : {old mid new : Seen} → IsReading outcome_first → IsReading outcome
         → IsReading other → IsAlike result answer
         → ((book : Book) → (outcome_first book).answer ≡ Ok (first value)
@@ -121,7 +121,7 @@ module _ {W C V A U B : Type 0} {first : W → C} {view : V → A} {show : U →
           (goes_on value old.must_reopen mid.must_reopen one.reopens) next.reopens);
     }
 
--- a fault reopens a ledger alike, whatever was asked for
+-- a fault reopens a ledger or not, whatever was asked for
 pub fault_alike : {V U : Type 0} (fault : LedgerFault)
     → IsAlike {V = V} {U = U} (Err fault) (Err fault)
 fault_alike Memory = record { reopen = refl; store = refl }
@@ -129,7 +129,7 @@ fault_alike Store = record { reopen = refl; store = refl }
 fault_alike Reopen = record { reopen = refl; store = refl }
 fault_alike fault = record { reopen = refl; store = refl }
 
--- a fault of one answer is that of another, where the definitions refuse both alike
+-- a fault of one answer is that of another, if the definitions refuse both alike
 pub fault_tells : {V A U B : Type 0} (view : V → A) (show : U → B) (fault : LedgerFault)
     {answer : Result A LedgerFault} {other : Result B LedgerFault}
     → (answer ≡ Err fault → other ≡ Err fault)
@@ -141,20 +141,20 @@ fault_tells view show fault refused tells = refused tells
 
 module _ {V A U B : Type 0} {view : V → A} {show : U → B} {outcome : Book → Outcome A}
     {other : Book → Outcome B} where
-  -- a call that failed, as another that is refused alike
+  -- a call that failed, like another that is refused alike
   pub call_failed : {old new : Seen} (fault : LedgerFault) → IsReading outcome → IsReading other
       → ((book : Book) → (outcome book).answer ≡ Err fault → (other book).answer ≡ Err fault)
       → IsCall view old new (Err fault) outcome → IsCall show old new (Err fault) other
   call_failed fault none no_other refused call =
       read_as none no_other (fault_alike fault) (λ book. fault_tells view show fault (refused book)) call
 
-  -- a call whose value found no memory to be shown in
+  -- a call for whose value there was no memory to show it in
   pub call_wanting : {old new : Seen} {value : V} → IsReading outcome → IsReading other
       → IsCall view old new (Ok value) outcome → IsCall show old new (Err Memory) other
   call_wanting none no_other call =
       read_as none no_other (record { reopen = refl; store = refl }) (λ book tells. tt) call
 
-  -- a call whose value was shown
+  -- a call and its value, which was shown
   pub call_shown : {old new : Seen} {value : V} (shown : U) → IsReading outcome → IsReading other
       → ((book : Book) → (outcome book).answer ≡ Ok (view value)
       → (other book).answer ≡ Ok (show shown))
@@ -165,7 +165,7 @@ module _ {V A U B : Type 0} {view : V → A} {show : U → B} {outcome : Book �
 module _ {W C V A U B : Type 0} {first : W → C} {view : V → A} {show : U → B} {value : W}
     {outcome_first : Book → Outcome C} {outcome : Book → Outcome A} {other : Book → Outcome B}
   where
-    -- behind a list that was read, a call that failed
+    -- after a list that was read, a call that failed
     pub then_failed : {old mid new : Seen} (fault : LedgerFault) → IsReading outcome_first
         → IsReading outcome → IsReading other
         → ((book : Book) → (outcome book).answer ≡ Err fault → (other book).answer ≡ Err fault)
@@ -175,7 +175,7 @@ module _ {W C V A U B : Type 0} {first : W → C} {view : V → A} {show : U →
         read_then none_first none no_other (fault_alike fault)
         (λ book early. fault_tells view show fault (refused book)) one next
 
-    -- two lists that were read, and found no memory to be shown in
+    -- two lists that were read, with no memory to show them in
     pub then_wanting : {old mid new : Seen} {late : V} → IsReading outcome_first
         → IsReading outcome → IsReading other
         → IsCall first old mid (Ok value) outcome_first → IsCall view mid new (Ok late) outcome
@@ -184,7 +184,7 @@ module _ {W C V A U B : Type 0} {first : W → C} {view : V → A} {show : U →
         read_then none_first none no_other (record { reopen = refl; store = refl })
         (λ book early tells. tt) one next
 
-    -- two lists that were read of one book, and shown
+    -- two lists that were read from one book, and shown
     pub then_shown : {old mid new : Seen} {late : V} (shown : U) → IsReading outcome_first
         → IsReading outcome → IsReading other
         → ((book : Book) → (outcome_first book).answer ≡ Ok (first value)

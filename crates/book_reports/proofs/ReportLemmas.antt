@@ -20,7 +20,7 @@ use Rattle.book_reports.proofs.ReadingLemmas.{IsAlike, IsReading, Tells, fault_a
 use Rattle.book_reports.proofs.ReadingLemmas.{read_as}
 use Rattle.book_reports.proofs.WritingLemmas.{nothing_written, same_value, memory_not_write}
 
--- an answer that is shown tells what it told
+-- an answer that is shown says what it said
 shown_alike : (answer : Result (Vec ℕ Global) LedgerFault)
     → IsAlike answer (shown_by (λ (text : Vec ℕ Global). text.items) answer)
 shown_alike (Ok text) = record { reopen = refl; store = refl }
@@ -76,7 +76,7 @@ passed_written (Err Memory) result output text answers passed =
     (nothing_written report.Memory output.old.holds text [] (memory_not_write refl))
 passed_written (Err fault) result output text answers passed = cc answers
 
--- and a fault on the way is one of the writer, or want of memory
+-- and a fault on the way is one of the writer, or a lack of memory
 passed_fault : (answer : Result (List ℕ) LedgerFault) (result : Result (Unit {0}) ReportFault)
     (output : Output) (text : List ℕ)
     → Answers (λ text. text) answer (Ok text) → IsPassedOn answer output result
@@ -104,7 +104,7 @@ module _ {naming names : Naming} {book after : Book} {asked : Report} {output : 
         passed_written made.answer result output text
         (subst (Answers (λ text. text) made.answer) is (answers_in_memory made.call)) made.passed_on
 
-    -- which is one of the writer, or want of memory
+    -- which is one of the writer, or a lack of memory
     pub report_fault : (text : List ℕ) → (report_outcome naming asked book).answer ≡ Ok text
         → IfErr result (λ fault. is_write_or_memory fault ≡ true)
     report_fault text is =

@@ -1,4 +1,4 @@
--- What a run of writes hands to a writer, and texts that are written one after another, up to a
+-- What a run of writes passes to a writer, and texts that are written one after another, up to a
 -- fault.
 use Rattle.std.proofs.Common.{◌≡◌, ◌≢◌, ℕ, ◌+◌, ◌-◌, ◌<◌, List, [], ◌∷◌, ◌++◌, length, take, drop}
 use Rattle.std.proofs.Common.{Option}
@@ -16,7 +16,7 @@ use Rattle.book_reports.specs.declared.fault.ReportFault.TheVariants.{Write, Mem
 use Rattle.book_reports.specs.Faults.{report_fault_of}
 use Rattle.book_reports.specs.Writing.{Writes, WritesUpTo}
 
--- one more write appends the bytes that it took behind those so far
+-- one more write appends the bytes that it took to those so far
 pub taken_more : (first before after : Option (List ℕ)) (text : List ℕ) (written count : ℕ)
     → Appends first before (take written text)
     → Appends before after (take count (take (length text - written) (drop written text)))
@@ -28,7 +28,7 @@ taken_more first before after text written count so_far one =
     let more = rw handed at one in
     rw take-add (Appends-trans first before after (take written text) (take count rest) so_far more)
 
--- want of memory is no failed write
+-- a lack of memory is no failed write,
 pub memory_not_write : {fault : ReportFault} → fault ≡ Memory → fault ≢ Write
 memory_not_write is write = cc
 
@@ -78,7 +78,7 @@ nothing_written fault held text rest other =
       after_write = λ write. absurd (other write);
     }
 
--- where a text failed, no other was begun
+-- if a text failed, no other was begun
 pub others_unwritten : (fault : ReportFault) {first : List ℕ} {held holds : Option (List ℕ)}
     (others : List (List ℕ))
     → WritesUpTo fault (first ∷ []) held holds → WritesUpTo fault (first ∷ others) held holds

@@ -1,4 +1,4 @@
--- The texts that tell of books: each is read of a book, which is no event.
+-- The texts about books: each is read from a book, which is no event.
 use Rattle.std.specs.Prelude.{ℕ, ◌-◌, ℤ, List, slice_get, Option, None, Result, Ok, Err}
 use Rattle.sha2.specs.Sha256.{sha256}
 use Rattle.book_model.specs.declared.fault.LedgerFault.{LedgerFault}
@@ -45,7 +45,7 @@ report_answer naming PeriodList book = shown_by period_list_text (periods_outcom
 abbrev pub report_outcome : Naming → Report → Book → Outcome (List ℕ)
 report_outcome naming report book = reading (report_answer naming report book)
 
--- the statement of the one period of books that were never closed
+-- the statement of the only period of books that were never closed
 abbrev pub open_statement : Book → List ℕ
 open_statement book =
     statement_text 1 None (rows_for book.rulings (open_period book).counted)

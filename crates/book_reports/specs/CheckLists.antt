@@ -1,4 +1,4 @@
--- Lists of a check: of what type and class each record is, and how many there are.
+-- Lists of a check: of which type and class each record is, and how many there are.
 use Rattle.std.specs.Prelude.{ℕ, ◌+◌, if◌then◌else◌, nat_lt, List, [], ◌∷◌, ◌++◌, length, codes}
 use Rattle.std.specs.Fmt.{decimal}
 use Rattle.smf_type30.specs.declared.classes.Class.{Class}
@@ -9,12 +9,12 @@ use Rattle.book_import.specs.declared.receipt.Stop.{Stop}
 use Rattle.report_texts.specs.Columns.{line_end}
 use Rattle.book_reports.specs.ReceiptLines.{fault_text, stop_text}
 
--- the type of a record, which one that is shorter than the 18 bytes of a header does not tell
+-- the type of a record, which a record shorter than the 18 bytes of a header does not show
 -- (SA38-0667, standard SMF record header)
 abbrev pub type_text : List ℕ → List ℕ
 type_text bytes = if nat_lt (length bytes) 18 then codes "-" else decimal (type_of bytes)
 
--- the class of a record; of a damaged one, the number of its damage too
+-- the class of a record; for a damaged one, the number of its damage too
 abbrev pub class_text : Class → List ℕ
 class_text DumpHeader = codes "HEADER"
 class_text DumpTrailer = codes "TRAILER"
@@ -24,14 +24,14 @@ class_text Continuation = codes "CONTINUED"
 class_text Usage = codes "USAGE"
 class_text (Damaged damage) = fault_text (codes "DAMAGED") (damage_number damage)
 
--- the line of the record of that number
+-- the line of the record with that number
 unfoldable pub record_line : ℕ → List ℕ → List ℕ
 record_line number bytes =
     decimal number
     ++ codes " TYPE " ++ type_text bytes
     ++ codes " " ++ class_text (class_of bytes) ++ line_end
 
--- the lines of records, of which the first has that number
+-- the lines of records, where the first has that number
 abbrev pub record_lines : ℕ → List (List ℕ) → List ℕ
 record_lines number [] = []
 record_lines number (bytes ∷ rest) = record_line number bytes ++ record_lines (number + 1) rest

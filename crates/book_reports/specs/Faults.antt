@@ -11,7 +11,7 @@ report_number Write = 1
 report_number Memory = 2
 report_number (Ledger fault) = 3
 
--- what a refusal of the books is to a report: want of memory has one form, whoever met it
+-- what a refusal of the books is to a report: out of memory has one form, whoever met it
 abbrev pub report_fault_of : LedgerFault → ReportFault
 report_fault_of ledger.Memory = Memory
 report_fault_of fault = Ledger fault

@@ -1,4 +1,4 @@
--- The line that tells what became of a dump.
+-- The line that says what became of a dump.
 use Rattle.std.specs.Prelude.{ℕ, List, ◌++◌, codes}
 use Rattle.std.specs.Fmt.{decimal}
 use Rattle.book_model.specs.Words.{frame_number, ledger_number}
@@ -7,7 +7,7 @@ use Rattle.book_import.specs.declared.receipt.Stop.{Stop}
 use Rattle.book_import.specs.declared.receipt.Stop.TheVariants.{End, Frame, Read, ReadLimit, Ledger}
 use Rattle.report_texts.specs.Columns.{line_end}
 
--- a word and a number, and a blank behind each
+-- a word and a number, and a blank after each
 abbrev pub count_text : List ℕ → ℕ → List ℕ
 count_text word count = word ++ codes " " ++ decimal count ++ codes " "
 

@@ -31,8 +31,8 @@ IsPassedOn (Ok text) output result = IsWritten text output result
 IsPassedOn (Err fault) output result = Refuses fault output result
 
 -- The ledger answered the text of a report, by the book and in one call that made no event, or it
--- refused; want of memory for the text is one of the ledger's faults. The answer was passed on to a
--- writer.
+-- refused; a lack of memory for the text is one of the ledger's faults. The answer was passed on to
+-- a writer.
 pub record IsReport (report : Report) (books : Books) (output : Output)
     (result : Result (Unit {0}) ReportFault) : Type 0 where
   pub answer : Result (List ℕ) LedgerFault

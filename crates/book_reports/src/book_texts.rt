@@ -1,4 +1,4 @@
-//! The texts that a ledger answers of its books: each is one call of the ledger, which changes
+//! The texts that a ledger answers about its books: each is one call of the ledger, which changes
 //! nothing.
 
 ghost use Rattle.std.specs.Prelude.{IfOk};
@@ -14,7 +14,7 @@ use report_texts::{
 };
 use std::alloc::Global;
 
-/// The day that a period was closed through, `None` where no such period is closed.
+/// The day that a period was closed through, `None` if no such period is closed.
 fn through_of<L: Ledger>(ledger: &mut L, period: u16) -> Result<Option<i32>, LedgerFault>
     ensures through { IsCall (λ through. through) (L.seen ledger.old) (L.seen ledger.new) result
         (spec.through_outcome period) }

@@ -1,4 +1,4 @@
-//! The lines of a check list: of what type and class a record is, and how many there are.
+//! The lines of a check list: of which type and class a record is, and how many there are.
 
 ghost use Rattle.std.specs.Prelude.{◌≡◌, ◌++◌, OnOk, string_bytes};
 ghost use Rattle.book_reports.specs.CheckLists as spec;
@@ -10,7 +10,7 @@ use smf_frames::Header;
 use smf_type30::{Class, class};
 use std::alloc::AllocError;
 
-/// Appends the type of a record, where it has a whole header.
+/// Appends the type of a record, if it has a whole header.
 fn push_type(out: &mut String, bytes: &[u8]) -> Result<(), AllocError>
     ensures { OnOk result (string_bytes out.new
         ≡ string_bytes out.old ++ spec.type_text bytes.now) }
@@ -40,7 +40,7 @@ fn push_class(out: &mut String, class: Class) -> Result<(), AllocError>
     }
 }
 
-/// Appends the line of the record of that number.
+/// Appends the line of the record with that number.
 #[tactic(auto, unfolding(crate::specs::CheckLists::record_line))]
 pub fn push_record_line(out: &mut String, number: u64, bytes: &[u8]) -> Result<(), AllocError>
     ensures { OnOk result (string_bytes out.new

@@ -9,11 +9,11 @@ use thiserror::Error;
 #[derive(Clone, Copy, Debug, PartialEq, Eq, Error)]
 pub enum ReportFault {
     /// A write failed, or took none of the bytes that were left: the writer has a prefix of the
-    /// text, and not the whole.
+    /// text, and not all of it.
     #[error("a write failed")]
     Write,
-    /// A request for memory was refused, by the books too.
-    #[error("want of memory")]
+    /// A request for memory was refused, by the books or here.
+    #[error("out of memory")]
     Memory,
     /// The books refused what the report asks of them.
     #[error("the books refused: {0}")]

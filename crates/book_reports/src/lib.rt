@@ -1,5 +1,5 @@
 //! The reports of any books, and the lines of receipts and check lists: what their texts are, and
-//! what a writer gains of them.
+//! what a writer gains from them.
 #![tactic(auto)]
 
 mod book_texts;

@@ -8,8 +8,8 @@ use crate::ReportFault;
 use book_core::Sink;
 use std::io::Write;
 
-/// Writes the bytes of a text, in as many writes as the writer needs. Behind a write that failed,
-/// or that took nothing, there is no further one: the writer has a prefix of the text, and not the
+/// Writes the bytes of a text, in as many writes as the writer needs. After a write that failed,
+/// or that took nothing, there are no more: the writer has a prefix of the text, and not the
 /// whole.
 #[tactic(auto, using(crate::proofs::WritingLemmas::taken_more))]
 pub fn write_bytes<W: Write + Drop>(sink: &mut Sink<W>, bytes: &[u8]) -> Result<(), ReportFault>
@@ -18,7 +18,7 @@ pub fn write_bytes<W: Write + Drop>(sink: &mut Sink<W>, bytes: &[u8]) -> Result<
         (W.contents (writer_of sink.old)) (W.contents (writer_of sink.new)) bytes.now
         × has_failed sink.new ≡ false) }
 
-    // Nothing but a write that fails, or that takes nothing, keeps a text from being written.
+    // Only a write that fails, or that takes nothing, keeps a text from being written.
     ensures fault { IfErr result (λ fault. fault ≡ ReportFault.Write) }
     ensures failed { OnErr result (has_failed sink.new ≡ true) }
     ensures prefix { OnErr result ((n : ℕ) × (n < length bytes.now) × Appends
@@ -41,7 +41,7 @@ pub fn write_text<W: Write + Drop>(sink: &mut Sink<W>, text: &str) -> Result<(),
         (W.contents (writer_of sink.old)) (W.contents (writer_of sink.new)) text.now
         × has_failed sink.new ≡ false) }
 
-    // Nothing but a write that fails, or that takes nothing, keeps a text from being written.
+    // Only a write that fails, or that takes nothing, keeps a text from being written.
     ensures fault { IfErr result (λ fault. fault ≡ ReportFault.Write) }
     ensures failed { OnErr result (has_failed sink.new ≡ true) }
     ensures prefix { OnErr result ((n : ℕ) × (n < length text.now) × Appends

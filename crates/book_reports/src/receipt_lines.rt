@@ -1,5 +1,5 @@
-//! The line that tells what became of a dump, in a buffer of fixed size: it takes no memory, so no
-//! receipt is lost for want of it.
+//! The line that says what became of a dump, in a buffer of fixed size: it takes no memory, so no
+//! receipt is lost because memory runs out.
 
 ghost use Rattle.std.specs.Prelude.{◌≡◌, ◌+◌, ◌≤◌, ◌++◌, decimal, length};
 ghost use Rattle.arrayvec.specs.ArrayString.{array_string_len};
@@ -22,7 +22,7 @@ fn push_number(line: &mut ReceiptLine, number: u64)
     line.push_str(digits.format(number));
 }
 
-/// Appends a word and a number, and a blank behind each.
+/// Appends a word and a number, and a blank after each.
 fn push_count(line: &mut ReceiptLine, word: &str, count: u64)
     requires { array_string_len line.old + length word.now + 22 ≤ 320 }
     ensures bytes { line.new.bytes ≡ line.old.bytes ++ spec.count_text word.now count }
@@ -96,7 +96,7 @@ pub(crate) fn stop_text(stop: Stop) -> ReceiptLine
     text
 }
 
-/// The line that tells what became of the records of a dump, and why no further one was handled.
+/// The line that says what became of the records of a dump, and why no further one was handled.
 pub fn receipt_line_text(receipt: &Receipt) -> ReceiptLine
     ensures { result.bytes ≡ spec.receipt_line_text receipt.now }
 {

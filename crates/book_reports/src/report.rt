@@ -1,4 +1,4 @@
-//! The reports of an office, each by its one name.
+//! The reports of an office, each under its one name.
 
 /// A report of the books.
 #[derive(Clone, Copy, Debug, PartialEq, Eq)]

@@ -1,5 +1,5 @@
-//! Reports, written to any writer. The text is made before its first byte is written: where the
-//! books refuse, or memory runs out, nothing is.
+//! Reports, written to any writer. The text is made before its first byte is written: if the
+//! books refuse, or memory runs out, nothing is written.
 
 ghost use Rattle.std.specs.Prelude.{◌≡◌, ◌∷◌, [], false, IfErr};
 ghost use Rattle.streams.specs.Sides.{output};

@@ -11,7 +11,7 @@ use Rattle.run_laws.proofs.CallLemmas.{calls_are_answered}
 use Rattle.book_restarts.specs.Laws.{Life, AreLived, MakeAll, StopsFollowHistory, ledger_behind}
 use Rattle.book_restarts.specs.Restarts.{IsRestart}
 
--- an open ledger stands at its own book alone
+-- an open ledger is only at its own book
 own_book : (seen : Seen) (start book : Book) → stands_by seen.must_reopen seen book
     → seen.must_reopen ≡ false → seen.book ≡ start → book ≡ start
 own_book seen start book stands is_open own =

@@ -1,4 +1,4 @@
--- A ledger that is opened on what another left stands where that one stood.
+-- A ledger that is opened on what another left is where that one was.
 use Rattle.std.proofs.Common.{◌≡◌, Bool, true, false, refl, sym, subst}
 use Rattle.sqlite_trees.specs.Tree.{Trees}
 use Rattle.sqlite_trees.specs.View.{View, IsClean}
@@ -19,11 +19,11 @@ module _ (naming : Naming) (view : View) (may_leave : Trees → Type 0) (must_re
     (given : Naming) (same : given ≡ naming) (opens : new.is_honest → (book : Book)
     → IsFromCalls given book → Keeping found (tables_of given book) → IsOpenAt given book new)
   where
-    -- what was seen of the ledger that was let go
+    -- what was seen of the ledger that was released
     abbrev old : Seen
     old = seen_of naming view may_leave must_reopen summary
 
-    -- it stood at the book that is found
+    -- it was at the book that is found
     stood : (flag : Bool) → must_reopen ≡ flag → IsClean view
         → AreBooks naming view may_leave must_reopen summary → new.is_honest → (book : Book)
         → IsKeptIn naming book found.trees → stands_by flag old book

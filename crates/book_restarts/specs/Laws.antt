@@ -6,14 +6,14 @@ use Rattle.book_core.specs.Work.{IsWork}
 use Rattle.run_laws.specs.Calls.{Call, works_of}
 use Rattle.book_restarts.specs.Restarts.{IsRestart}
 
--- One life of books, from where they were opened to where they were let go: the calls; the ledger as
--- it was let go, with a call in hand or with none; and as it was opened again.
+-- One life of books, from where they were opened to where they were released: the calls; the ledger
+-- as it was released, with a call in progress or with none; and as it was opened again.
 pub record Life (L : Type 0) : Type 0 where
   pub calls : List Call
   pub stopped : L
   pub again : L
 
--- the ledger behind all of them
+-- the ledger after all of them
 abbrev pub ledger_behind : {L : Type 0} → L → List (Life L) → L
 ledger_behind before [] = before
 ledger_behind before (life ∷ later) = ledger_behind life.again later
@@ -27,8 +27,8 @@ AreLived seen naming before (life ∷ later) =
     × (seen life.stopped).is_honest × IsRestart (seen life.stopped) (seen life.again)
     × AreLived seen naming life.again later
 
--- Each life in turn made these events of the books that the one before it left, the newest first. Of
--- a call that was in hand at a stop the event was made, or not: so its work says.
+-- Each life in turn made these events on the books that the one before it left, newest first. For
+-- a call that was in progress at a stop the event was made, or not: so its work says.
 abbrev pub MakeAll : {L : Type 0} → (L → Seen) → Naming → List (Life L) → Book → List Event → Type 0
 MakeAll seen naming [] before events = events ≡ []
 MakeAll seen naming (life ∷ later) before events =

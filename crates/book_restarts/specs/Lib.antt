@@ -1,4 +1,4 @@
--- Read in this order: what it is that books are let go and opened again; and what any calls leave,
--- with stops between them.
+-- Read in this order: what it means that books are released and opened again; and what any calls
+-- leave, with stops between them.
 pub mod Restarts
 pub mod Laws

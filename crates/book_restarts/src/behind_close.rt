@@ -1,4 +1,4 @@
-//! Books in a file are opened again behind a close.
+//! Books in a file are opened again after a close.
 
 ghost use Rattle.std.specs.Prelude.{◌≡◌, IfOk};
 ghost use Rattle.sqlite_store.specs.FileStore.{state};
@@ -12,7 +12,7 @@ use sqlite_std_file::FileFrom;
 use sqlite_store::FileStore;
 use table_ledger::TableLedger;
 
-/// What it stands for that a file was not opened.
+/// What it means that a file was not opened.
 fn fault_of(fault: OpenFault) -> LedgerFault {
     match fault {
         OpenFault::NotBooks => LedgerFault::NotBooks,
@@ -22,7 +22,7 @@ fn fault_of(fault: OpenFault) -> LedgerFault {
 }
 
 /// Closes books, whatever was going on in them, and opens the file at the path. `S` stands for what
-/// that holds then, which is what the closed books may have left.
+/// that then holds, which is what the closed books may have left.
 pub fn open_behind_close<D: Disk + Drop, S: LeftByLedger, N: Naming + Drop>(
     rt: &HostRuntime,
     path: &str,

@@ -1,4 +1,4 @@
-//! Books are opened again behind a crash.
+//! Books are opened again after a crash.
 
 ghost use Rattle.std.specs.Prelude.{◌≡◌, IfOk};
 ghost use Rattle.book_restarts.specs.Restarts.{IsRestart};
@@ -9,8 +9,8 @@ use sqlite_trees::store::Reopen;
 use std::alloc::Global;
 use table_ledger::TableLedger;
 
-/// Stops the books, whatever was going on in them, and opens what is found behind a crash of the disk.
-/// Where they can't be opened the store is given back.
+/// Stops the books, whatever was going on in them, and opens what is found after the disk's crash.
+/// If they can't be opened the store is given back.
 pub fn open_behind_crash<S: Reopen, N: Naming + Drop>(
     alloc: Global,
     books: TableLedger<S, N>,

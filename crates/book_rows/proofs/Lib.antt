@@ -1,2 +1,2 @@
--- Calls that are refused for memory.
+-- Calls that are refused for lack of memory.
 pub mod RefusalLemmas

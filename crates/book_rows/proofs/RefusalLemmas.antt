@@ -1,4 +1,4 @@
--- Calls that are refused for memory, with nothing done.
+-- Calls that are refused for lack of memory, with nothing done.
 use Rattle.std.proofs.Common.{◌≡◌, ◌∙◌, List, [], Bool, Result, Ok, Err, None, refl, ap}
 use Rattle.std.proofs.Common.{inl, inr}
 use Rattle.std.specs.Prelude.{ℤ}

@@ -52,7 +52,7 @@ impl BookLines {
     }
 }
 
-/// Answers a line that needs no books. False where it is none, or can't be read.
+/// Answers a line that needs no books. False where it is not one, or can't be read.
 pub fn answer_alone(
     lines: &mut BookLines,
     named: &Named,

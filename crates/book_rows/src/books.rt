@@ -55,7 +55,7 @@ fn read_in<L: Ledger>(
     reading.push_asked(out, source.asked())
 }
 
-/// Hands each usage record of a dump to books.
+/// Gives each usage record of a dump to books.
 fn accept_each<L: Ledger>(
     alloc: Global,
     ledger: &mut L,
@@ -113,7 +113,7 @@ impl BookLines {
     }
 }
 
-/// Answers a line on books. False where it is none, or can't be read.
+/// Answers a line on books. False where it is not one, or can't be read.
 pub fn answer<L: Ledger>(
     lines: &mut BookLines,
     named: &Named,

@@ -11,7 +11,7 @@ use std::collections::BTreeMap;
 /// The texts of books, as they were shown last.
 pub(crate) type Shown = BTreeMap<BookText, Vec<u8>>;
 
-/// What the books say of a period that they do not have.
+/// What the books say about a period that they do not have.
 fn no_text(alloc: Global) -> Vec<u8> {
     let mut text = Vec::new(alloc);
     push_fault(&mut text, LedgerFault::NoSuchPeriod);
@@ -37,7 +37,7 @@ fn push_changed<L: Ledger>(
     Ok(())
 }
 
-/// The number of the period behind the open one; 1 where the books do not say.
+/// The number of the period after the open one; 1 where the books do not say.
 fn period_behind<L: Ledger>(ledger: &mut L) -> u16 {
     match ledger.periods() {
         Ok(closes) => u16::try_from(closes.len()).map_or(1, |closes| closes.saturating_add(2)),
@@ -47,7 +47,7 @@ fn period_behind<L: Ledger>(ledger: &mut L) -> u16 {
 
 /// Adds each text of the books that is not as it was shown last: the statement and the adjustments
 /// of each period, the disputes, the periods. A period that the books do not have, before the first
-/// and behind the open one, has no text to show.
+/// and after the open one, has no text to show.
 pub(crate) fn push_changes<L: Ledger>(
     alloc: Global,
     shown: &mut Shown,

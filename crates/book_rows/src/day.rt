@@ -21,7 +21,7 @@ impl Day {
         }
     }
 
-    /// The day so many days behind this one, if this product knows it.
+    /// The day that many days after this one, if this product knows it.
     pub(crate) fn behind(self, days: u16) -> Option<Day> {
         let number = self.number + i32::from(days);
         if number <= LAST_DAY {

@@ -21,7 +21,7 @@ fn push_record(out: &mut Vec<u8>, bytes: &[u8]) -> Answered {
     Ok(())
 }
 
-/// Adds how many records a dump has, the number of the fault behind them, or 0, and whether that
+/// Adds how many records a dump has, the number of the fault after them, or 0, and whether that
 /// stays whatever follows. Then come the records, if these are asked for.
 pub(crate) fn push_split(
     alloc: Global,

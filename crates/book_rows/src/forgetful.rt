@@ -1,4 +1,4 @@
-//! Books that refuse one call for memory.
+//! Books that refuse one call for lack of memory.
 
 ghost use Rattle.std.specs.Prelude.{List, ℤ, Err};
 ghost use Rattle.book_model.specs.Words.{periods_outcome};
@@ -6,8 +6,8 @@ ghost use Rattle.book_core.specs.Calls.{IsCall};
 
 use book_core::{Accepted, ChargeRow, Dispute, Ledger, LedgerFault, Line, Ruled};
 
-/// Hands so many calls on to a ledger, answers the next that memory ran out, with nothing done, and
-/// hands on all after that.
+/// Passes a given number of calls on to a ledger, answers the next that memory ran out, with
+/// nothing done, and passes on all after that.
 #[derive(Drop)]
 pub struct Forgetful<'a, L: Ledger> {
     inner: &'a mut L,
@@ -16,7 +16,7 @@ pub struct Forgetful<'a, L: Ledger> {
 }
 
 impl<'a, L: Ledger> Forgetful<'a, L> {
-    /// Books that refuse the call after so many.
+    /// Books that refuse the call after a given number.
     pub fn new(inner: &'a mut L, calls: u32) -> Forgetful<'a, L> {
         Forgetful {
             inner,
@@ -30,7 +30,7 @@ impl<'a, L: Ledger> Forgetful<'a, L> {
     }
 }
 
-/// Counts a call, and tells whether it is the one to refuse.
+/// Counts a call, and answers whether it is the one to refuse.
 fn is_due(calls_left: &mut Option<u32>) -> bool {
     match *calls_left {
         None => false,

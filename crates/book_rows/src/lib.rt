@@ -1,19 +1,19 @@
 //! Lines of scripts on books, over any ledger, and lines that need none. `PARTS` are parts of a
-//! dump, `RECORD` is a part that is one record, `TEXT` is a text that is named, and a body stands
-//! behind its line.
+//! dump, `RECORD` is a part that is one record, `TEXT` is a text that is named, and a body follows
+//! its line.
 //!
 //! | A line on books | Is answered with |
 //! |---|---|
-//! | `tariff TEXT..`, with a body in front of the texts | `DONE`, `ALREADY` or the fault's line |
+//! | `tariff TEXT..`, with a body before the texts | `DONE`, `ALREADY` or the fault's line |
 //! | `close PERIOD DAY` | the same |
-//! | `closes FROM..END DAY`: a period a day | how many were done, behind the first other answer |
+//! | `closes FROM..END DAY`: a period a day | how many were done, after the first other answer |
 //! | `choose RECORD`, or 64 hexadecimal digits | `DONE`, `ALREADY` or the fault's line |
 //! | `adopt RULE`: the number of a rule of identity | the same |
 //! | `import PARTS..` | the receipt |
 //! | `accept PARTS..` | `KEPT`, `KNOWN`, `UNPRICED` or the fault's line, of each usage record |
 //! | `import-each-read PARTS..` | the receipts where each read fails in turn |
 //! | `list`, with a body of `tariff`, `import`, `close`, `choose`, `adopt` | the answer to each |
-//! | `list TIMES`, with such a body, all of it so many times in one list | the same |
+//! | `list TIMES`, with such a body, all of it that many times in one list | the same |
 //! | `statement PERIOD`, `table PERIOD`, `adjustments PERIOD`, `disputes`, `periods` | the text |
 //! | `changes` | each text, but for tables, that is not as at the last `changes` of the row |
 //!
@@ -30,16 +30,16 @@
 //! | `say report FAULT`, `say stop STOP`, `say words ..` | what the program says, and its status |
 //!
 //! From here on in the row dumps are read as `reader WORD..` says: `bdw`, at most `pieces:BYTES` a
-//! read, failing behind `fails:READS`, with `reads:READS` allowed, `endless` copies of the dump,
-//! and the reads `counted`. Texts are written as `writer SIZE WRITES` says: at most so many bytes
-//! in each of so many writes, or `all`; then how much was taken in how many writes is told. With
-//! `writer SIZE FROM..END` a text is written again and again, and that alone is told of each.
+//! read, failing after `fails:READS`, with `reads:READS` allowed, `endless` copies of the dump, and
+//! the reads `counted`. Texts are written as `writer SIZE WRITES` says: at most SIZE bytes in each
+//! of WRITES writes, or `all`; then how much was taken, and in how many writes, is shown. With
+//! `writer SIZE FROM..END` a text is written again and again, and only that is shown of each.
 //!
-//! `import-each-read` imports a dump from a reader whose first read fails, and then whole; then from
-//! one whose second read fails, and so on up to one of which none does. A word `at:PLACE` among the
-//! parts puts the number of the turn into two bytes there, so that each dump is another one. Turns,
-//! and commands of a list that is repeated, are counted from 0 on, and shown as one where they follow
-//! each other and had the same answers.
+//! `import-each-read` imports a dump from a reader whose first read fails, and then whole; then
+//! from one whose second read fails, and so on up to one whose reads all succeed. A word
+//! `at:PLACE` among the parts puts the number of the turn into two bytes there, so that each dump
+//! is a different one. Turns, and commands of a list that is repeated, are counted from 0 on, and
+//! shown as one where they follow each other and had the same answers.
 #![tactic(auto)]
 
 mod alone;

@@ -14,7 +14,8 @@ pub struct BookLines {
 }
 
 impl BookLines {
-    /// As at the begin of a row: dumps are read whole, texts are written whole, and none was shown.
+    /// As at the beginning of a row: dumps are read whole, texts are written whole, and none was
+    /// shown.
     pub fn new() -> BookLines {
         BookLines {
             reading: Reading::plain(),

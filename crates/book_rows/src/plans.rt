@@ -18,7 +18,7 @@ fn record_of(named: &Named, tariff: &Tariff, word: &str) -> Answered<([u8; 32], 
     Ok((record_name(&bytes)?, price(tariff, &usage)))
 }
 
-/// A record that is held: `NAME`, with `:charged`, `:posted` or both behind it.
+/// A record that is held: `NAME`, with `:charged`, `:posted` or both after it.
 fn held_record(named: &Named, tariff: &Tariff, word: &str) -> Answered<Member> {
     let (record, marks) = word.split_once(':').unwrap_or((word, ""));
     let (name, priced) = record_of(named, tariff, record)?;
@@ -99,7 +99,7 @@ fn push_effects(out: &mut Vec<u8>, effects: &Effects) -> Answered {
     Ok(())
 }
 
-/// Adds what each record changes that stands behind the word `new`.
+/// Adds what each record after the word `new` changes.
 fn push_plans(
     named: &Named,
     tariff: &Tariff,

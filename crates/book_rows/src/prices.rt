@@ -17,7 +17,7 @@ pub(crate) fn usage_of(bytes: &[u8]) -> Option<Type30<'_>> {
     }
 }
 
-/// The tariff of a text that is named, or the fault of one that is none.
+/// The tariff of a text that is named, or the fault of a text that is no tariff.
 pub(crate) fn tariff_of(named: &Named, name: &str) -> Answered<Result<Tariff, TariffFault>> {
     let text = named.text(name).ok_or(LineFault::Unread)?;
     Ok(Tariff::parse(named.alloc(), text))

@@ -18,7 +18,7 @@ pub(crate) struct Reading {
     reads: u32,
     /// The dump begins anew at its end.
     is_endless: bool,
-    /// How often the reader was asked is told.
+    /// How often the reader was asked is shown.
     is_counted: bool,
 }
 
@@ -52,7 +52,7 @@ impl Reading {
         Ok(reading)
     }
 
-    /// The same, but that each read after so many fails.
+    /// The same, except that each read after a given number fails.
     pub(crate) fn failing(self, reads: u16) -> Reading {
         let limits = Limits {
             calls: u32::from(reads),
@@ -81,7 +81,7 @@ impl Reading {
         u64::from(self.reads).min(MAX_READS)
     }
 
-    /// Adds how often the reader was asked, if that is to be told.
+    /// Adds how often the reader was asked, if that is to be shown.
     pub(crate) fn push_asked(self, out: &mut Vec<u8>, asked: u64) -> Answered {
         if self.is_counted {
             writeln!(out, "READS {asked}")?;

@@ -59,7 +59,7 @@ pub(crate) fn push_answers<L: Ledger>(
     Ok(())
 }
 
-/// Asks the requests of a body of books, all of them so many times in one list. Adds the answers,
+/// Asks the requests of a body of books, all of them that many times in one list. Adds the answers,
 /// once where some that follow each other are the same.
 pub(crate) fn push_repeated<L: Ledger>(
     named: &Named,

@@ -33,7 +33,7 @@ fn check(alloc: Global, reading: Reading, dump: &[u8], limits: Limits) -> Answer
     Ok(written)
 }
 
-/// Writes what a dump costs. Its receipt is said too where that is not the first line.
+/// Writes what a dump costs. Its receipt is added too where that is not the first line.
 fn try_out(
     alloc: Global,
     reading: Reading,

@@ -15,7 +15,7 @@ pub(crate) enum Writing {
     Whole,
     /// To a limited one. What it took is counted.
     To(Limits),
-    /// To one after the other, each with one write more, before this number. What each took is
+    /// To one after another, each with one more write, before this number. What each took is
     /// counted, and not shown.
     Each { limits: Limits, end: u32 },
 }
@@ -29,7 +29,7 @@ fn number_of(word: &str) -> Answered<u32> {
 }
 
 impl Writing {
-    /// The writing that a line asks for: none, or `SIZE WRITES` or `SIZE FROM..END`.
+    /// The writing that a line asks for: none, `SIZE WRITES` or `SIZE FROM..END`.
     pub(crate) fn of(words: &[&str]) -> Answered<Writing> {
         let (size, writes) = match *words {
             [] => return Ok(Writing::Whole),
@@ -92,7 +92,7 @@ fn push_took(out: &mut Vec<u8>, written: &Written) -> Answered {
     Ok(())
 }
 
-/// Writes to one writer after the other, and adds how much each took, and whether that is no front
+/// Writes to one writer after another, and adds how much each took, and whether that is no prefix
 /// of what the first of all took.
 fn push_each<T: Writes>(
     alloc: Global,
@@ -111,7 +111,7 @@ fn push_each<T: Writes>(
     Ok(())
 }
 
-/// Writes as was set, and adds what came of it.
+/// Writes as was set, and adds the result.
 pub(crate) fn push_text<T: Writes>(
     alloc: Global,
     text: &mut T,

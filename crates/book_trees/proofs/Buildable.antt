@@ -21,7 +21,7 @@ use Rattle.book_trees.specs.Left.{page_size}
 use Rattle.book_trees.specs.Refusals.{HoldsNothing}
 use Rattle.book_trees.specs.Schema.{books_schema, sorted}
 
--- the tables and indexes of books can stand in one list
+-- the tables and indexes of books can be in one list
 listable : are_listable books_schema ≡ true
 unfolding books_schema describes is_about fits_kind is_free_name same_name begins may_follow
     value_cmp is_nan lt
@@ -78,7 +78,7 @@ can_build = record {
       );
 }
 
--- they are few
+-- there are few of them
 few : length books_schema < 65536
 unfolding books_schema
 few = lit< tt

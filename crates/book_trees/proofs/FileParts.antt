@@ -1,4 +1,4 @@
--- What the state of a store says of its two files.
+-- What the state of a store says about its two files.
 use Rattle.std.proofs.Common.{◌≡◌, ℕ, IsTrue, refl, sym, ap, subst, subst₂, ◌∙◌, inl, inr, arith}
 use Rattle.sqlite_disk.specs.declared.Disk.{Ghosts}
 use Rattle.sqlite_disk.specs.declared.files.Files.{Files}
@@ -20,7 +20,7 @@ abbrev pub named : {D : Type 0} → D × D → Files D
 named pair = record { log = pair.0; db = pair.1 }
 
 module _ {D : Type 0} {g : Ghosts D} where
-  -- where a stop may leave something, no lie was taken as true
+  -- if a stop may leave something, no lie was taken as true
   pub clean_if_left : (pool : Pool D g) (left : Image) → (state pool).may_leave left
       → IsTrue (state pool).is_clean
   unfolding state
@@ -31,7 +31,7 @@ module _ {D : Type 0} {g : Ghosts D} where
   unfolding state files
   faults_are pool = refl
 
-  -- the files are honest where the state is
+  -- the files are honest if the state is
   pub clean_is : (pool : Pool D g)
       → (state pool).is_clean ≡ are_clean g (files pool).0 (files pool).1
   unfolding state files
@@ -43,7 +43,7 @@ module _ {D : Type 0} {g : Ghosts D} where
   unfolding state files
   left_by_files pool left may = may
 
-  -- and back
+  -- and the converse
   pub left_by_state : (pool : Pool D g) (left : Image) → (state pool).may_leave left
       → MayLeave g (named (files pool)) left
   unfolding state files
@@ -63,7 +63,7 @@ module _ {D : Type 0} {g : Ghosts D} where
         (subst (λ s. IsUnreadable s (image old)) (sym size) unreadable));
   }
 
-  -- files that were given back as they are were kept
+  -- files that were given back unchanged were kept
   pub same_files : (files : Files D) → AreKept g files files
   same_files files = record {
     counts = omega arith;
@@ -71,25 +71,25 @@ module _ {D : Type 0} {g : Ghosts D} where
     unread = λ _ left may. may;
   }
 
--- An open that ends with these files in hand, of those that it was given.
+-- An open that ends with these files in hand, having been given those.
 module _ {D : Type 0} {g : Ghosts D} (old end : Unopened D g) (first last : Files D)
     (given : files_of old ≡ (first.log, first.db)) (back : (last.log, last.db) ≡ files_of end)
   where
-    -- what was read of the first
+    -- what was read from the first
     pub first_image : image old ≡ image_of g first
     first_image = ap (λ (p : D × D). seen_image g p.0 p.1) given
 
-    -- the first were honest where the state was
+    -- the first were honest if the state was
     pub first_honest : IsTrue (state_of old).is_clean → AreClean g first.log first.db
     first_honest clean =
         sym (clean_is old.pool ∙ ap (λ (p : D × D). are_clean g p.0 p.1) given) ∙ clean
 
-    -- the state was, where the first were
+    -- the state was honest, if the first were
     pub old_honest : AreClean g first.log first.db → IsTrue (state_of old).is_clean
     old_honest clean =
         clean_is old.pool ∙ ap (λ (p : D × D). are_clean g p.0 p.1) given ∙ clean
 
-    -- the state is honest, where the last are
+    -- the state is honest, if the last are
     pub end_honest : AreClean g last.log last.db → IsTrue (state_of end).is_clean
     end_honest clean =
         clean_is end.pool ∙ ap (λ (p : D × D). are_clean g p.0 p.1) (sym back) ∙ clean

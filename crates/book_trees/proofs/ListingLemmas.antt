@@ -36,7 +36,7 @@ pub any_mapped : {X Y : Type 0} (test : Y → Bool) (f : X → Y) (xs : List X)
 any_mapped test f [] = refl
 any_mapped test f (x ∷ xs) = ap (λ b. test (f x) || b) (any_mapped test f xs)
 
--- the same of all of them
+-- the same for all of them
 pub all_mapped : {X Y : Type 0} (test : Y → Bool) (f : X → Y) (xs : List X)
     → list_all (λ x. test (f x)) xs ≡ list_all test (map f xs)
 all_mapped test f [] = refl
@@ -53,7 +53,7 @@ any_weaker p q weaker (x ∷ xs) passed =
           or_right (q x) (list_any q xs) (any_weaker p q weaker xs (rw other at passed))
     ]
 
--- the same of all of a list
+-- the same for all of a list
 all_weaker : {X : Type 0} (p q : X → Bool) → ((x : X) → p x ≡ true → q x ≡ true)
     → (xs : List X) → list_all p xs ≡ true → list_all q xs ≡ true
 all_weaker p q weaker [] passed = refl
@@ -76,7 +76,7 @@ described wanted row is =
     (same_value (column row 3) (column wanted.row 2))
     (same_value (column row 5) (column wanted.row 3)) is
 
--- a page number of nothing is 0
+-- the page number of nothing is 0
 no_page : (value : Value) → is_page_number value ≡ true → (page_number value == 0) ≡ true
     → same_value value (Int (pos 0)) ≡ true
 no_page value number none =
@@ -121,7 +121,7 @@ rooted wanted (row ∷ rows) root =
           (rooted wanted rows (rw other at root))
     ]
 
--- so all are, where each has a root
+-- so are all, if each has a root
 all_rooted : (rows : List Row) (schema : List Wanted)
     → ((tree : ℕ) → tree < length schema → slice_index (map (root_in rows) schema) tree ≢ 0)
     → list_all (λ wanted. list_any (lists wanted) rows) schema ≡ true
@@ -130,7 +130,7 @@ all_rooted rows (wanted ∷ schema) roots =
     rw (rooted wanted rows (roots 0 (omega arith)))
     (all_rooted rows schema (λ tree below. roots (suc tree) (omega arith)))
 
--- what is there behind two tests is there
+-- what remains after two tests
 some_behind : {X : Type 0} (used locked : Bool) (x : Option X)
     → IsSome (if used then (if locked then None else x) else None) → IsSome x
 some_behind true false x there = there
@@ -155,7 +155,7 @@ first_of_four : (a b c d : Bool) → (a && b && c && d) ≡ true → a ≡ true
 first_of_four true b c d passed = refl
 first_of_four false b c d passed = absurd (cc)
 
--- the rows of a sound file list its trees, if each is an index
+-- the rows of a sound file list its trees, if each is an index,
 pub sound_lists : (size : ℕ) (schema : List Wanted) (pages : PageMap) → IsFile size schema pages
     → ((tree : ℕ) → tree < length schema → shape_at schema tree ≡ Index plain)
     → lists_exactly schema (rows_at size (in_use size pages) Table 1) ≡ true

@@ -31,12 +31,12 @@ none_empty size image pages found empty =
     let there : 0 < length {A = ℕ} [] = subst (λ (db : List ℕ). 0 < length db) empty found.present
     in absurd (omega (arith, there))
 
--- no rows do not list books
+-- an empty list of rows does not list books
 none_listed : lists_books [] ≡ true → ⊥
 unfolding books_schema
 none_listed listed = absurd (cc)
 
--- rows that list books are not none
+-- a list of rows that lists books is not empty
 some_listed : (rows : List Row) → lists_books rows ≡ true → rows ≢ []
 some_listed rows listed none =
     none_listed (subst (λ (rows : List Row). lists_books rows ≡ true) none listed)
@@ -56,7 +56,7 @@ module _ {D : Type 0} {g : Ghosts D} (old mid : Unopened D g) (rows : List Row)
   pub found_old : Recovers page_size (image old) listed.pages
   found_old = subst (λ s. Recovers s (image old) listed.pages) sized listed.found
 
-  -- and do again
+  -- and recover to again
   found_mid : Recovers page_size (image mid) listed.pages
   found_mid = subst (λ s. Recovers s (image mid) listed.pages) sized listed.again
 
@@ -75,7 +75,7 @@ module _ {D : Type 0} {g : Ghosts D} (old mid : Unopened D g) (rows : List Row)
       ∙ ap (λ (p : PageMap). rows_at page_size (in_use page_size p) Table 1)
       (same_pages held.pages held.found)) ∙ books_listed held.pages held.file
 
-  -- files that a ledger left and that list something are those of books
+  -- files that a ledger left and that list something are those of books,
   holds_books : rows ≢ [] → AreLeft (image old) → HoldsBooks (image old)
   holds_books some (inl empty) =
       absurd (none_empty _ (image old) listed.pages found_old empty)
@@ -98,7 +98,7 @@ module _ {D : Type 0} {g : Ghosts D} (old mid : Unopened D g) (rows : List Row)
             (subst (λ (w : List Wanted). IsFile page_size w listed.pages) (sym schema) file),
       )
 
-  -- what is committed then are the pages that were listed
+  -- what is then committed are the pages that were listed,
   pub committed_listed : (pages : PageMap) → (state_of mid).page_size ≡ page_size
       → Recovers (state_of mid).page_size (image mid) pages → pages ≡ listed.pages
   committed_listed pages size found =
@@ -112,7 +112,7 @@ module _ {D : Type 0} {g : Ghosts D} (old mid : Unopened D g) (rows : List Row)
   committed_is held pages size found =
       committed_listed pages size found ∙ same_pages held.pages held.found
 
-  -- two openings, one after the other, leave what the first could leave
+  -- two opens, one after the other, leave what the first could leave
   pub opens_twice : (end : State) → Opens old (state_of mid) → Opens mid end → Opens old end
   opens_twice end first second = record {
     size = second.size ∙ first.size;

@@ -8,7 +8,7 @@ use Rattle.book_trees.specs.declared.faults.OpenFault.{OpenFault}
 use Rattle.book_trees.specs.declared.faults.OpenFault.TheVariants.{NotBooks, Memory, Store, Busy}
 use Rattle.book_trees.specs.declared.faults.OpenFault.TheVariants.{Path}
 
--- the cause of an error is one of the fault that it stands for
+-- the cause of an error is a cause of the fault that it stands for
 pub cause_of : (old new : ℕ) (AtLimit Wanted Held : Type 0) → (Held → Wanted) → (e : OpenError)
     → FailsToOpen old new AtLimit Wanted e → HasCause old new AtLimit Held (fault_for e)
 cause_of old new AtLimit Wanted Held so OutOfMemory fails = tt
@@ -26,7 +26,7 @@ cause_since first old new AtLimit Held later Store cause =
 cause_since first old new AtLimit Held later Busy cause = cause
 cause_since first old new AtLimit Held later Path cause = cause
 
--- a cause by a wider limit, and where more was to be held
+-- a cause with a higher limit, and where more was to be held
 pub cause_for : (old new : ℕ) (Limit Limit' Held Held' : Type 0) → (Limit → Limit')
     → (Held' → Held) → (fault : OpenFault) → HasCause old new Limit Held fault
     → HasCause old new Limit' Held' fault

@@ -48,7 +48,7 @@ pub book_indexes : (tree : ℕ) → tree < length books_schema
 unfolding books_schema
 book_indexes tree below = (book_tree tree below).wanted
 
--- a store of the schema, which was not changed in its transaction, has them
+-- a store of the schema that was not changed in its transaction has them
 pub has_trees : {D : Type 0} {g : Ghosts D} (store : FileStore D g)
     → schema_of store ≡ books_schema → store.saved ≡ None → HasShapes (view store)
 has_trees store schema unaltered =

@@ -45,10 +45,10 @@ AreLeft image = (image.db ≡ []) ⊎ (HoldsNone image ⊎ HoldsBooks image)
 abbrev pub AreEmptyTables : Trees → Type 0
 AreEmptyTables trees = (tree : ℕ) → tree < 2 ^ 32 → trees tree ≡ []
 
--- A log is passed over that has no room for its header and that of a page.
+-- A log with no room for its header and that of a page is passed over.
 abbrev pub shortest_log : ℕ
 shortest_log = 32 + 24
 
--- the file with no log beside it
+-- the file, with no log to go with it
 abbrev pub without_log : Image → Image
 without_log image = record { log = []; db = image.db }

@@ -8,7 +8,7 @@ use Rattle.sqlite_value.specs.Order.{Row, column}
 use Rattle.sqlite_value.specs.declared.value.Value.TheVariants.{Int}
 use Rattle.book_trees.specs.Schema.{books_schema}
 
--- the row has the kind, the name, the table and the text that are wanted
+-- the row has the kind, the name, the table and the text that are expected
 abbrev pub lists : Wanted → Row → Bool
 lists wanted row =
     same_value (column row 1) (column wanted.row 0)
@@ -16,7 +16,7 @@ lists wanted row =
     && same_value (column row 3) (column wanted.row 2)
     && same_value (column row 5) (column wanted.row 3)
 
--- the row has no pages, as that of a view has none
+-- the row has no pages, like that of a view
 abbrev pub has_no_pages : Row → Bool
 has_no_pages row = same_value (column row 4) (Int (pos 0))
 

@@ -24,8 +24,8 @@ fault_for store.OutOfMemory = Memory
 fault_for store.Io = Store
 fault_for store.Full = Store
 
--- A fault has its cause: the files do not hold what they have to; memory was wanting, of which a
--- store tells no more; or a disk failed during the call, or a limit of the format was met. Files that
+-- A fault has its cause: the files do not hold what they have to; or memory ran out, about which a
+-- store says no more; or a disk failed during the call, or a format's limit was met. Files that
 -- are open here are not open elsewhere, nor out of reach.
 abbrev pub HasCause : ℕ → ℕ → Type 0 → Type 0 → OpenFault → Type 0
 HasCause old new AtLimit Held NotBooks = ¬ Held
@@ -48,7 +48,7 @@ module _ {D : Type 0} (g : Ghosts D) where
   MayLeave files image =
       AreClean g files.log files.db × outcomes g files.log files.db image
 
-  -- 32 bits number no more pages or frames of the two
+  -- 32-bit numbers are enough for the pages and frames of the two
   abbrev pub AreFull : Files D → Type 0
   AreFull files =
       ∥ ((it : Unopened D g) × ((files.log, files.db) ≡ files_of it) × IsFullFile it) ∥₁

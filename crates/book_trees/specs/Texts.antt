@@ -14,7 +14,7 @@ tariff_text =
     codes "CREATE TABLE tariff (day INT NOT NULL PRIMARY KEY, body TEXT NOT NULL) STRICT, "
     ++ codes "WITHOUT ROWID"
 
--- the last day of each period that is closed, by their numbers
+-- the last day of each closed period, by the periods' numbers
 abbrev pub closed_text : List ℕ
 closed_text =
     codes "CREATE TABLE closed (period INT NOT NULL PRIMARY KEY, through INT NOT NULL) STRICT, "
@@ -28,7 +28,7 @@ record_text =
     ++ codes "cpu INT NOT NULL, blocks INT NOT NULL, amount INT NOT NULL, charged INT NOT NULL, "
     ++ codes "posted INT NOT NULL) STRICT, WITHOUT ROWID"
 
--- the sums of a day for a cost centre and a shift, in each period
+-- the sums for each day, cost centre and shift, in each period
 abbrev pub day_sum_text : List ℕ
 day_sum_text =
     codes "CREATE TABLE day_sum (period INT NOT NULL, day INT NOT NULL, "

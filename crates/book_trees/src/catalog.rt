@@ -74,7 +74,7 @@ fn are_listed(rows: &[Row], objects: &[Object<'_>]) -> bool
     objects.iter().all(|object| is_listed(rows, object))
 }
 
-/// Whether each row may stand beside these tables and indexes.
+/// Whether each row may be there besides these tables and indexes.
 fn may_all_be_listed(rows: &[Row], objects: &[Object<'_>]) -> bool
     ensures { result ≡ list_all (may_be_listed (map wanted_of objects.now)) rows.now }
 {

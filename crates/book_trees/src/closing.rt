@@ -1,4 +1,4 @@
-//! The log of books is brought into their file, as it is done before they are closed.
+//! The log of books is moved into their file, as is done before they are closed.
 
 ghost use Rattle.std.specs.Prelude.{◌≡◌, ◌≤◌, ◌<◌, ◌↔◌, length, IsTrue};
 ghost use Rattle.sqlite_store.specs.FileStore.{view, recovers};
@@ -12,9 +12,9 @@ use sqlite_store::FileStore;
 use sqlite_trees::error::StoreError;
 use sqlite_trees::store::Store;
 
-/// Takes back what was not committed, and brings what the log holds into the file. What was
+/// Rolls back what was not committed, and moves what the log holds into the file. What was
 /// committed is in one of the two all the while: however this ends, and wherever a stop comes within
-/// it, there are no trees to be found but those that might have been found before.
+/// it, no trees can be found but those that might have been found before.
 pub fn shut<D: Disk>(store: &mut FileStore<D>) -> Result<(), StoreError>
     ensures outcomes { (trees : Trees) → recovers store.new trees → recovers store.old trees }
     ensures clean { doubt (view store.old).is_clean ≤ doubt (view store.new).is_clean }
@@ -23,10 +23,10 @@ pub fn shut<D: Disk>(store: &mut FileStore<D>) -> Result<(), StoreError>
     store.checkpoint()
 }
 
-/// The length of a log's header and of a page's. An open passes over a shorter log.
+/// The length of a log's header and of a page's. An open passes over a log that is shorter.
 const SHORTEST_LOG: u64 = 56;
 
-/// Whether a log of this length may be taken away: books whose log is so short are held by their
+/// Whether a log of this length may be deleted: books with so short a log are held by their
 /// file alone, with the same tables.
 pub fn needs_no_log(len: u64) -> bool
     ensures short { IsTrue result ↔ (len < shortest_log) }

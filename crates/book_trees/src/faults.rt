@@ -10,15 +10,15 @@ use std::io::ErrorKind;
 /// Why a file of books was not opened or made.
 #[derive(Clone, Copy, Debug, PartialEq, Eq, Drop)]
 pub enum OpenFault {
-    /// The file holds no books; of new books, it holds something.
+    /// The file holds no books; or, where new books were to be made, it holds something.
     NotBooks,
-    /// Memory was wanting.
+    /// Memory ran out.
     Memory,
     /// The files failed, or are full.
     Store,
     /// Another program has the files open.
     Busy,
-    /// The files can't be had at the path.
+    /// The files could not be opened at the path.
     Path,
 }
 
@@ -33,7 +33,7 @@ pub(crate) fn fault_of(error: OpenError) -> OpenFault
     }
 }
 
-/// What an error at a path stands for, where the files could not be had.
+/// What an error at a path stands for, when the files could not be opened.
 pub(crate) fn fault_at(error: PathError) -> OpenFault
     ensures memory { error ≡ PathError.OutOfMemory → result ≡ OpenFault.Memory }
     ensures busy { error ≡ PathError.Busy → result ≡ OpenFault.Busy }

@@ -17,14 +17,14 @@ use std::alloc::Global;
 /// Why files were not looked through, or what was found.
 #[derive(Clone, Copy, Debug, PartialEq, Eq, Drop)]
 pub enum LookFault {
-    /// They list the tables of books, and their pages are not such a file's.
+    /// They list the tables of books, but their pages are not those of such a file.
     Pages,
     /// They were not opened.
     Open(OpenFault),
 }
 
-/// Opens two files, and looks all of their pages through: the header, the free list, and each tree.
-/// Where there is no store they are given back.
+/// Opens two files, and looks through all of their pages: the header, the free list, and each tree.
+/// If there is no store they are given back.
 pub fn look_through<D: Disk>(
     alloc: Global,
     files: Files<D>,

@@ -23,7 +23,7 @@ use sqlite_store::FileStore;
 use std::alloc::Global;
 
 /// Makes new books in two files that hold nothing, or gives them back. There are then contents
-/// that a stop may leave, which hold books, and whose tables are empty.
+/// that a stop may leave which hold books with empty tables.
 pub fn create_files<D: Disk>(
     alloc: Global,
     files: Files<D>,
@@ -46,7 +46,7 @@ pub fn create_files<D: Disk>(
         → ∥ ((image : Image) × (held : HoldsBooks image) × (state store).may_leave image
         × AreEmptyTables (tables_at held)) ∥₁) }
 
-    // Files that hold nothing are refused for no other cause than memory and the disk.
+    // Files that hold nothing are refused only because of memory and the disk.
     ensures cause { IfErr result (λ refusal. AreClean D.Disk refusal.1.log refusal.1.db
         → HasCause (faults_in D.Disk files) (faults_in D.Disk refusal.1)
         (StopCreating D.Disk refusal.1) (HoldsNothing (image_of D.Disk files)) refusal.0) }
@@ -64,7 +64,7 @@ pub fn create_files<D: Disk>(
 }
 
 /// Makes new books in two files at a path. `S` stands for what these hold before, which is nothing
-/// where books are made. Files that are refused are given back.
+/// if books are made. Files that are refused are given back.
 pub fn create_at<S: Start>(
     rt: &HostRuntime,
     path: &str,

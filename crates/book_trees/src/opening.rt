@@ -22,7 +22,7 @@ use sqlite_std_file::{FileFrom, open};
 use sqlite_store::{FileStore, Unopened};
 use std::alloc::Global;
 
-/// Opens what a ledger left, with no look at the tables.
+/// Opens what a ledger left, without a look at the tables.
 pub fn open_left<D: Disk>(files: Unopened<D>) -> Result<FileStore<D>, (OpenFault, Unopened<D>)>
     requires usable { AreUsable files }
     requires schema { wanted_by files ≡ books_schema }
@@ -40,7 +40,7 @@ pub fn open_left<D: Disk>(files: Unopened<D>) -> Result<FileStore<D>, (OpenFault
     ensures kept { IfOk result (λ store. IsTrue (state store).is_clean
         → Opens files (state store)) }
 
-    // Files that hold books are refused for no other cause than memory and the disk.
+    // Files that hold books are refused only because of memory and the disk.
     ensures cause { IfErr result (λ refusal. IsTrue (state_of refusal.1).is_clean
         → HasCause (state_of files).faults (state_of refusal.1).faults (IsFullFile refusal.1)
         (HoldsBooks (image files)) refusal.0) }
@@ -85,7 +85,7 @@ pub fn open_files<D: Disk>(
     ensures read { IfOk result (λ store. IsTrue (state store).is_clean
         → Shows (image_of D.Disk files) store) }
 
-    // Files that hold books are refused for no other cause than memory and the disk.
+    // Files that hold books are refused only because of memory and the disk.
     ensures cause { IfErr result (λ refusal. AreClean D.Disk refusal.1.log refusal.1.db
         → HasCause (faults_in D.Disk files) (faults_in D.Disk refusal.1)
         (AreFull D.Disk refusal.1) (HoldsBooks (image_of D.Disk files)) refusal.0) }
@@ -103,7 +103,7 @@ pub fn open_files<D: Disk>(
 }
 
 /// Opens the file at a path, where `S` stands for what the files hold. Files that are refused are
-/// given back, so that nobody else has them before the caller lets them go.
+/// given back, so that nobody else has them before the caller releases them.
 pub fn open_at<S: LeftByLedger>(
     rt: &HostRuntime,
     path: &str,

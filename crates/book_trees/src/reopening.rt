@@ -33,7 +33,7 @@ pub fn keeps_books<D: Disk>(store: &FileStore<D>) -> Result<bool, AllocError>
 }
 
 /// Closes the books, whatever was going on in them, and opens the files at the path. `S` stands
-/// for what these hold then: what the closed books may have left.
+/// for what these then hold: what the closed books may have left.
 pub fn close_and_open<D: Disk + Drop, S: LeftByLedger>(
     rt: &HostRuntime,
     path: &str,
@@ -63,7 +63,7 @@ pub fn close_and_open<D: Disk + Drop, S: LeftByLedger>(
 }
 
 /// The same on a disk that can be made to crash, which stays the same disk: with no `Start`. No
-/// clause says what the shapes were at the last commit, where the disk is not honest.
+/// clause says what the shapes were at the last commit, if the disk is not honest.
 pub fn crash_and_open<D: Crash>(store: &mut FileStore<D>) -> Result<(), StoreError>
     ensures trees { HasShapes (view store.old)
         → OnOk result (IsClean (view store.new) → HasShapes (view store.new)) }

@@ -23,7 +23,7 @@ pub(crate) fn size_of_a_page() -> PageSize
     }
 }
 
-/// The two with the schema of books. Want of memory gives them back.
+/// The two with the schema of books. If memory runs out they are given back.
 pub(crate) fn unopened<D: Disk>(
     alloc: Global,
     files: Files<D>,

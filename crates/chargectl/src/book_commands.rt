@@ -48,7 +48,7 @@ impl<R: Read + Drop, W: Write + Drop> Visit for Question<R, W> {
     }
 }
 
-/// What was told was written, and has left the program.
+/// The answer was written, and has left the program.
 fn flushed<W: Write + Drop>(told: Result<(), ReportFault>, mut output: W) -> Result<(), Trouble> {
     told?;
     Ok(output.flush()?)
@@ -74,7 +74,7 @@ fn ask_books<S: Shelf, R: Read + Drop, O: Write + Drop>(
     shelf.open(book, question)?
 }
 
-/// Hands in a tariff.
+/// Submits a tariff.
 pub(crate) fn tariff<S: Shelf, O: Write + Drop>(
     rt: &HostRuntime,
     shelf: &S,
@@ -177,7 +177,7 @@ pub(crate) fn report<S: Shelf, O: Write + Drop>(
     ask_books(rt, shelf, book, asked, io::empty(), output)
 }
 
-/// Looks the whole file of books through, and prints what came of it.
+/// Audits the whole file of books, and prints the result.
 pub(crate) fn audit<S: AuditedShelf, O: Write + Drop>(
     rt: &HostRuntime,
     shelf: &S,

@@ -11,7 +11,7 @@ const IDLE: u64 = 10;
 /// How long a connection may take in all, in seconds.
 const WHOLE: u64 = 60;
 
-/// How many reads are made of what comes behind an answer, 65,536 bytes each at most: twice the
+/// How many reads are made of what comes after an answer, each of 65,536 bytes at most: twice the
 /// longest body.
 const DRAINING_READS: u64 = 512;
 
@@ -27,13 +27,13 @@ pub(crate) struct Client<'a> {
 }
 
 impl<'a> Client<'a> {
-    /// A client that was accepted now.
+    /// A client that was just accepted.
     pub(crate) fn accepted(rt: &'a HostRuntime, stream: &'a TcpStream) -> io::Result<Client<'a>> {
         let begun = Instant::now(rt)?;
         Ok(Client { rt, stream, begun })
     }
 
-    /// How long it may take for the next step. An error is that its time is over.
+    /// How long it may take for the next step. An error means that its time is over.
     fn patience(&self) -> io::Result<Duration> {
         let taken = self.begun.elapsed(self.rt)?;
         match Duration::from_secs(WHOLE).checked_sub(taken) {
@@ -42,7 +42,7 @@ impl<'a> Client<'a> {
         }
     }
 
-    /// Tells the client that the answer is whole, and reads what it still sends, so that it gets to
+    /// Shows the client that the answer is whole, and reads what it still sends, so that it can
     /// read the answer.
     pub(crate) fn part(mut self) {
         if self.stream.shutdown(Shutdown::Write).is_err() {

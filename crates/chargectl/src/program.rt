@@ -17,7 +17,8 @@ use std::fs;
 use std::io::{IsTerminal, Read, Write};
 use tariff_rules::{MAX_RATE, Tariff};
 
-/// Does what the words ask for, of which the first is the program's name. Books are kept on a shelf.
+/// Does what the words ask for, the first of which is the program's name. Books are kept on a
+/// shelf.
 pub fn command<S: AuditedShelf, I: Read + Drop, O: Write + Drop, E: Write>(
     rt: &HostRuntime,
     shelf: &S,
@@ -117,7 +118,7 @@ fn numbered(kind: NumberKind) -> Numbered {
     }
 }
 
-/// Prices the records of the input under one tariff. None stands for a rate outside its limits.
+/// Prices the records of the input under one tariff. None means a rate outside its limits.
 fn run_trial<I: Read + Drop, O: Write + Drop>(
     alloc: Global,
     layout: Layout,
@@ -132,8 +133,8 @@ fn run_trial<I: Read + Drop, O: Write + Drop>(
     ended(receipt.stop)
 }
 
-/// Says what each record of a file is. Where the list goes to a terminal, it shows itself how far it
-/// is.
+/// Says what each record of a file is. Where the list goes to a terminal, the list itself shows how
+/// far it is.
 fn check<O: Write + Drop>(rt: &HostRuntime, dump: DumpFile<'_>, output: O) -> Result<(), Trouble> {
     let layout = dump.layout;
     let is_shown = !dump.quiet && rt.stderr().is_terminal() && !rt.stdout().is_terminal();

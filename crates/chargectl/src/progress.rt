@@ -6,7 +6,7 @@ use std::io;
 use std::io::{Read, Write};
 use std::time::{Duration, Instant};
 
-/// How long a line stands at least, in milliseconds.
+/// How long a line stays at least, in milliseconds.
 const STANDING: u64 = 500;
 
 /// Carriage return, and the terminal's order to clear the line.
@@ -27,7 +27,7 @@ impl<'a> Line<'a> {
         Some(Line { rt, shown })
     }
 
-    /// It stood long enough.
+    /// It has stayed long enough.
     fn is_due(&self) -> bool {
         match self.shown.elapsed(self.rt) {
             Ok(time) => time >= Duration::from_millis(STANDING),
@@ -42,7 +42,7 @@ impl<'a> Line<'a> {
         }
     }
 
-    /// Takes it away.
+    /// Removes it.
     fn clear(&self) {
         let _ = write!(self.rt.stderr(), "{CLEARED}");
     }
@@ -68,7 +68,7 @@ impl<'a> Progress<'a> {
         })
     }
 
-    /// Counts a piece, and shows the line where the last one stood long enough.
+    /// Counts a piece, and shows the line where the last one has stayed long enough.
     fn count(&mut self, piece: &[u8]) {
         self.bytes = self.bytes.saturating_add(piece.len() as u64);
         self.count_records(piece);
@@ -77,7 +77,7 @@ impl<'a> Progress<'a> {
         }
     }
 
-    /// Counts the records that a piece completes. A record takes a byte of it at least.
+    /// Counts the records that a piece completes. A record takes at least one byte of it.
     fn count_records(&mut self, piece: &[u8]) {
         let mut rest = piece;
         for _ in 0..piece.len() {
@@ -111,7 +111,7 @@ pub(crate) struct Watched<'a, R: Read + Drop> {
 }
 
 impl<'a, R: Read + Drop> Watched<'a, R> {
-    /// A reader of a dump, which is shown where that is asked for.
+    /// A reader of a dump, whose progress is shown where that is asked for.
     pub(crate) fn new(
         rt: &'a HostRuntime,
         inner: R,
@@ -147,8 +147,8 @@ impl<R: Read + Drop> Read for Watched<'_, R> {
     }
 }
 
-/// A writer of what is said behind a dump: before that, the line that shows how far the dump was read
-/// is taken away, wherever the reading stopped.
+/// A writer of what is said after a dump: before that, the line that shows how far the dump was
+/// read is removed, wherever the reading stopped.
 #[derive(Drop)]
 pub(crate) struct Behind<'a, W: Write + Drop> {
     rt: &'a HostRuntime,
@@ -157,7 +157,7 @@ pub(crate) struct Behind<'a, W: Write + Drop> {
 }
 
 impl<'a, W: Write + Drop> Behind<'a, W> {
-    /// Behind a dump that is shown where that is asked for.
+    /// After a dump whose progress is shown where that is asked for.
     pub(crate) fn new(rt: &'a HostRuntime, inner: W, is_shown: bool) -> Behind<'a, W> {
         Behind {
             rt,
@@ -191,7 +191,8 @@ pub(crate) struct WatchedRows<'a> {
 }
 
 impl<'a> WatchedRows<'a> {
-    /// An audit that begins with the pages of the file, which is shown where that is asked for.
+    /// An audit that begins with the pages of the file; its progress is shown where that is asked
+    /// for.
     pub(crate) fn new(rt: &'a HostRuntime, is_shown: bool) -> WatchedRows<'a> {
         if !is_shown {
             return WatchedRows { line: None };

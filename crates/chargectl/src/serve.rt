@@ -1,4 +1,4 @@
-//! Answers for the books over HTTP, on this machine alone.
+//! Serves the books over HTTP, to this machine only.
 
 ghost use Rattle.std.specs.Prelude.{◌≡◌};
 
@@ -14,8 +14,8 @@ use std::net::{TcpListener, TcpStream};
 /// The status of an answer that the books could not give.
 const UNAVAILABLE: u16 = 503;
 
-/// Answers so many connections, one after the other, and says of each what became of it. After a
-/// fault of the books' store their file is closed and opened again.
+/// Answers a given number of connections, one after the other, and says what became of each. After
+/// a fault of the books' store their file is closed and opened again.
 pub(crate) fn serve<S: Shelf, O: Write + Drop>(
     rt: &HostRuntime,
     shelf: &S,
@@ -32,7 +32,7 @@ pub(crate) fn serve<S: Shelf, O: Write + Drop>(
         output: &mut output,
     };
     let (listener, mut left) = shelf.open(book, first)??;
-    // Each session but the last answers one connection at least.
+    // Each session but the last answers at least one connection.
     for _ in 0..requests {
         let Some(requests) = left else {
             return Ok(());
@@ -48,7 +48,7 @@ pub(crate) fn serve<S: Shelf, O: Write + Drop>(
     Ok(())
 }
 
-/// The first time that the books are open: then the port is taken too.
+/// The first time that the books are open; the port is taken then too.
 #[derive(Drop)]
 struct FirstSession<'a, O: Write> {
     rt: &'a HostRuntime,
@@ -94,8 +94,8 @@ fn listen<O: Write>(rt: &HostRuntime, port: u16, output: &mut O) -> io::Result<T
     Ok(listener)
 }
 
-/// Answers so many connections, or up to the first fault of the books' store: then it says how many
-/// are left.
+/// Answers a given number of connections, or up to the first fault of the books' store: then it
+/// says how many are left.
 fn serve_while_open<L: Ledger, O: Write>(
     rt: &HostRuntime,
     listener: &TcpListener,
@@ -121,8 +121,8 @@ fn may_have_failed(served: Served) -> bool {
     }
 }
 
-/// The store of the books has failed: they answer nothing more until they are opened again. Want of
-/// memory is no such fault.
+/// The store of the books has failed: they answer nothing more until they are opened again. A lack
+/// of memory is no such fault.
 fn must_reopen<L: Ledger>(books: &mut L) -> bool
     ensures { result ≡ (L.seen books.new).must_reopen }
 {
@@ -145,7 +145,7 @@ fn serve_next<L: Ledger, O: Write>(
     Ok(served)
 }
 
-/// Answers one connection. Where the clock fails there is no bound on it, so nothing is read.
+/// Answers one connection. Where the clock fails the time is not bounded, so nothing is read.
 fn answer<L: Ledger>(rt: &HostRuntime, stream: &TcpStream, books: &mut L) -> Served {
     let Ok(client) = Client::accepted(rt, stream) else {
         return Served::ReadFault;

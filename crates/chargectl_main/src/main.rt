@@ -24,7 +24,7 @@ fn main(rt: HostRuntime) -> ExitCode {
     ExitCode::from(status.code())
 }
 
-/// The words of the command line. An error is want of memory, or that one is not UTF-8.
+/// The words of the command line. An error means that memory ran out, or that one is not UTF-8.
 fn given_words(rt: &HostRuntime) -> io::Result<Vec<String>> {
     let mut words = Vec::new(rt.alloc());
     for word in env::args(rt)? {

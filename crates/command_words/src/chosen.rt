@@ -5,7 +5,7 @@ use book_reports::Report;
 use clap::ArgMatches;
 use smf_frames::Layout;
 
-/// The command with its words. None stands for a subcommand or a missing word that the command line
+/// The command with its words. None would be a subcommand or a missing word that the command line
 /// does not let pass.
 pub(crate) fn chosen<'a>(matches: &ArgMatches<'a>) -> Option<Request<'a>> {
     let (name, found) = matches.subcommand()?;

@@ -12,7 +12,7 @@ use std::alloc::{AllocError, Global};
 /// The program's version.
 const VERSION: &str = "0.1.0";
 
-/// What a value has to be, where no rate is higher than that.
+/// What a value has to be, where no rate is above the highest.
 fn parser_of<'a>(kind: Kind, highest: u32) -> ValueParser<'a> {
     match kind {
         Kind::Text => ValueParser::String,
@@ -91,7 +91,7 @@ fn command_line<'a>(
         .subcommands(commands)
 }
 
-/// What `clap` says of words that it does not take.
+/// What `clap` says about words that it refuses.
 fn fault_in(alloc: Global, error: &Error) -> WordFault {
     if error.kind() == ErrorKind::OutOfMemory {
         return WordFault::Memory;
@@ -103,9 +103,9 @@ fn fault_in(alloc: Global, error: &Error) -> WordFault {
     }
 }
 
-/// The command that the words ask for, of which the first is the program's name, where no rate is
-/// higher than that; help and faults speak of the program by the name that is given. Wrong without
-/// a text would be a subcommand or a missing file that `command_line` does not let pass.
+/// The command that the words ask for, the first of which is the program's name, where no rate is
+/// above `highest`; help and faults call the program by the name that is given. Wrong without a
+/// text would be a subcommand or a missing word that `command_line` does not let pass.
 pub fn requested_by<'a>(
     alloc: Global,
     program: &'a str,

@@ -1,6 +1,6 @@
 use thiserror::Error;
 
-/// Why words ask for nothing that the program does.
+/// Why the words ask for nothing that the program does.
 #[derive(Debug, Drop, Error)]
 pub enum WordFault {
     /// They ask for help, which is this text.
@@ -10,6 +10,6 @@ pub enum WordFault {
     #[error("{0}")]
     Wrong(String),
     /// A request for memory was refused.
-    #[error("want of memory")]
+    #[error("out of memory")]
     Memory,
 }

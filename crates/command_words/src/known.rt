@@ -19,9 +19,9 @@ pub(crate) enum Word {
     },
     /// A value in its place.
     InPlace(Valued),
-    /// A value behind its name, which may not be left out.
+    /// A value after its name, which may not be left out.
     Named(Valued),
-    /// A value behind its name, and what stands for it where it is left out.
+    /// A value after its name, and its default where it is left out.
     Optional(Valued, &'static str),
 }
 
@@ -29,7 +29,7 @@ pub(crate) enum Word {
 #[derive(Clone, Copy)]
 pub(crate) struct Valued {
     pub(crate) name: &'static str,
-    /// How help calls the value.
+    /// What help calls the value.
     pub(crate) shown: &'static str,
     pub(crate) help: &'static str,
     pub(crate) kind: Kind,
@@ -82,7 +82,7 @@ const PERIOD: Word = Word::InPlace(Valued {
 const DATE: Word = Word::InPlace(Valued {
     name: "date",
     shown: "DATE",
-    help: "Its last day, as 2024-01-31",
+    help: "Its last day, such as 2024-01-31",
     kind: Kind::Text,
 });
 
@@ -97,7 +97,7 @@ const LAYOUT: Word = Word::Optional(
     Valued {
         name: "layout",
         shown: "LAYOUT",
-        help: "How the dump's segments lie: one after another, or in blocks",
+        help: "How the dump's segments are laid out: one after another, or in blocks",
         kind: Kind::OneOf(&["rdw", "bdw"]),
     },
     "rdw",
@@ -153,14 +153,14 @@ const PORT: Word = Word::Named(Valued {
 const REQUESTS: Word = Word::Named(Valued {
     name: "requests",
     shown: "NUMBER",
-    help: "How many connections to answer, one after the other",
+    help: "How many connections to answer, one at a time",
     kind: Kind::UpTo(MOST_REQUESTS),
 });
 
 const NUMBER_KIND: Word = Word::InPlace(Valued {
     name: "kind",
     shown: "KIND",
-    help: "What the number is the number of",
+    help: "What kind of number it is",
     kind: Kind::OneOf(&["frame", "ledger", "tariff", "damaged"]),
 });
 
@@ -175,12 +175,12 @@ const NUMBER: Word = Word::InPlace(Valued {
 pub(crate) static KNOWN: [Known; 14] = [
     Known {
         name: "trial",
-        about: "Prices a dump: standard input into new books, their statement to standard output",
+        about: "Prices a dump from standard input in new books, and prints their statement",
         words: &[LAYOUT, CPU, EXCP, RECORD],
     },
     Known {
         name: "check",
-        about: "Says what each record of a dump is, and why there are no more",
+        about: "Says what each record of a dump is, and why reading stopped",
         words: &[LAYOUT, QUIET, DUMP],
     },
     Known {
@@ -205,12 +205,12 @@ pub(crate) static KNOWN: [Known; 14] = [
     },
     Known {
         name: "choose",
-        about: "Charges one of the records in dispute with each other, and none of the others",
+        about: "Charges one of several records in dispute with each other, and none of the others",
         words: &[BOOK, SHA256],
     },
     Known {
         name: "adopt",
-        about: "Adopts identity rule 2 for good",
+        about: "Adopts identity rule 2, for ever",
         words: &[BOOK],
     },
     Known {
@@ -220,7 +220,7 @@ pub(crate) static KNOWN: [Known; 14] = [
     },
     Known {
         name: "adjustments",
-        about: "Prints what a period adds to closed periods, and takes back",
+        about: "Prints what a period adds to closed periods and reverses in them",
         words: &[BOOK, PERIOD],
     },
     Known {
@@ -230,12 +230,12 @@ pub(crate) static KNOWN: [Known; 14] = [
     },
     Known {
         name: "audit",
-        about: "Looks the whole file of books through",
+        about: "Audits the whole file of books",
         words: &[BOOK, QUIET],
     },
     Known {
         name: "serve",
-        about: "Answers for the books over HTTP, on this machine",
+        about: "Serves the books over HTTP, to this machine only",
         words: &[BOOK, PORT, REQUESTS],
     },
     Known {

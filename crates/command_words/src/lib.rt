@@ -1,4 +1,4 @@
-//! The words of the command line, and what they ask for. No type of `clap` goes out of here: who
+//! The words of the command line, and what they ask for. No type of `clap` leaves this crate: what
 //! depends on this crate does not depend on that one.
 #![tactic(auto)]
 

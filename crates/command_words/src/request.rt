@@ -1,7 +1,7 @@
 use book_reports::Report;
 use smf_frames::Layout;
 
-/// What a number is the number of.
+/// What kind of thing a number stands for.
 #[derive(Clone, Copy)]
 pub enum NumberKind {
     /// A fault of a dump's framing.
@@ -19,9 +19,9 @@ pub enum NumberKind {
 pub struct DumpFile<'a> {
     /// The file's path.
     pub file: &'a str,
-    /// How its segments lie.
+    /// How its segments are laid out.
     pub layout: Layout,
-    /// Nothing is shown of how far it is.
+    /// No progress is shown.
     pub quiet: bool,
 }
 
@@ -30,7 +30,7 @@ pub struct DumpFile<'a> {
 pub enum BookRequest<'a> {
     /// New books in a file that is not there yet.
     Init,
-    /// A tariff file handed in.
+    /// A tariff file submitted.
     Tariff {
         /// The path of the tariff.
         file: &'a str,
@@ -53,15 +53,15 @@ pub enum BookRequest<'a> {
     Adopt,
     /// A report printed.
     Print(Report),
-    /// The whole file looked through.
+    /// The whole file audited.
     Audit {
-        /// Nothing is shown of how far it is.
+        /// No progress is shown.
         quiet: bool,
     },
-    /// The books answered for over HTTP, to this machine alone.
+    /// The books served over HTTP, to this machine only.
     Serve {
         port: u16,
-        /// After how many connections to end.
+        /// The number of connections after which to end.
         requests: u32,
     },
 }
@@ -71,7 +71,7 @@ pub enum BookRequest<'a> {
 pub enum Request<'a> {
     /// Standard input into new books, under one price for all records.
     Trial {
-        /// How the input's segments lie.
+        /// How the input's segments are laid out.
         layout: Layout,
         /// Ten-thousandths of the money unit for a CPU second.
         cpu: u64,
@@ -87,7 +87,7 @@ pub enum Request<'a> {
         kind: NumberKind,
         number: u16,
     },
-    /// Something of books in a file.
+    /// A request to books in a file.
     OfBooks {
         /// The path of the books.
         book: &'a str,

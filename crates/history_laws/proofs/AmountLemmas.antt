@@ -20,7 +20,7 @@ module _ (rulings : Rulings) where
   abbrev worth : List ℕ → ℕ
   worth bytes = option_map_or (λ priced. priced.amount) (price_in rulings bytes) 0
 
-  -- what a set costs is the sum of what its members do
+  -- what a set costs is the sum of what its members cost
   total_over : (records : Records) → total_of rulings records ≡ over worth records
   total_over records = sum_by-filter_map (λ priced. priced.amount) (price_in rulings)
       (members records)
@@ -29,7 +29,7 @@ module _ (rulings : Rulings) where
   total_none : total_of rulings map.empty ≡ 0
   total_none = total_over map.empty ∙ ap (sum_by worth) (members-empty by_bytes)
 
-  -- what the rows and plus lines of a period come to, and what its minus lines do
+  -- what the rows and plus lines of a period add up to, and its minus lines
   abbrev given : Period → ℕ
   given period =
       sum_by (λ row. row.amount) (rows_for rulings period.counted) + total_of rulings period.added
@@ -66,7 +66,7 @@ module _ (rulings : Rulings) where
       let all = all_nets given taken (total_of rulings) total_none period_balances history in
       omega arith
 
--- the law of it
+-- the law
 pub conserved_in_sets : ConservedInSets
 conserved_in_sets rulings history =
     let periods : List Period = all_periods (book_after history) in

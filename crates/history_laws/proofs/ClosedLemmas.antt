@@ -21,7 +21,7 @@ use Rattle.book_model.proofs.ReadingLemmas.{same_rows, same_lines}
 use Rattle.history_laws.specs.Closed.{IsClosed, IsReadAlike}
 use Rattle.history_laws.specs.Laws.{ClosedStays}
 
--- a closed period stands among those that are past
+-- a closed period is among those that are past,
 found_past : (number : ℕ) (book : Book) → IsClosed number book
     → period_of book number ≡ slice_get book.past (number - 1)
 found_past number book closed =
@@ -73,11 +73,11 @@ alike naming number old new period day was is rows lines = record {
       ∙ sym (ap (lines_by old.rulings) was);
 }
 
--- a book reads a period as itself
+-- a book reads a period as it does itself,
 itself : (naming : Naming) (number : ℕ) (book : Book) → IsReadAlike naming number book book
 itself naming number book = record { day = refl; period = refl; rows = refl; lines = refl }
 
--- and as a book that reads it as a third one
+-- and as a book that reads it as a third one does
 through : (naming : Naming) (number : ℕ) (first next last : Book)
     → IsReadAlike naming number first next → IsReadAlike naming number next last
     → IsReadAlike naming number first last
@@ -88,7 +88,7 @@ through naming number first next last early late = record {
   lines = late.lines ∙ early.lines;
 }
 
--- one event more, where a sound book has a closed period
+-- one more event, if a sound book has a closed period
 module _ (naming : Naming) (number : ℕ) (old : Book) (sound : IsSound naming old)
     (closed : IsClosed number old) where
   -- a record that is kept changes no ruling, so no price
@@ -144,7 +144,7 @@ module _ (naming : Naming) (number : ℕ) (old : Book) (sound : IsSound naming o
       (found_past number new still ∙ there.1)
       refl refl
 
-  -- one close more leaves the closed periods before it
+  -- one more close leaves the closed periods before it,
   closed_more : (day : ℤ) → IsClosed number (close day old)
   closed_more day =
       let past = closed.is_past in
@@ -174,7 +174,7 @@ record Stays (naming : Naming) (number : ℕ) (old new : Book) : Type 0 where
   closed : IsClosed number new
   alike : IsReadAlike naming number old new
 
--- so it is after any events by calls
+-- the same holds after any events that calls made
 stays : (naming : Naming) (later earlier : List Event) (number : ℕ)
     → IsAnswered naming (later ++ earlier) → IsClosed number (book_after earlier)
     → Stays naming number (book_after earlier) (book_after (later ++ earlier))
@@ -249,7 +249,7 @@ stays naming (SecondRuleAdopted ∷ later) earlier number answered closed =
           (after_rule naming number old sound before.closed);
     }
 
--- the law of it
+-- the law
 pub closed_stays : ClosedStays
 closed_stays naming later earlier number answered closed =
     let all = stays naming later earlier number answered closed in

@@ -15,7 +15,7 @@ use Rattle.book_model.proofs.StepLemmas.{books_follow_history}
 use Rattle.book_model.proofs.RecordSets.{passes_those, not_true}
 use Rattle.history_laws.specs.Laws.{AreDated, DatedRight}
 
--- so many periods as are asked for
+-- as many periods as are asked for
 periods_long : (n : ℕ) (history : List Event) → length (periods n history) ≡ n
 periods_long zero history = refl
 periods_long (suc n) history =
@@ -23,7 +23,7 @@ periods_long (suc n) history =
     let rest = periods_long n history in
     omega arith
 
--- each of the first periods stands in its place
+-- each of the first periods is in its place
 period_at : (n k : ℕ) (history : List Event) (period : Period) → slice_get (periods n history) k
     ≡ Some period
     → period_after k history ≡ period
@@ -76,7 +76,7 @@ dated last before charged = record {
       (passes_those (λ b. not (is_dated_after last b)) (without charged before) bytes there);
 }
 
--- the law of it
+-- the law
 pub dated_right : DatedRight
 dated_right history k period there =
     let place = period_at (suc (length (closes history))) k history period

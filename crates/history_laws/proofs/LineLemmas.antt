@@ -1,4 +1,4 @@
--- The lines that are read: one for each record that is added or taken back.
+-- The lines that are read: one for each record that is added or reversed.
 use Rattle.std.proofs.Common.{◌≡◌, ℕ, List, [], ◌∷◌, ◌++◌, refl, sym, ap, ◌∙◌, true, false}
 use Rattle.std.proofs.Common.{true≢false, Bool, cond, not, ◌||◌, Option, Some, None, arith}
 use Rattle.std.specs.Prelude.{filter, sum_by}
@@ -31,7 +31,7 @@ use Rattle.book_model.proofs.RecordSets.{is, is_itself}
 use Rattle.history_laws.specs.Amounts.{plus_of, minus_of}
 use Rattle.history_laws.specs.Lines.{both_lines}
 
--- one of what a partial function gives passes a test
+-- one result of a partial function passes a test
 any-given : {X Y : Type 0} (p : Y → Bool) (give : X → Option Y) (xs : List X)
     → list_any p (filter_map give xs) ≡ list_any (λ x. option_map_or p (give x) false) xs
 any-given p give [] = refl
@@ -43,7 +43,7 @@ any-given p give (x ∷ xs) =
       | Some y ↦ ap (λ b. p y || b) rest
     ]
 
--- what a partial function gives of records that are apart is apart, where it tells them apart
+-- the results of a partial function for distinct records are distinct, if it distinguishes them
 given-apart : {Y : Type 0} (e : Y → Y → Bool) (give : List ℕ → Option Y) (ks : List (List ℕ))
     → ((a b : List ℕ) → list_any (is a) ks ≡ true → list_any (is b) ks ≡ true
     → (y z : Y) → give a ≡ Some y → give b ≡ Some z → e y z ≡ true → a ≡ b)
@@ -76,7 +76,7 @@ given-apart {Y} e give (k ∷ ks) tells apart =
       )
     ] refl
 
--- lines whose signs do not tie do not
+-- lines with signs that do not tie do not tie
 signs_differ : (a b c : Ordering) → c ≡ Less → is_eq (ordering_then a (ordering_then b c)) ≡ false
 signs_differ Less b c less = refl
 signs_differ Greater b c less = refl
@@ -99,7 +99,7 @@ not_among line (other ∷ lines) plus minus =
     let rest = not_among line lines plus minus.1 in
     λ i. apart i || rest i
 
--- so plus lines that are apart and minus lines that are apart are all apart
+-- so if the plus lines are distinct and the minus lines are, all lines are distinct
 both_apart : (xs ys : List Line) → Apart (eq_by_cmp by_line) xs → Apart (eq_by_cmp by_line) ys
     → Signed true xs → Signed false ys → Apart (eq_by_cmp by_line) (xs ++ ys)
 both_apart [] ys first second plus minus = second
@@ -130,7 +130,7 @@ module _ (naming : Naming) (rulings : Rulings) where
   its_name plus bytes (Some priced) line is =
       sym (ap (λ found. option_map_or (λ line. line.name) found (name_of naming bytes)) is)
 
-  -- lines of one sign, each of another record, are apart
+  -- lines of one sign, each of another record, are distinct
   lines_apart : (plus : Bool) (records : Records)
       → ((a b : List ℕ) → has records a ≡ true → has records b ≡ true
       → name_of naming a ≡ name_of naming b → a ≡ b)
@@ -198,7 +198,7 @@ module _ (naming : Naming) (rulings : Rulings) where
         (signed (λ plus. plus ≡ true) true refl (members period.added))
         (signed (λ plus. plus ≡ false) false refl (members period.taken)))
 
-    -- those that pass a test amount to the same as those of the list
+    -- those that pass a test amount to the same as those of the list that pass it
     read_amount : (p : Line → Bool)
         → sum_by (λ line. line.priced.amount) (filter p (lines_of naming rulings period))
         ≡ sum_by (λ line. line.priced.amount) (filter p (both_lines naming rulings period))
@@ -209,7 +209,7 @@ module _ (naming : Naming) (rulings : Rulings) where
         (both_lines naming rulings period) read_once)
         ∙ sym (sum_by-filter (λ line. line.priced.amount) p (both_lines naming rulings period))
 
-    -- the plus lines amount to what the records cost that are added
+    -- the plus lines amount to what the added records cost
     pub plus_cost : plus_of (lines_of naming rulings period) ≡ total_of rulings period.added
     plus_cost =
         let xs : List Line = lines_for naming rulings true period.added in
@@ -226,7 +226,7 @@ module _ (naming : Naming) (rulings : Rulings) where
         (filter-append (λ line. line.plus) xs ys ∙ (λ i. all i ++ none i))
         ∙ omega arith
 
-    -- the minus lines amount to what the records cost that are taken back
+    -- the minus lines amount to what the reversed records cost
     pub minus_cost : minus_of (lines_of naming rulings period) ≡ total_of rulings period.taken
     minus_cost =
         let xs : List Line = lines_for naming rulings true period.added in

@@ -25,7 +25,7 @@ by_cases false true false old = refl
 by_cases false false true old = refl
 by_cases false false false old = refl
 
--- whether a record is among those charged that were not before
+-- whether a record is among those charged that were not charged before
 pub has_without : (records others : Records) (bytes : List ℕ)
     → has (without records others) bytes ≡ (not (has others bytes) && has records bytes)
 has_without records others bytes = has_those (λ b. not (has others b)) records bytes
@@ -44,7 +44,7 @@ module _ (last : Option ℤ) (before charged : Records) (bytes : List ℕ) where
       ∙ ap (λ b. not (is_dated_after last bytes) && b) (has_without charged before bytes)
 
 module _ (bytes : List ℕ) where
-  -- how often a period charges the record, and how often it takes it back
+  -- how often a period charges the record, and how often it reverses it
   abbrev given : Period → ℕ
   given period = one_if (has period.counted bytes) + one_if (has period.added bytes)
 
@@ -67,7 +67,7 @@ module _ (bytes : List ℕ) where
   none : one_if (has {R = by_bytes} map.empty bytes) ≡ 0
   none = ap one_if (ap is_some (map.get-empty by_bytes bytes))
 
-  -- where periods give what stands charged and what they take, the record is charged once net, or
+  -- if periods give what is charged and what they take, the record is charged once net, or
   -- nets to nothing
   net_of : (periods : List Period) (charged : Records)
       → sum_by given periods ≡ one_if (has charged bytes) + sum_by taken periods
@@ -79,21 +79,21 @@ module _ (bytes : List ℕ) where
       net (times_counted periods bytes + times_added periods bytes) (times_taken periods bytes)
       (one_if (has charged bytes)) (omega arith)
 
--- the law of it
+-- the law
 pub charged_once : ChargedOnce
 charged_once history bytes =
     net_of bytes (all_periods (book_after history)) (charged_of (book_after history))
     (all_nets (given bytes) (taken bytes) (λ records. one_if (has records bytes)) (none bytes)
     (one_period bytes) history)
 
--- the same of the closed periods
+-- the same for the closed periods
 pub posted_once : PostedOnce
 posted_once history bytes =
     net_of bytes (book_after history).past (book_after history).posted
     (past_nets (given bytes) (taken bytes) (λ records. one_if (has records bytes)) (none bytes)
     (one_period bytes) history)
 
--- one of the three at most
+-- at most one of the three
 one_of : (before now late : Bool)
     → one_if (late && now) + one_if (not late && (not before && now)) + one_if (not now && before) ≤
     1
@@ -106,7 +106,7 @@ one_of false true false = omega arith
 one_of false false true = omega arith
 one_of false false false = omega arith
 
--- a period does one of the three at most
+-- a period does at most one of the three
 names_once : (last : Option ℤ) (before charged : Records)
     → NamesOnce (period_by last before charged)
 names_once last before charged bytes =
@@ -116,6 +116,6 @@ names_once last before charged bytes =
     let cases = one_of (has before bytes) (has charged bytes) (is_dated_after last bytes) in
     omega arith
 
--- the law of it
+-- the law
 pub named_once : NamedOnce
 named_once history = all_hold NamesOnce names_once history

@@ -31,13 +31,13 @@ posted_dated (PeriodClosed day ∷ older) bytes there =
     ap (λ close. is_dated_after close bytes) (last_or-behind None book.rulings.closes day)
     ∙ through_dated book.rulings day book.held bytes there
 
--- If each period gives and takes the difference of what stands charged before it and at its end,
--- then all periods give what stands charged now, and what they take.
+-- If each period gives and takes the difference of what is charged before it and at its end,
+-- then all periods give what is charged now, and what they take.
 module _ (given taken : Period → ℕ) (standing : Records → ℕ) (none : standing map.empty ≡ 0)
     (one_period : (last : Option ℤ) (before charged : Records) → AreDatedBy last before
     → given (period_by last before charged) + standing before
     ≡ standing charged + taken (period_by last before charged)) where
-  -- one period more
+  -- one more period
   nets_with : (periods : List Period) (last : Option ℤ) (before charged : Records)
       → AreDatedBy last before → sum_by given periods ≡ standing before + sum_by taken periods
       → sum_by given (periods ++ period_by last before charged ∷ [])
@@ -74,7 +74,7 @@ module _ (given taken : Period → ℕ) (standing : Records → ℕ) (none : sta
 -- what holds of each period that some sets of records make holds of all periods
 module _ (P : Period → Type 0)
     (one : (last : Option ℤ) (before charged : Records) → P (period_by last before charged)) where
-  -- one period more
+  -- one more period
   one_more : (periods : List Period) (last : Option ℤ) (before charged : Records) → All P periods
       → All P (periods ++ period_by last before charged ∷ [])
   one_more periods last before charged all =

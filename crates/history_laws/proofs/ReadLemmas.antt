@@ -1,4 +1,4 @@
--- What is read of a sound book: its lines, each once; and the balance of rows and lines.
+-- What is read from a sound book: its lines, each once; and the balance of rows and lines.
 use Rattle.std.proofs.Common.{◌≡◌, ℕ, ◌+◌, List, [], ◌∷◌, length, refl, ap, ◌∙◌, true, false, Bool}
 use Rattle.std.proofs.Common.{◌||◌, suc, Some, None, is_some, arith, sym}
 use Rattle.std.specs.Prelude.{All, sum, sum_by}
@@ -35,7 +35,7 @@ sum_by-agree f g xs agree =
     ∙ fold-map (λ a n. a + n) g 0 xs
 
 module _ (naming : Naming) (book : Book) (sound : IsSound naming book) where
-  -- what the open period speaks of is held too
+  -- the records of the open period are held too
   all_held : All (AreHeld book.held) (all_periods book)
   all_held =
       let standing : Period → Type 0 = AreHeld book.held in
@@ -48,14 +48,14 @@ module _ (naming : Naming) (book : Book) (sound : IsSound naming book) where
       All-append standing book.past (open_period book ∷ []) sound.past
       (All-cons standing (open_period book) [] held (All-nil standing))
 
-  -- records that are held have names of their own
+  -- records that are held have distinct names
   named : (records : Records)
       → ((bytes : List ℕ) → has records bytes ≡ true → has book.held bytes ≡ true)
       → (a b : List ℕ) → has records a ≡ true → has records b ≡ true
       → name_of naming a ≡ name_of naming b → a ≡ b
   named records held a b one two same = sound.named a b (held a one) (held b two) same
 
-  -- where some lines of each period amount to what some of its records cost, so do those of all
+  -- if some lines of each period amount to what some of its records cost, so do those of all
   amounts_cost : (amount : List Line → ℕ) (named_by : Period → Records)
       → ((period : Period) → AreHeld book.held period
       → amount (lines_of naming book.rulings period) ≡ total_of book.rulings (named_by period))
@@ -66,14 +66,14 @@ module _ (naming : Naming) (book : Book) (sound : IsSound naming book) where
       (λ period. total_of book.rulings (named_by period)) (all_periods book)
       (All-weaker (AreHeld book.held) _ cost (all_periods book) all_held)
 
-  -- so the plus lines amount to what the records cost that are added
+  -- so the plus lines amount to what the added records cost,
   plus_costs : plus_amount naming book.rulings (all_periods book)
       ≡ added_amount book.rulings (all_periods book)
   plus_costs = amounts_cost plus_of (λ period. period.added) (λ period held.
       plus_cost naming book.rulings period (named period.added held.added)
       (named period.taken held.taken))
 
-  -- and the minus lines to what those cost that are taken back
+  -- and the minus lines to what the reversed records cost
   minus_costs : minus_amount naming book.rulings (all_periods book)
       ≡ taken_amount book.rulings (all_periods book)
   minus_costs = amounts_cost minus_of (λ period. period.taken) (λ period held.
@@ -125,7 +125,7 @@ module _ (naming : Naming) (book : Book) (sound : IsSound naming book) where
             omega arith;
       }
 
--- the law of it
+-- the law
 pub lines_once : LinesOnce
 lines_once naming book sound =
     All-weaker (AreHeld book.held) (λ period. AreReadOnce naming book.rulings period)

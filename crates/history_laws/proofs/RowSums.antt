@@ -25,7 +25,7 @@ sum_by-one n (x ∷ y ∷ xs) e = absurd (omega arith)
 
 module _ {X K : Type 0} {eq : K → K → Bool} (laws : IsEquivalence eq) (ks : List K)
     (apart : IsDistinct eq ks) (key : X → K) (f : X → ℕ) where
-  -- over a list that has no key twice, and has the element's, what the element counts is summed
+  -- over a list that has no key twice, and has the element's key, what the element counts is summed
   -- once
   at_its_key : (x : X) → list_any (eq (key x)) ks ≡ true
       → sum_by (λ k. cond (eq (key x) k) (f x) 0) ks ≡ f x
@@ -52,7 +52,7 @@ module _ {X K : Type 0} {eq : K → K → Bool} (laws : IsEquivalence eq) (ks : 
       let numbers = sum_by-cons f x xs in
       omega arith
 
-  -- what elements sum to at each key is together what all sum to
+  -- the sums of elements at each key are together the sum of all elements
   pub sum_by-keys : (xs : List X)
       → ((x : X) → list_any (λ y. eq (key x) (key y)) xs ≡ true → list_any (eq (key x)) ks ≡ true)
       → sum_by (λ k. sum_by f (filter (λ x. eq (key x) k) xs)) ks ≡ sum_by f xs
@@ -62,7 +62,7 @@ module _ {X K : Type 0} {eq : K → K → Bool} (laws : IsEquivalence eq) (ks : 
       ∙ sum_by-exchange share ks xs
       ∙ at_their_keys xs there
 
--- what each row sums of the prices at its key is over all rows what all prices sum to
+-- the sums of each row over the prices at its key are over all rows the sum of all prices
 pub sum_by-rows : (g : ChargeRow → ℕ) (f : Priced → ℕ) (priced : List Priced)
     → ((key : RowKey) → g (row_at priced key) ≡ sum_by f (charged_at priced key))
     → sum_by g (rows_of priced) ≡ sum_by f priced

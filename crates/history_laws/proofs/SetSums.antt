@@ -24,7 +24,7 @@ module _ (f : List ℕ → ℕ) where
       let both = sum_by-filter_both p (λ b. not (p b)) (λ b. refl) f (members s) in
       omega arith
 
-  -- A record that stood before the period is not late.
+  -- A record that was charged before the period is not late.
   stayed : (before now late : Bool) → (before ≡ true → late ≡ false)
       → (before && (not late && now)) ≡ (now && before)
   stayed true true late old = ap (λ b. not b && true) (old refl)
@@ -32,8 +32,8 @@ module _ (f : List ℕ → ℕ) where
   stayed false true late old = refl
   stayed false false late old = refl
 
-  -- What a period counts and adds, and what stood before it, is what stands at its end and what it
-  -- takes.
+  -- What a period counts and adds, and what was charged before it, is what is charged at its end
+  -- and what it takes.
   pub one_period : (last : Option ℤ) (before charged : Records) → AreDatedBy last before
       → (over (period_by last before charged).counted + over (period_by last before charged).added)
       + over before

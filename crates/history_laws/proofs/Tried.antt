@@ -70,7 +70,7 @@ dated : is_dated_by last one ≡ true
 unfolding usage.day_of packed.packed_day_of
 dated = refl
 
--- who is charged now, of the records of a list
+-- which are charged now, of the records of a list
 charged_is : (closes : List ℤ) (ks : List (List ℕ)) (q : List ℕ)
     → has (charged_now (ruled closes) (set_of by_bytes ks)) q
     ≡ ((not (list_any (conflict (ruled closes) q) ks) || false) && list_any (is q) ks)
@@ -79,7 +79,7 @@ charged_is closes ks q =
     ∙ (λ i. (not (any-members nat_list_cmp_total exact_bytes (conflict (ruled closes) q) ks i)
     || false) && has-set_of nat_list_cmp_total ks q i)
 
--- who was charged by a close
+-- which were charged by a close
 posted_is : (closes : List ℤ) (day : ℤ) (ks : List (List ℕ)) (q : List ℕ)
     → has (charged_through (ruled closes) day (set_of by_bytes ks)) q
     ≡ (((not (list_any (conflict (ruled closes) q) ks) || false) && is_dated_by day q)
@@ -90,7 +90,7 @@ posted_is closes day ks q =
     ∙ (λ i. ((not (any-members nat_list_cmp_total exact_bytes (conflict (ruled closes) q) ks i)
     || false) && is_dated_by day q) && has-set_of nat_list_cmp_total ks q i)
 
--- nobody is in the empty set
+-- nothing is in the empty set
 nobody : (q : List ℕ) → has (set_of by_bytes []) q ≡ false
 nobody q = has-set_of nat_list_cmp_total [] q
 
@@ -111,7 +111,7 @@ now_disputed closes =
     ∙ ap (λ b. (not (b || list_any (conflict (ruled closes) one) (one ∷ [])) || false)
     && list_any (is one) (other ∷ one ∷ [])) (they_conflict closes)
 
--- who is counted, added and taken back
+-- which are counted, added and reversed
 one_counted : (close : Option ℤ) (before charged : Records) (now : Bool) → has charged one ≡ now
     → has (period_by close before charged).counted one ≡ (is_dated_after close one && now)
 one_counted close before charged now is_now =
@@ -152,7 +152,7 @@ of_one p c a t charged now pc pa pt is law =
     sym (λ i. pos ((0 + one_if (pc i)) + (0 + one_if (pa i))) -ℤ pos (0 + one_if (pt i)))
     ∙ law ∙ ap (λ b. pos (one_if b)) is
 
--- where late records are added too, a record that came before any close is charged twice
+-- if late records are added too, a record that came before any close is charged twice
 added_fails : ChargedOnceBy adds_late → ⊥
 added_fails law =
     let book : Book = book_after (RecordKept one ∷ []) in
@@ -167,7 +167,7 @@ added_fails law =
     now (law (RecordKept one ∷ []) one) in
     absurd (omega (arith, ints))
 
--- where early records are counted too, a record is counted again in the period after a close
+-- if early records are counted too, a record is counted again in the period after a close
 counted_fails : ChargedOnceBy counts_early → ⊥
 counted_fails law =
     let first : Book = book_after (RecordKept one ∷ []) in
@@ -188,7 +188,7 @@ counted_fails law =
     now (law (PeriodClosed last ∷ RecordKept one ∷ []) one) in
     absurd (omega (arith, ints))
 
--- where nothing is taken back, a record stays charged that a close charged and another record
+-- if nothing is reversed, a record stays charged that a close charged and another record
 -- disputes
 minus_fails : ChargedOnceBy no_minus → ⊥
 minus_fails law =
@@ -210,7 +210,7 @@ minus_fails law =
     now (law (RecordKept other ∷ PeriodClosed last ∷ RecordKept one ∷ []) one) in
     absurd (omega (arith, ints))
 
--- the law of it
+-- the law
 pub wrong_ones_fail : WrongOnesFail
 wrong_ones_fail =
     record { right = right; minus = minus_fails; counted = counted_fails; added = added_fails }

@@ -25,7 +25,7 @@ abbrev pub minus_amount : Naming → Rulings → List Period → ℕ
 minus_amount naming rulings periods =
     sum_by (λ period. minus_of (lines_of naming rulings period)) periods
 
--- the records that the periods add, and those that they take back, each at its price
+-- the records that the periods add, and those that they reverse, each at its price
 abbrev pub added_amount : Rulings → List Period → ℕ
 added_amount rulings periods = sum_by (λ period. total_of rulings period.added) periods
 

@@ -1,4 +1,4 @@
--- Closed periods, and what is read of one in two books.
+-- Closed periods, and what is read from one in two books.
 use Rattle.std.specs.Prelude.{◌≡◌, ◌-◌, ◌<◌, ℕ, slice_get}
 use Rattle.book_model.specs.Words.{Book, open_number, period_of, charges_outcome}
 use Rattle.book_model.specs.Words.{adjustments_outcome, Naming}
@@ -8,7 +8,7 @@ pub record IsClosed (number : ℕ) (book : Book) : Type 0 where
   pub is_numbered : 0 < number
   pub is_past : number < open_number book
 
--- A period is closed through the same day in both books, and speaks of the same records; and both
+-- A period is closed through the same day in both books, and is about the same records; and both
 -- answer the same charge rows and the same adjustment lines for it.
 pub record IsReadAlike (naming : Naming) (number : ℕ) (old new : Book) : Type 0 where
   pub day : slice_get new.rulings.closes (number - 1) ≡ slice_get old.rulings.closes (number - 1)

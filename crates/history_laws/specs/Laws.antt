@@ -10,7 +10,7 @@ use Rattle.history_laws.specs.Closed.{IsClosed, IsReadAlike}
 use Rattle.history_laws.specs.Amounts.{rows_amount, plus_amount, minus_amount, added_amount}
 use Rattle.history_laws.specs.Amounts.{taken_amount}
 
--- Over all periods of the book that a history leaves, the open one with them, a record that is
+-- Over all periods of the book that a history leaves, including the open one, a record that is
 -- charged now is charged once net; any other nets to nothing.
 abbrev pub ChargedOnce : Type 0
 ChargedOnce =
@@ -18,7 +18,7 @@ ChargedOnce =
     → net_count (all_periods (book_after history)) bytes
     ≡ pos (one_if (has (charged_of (book_after history)) bytes))
 
--- Over the closed periods alone it is charged once net where the last close charged it.
+-- Over the closed periods alone it is charged once net if the last close charged it.
 abbrev pub PostedOnce : Type 0
 PostedOnce =
     (history : List Event) (bytes : List ℕ)
@@ -31,7 +31,7 @@ pub record AreDated (last : Option ℤ) (period : Period) : Type 0 where
       → is_dated_after last bytes ≡ true
   pub added : (bytes : List ℕ) → has period.added bytes ≡ true → is_dated_after last bytes ≡ false
 
--- So it is in each period of the book that a history leaves: in the one after k closes by the day
+-- This holds in each period of the book that a history leaves: in the one after k closes by the day
 -- of close k.
 abbrev pub DatedRight : Type 0
 DatedRight =
@@ -39,7 +39,7 @@ DatedRight =
     → slice_get (all_periods (book_after history)) k ≡ Some period
     → AreDated (day_of_close k history) period
 
--- What the rows and lines of all periods of a book come to is what the records cost that are
+-- The rows and lines of all periods of a book add up to what the records cost that are
 -- charged now.
 abbrev pub IsBalanced : Naming → Book → Type 0
 IsBalanced naming book =
@@ -53,7 +53,7 @@ abbrev pub Conserved : Type 0
 Conserved = (naming : Naming) (history : List Event) → IsAnswered naming history
     → IsBalanced naming (book_after history)
 
--- The same of the periods' sets of records: for every history, and at the prices of any rulings.
+-- The same for the periods' sets of records: for every history, and at the prices of any rulings.
 abbrev pub ConservedInSets : Type 0
 ConservedInSets =
     (rulings : Rulings) (history : List Event)
@@ -62,11 +62,11 @@ ConservedInSets =
     -ℤ pos (taken_amount rulings (all_periods (book_after history)))
     ≡ pos (total_of rulings (charged_of (book_after history)))
 
--- In each period of the book that a history leaves, no record stands in two of the three sets.
+-- In each period of the book that a history leaves, no record is in two of the three sets.
 abbrev pub NamedOnce : Type 0
 NamedOnce = (history : List Event) → All NamesOnce (all_periods (book_after history))
 
--- In each period of a sound book, each record that is added or taken back has one line.
+-- In each period of a sound book, each record that is added or reversed has one line.
 abbrev pub LinesOnce : Type 0
 LinesOnce =
     (naming : Naming) (book : Book) → IsSound naming book

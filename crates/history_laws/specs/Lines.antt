@@ -1,4 +1,4 @@
--- The lines of a period, one for each record that it adds or takes back.
+-- The lines of a period, one for each record that it adds or reverses.
 use Rattle.std.specs.Prelude.{◌≡◌, ◌+◌, true, false, List, ◌++◌, length}
 use Rattle.std.specs.List.Sorted.{IsPermutation}
 use Rattle.book_model.specs.declared.line.Line.{Line}

@@ -19,11 +19,11 @@ abbrev pub net_count : List Period → List ℕ → ℤ
 net_count periods bytes =
     pos (times_counted periods bytes + times_added periods bytes) -ℤ pos (times_taken periods bytes)
 
--- one where a test holds, else nothing
+-- one if a test holds, else nothing
 abbrev pub one_if : Bool → ℕ
 one_if test = if test then 1 else 0
 
--- a period counts a record, adds it or takes it back, and does one of these at most
+-- a period counts a record, adds it or reverses it, and does at most one of these
 abbrev pub NamesOnce : Period → Type 0
 NamesOnce period =
     (bytes : List ℕ)

@@ -7,8 +7,8 @@ use Rattle.book_model.specs.Words.{SecondRuleAdopted, book_after, Records, by_by
 use Rattle.book_model.specs.Words.{set_of, has, without}
 use Rattle.history_laws.specs.Net.{net_count, one_if}
 
--- how a period is made: of the close before it, what that close charged, and what is charged at its
--- end
+-- how a period is made: from the close before it, what that close charged, and what is charged at
+-- its end
 abbrev pub Making : Type 0
 Making = Option ℤ → Records → Records → Period
 
@@ -31,7 +31,7 @@ all_by make history =
     past_by make history
     ++ make (last_close book.rulings) book.posted (charged_now book.rulings book.held) ∷ []
 
--- the law of the net count, of periods that are made so
+-- the law of the net count, for periods that are made so
 abbrev pub ChargedOnceBy : Making → Type 0
 ChargedOnceBy make =
     (history : List Event) (bytes : List ℕ)
@@ -42,7 +42,7 @@ ChargedOnceBy make =
 abbrev pub as_defined : Making
 as_defined = period_by
 
--- nothing is taken back
+-- nothing is reversed
 abbrev pub no_minus : Making
 no_minus last before charged =
     record (period_by last before charged) { taken = set_of by_bytes [] }

@@ -1,4 +1,4 @@
--- The tables of a book under the second rule of identity are those under the first, walked over.
+-- The tables of a book under the second rule of identity are those under the first after a walk.
 use Rattle.std.proofs.Common.{◌≡◌, ℕ, List, [], ◌∷◌, refl, sym, ap, ◌∙◌, true, false, true≢false}
 use Rattle.std.proofs.Common.{Bool, not, ◌||◌, ◌&&◌, Option, Some, None, Ok}
 use Rattle.std.specs.Prelude.{ℤ, if◌then◌else◌, unwrap_or}
@@ -39,8 +39,8 @@ use Rattle.kept_tables.proofs.TableParts.{same_tables, what_is}
 use Rattle.kept_tables.proofs.ViewLemmas.{same_names}
 use Rattle.kept_tables.proofs.WalkLemmas.{walk_all, key_there}
 
--- Of tests alone: c that a record was charged, p that it is passed, u that it is undisputed, h that
--- it is held, t that it is the one of the step.
+-- About tests alone: c: a record was charged; p: it is passed; u: it is undisputed; h: it is held;
+-- t: it is the one that the step is for.
 step_charges : (c p u h t : Bool) → (t ≡ true → u ≡ true) → (t ≡ true → h ≡ true)
     → ((c || ((t || p) && u)) && h) ≡ (t || ((c || (p && u)) && h))
 step_charges c p u h true due held =
@@ -192,14 +192,14 @@ module _ (naming : Naming) (book : Book) (sound : IsSound naming book) (usage : 
     abbrev next : List ℕ → Bool
     next n = is n name || passed n
 
-    -- of the records that are held the step passes this one
+    -- among the records that are held, the step passes this one
     passes : (q : List ℕ) → has book.held q ≡ true → is (name_of naming q) name ≡ is q one
     passes q in_it =
         is_back (name_of naming q) name
         ∙ sym (λ i. same_bytes-by_cmp i name (name_of naming q))
         ∙ same_names naming book sound q one in_it there
 
-    -- what is charged after the step, by who passes
+    -- what is charged after the step, by which records pass
     has_next : (q : List ℕ)
         → has (charged_at next) q
         ≡ ((has before q || ((is q one || passed (name_of naming q)) && settled q))
@@ -330,7 +330,7 @@ row_stays period last is_due row (name ∷ names) tables =
         by_test true effects = refl
         by_test false effects = refl
 
--- the law of it
+-- the law
 pub adoption_follows : AdoptionFollows
 adoption_follows naming book sound usage done =
     let old : BookRow = book_row book.rulings book.held in

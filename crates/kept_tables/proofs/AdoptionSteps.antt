@@ -1,4 +1,4 @@
--- The second rule of identity, adopted by steps of one table each.
+-- The second rule of identity, adopted in steps that change one table each.
 use Rattle.std.proofs.Common.{ℕ, ℤ, List, Bool, Option, refl}
 use Rattle.std.specs.FinMap.{keys}
 use Rattle.book_model.specs.Words.{second_rule}

@@ -1,4 +1,4 @@
--- The tables of a book with one choice more are those without it, with its row, and with its
+-- The tables of a book with one more choice are those without it, with its row and its
 -- effects.
 use Rattle.std.proofs.Common.{◌≡◌, ℕ, suc, ◌+◌, ◌≤◌, List, [], ◌∷◌, ◌++◌, length, refl, sym, ap}
 use Rattle.std.proofs.Common.{◌∙◌, subst, true, false, true≢false, Bool, cond, not, ◌||◌, ◌&&◌}
@@ -43,7 +43,7 @@ use Rattle.kept_tables.proofs.MoveLemmas.{not_number}
 use Rattle.kept_tables.proofs.TableParts.{same_tables, what_is}
 use Rattle.std.specs.FinMap as fin
 
--- a choice that is Done is one of a record that has a rival, and there is room for it
+-- a choice that is Done is of a record that has a rival, and there is room for it
 tests_passed : (lone chosen full : Bool)
     → (if lone then Err NotDisputed else if chosen then Ok Already else if full then Err Full
     else Ok Done) ≡ Ok Done
@@ -64,7 +64,7 @@ found_passes p (first ∷ list) bytes found =
       | false ↦ λ fails found. found_passes p list bytes found
     ] refl found
 
--- so the record of a name has it
+-- so the record of a name has that name
 its_name : (naming : Naming) (held : Records) (name bytes : List ℕ)
     → record_named naming held name ≡ Some bytes → name_of naming bytes ≡ name
 its_name naming held name bytes found =
@@ -72,7 +72,7 @@ its_name naming held name bytes found =
     (sym (λ i. same_bytes-by_cmp i (name_of naming bytes) name)
     ∙ found_passes (λ other. same_bytes (name_of naming other) name) (members held) bytes found)
 
--- no choice has a number behind them all
+-- no choice has a number after all of them
 choice_free : (naming : Naming) (n number : ℕ) (choices : List Choice) → n + length choices ≤ number
     → fin.find nat_cmp number (choice_entries naming n choices) ≡ None
 choice_free naming n number [] behind = refl
@@ -86,7 +86,7 @@ choice_free naming n number (choice ∷ choices) behind =
     (not_number number n (λ same. absurd (omega arith)))
     ∙ choice_free naming (suc n) number choices later
 
--- a choice more stands behind the others
+-- one more choice comes after the others
 choice_more : (naming : Naming) (n : ℕ) (choices : List Choice) (choice : Choice) (number : ℕ)
     → number ≡ n + length choices
     → choice_entries naming n (choices ++ choice ∷ [])
@@ -113,7 +113,7 @@ module _ (naming : Naming) (book : Book) (sound : IsSound naming book) (bytes : 
   abbrev last : Option ℤ
   last = last_close book.rulings
 
-  -- what was charged, and what of it does not share the identity
+  -- what was charged, and which of that does not share the identity
   abbrev before : Records
   before = charged_of book
 
@@ -144,11 +144,11 @@ module _ (naming : Naming) (book : Book) (sound : IsSound naming book) (bytes : 
       ∙ ap (λ s. not s && has before bytes)
       (nat_list_eq_equiv.refl (identity_by book.rulings bytes))
 
-  -- the charged ones of the records that share the identity
+  -- the charged records that share the identity
   abbrev charged_list : List (List ℕ)
   charged_list = filter (has before) (sharing book bytes)
 
-  -- who is on that list
+  -- which records are on that list
   on_list : (current : List (List ℕ)) → charged_list ≡ current → (q : List ℕ)
       → list_any (is q) current
       ≡ (has before q && (share_identity book.rulings bytes q && has book.held q))
@@ -193,7 +193,7 @@ module _ (naming : Naming) (book : Book) (sound : IsSound naming book) (bytes : 
             ∙ first_of (share_identity book.rulings bytes q) (has book.held q) rest,
       )
 
-  -- the tables without what was charged of the identity: by the list of it
+  -- the tables without what was charged of the identity: by that list
   withdrawn-as : (current : List (List ℕ)) → charged_list ≡ current
       → tables others
       ≡ option_map_or (λ gone. apply (open_number book) gone (tables before))
@@ -279,7 +279,7 @@ module _ (naming : Naming) (book : Book) (sound : IsSound naming book) (bytes : 
       ∙ ap (charge_in (open_number book) (name_of naming bytes) (charge_held last (member cost)))
       (withdrawn-as charged_list refl))
 
--- the law of it
+-- the law
 pub choice_follows : ChoiceFollows
 choice_follows naming book name bytes chosen sound found done is_member =
     let there = named_held naming book.held name bytes found in

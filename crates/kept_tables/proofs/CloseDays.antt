@@ -21,7 +21,7 @@ use Rattle.book_core.specs.Effects.{is_after}
 use Rattle.kept_tables.specs.TablesOf.{close_entries}
 use Rattle.kept_tables.proofs.MoveLemmas.{not_number}
 
--- a record is current: dated after the last close of a book
+-- a record is current: it is dated after the last close of a book
 abbrev pub is_current : Book → List ℕ → Bool
 is_current book = is_dated_after (last_close book.rulings)
 
@@ -29,7 +29,7 @@ is_current book = is_dated_after (last_close book.rulings)
 abbrev pub posted_by : ℤ → Book → Records
 posted_by day book = charged_through book.rulings day book.held
 
--- the period that it ends
+-- the period that it closes
 abbrev pub ended_by : ℤ → Book → Period
 ended_by day book = period_by (last_close book.rulings) book.posted (posted_by day book)
 
@@ -59,7 +59,7 @@ pub not_after_both : (last : Option ℤ) (close day : ℤ)
 not_after_both None close day forward early = absurd (true≢false early)
 not_after_both (Some before) close day forward early = grind (arith, ints)
 
--- the number of a period behind all that are closed is free
+-- the number of a period after all that are closed is free
 pub close_free : (n number : ℕ) (days : List ℤ) → n + length days ≤ number
     → find nat_cmp number (close_entries n days) ≡ None
 close_free n number [] behind = refl
@@ -69,7 +69,7 @@ close_free n number (day ∷ days) behind =
     (not_number number n (λ same. absurd (omega arith)))
     ∙ close_free (suc n) number days later
 
--- a close more stands behind the others
+-- one more close comes after the others
 pub close_more : (n : ℕ) (days : List ℤ) (day : ℤ) (number : ℕ) → number ≡ n + length days
     → close_entries n (days ++ day ∷ []) ≡ close_entries n days ++ (number, day) ∷ []
 close_more n [] day number is =
@@ -78,7 +78,7 @@ close_more n [] day number is =
 close_more n (first ∷ days) day number is =
     ap (λ es. (n, first) ∷ es) (close_more (suc n) days day number (omega arith))
 
--- a close that is done ended the open period
+-- a close that is done closed the open period
 ended_open : (open_one : ℕ) (closed is_open early full : Bool)
     → ◌≡◌ {A = Result Ruled LedgerFault} (if closed then Ok Already
     else if not is_open then Err (WrongPeriod open_one)

@@ -32,7 +32,7 @@ use Rattle.kept_tables.proofs.TableParts.{same_tables}
 
 module _ (naming : Naming) (book : Book) (sound : IsSound naming book) (day : ℤ)
     (forward : IsAfterLastClose book.rulings day) where
-  -- each record that is charged and dated by the day is posted
+  -- each record that is charged and dated on or before the day is posted
   records_posted : from_entries {R = by_bytes}
       (record_entries naming (with_close day book.rulings) book.held (charged_of book)
       (posted_by day book))
@@ -77,7 +77,7 @@ module _ (naming : Naming) (book : Book) (sound : IsSound naming book) (day : �
           ∙ ap (λ its. has charged bytes && not (int_lt day its))
           (sym (day-price book.rulings bytes priced some)))
 
-  -- the day of the close stands under its period
+  -- the day of the close is stored under its period
   closes_closed : from_entries {R = nat_cmp} (close_entries 1 (book.rulings.closes ++ day ∷ []))
       ≡ insert (from_entries (close_entries 1 book.rulings.closes)) (open_number book) day
   closes_closed =
@@ -94,7 +94,7 @@ module _ (naming : Naming) (book : Book) (sound : IsSound naming book) (day : �
   close-tables = same_tables refl refl closes_closed refl records_posted
       (days_closed naming book sound day forward) (lines_closed naming book sound day forward)
 
--- the law of it
+-- the law
 pub close_follows : CloseFollows
 close_follows naming book number day sound done =
     close-tables naming book sound day (calls_go_forward.close book number day done)

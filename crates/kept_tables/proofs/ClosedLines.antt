@@ -36,7 +36,7 @@ no_members records none =
     (λ bytes. none bytes ∙ sym (ap is_some (fin.get-empty by_bytes bytes))))
     ∙ members-empty by_bytes
 
--- who is added, of those charged at an end
+-- which records are added, out of those charged at an end
 has_added : (close : Option ℤ) (before at_end : Records) (q : List ℕ)
     → has (added close before at_end) q
     ≡ (not (is_dated_after close q) && (not (has before q) && has at_end q))
@@ -46,13 +46,13 @@ has_added close before at_end q =
 
 module _ (naming : Naming) (book : Book) (sound : IsSound naming book) (day : ℤ)
     (forward : IsAfterLastClose book.rulings day) where
-  -- a record that is not after the last close is dated by the day
+  -- a record that is not after the last close is dated on or before the day
   is_late : (q : List ℕ) → is_current book q ≡ false → int_lt day (day_of q) ≡ false
   is_late q late =
       let last = last_close book.rulings in
       not_after_both last day (day_of q) forward (sym (dated-after last q) ∙ late)
 
-  -- who is posted
+  -- which records are posted
   now_posted : (q : List ℕ) → has (posted_by day book) q
       ≡ (is_dated_by day q && has (charged_of book) q)
   now_posted = posted_is book.rulings book.held day
@@ -73,7 +73,7 @@ module _ (naming : Naming) (book : Book) (sound : IsSound naming book) (day : �
       ] refl
       ∙ sym (has_added last book.posted charged q))
 
-  -- and so is what it takes back
+  -- and so are the records that it reverses
   taken_stay : (ended_by day book).taken ≡ (open_period book).taken
   taken_stay =
       those-agree (λ b. not (has (posted_by day book) b)) (λ b. not (has (charged_of book) b))

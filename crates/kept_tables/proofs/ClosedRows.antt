@@ -51,14 +51,14 @@ module _ (naming : Naming) (book : Book) (sound : IsSound naming book) (day : �
       (λ bytes at.
       let there = ap (int_lt day) at ∙ after in there ∙ sym (later_current bytes there))
 
-  -- and no other is
+  -- and nothing else is
   rows_none : (k : RowKey) → int_lt day k.day ≡ false
       → find by_key k (day_entries book.rulings (opened_by day book)) ≡ None
   rows_none k not_after =
       rows-nowhere book.rulings (charged_of book) k (is_dated_after (Some day))
       (λ bytes at. ap (int_lt day) at ∙ not_after)
 
-  -- the closed period has the others
+  -- the closed period has the others,
   rows_gone : (k : RowKey) → int_lt day k.day ≡ true
       → find by_key k (day_entries book.rulings (ended_by day book)) ≡ None
   rows_gone k after =

@@ -1,4 +1,4 @@
--- What a record costs says its day.
+-- What a record costs contains its day.
 use Rattle.std.proofs.Common.{◌≡◌, ℕ, List, Option, Some, None, refl}
 use Rattle.std.specs.Prelude.{ℤ}
 use Rattle.book_model.specs.Words.{day_of, is_dated_after, Rulings, price_in, in_force}

@@ -29,7 +29,7 @@ use Rattle.kept_tables.proofs.TableParts.{what_is}
 use Rattle.kept_tables.proofs.ViewLemmas.{entries_apart, count_given}
 use Rattle.std.specs.FinMap as fin
 
--- a list of two or more has no only one
+-- a list of two or more has no sole element
 only_none : {X : Type 0} (xs : List X) (n : ℕ) → length xs ≡ suc (suc n) → only_of xs ≡ None
 only_none [] n count = absurd (omega arith)
 only_none (x ∷ []) n count = absurd (omega arith)
@@ -95,11 +95,11 @@ module _ (naming : Naming) (book : Book) (sound : IsSound naming book) (bytes : 
           (nat_list_eq_equiv.symm (identity_by book.rulings other)
           (identity_by book.rulings bytes))
 
-  -- who is charged is held
+  -- what is charged is held
   charged_held : (q : List ℕ) → has charged q ≡ true → has book.held q ≡ true
   charged_held q was = in_those (is_undisputed book.rulings book.held) book.held q was
 
-  -- who is on a list that a test picked passes it
+  -- an element of a list that a test picked passes the test
   picked : (p : List ℕ → Bool) (list : List (List ℕ)) (q : List ℕ)
       → list_any (is q) (filter p list) ≡ true → p q ≡ true
   picked p [] q on = absurd (true≢false (sym on))
@@ -153,7 +153,7 @@ module _ (naming : Naming) (book : Book) (sound : IsSound naming book) (bytes : 
           let all = count_given naming book sound charged bytes (a ∷ b ∷ rest) held in
           ap (option_map member_at) (only_none rows (length rest) (sym count ∙ all))
 
-  -- and the chosen one is the record of its name
+  -- and the chosen one is the record that has its name
   member_read : has book.held bytes ≡ true
       → member_in (tables_of naming book) (name_of naming bytes) ≡ member_of naming book bytes
   member_read there =
@@ -163,7 +163,7 @@ module _ (naming : Naming) (book : Book) (sound : IsSound naming book) (bytes : 
       there cost.0 cost.1)
       ∙ ap (member_by naming book bytes) (sym cost.1)
 
--- the law of it
+-- the law
 pub choice_reads : ChoiceReads
 choice_reads naming book bytes sound there = record {
   current = only_charged naming book sound bytes

@@ -36,19 +36,19 @@ use Rattle.kept_tables.proofs.NumberedLemmas.{by_period_total, by_period_exact}
 abbrev pub days_at : List Priced → List (RowKey × ChargeRow)
 days_at priced = map {B = RowKey × ChargeRow} (λ row. (place_of row, row)) (rows_of priced)
 
--- they are the rows under their keys
+-- they are the rows under their keys,
 days-keyed : (priced : List Priced)
     → days_at priced ≡ pairs (row_at priced) (keys_of priced)
 days-keyed priced =
     map-map (λ (row : ChargeRow). (place_of row, row)) (row_at priced) (keys_of priced)
 
--- they stand by place, each place once
+-- in order of their places, with each place once
 pub days-sorted : (priced : List Priced) → T (is_sorted by_key (days_at priced))
 days-sorted priced =
     subst T (ap (is_sorted by_key) (sym (days-keyed priced)))
     (is_sorted-members by_key (row_at priced) (set_of by_key (map key_of priced)))
 
--- prices that are the same ones, in some order, have the same rows
+-- the same prices in another order have the same rows
 days-alike : {xs ys : List Priced} → SumsAlike xs ys → days_at xs ≡ days_at ys
 days-alike alike =
     ap (map {B = RowKey × ChargeRow} (λ row. (place_of row, row))) (rows_of-alike alike)
@@ -110,7 +110,7 @@ days-or_empty priced key =
     of_those [] = refl
     of_those (one ∷ here) = refl
 
--- a price more joins the row of its place
+-- one more price joins the row of its place
 pub days-more : (priced more : List Priced) (one : Priced) → SumsAlike more (one ∷ priced)
     → (q : RowKey)
     → find by_key q (days_at more)
@@ -166,7 +166,7 @@ days-count priced key row found_it =
         let count : suc (length here) ≡ row.count = ap (λ (r : ChargeRow). r.count) same in
         omega arith
 
--- a row with a price more and then less
+-- a row after a price joined it and left it
 less-with : (row : ChargeRow) (one : Priced) → less_price (with_price row one) one ≡ row
 less-with row one =
     let count : (row.count + 1) - 1 ≡ row.count = omega arith in
@@ -175,7 +175,7 @@ less-with row one =
     let amount : (row.amount + one.amount) - one.amount ≡ row.amount = omega arith in
     λ i. record row { count = count i; cpu = cpu i; blocks = blocks i; amount = amount i }
 
--- one more than some is not one
+-- one more than a number is not one
 not_one : (count : ℕ) → 0 < count → (count + 1 == 1) ≡ false
 not_one count some = grind (arith, nat_tests)
 
@@ -205,7 +205,7 @@ take-add days period one some =
           ∙ insert-same total exact days place row e
     ] refl
 
--- what a record more costs more
+-- one more record adds its cost
 pub prices-with : (price : List ℕ → Option Priced) (records : Records) (bytes : List ℕ)
     (priced : Priced)
     → has records bytes ≡ false → price bytes ≡ Some priced
@@ -222,7 +222,7 @@ module _ (last : Option ℤ) (charged : Records) where
   abbrev pub counted : Records
   counted = those (is_dated_after last) charged
 
-  -- a current record that is charged too is counted
+  -- a current record that becomes charged is counted
   pub counted-current : (bytes : List ℕ) → is_dated_after last bytes ≡ true
       → those (is_dated_after last) (with charged bytes) ≡ with counted bytes
   counted-current bytes current = those-with (is_dated_after last) charged bytes current
@@ -232,7 +232,7 @@ module _ (last : Option ℤ) (charged : Records) where
       → those (is_dated_after last) (with charged bytes) ≡ counted
   counted-late bytes late = those-with_out (is_dated_after last) charged bytes late
 
-  -- a record that is charged no more is counted no more
+  -- a record that is no longer charged is no longer counted
   pub counted-gone : (one : List ℕ) → those (is_dated_after last) (except one charged)
       ≡ except one counted
   counted-gone one = those-those (is_dated_after last) (λ b. not (is b one)) charged

@@ -1,4 +1,4 @@
--- A record that is kept changes four rows at most.
+-- A record that is kept changes at most four rows.
 use Rattle.std.proofs.Common.{◌≡◌, ◌≢◌, ℕ, zero, suc, ◌≤◌, List, [], ◌∷◌, ◌++◌, length, refl, sym}
 use Rattle.std.proofs.Common.{ap, ◌∙◌, subst, true, false, Bool, cond, Option, Some, None, arith}
 use Rattle.std.specs.Prelude.{ℤ, if◌then◌else◌, ◌==◌}
@@ -41,14 +41,14 @@ use Rattle.kept_tables.proofs.NumberedLemmas.{by_period_total, by_period_exact}
 abbrev pub IsNone : RowPlace → List RowPlace → Type 0
 IsNone place places = AllByRecursion (λ changed. place ≢ changed) places
 
--- who is none of two lists together is none of either
+-- what is in neither of two lists together is not in the first
 pub none_first : (place : RowPlace) (some others : List RowPlace) → IsNone place (some ++ others)
     → IsNone place some
 none_first place [] others apart = tt
 none_first place (one ∷ some) others apart =
     (apart.0, none_first place some others apart.1)
 
--- nor of the second
+-- and not in the second
 pub none_second : (place : RowPlace) (some others : List RowPlace) → IsNone place (some ++ others)
     → IsNone place others
 none_second place [] others apart = apart
@@ -86,7 +86,7 @@ line_places period (Some (DropPlus name)) = OfLine (period, name) ∷ []
 line_places period (Some (AddMinus name)) = OfLine (period, name) ∷ []
 line_places period (Some (DropMinus name)) = OfLine (period, name) ∷ []
 
--- where effects change something, beside the record's row and the row of the book
+-- where effects change something, besides the record's row and the row of the book
 abbrev pub effect_places : ℕ → Effects → List RowPlace
 effect_places period effects =
     mark_places effects.unmark
@@ -158,7 +158,7 @@ module _ (period : ℕ) where
       (by_period_exact by_bytes exact_bytes) lines (period, name) place
       (λ same. apart.0 (ap OfLine same))
 
-  -- tables with effects differ at those places alone
+  -- tables with effects differ only at those places
   pub apply_beside : (tables : Tables) (effects : Effects)
       → DifferAt (effect_places period effects) tables (apply period effects tables)
   apply_beside tables effects OfBook apart = refl
@@ -182,7 +182,7 @@ module _ (period : ℕ) where
       (none_second (OfLine place) (mark_places effects.unmark)
       (day_places period effects.day ++ line_places period effects.line) apart))
 
-  -- so the tables differ at those places alone, at the record's row and at the row of the book
+  -- so the tables differ only at those places, at the record's row and at the row of the book
   put_beside : (tables : Tables) (name : List ℕ) (row : RecordRow) (effects : Effects)
       → DifferAt (OfBook ∷ OfRecord name ∷ effect_places period effects) tables
       (put_record name row (apply period effects tables))
@@ -209,7 +209,7 @@ module _ (period : ℕ) where
       (none_second (OfLine place) (mark_places effects.unmark)
       (day_places period effects.day ++ line_places period effects.line) apart.1.1))
 
-  -- a record that is charged changes one row or line more
+  -- a record that is charged changes one more row or line
   few_charged : (through : Option ℤ) (name : List ℕ) (priced : Priced)
       → length (effect_places period (charge through name priced)) ≤ 2
   few_charged through name priced =
@@ -240,7 +240,7 @@ module _ (period : ℕ) where
             ]
       ]
 
-  -- so each line of the table of effects changes two rows at most
+  -- so each line of the table of effects changes at most two rows
   few : (through : Option ℤ) (members : ℕ) (only : Option Member) (name : List ℕ)
       (priced : Priced)
       → length (effect_places period (effects_by through members only name priced)) ≤ 2
@@ -248,7 +248,7 @@ module _ (period : ℕ) where
   few through (suc others) (Some member) name priced = few_withdrawn through member
   few through (suc others) None name priced = omega arith
 
--- the law of it
+-- the law
 pub at_most_four_differ : AtMostFourDiffer
 at_most_four_differ naming book bytes sound kept =
     let cost = kept_cost naming book bytes sound kept in

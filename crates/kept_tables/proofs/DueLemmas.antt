@@ -1,4 +1,4 @@
--- By the tables, a record is due to be charged where the book calls it undisputed.
+-- By the tables, a record is due to be charged if the book calls it undisputed.
 use Rattle.std.proofs.Common.{◌≡◌, ℕ, suc, List, [], ◌∷◌, map, length, refl, sym, ap, ◌∙◌, subst}
 use Rattle.std.proofs.Common.{true, false, true≢false, Bool, cond, not, ◌||◌, ◌&&◌, Option, Some}
 use Rattle.std.proofs.Common.{None, arith}
@@ -33,7 +33,7 @@ use Rattle.std.specs.FinMap as fin
 not_one : (n : ℕ) → (suc (suc n) == 1) ≡ false
 not_one n = grind (arith, nat_tests)
 
--- what a function gives of the last is the last of what it gives
+-- a function of the last element is the last of the function's results
 last_map : (f : List ℕ → List ℕ) (list : List (List ℕ)) (was : Option (List ℕ))
     → last_or (option_map f was) (map f list) ≡ option_map f (last_or was list)
 last_map f [] was = refl
@@ -63,7 +63,7 @@ module _ (naming : Naming) (book : Book) (sound : IsSound naming book) (charged 
   abbrev own : List ℕ
   own = identity_by book.rulings one
 
-  -- where it shares its identity with the records of a list, it is alone where it is all of it
+  -- if it shares its identity with the records of a list, it is alone if it is all of that list
   alone_by : (shared : List (List ℕ)) → sharing book one ≡ shared
       → (length shared == 1) ≡ is_unrivalled book.rulings book.held one
   alone_by shared listed = by_list shared listed (λ q.
@@ -118,7 +118,7 @@ module _ (naming : Naming) (book : Book) (sound : IsSound naming book) (charged 
               rivalled_by book.rulings book.held one q in_it
               (do_conflict book.rulings one q differ shares)
 
-  -- the record of a name has the identity where the record shares it
+  -- the record of a name has the identity if the record shares it
   its_identity : (q : List ℕ) → has book.held q ≡ true
       → has_identity tables.records own (name_of naming q) ≡ share_identity book.rulings one q
   its_identity q in_it =
@@ -148,7 +148,7 @@ module _ (naming : Naming) (book : Book) (sound : IsSound naming book) (charged 
         | false ↦ rest
       ]
 
-  -- and the one that was chosen last is the same
+  -- and the record that was chosen last is the same
   last_by : last_named tables own ≡ option_map (name_of naming) (last_chosen book.rulings one)
   last_by =
       ap (λ names. last_or None (filter (has_identity tables.records own) names))
@@ -164,7 +164,7 @@ module _ (naming : Naming) (book : Book) (sound : IsSound naming book) (charged 
       names_of (choice ∷ choices) = ap (λ names. name_of naming choice.chosen ∷ names)
           (names_of choices)
 
-  -- so it is chosen by its name where it is chosen
+  -- so it is chosen by its name if it is chosen
   chosen_by : option_map_or (same_bytes name) (last_named tables own) false
       ≡ is_chosen book.rulings one
   chosen_by =
@@ -180,7 +180,7 @@ module _ (naming : Naming) (book : Book) (sound : IsSound naming book) (charged 
           same_names naming book sound other one in_it there
           ∙ is_back other one ∙ sym (λ i. same_bytes-by_cmp i one other)
 
-  -- By the tables it is due where it is undisputed.
+  -- By the tables it is due if it is undisputed.
   pub due-follows : is_due_in tables name ≡ is_undisputed book.rulings book.held one
   due-follows =
       let cost = what_is (price_in book.rulings one) (sound.priced one there) in

@@ -1,5 +1,5 @@
--- What the walk that charges records leaves: their identities and the choices, and with them whether
--- a record is due.
+-- What the walk that charges records leaves unchanged: their identities and the choices, and so
+-- whether a record is due.
 use Rattle.std.proofs.Common.{◌≡◌, ◌∙◌, ℕ, List, [], ◌∷◌, ◌++◌, map, length, suc, T, Bool, true, false}
 use Rattle.std.proofs.Common.{cond, not, ◌&&◌, ◌||◌, Option, Some, None, refl, sym, ap, subst}
 use Rattle.std.specs.Prelude.{ℤ, ◌==◌, filter, if◌then◌else◌}
@@ -57,7 +57,7 @@ unmarked None records q = refl
 unmarked (Some name) records q = marked false name (get records name) records refl q
 
 module _ (period : ℕ) (last : Option ℤ) (is_due : List ℕ → Bool) where
-  -- so does a step
+  -- so does a step,
   settled : (due : Bool) (name : List ℕ) (found : Option RecordRow) (tables : Tables)
       → Alike (settle_row period last due name found tables) tables
   settled due name None tables = ((λ q. refl), refl)
@@ -92,7 +92,7 @@ module _ (period : ℕ) (last : Option ℤ) (is_due : List ℕ → Bool) where
 abbrev identified : List ℕ × RecordRow → List ℕ × List ℕ
 identified entry = (entry.0, entry.1.identity)
 
--- entries are in order whatever stands in them
+-- entries are in order whatever they hold
 in_order : (rows : List (List ℕ × RecordRow))
     → is_sorted by_bytes (map identified rows) ≡ is_sorted by_bytes rows
 in_order [] = refl
@@ -224,8 +224,8 @@ last_stays period last is_due name tables identity =
     last_alike (settle_step period last is_due name tables) tables
     (step_alike period last is_due name tables) identity
 
--- Of names in their order, with one more behind them: the last one of an identity is that, where its
--- record has the identity, else the last one of the others.
+-- Of names in their order, with one more after them: the last one of an identity is that, if its
+-- record has the identity, and otherwise the last one among the others.
 pub last_pushed : (records : RecordTable) (identity : List ℕ) (was : Option (List ℕ))
     (names : List (List ℕ)) (name : List ℕ)
     → last_or was (filter (has_identity records identity) (names ++ name ∷ []))

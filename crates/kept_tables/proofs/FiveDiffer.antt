@@ -1,4 +1,4 @@
--- A choice changes five rows at most.
+-- A choice changes at most five rows.
 use Rattle.std.proofs.Common.{◌≡◌, ℕ, ◌+◌, ◌≤◌, List, [], ◌∷◌, ◌++◌, length, refl, sym, ap, ◌∙◌}
 use Rattle.std.proofs.Common.{subst, true, false, Bool, Option, Some, None, arith}
 use Rattle.std.specs.Prelude.{ℤ, if◌then◌else◌}
@@ -26,7 +26,7 @@ use Rattle.kept_tables.proofs.ChoiceChanges.{choice_follows, chosen_member}
 use Rattle.kept_tables.proofs.DifferLemmas.{IsNone, none_first, none_second, get-beside}
 use Rattle.kept_tables.proofs.DifferLemmas.{effect_places, apply_beside, few_withdrawn}
 
--- tables that have the same row as others, which have the same row as a third
+-- tables that have the same row as others, which have the same row as third ones
 same_on : (place : RowPlace) (one two three : Tables) → SameRow one two place
     → SameRow two three place → SameRow one three place
 same_on OfBook one two three first second = first ∙ second
@@ -66,7 +66,7 @@ mark_beside tables mark name (OfRecord other) apart = by_row (get tables.records
         get-beside nat_list_cmp_total exact_bytes tables.records name
         (record row { charged = mark }) other (λ same. apart.0 (ap OfRecord same))
 
--- and a choice's row one
+-- and a choice's row changes one
 choice_beside : (tables : Tables) (choices : Tables) (number : ℕ) (row : ChoiceRow)
     → choices.choices ≡ tables.choices
     → (place : RowPlace) → IsNone place (OfChoice number ∷ [])
@@ -101,7 +101,7 @@ module _ (number period : ℕ) (name : List ℕ) (tables : Tables) where
   withdrawn_beside None place apart = same_itself place tables
   withdrawn_beside (Some gone) place apart = apply_beside period tables gone place apart
 
-  -- the tables with the choice differ at its places alone
+  -- the tables with the choice differ only at its places
   choice_differs : (withdrawn : Option Effects) (chosen : Effects)
       → DifferAt (choice_places number period name withdrawn chosen) tables
       (put_choice number period name (record { withdrawn = withdrawn; chosen = chosen }) tables)
@@ -126,7 +126,7 @@ module _ (number period : ℕ) (name : List ℕ) (tables : Tables) where
       stays None = refl
       stays (Some gone) = refl
 
--- a record that is held and is charged changes one row beside its own
+-- a record that is held and becomes charged changes one row besides its own
 few_held : (period : ℕ) (through : Option ℤ) (member : Member)
     → length (effect_places period (charge_held through member)) ≤ 1
 few_held period through member =
@@ -150,7 +150,7 @@ few_gone : (period : ℕ) (through : Option ℤ) (current : Option Member)
 few_gone period through None = omega arith
 few_gone period through (Some member) = few_withdrawn period through member
 
--- the law of it
+-- the law
 pub at_most_five_differ : AtMostFiveDiffer
 at_most_five_differ naming book name bytes sound found done =
     let member = chosen_member naming book name bytes sound found in

@@ -1,4 +1,4 @@
--- All periods of a book, the open one with them: what they speak of is held, and none takes back
+-- All periods of a book, including the open one: the records in them are held, and none reverses
 -- what it adds.
 use Rattle.std.proofs.Common.{◌≡◌, ℕ, List, [], ◌∷◌, refl, sym, ◌∙◌, subst, true, false, true≢false}
 use Rattle.std.proofs.Common.{not, Option, Some, get_or}
@@ -40,7 +40,7 @@ all_held naming book sound =
     All-append Held book.past (last ∷ []) sound.past
     (All-cons Held last [] (open_held naming book sound) (All-nil Held))
 
--- a period that is made of what was charged and what is takes back nothing that it adds
+-- a period made of what was charged and what is charged reverses nothing that it adds
 pub period_apart : (last : Option ℤ) (before charged : Records)
     → IsApart (period_by last before charged)
 period_apart last before charged bytes added =
@@ -55,7 +55,7 @@ period_apart last before charged bytes added =
       | false ↦ λ other. refl
     ] refl
 
--- so does no period of a book whose closed periods do not
+-- so neither does a period of a book if its closed periods do not
 pub all_apart : (book : Book) → HasLines book → All IsApart (all_periods book)
 all_apart book lines =
     let last : Period = open_period book in

@@ -1,4 +1,4 @@
--- Tables that are kept step by step are those of the book.
+-- Tables that are updated step by step are those of the book.
 use Rattle.std.proofs.Common.{◌≡◌, ℕ, List, [], ◌∷◌, ◌++◌, map, length, refl, sym, ap, ◌∙◌, true}
 use Rattle.std.proofs.Common.{false, Bool, not, ◌||◌, Option, Some, None, subst}
 use Rattle.std.proofs.Math.Bool.{or-true}
@@ -137,7 +137,7 @@ no_entries =
     (sym (fin.len-entries (fin.empty {X = RecordRow} {R = by_bytes})) ∙ fin.len-empty by_bytes
     RecordRow)
 
--- the law of it
+-- the law
 pub tables_follow : TablesFollow
 tables_follow naming [] answered usage = sym (new_under naming [])
 tables_follow naming (RecordKept bytes ∷ older) answered usage =

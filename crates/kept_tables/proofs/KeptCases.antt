@@ -1,4 +1,4 @@
--- The tables with one record more, by the cases of the table of effects.
+-- The tables with one more record, by the cases of the table of effects.
 use Rattle.std.proofs.Common.{◌≡◌, ℕ, List, refl, sym, ap, ◌∙◌, true, false, true≢false, Bool, not}
 use Rattle.std.proofs.Common.{◌&&◌, ◌||◌, Option, Some, None}
 use Rattle.std.specs.Prelude.{ℤ}
@@ -92,7 +92,7 @@ module _ (naming : Naming) (book : Book) (sound : IsSound naming book) where
           | false ↦ λ e. refl
         ] refl
 
-    -- the tables follow where the records' marks, the rows and the lines do
+    -- the tables follow if the records' marks, the rows and the lines do
     tables-kept : (effects : Effects) → has now bytes ≡ effects.charged
         → table_of now ≡ change_mark effects.unmark (table_of before)
         → days_by now ≡ change_day (open_number book) effects.day (days_by before)
@@ -117,7 +117,7 @@ module _ (naming : Naming) (book : Book) (sound : IsSound naming book) where
         (lines_is naming book now ∙ lines
         ∙ ap (change_line (open_number book) effects.line) (sym (lines_is naming book before)))
 
-    -- where it is charged too, it is marked
+    -- if it becomes charged, it is marked
     marked : now ≡ with before bytes → has now bytes ≡ true
     marked charged = ap (λ now. has now bytes) charged ∙ has_with before bytes bytes
         ∙ ap (λ b. b || has before bytes) (is_itself bytes)
@@ -181,7 +181,7 @@ module _ (naming : Naming) (book : Book) (sound : IsSound naming book) where
     module _ (one : List ℕ) (there : has book.held one ≡ true) (cost : Priced)
         (its_price : price_in book.rulings one ≡ Some cost)
         (was : has before one ≡ true) (charged : now ≡ except one before) where
-      -- the new record is not charged
+      -- the new record is not charged,
       not_marked : has now bytes ≡ false
       not_marked =
           ap (λ now. has now bytes) charged
@@ -199,7 +199,7 @@ module _ (naming : Naming) (book : Book) (sound : IsSound naming book) where
           (λ other in_it. not_true (is other one)
           (passes_those (λ b. not (is b one)) book.held other in_it))) its_price
 
-      -- where it was posted, it is taken back
+      -- if it was posted, it is reversed
       pub kept-posted : has book.posted one ≡ true
           → tables_now
           ≡ put_with naming book bytes priced
@@ -226,7 +226,7 @@ module _ (naming : Naming) (book : Book) (sound : IsSound naming book) where
           differ_back : (other : List ℕ) → is one other ≡ false → is other one ≡ false
           differ_back other apart = is_back other one ∙ apart
 
-      -- else, where it is current, it leaves its row
+      -- else, if it is current, it leaves its row
       pub kept-taken : has book.posted one ≡ false → current one ≡ true
           → tables_now
           ≡ put_with naming book bytes priced (unmarks (name_of naming one) (Some (Take cost)) None)

@@ -1,4 +1,4 @@
--- The tables of a book with a record more are those without it, changed by its effects.
+-- The tables of a book with one more record are those without it, changed by its effects.
 use Rattle.std.proofs.Common.{◌≡◌, ℕ, List, [], ◌∷◌, refl, sym, ap, ◌∙◌, true, false, true≢false}
 use Rattle.std.proofs.Common.{Bool, ◌&&◌, ◌||◌, Option, Some, None, Ok, Err, Result, subst}
 use Rattle.std.specs.Prelude.{ℤ, if◌then◌else◌}
@@ -38,7 +38,7 @@ use Rattle.kept_tables.proofs.KeptCases.{kept-posted, kept-taken, kept-dropped}
 use Rattle.kept_tables.proofs.TableParts.{what_is}
 use Rattle.std.specs.FinMap as fin
 
--- a record that is kept was not held, and had no name of one that is
+-- a record that is kept was not held, and did not have the name of one that is
 pub kept_tests : (known clash : Bool) (rest : Result Accepted LedgerFault)
     → (if known then Ok Known else if clash then Err DigestClash else rest) ≡ Ok Kept
     → (known ≡ false) × (clash ≡ false)
@@ -46,7 +46,7 @@ kept_tests true clash rest kept = cc
 kept_tests false true rest kept = cc
 kept_tests false false rest kept = (refl, refl)
 
--- where a record is held, tests of it and of that are tests of it
+-- if a record is held, tests of it and of what is held are tests of it
 held_too : (a held c : Bool) → held ≡ true → (a && held) ≡ c → a ≡ c
 held_too true true c there both = both
 held_too false held c there both = both
@@ -76,7 +76,7 @@ module _ (naming : Naming) (book : Book) (sound : IsSound naming book) (bytes : 
   abbrev tables_before : Tables
   tables_before = tables_of naming book
 
-  -- where one record had its identity
+  -- if one record had its identity
   module _ (one : List ℕ) (there : has book.held one ≡ true) (cost : Priced)
       (its_price : price_in book.rulings one ≡ Some cost)
       (was : has before one ≡ true) (charged : now ≡ except one before) where
@@ -202,7 +202,7 @@ module _ (naming : Naming) (book : Book) (sound : IsSound naming book) (bytes : 
       (charged-stays book.rulings book.held bytes new a b its_a.1 its_b.1 its_a.0 its_b.0
       (ap is_eq less.0) plain)
 
--- the law of it
+-- the law
 pub kept_follows : KeptFollows
 kept_follows naming book bytes priced sound kept price =
     let tests =

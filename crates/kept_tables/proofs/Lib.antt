@@ -1,7 +1,7 @@
--- Read in this order: maps whose rows all change, and tables that number their rows by periods; one
--- record more or less in lines, in charge rows and among the records; the tables with a record, and
--- how few rows differ; a close; a tariff, and what is past; the view, and tables that are kept over
--- a history; rows and lines that are read.
+-- Read in this order: maps in which all rows change, and tables that number their rows by periods;
+-- one record more or less in lines, in charge rows and among the records; the tables with a record,
+-- and how few rows differ; a close; a tariff, and what is past; the view, and tables that are
+-- updated over a history; rows and lines that are read.
 pub mod MovedLemmas
 pub mod NumberedLemmas
 pub mod LineChanges

@@ -21,7 +21,7 @@ abbrev pub added : Option ℤ → Records → Records → Records
 added last posted charged =
     those (λ bytes. not (is_dated_after last bytes)) (without charged posted)
 
--- the records that a minus line takes back
+-- the records that a minus line reverses
 abbrev pub taken : Records → Records → Records
 taken posted charged = without posted charged
 
@@ -48,7 +48,7 @@ module _ (last : Option ℤ) (posted charged : Records) where
       ap (those late) (those-with fresh charged bytes (ap not new))
       ∙ those-with late (those fresh charged) bytes (ap not late_too)
 
-  -- none is taken back for it
+  -- none is reversed for it
   pub taken-new : (bytes : List ℕ) → has posted bytes ≡ false → taken posted (with charged bytes)
       ≡ taken posted charged
   taken-new bytes new =
@@ -57,7 +57,7 @@ module _ (last : Option ℤ) (posted charged : Records) where
       ap not (has_with charged bytes b
       ∙ ap (λ t. t || has charged b) (not_new posted b bytes there new)))
 
-  -- a record that was charged, and is charged no more, is added no more
+  -- a record that was charged, and no longer is, is no longer added
   pub added-gone : (one : List ℕ) → added last posted (except one charged)
       ≡ except one (added last posted charged)
   added-gone one =
@@ -67,7 +67,7 @@ module _ (last : Option ℤ) (posted charged : Records) where
       ap (those late) (those-those fresh other charged)
       ∙ those-those late other (those fresh charged)
 
-  -- where it was posted, it was not added
+  -- if it was posted, it was not added
   pub added-posted : (one : List ℕ) → has posted one ≡ true → added last posted (except one charged)
       ≡ added last posted charged
   added-posted one there =
@@ -75,7 +75,7 @@ module _ (last : Option ℤ) (posted charged : Records) where
       let fresh : List ℕ → Bool = λ b. not (has posted b) in
       ap (those late) (those-except_out fresh charged one (ap not there))
 
-  -- where it is current, it was not added
+  -- if it is current, it was not added
   pub added-gone_current : (one : List ℕ) → is_dated_after last one ≡ true
       → added last posted (except one charged) ≡ added last posted charged
   added-gone_current one current =
@@ -85,7 +85,7 @@ module _ (last : Option ℤ) (posted charged : Records) where
       ap (those late) (those-those fresh other charged)
       ∙ those-except_out late (those fresh charged) one (ap not current)
 
-  -- where it was posted, it is taken back
+  -- if it was posted, it is reversed
   pub taken-posted : (one : List ℕ) → has posted one ≡ true → taken posted (except one charged)
       ≡ with (taken posted charged) one
   taken-posted one there =
@@ -115,7 +115,7 @@ module _ (last : Option ℤ) (posted charged : Records) where
       let fresh : List ℕ → Bool = λ b. not (has posted b) in
       ap (those late) (those-with_out fresh charged one (ap not there))
 
-  -- and is taken back no more
+  -- and is no longer reversed
   pub taken-again : (one : List ℕ) → taken posted (with charged one)
       ≡ except one (taken posted charged)
   taken-again one =
@@ -138,7 +138,7 @@ module _ (naming : Naming) (plus : Bool) where
   given [] = refl
   given (k ∷ ks) = ap (λ es. (name_of naming k, plus) ∷ es) (given ks)
 
-  -- a name that no record of a set has finds no line
+  -- a name that no record of a set has is not found
   pub no_line : (bytes : List ℕ) (records : Records) → IsUnnamed naming bytes records
       → find by_bytes (name_of naming bytes) (signed_names naming plus records) ≡ None
   no_line bytes records unnamed =
@@ -147,7 +147,7 @@ module _ (naming : Naming) (plus : Bool) where
       nat_list_cmp_total (name_of naming bytes) (members records)
       (λ other among. unnamed other (fin.contains_key-keys records other ∙ among))
 
-  -- a record more has its line more
+  -- one more record has one more line
   pub lines-with : (bytes : List ℕ) (records : Records) → IsUnnamed naming bytes records
       → (q : List ℕ)
       → find by_bytes q (signed_names naming plus (with records bytes))
@@ -165,7 +165,7 @@ module _ (naming : Naming) (plus : Bool) where
       ∙ ap (λ es. cond (is q (name_of naming bytes)) (Some plus) (find by_bytes q es))
       (sym (given (members records)))
 
-  -- a record less has its line less
+  -- one record less has one line less
   pub lines-except : (bytes : List ℕ) (records : Records) → has records bytes ≡ true
       → IsUnnamed naming bytes (except bytes records) → (q : List ℕ)
       → find by_bytes q (signed_names naming plus (except bytes records))

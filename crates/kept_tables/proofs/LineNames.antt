@@ -1,4 +1,4 @@
--- The lines of a period stand under different names.
+-- The lines of a period are stored under different names.
 use Rattle.std.proofs.Common.{◌≡◌, ℕ, List, [], ◌∷◌, ◌++◌, map, refl, ap, ◌∙◌, true, false, Bool}
 use Rattle.std.proofs.Common.{◌||◌, Some, None, subst}
 use Rattle.std.specs.FinMap.{find}
@@ -24,7 +24,7 @@ use Rattle.kept_tables.proofs.OpenNames.{names_differ}
 
 module _ (naming : Naming) (book : Book) (sound : IsSound naming book) (plus : Bool)
     (others : List (List ℕ × Bool)) where
-  -- lines of records that are held, in front of others whose names they do not have
+  -- lines of records that are held, before others that have none of their names
   names_apart : (ks : List (List ℕ)) → IsStrictlySortedBy by_bytes ks
       → ((bytes : List ℕ) → list_any (is bytes) ks ≡ true → has book.held bytes ≡ true)
       → ((bytes : List ℕ) → list_any (is bytes) ks ≡ true
@@ -51,7 +51,7 @@ module _ (naming : Naming) (book : Book) (sound : IsSound naming book) (plus : B
             (λ bytes among. free bytes (behind bytes among)) apart,
       )
 
--- so it is with the lines of a period whose records are held, and that takes back nothing it adds
+-- this holds for the lines of a period whose records are held, and that reverses nothing it adds
 pub lines_apart : (naming : Naming) (book : Book) → IsSound naming book → (period : Period)
     → AreHeld book.held period → IsApart period → Apart by_bytes (line_entries naming period)
 lines_apart naming book sound period held apart =

@@ -44,14 +44,14 @@ line_from entry found = option_map {T = RecordRow} {U = Line} (λ row. record {
 abbrev read_from : RecordTable → List ℕ × Bool → Option Line
 read_from records entry = line_from entry (get records entry.0)
 
--- a line has the name that it stands under
+-- a line has the name that it is stored under
 its_name : (entry : List ℕ × Bool) (found : Option RecordRow) (line : Line)
     → line_from entry found ≡ Some line → line.name ≡ entry.0
 its_name entry None line read = cc
 its_name entry (Some row) line read =
     sym (ap (λ given. option_map_or (λ line. line.name) given entry.0) read)
 
--- so lines that tie in the order of reading stand under one name
+-- so lines that tie in the order of reading are stored under one name
 tells_names : (records : RecordTable) (a b : List ℕ × Bool) (y z : Line)
     → read_from records a ≡ Some y → read_from records b ≡ Some z
     → eq_by_cmp by_line y z ≡ true → a.0 ≡ b.0
@@ -70,7 +70,7 @@ module _ (naming : Naming) (book : Book) (sound : IsSound naming book)
       record_table naming (price_in book.rulings) (identity_by book.rulings) book.posted book.held
       (charged_of book)
 
-  -- the row of a record that is held stands under its name
+  -- the row of a record that is held is stored under its name
   pub found_row : (bytes : List ℕ) (cost : Priced) → has book.held bytes ≡ true
       → price_in book.rulings bytes ≡ Some cost
       → get records (name_of naming bytes)
@@ -100,7 +100,7 @@ module _ (naming : Naming) (book : Book) (sound : IsSound naming book)
       ∙ ap (λ its. Some (line its cost.0)) (sym (framed bytes there).is)
       ∙ ap (option_map {T = Priced} {U = Line} (line bytes)) (sym cost.1)
 
-  -- so are those of some records that are held
+  -- so are those of some records that are held,
   some_lines : (plus : Bool) (some : Records) → AreAmong some book.held
       → filter_map (read_from records) (signed_names naming plus some)
       ≡ lines_for naming book.rulings plus some
@@ -120,7 +120,7 @@ module _ (naming : Naming) (book : Book) (sound : IsSound naming book)
       ∙ (λ i. some_lines true period.added held.added i
       ++ some_lines false period.taken held.taken i)
 
--- the law of it
+-- the law
 pub lines_follow : LinesFollow
 lines_follow naming book number period sound lines is =
     let place = at_place naming book sound number period is in

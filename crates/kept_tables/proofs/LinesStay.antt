@@ -35,7 +35,7 @@ keep_lines book bytes lines framed = record {
   apart = lines.apart;
 }
 
--- a period that is closed takes back nothing that it adds
+-- a period that is closed reverses nothing that it adds
 close_lines : (book : Book) (day : ℤ) → HasLines book → HasLines (close day book)
 close_lines book day lines =
     let ended : Period = ended_by day book in
@@ -48,7 +48,7 @@ close_lines book day lines =
           (All-nil IsApart));
     }
 
--- the law of it
+-- the law
 pub lines_stay : LinesStay
 lines_stay = record {
   start = start_lines;

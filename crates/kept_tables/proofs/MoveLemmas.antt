@@ -22,11 +22,11 @@ use Rattle.kept_tables.proofs.MovedLemmas.{get-moved, get-moved_none}
 use Rattle.kept_tables.proofs.NumberedLemmas.{by_period_total, by_period_exact, is_number}
 use Rattle.kept_tables.proofs.NumberedLemmas.{find-under, find-last}
 
--- where and how rows are kept
+-- where rows are kept, and how
 abbrev places_total : Rattle.std.specs.Cmp.IsTotalOrder (by_period by_key)
 places_total = by_period_total by_key by_key_total
 
--- numbers that differ are not one
+-- numbers that differ are not the same
 pub not_number : (a b : ℕ) → (a ≡ b → ⊥) → is_number a b ≡ false
 not_number a b differ = not_tied nat_cmp_total nat_cmp-IsAntisymmetric a b differ
 
@@ -42,11 +42,11 @@ module _ (number : ℕ) (day : ℤ) where
   abbrev pub moves : ℕ × RowKey → Bool
   moves place = (place.0 == number) && int_lt day place.1.day
 
-  -- where a row is then, by whether it moves
+  -- where a row is after the move, by whether it moves
   abbrev put_by : Bool → ℕ × RowKey → ℕ × RowKey
   put_by b place = if b then (suc number, place.1) else place
 
-  -- a row of the open period that is dated after the day is in the next period then
+  -- a row of the open period that is dated after the day is then in the next period
   tie-later : (x : RowKey) (k : ℕ × RowKey) → int_lt day x.day ≡ true → (k.0 ≡ suc number → ⊥)
       → eq_by_cmp (by_period by_key) (suc number, x) (move_on number day k)
       ≡ eq_by_cmp (by_period by_key) (number, x) k
@@ -87,7 +87,7 @@ module _ (number : ℕ) (day : ℤ) where
             (λ same. below (sym (ap (λ (p : ℕ × RowKey). p.0) same)))
       ] refl
 
-  -- a place of another period is left by the rows that move
+  -- a place of another period loses the rows that move
   tie-left : (q k : ℕ × RowKey) → (q.0 ≡ suc number → ⊥) → moves q ≡ true
       → eq_by_cmp (by_period by_key) q (move_on number day k) ≡ false
   tie-left q k below goes =
@@ -136,7 +136,7 @@ module _ (number : ℕ) (day : ℤ) where
     get-before q = get-from_entries places_total (numbered 1 (past ++ open_rows ∷ [])) q
         ∙ find-last by_key q 1 number past open_rows is
 
-    -- it has nothing behind the open period
+    -- it has nothing after the open period
     find-behind : (n : ℕ) (rows : List (List (RowKey × ChargeRow))) (q : ℕ × RowKey)
         → n + length rows ≤ q.0
         → find (by_period by_key) q (numbered n rows) ≡ None

@@ -31,7 +31,7 @@ module _ {N : Type 0} {R : N → N → Ordering} (o : IsTotalOrder R) (exact : I
       (λ k among. ties k (ap (λ b. eq_by_cmp R k e.0 || b) among ∙ or-true (eq_by_cmp R k e.0))) in
       λ i. cond (first i) (Some e.1) (rest i)
 
-  -- q finds nothing where it ties with none of them
+  -- q finds nothing if it ties with none of them
   find-changed_none : (f : N → N) (q : N) (es : List (N × V))
       → ((k : N) → list_any (eq_by_cmp R k) (map (λ (e : N × V). e.0) es) ≡ true
       → eq_by_cmp R q (f k) ≡ false)
@@ -46,7 +46,7 @@ module _ {N : Type 0} {R : N → N → Ordering} (o : IsTotalOrder R) (exact : I
       (λ k among. ties k (ap (λ b. eq_by_cmp R k e.0 || b) among ∙ or-true (eq_by_cmp R k e.0))) in
       λ i. cond (first i) (Some e.1) (rest i)
 
-  -- the same of maps
+  -- the same for maps
   pub get-moved : (f : N → N) (q s : N) (m : FinMap R V)
       → ((k : N) → contains_key m k ≡ true → eq_by_cmp R q (f k) ≡ eq_by_cmp R s k)
       → get (moved f m) q ≡ get m s
@@ -55,7 +55,7 @@ module _ {N : Type 0} {R : N → N → Ordering} (o : IsTotalOrder R) (exact : I
       ∙ find-changed f q s (entries m) (λ k among. ties k (contains_key-keys m k ∙ among))
       ∙ sym (get-entries m s)
 
-  -- where no changed key is the key, nothing is found
+  -- if no changed key is the key, nothing is found
   pub get-moved_none : (f : N → N) (q : N) (m : FinMap R V)
       → ((k : N) → contains_key m k ≡ true → eq_by_cmp R q (f k) ≡ false)
       → get (moved f m) q ≡ None

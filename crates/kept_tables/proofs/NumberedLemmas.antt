@@ -1,4 +1,4 @@
--- Tables that number their rows by periods: what the open period has, which is the last.
+-- Tables that number their rows by periods: what the open period, which is the last, has.
 use Rattle.std.proofs.Common.{◌≡◌, ℕ, suc, ◌+◌, List, [], ◌∷◌, ◌++◌, length, refl, sym, ap, ◌∙◌}
 use Rattle.std.proofs.Common.{true, false, Bool, cond, Option, Some, None, arith}
 use Rattle.std.specs.Cmp.{IsTotalOrder, nat_cmp_total, tied_itself}
@@ -13,22 +13,22 @@ use Rattle.book_model.proofs.MapLemmas.{else_find, find-both, else_none, from_en
 use Rattle.book_model.proofs.MapLemmas.{from_entries-remove}
 use Rattle.kept_tables.specs.Numbered.{by_period, under, numbered}
 
--- two numbers are one
+-- two numbers are equal
 abbrev pub is_number : ℕ → ℕ → Bool
 is_number a b = is_eq (nat_cmp a b)
 
 module _ {K : Type 0} (R : K → K → Ordering) where
-  -- the order by period and key is total
+  -- the order by period and key is total,
   pub by_period_total : IsTotalOrder R → IsTotalOrder (by_period R)
   by_period_total o =
       then_total (on_total (λ (k : ℕ × K). k.0) nat_cmp_total) (on_total (λ (k : ℕ × K). k.1) o)
 
-  -- and tells all keys apart
+  -- and distinguishes all keys
   pub by_period_exact : IsAntisymmetric R → IsAntisymmetric (by_period R)
   by_period_exact exact = exact_pairs nat_cmp R nat_cmp-IsAntisymmetric exact
 
   module _ {V : Type 0} where
-    -- nothing is found, whichever way
+    -- nothing is found, either way
     no_find : (b : Bool) → ◌≡◌ {A = Option V} None (cond b None None)
     no_find true = refl
     no_find false = refl
@@ -111,7 +111,7 @@ module _ {K : Type 0} (R : K → K → Ordering) where
           ∙ ap (λ r. cond (is_eq r) (find R k last)
           (find (by_period R) (number, k) (numbered n periods))) (tied_itself nat_cmp_total number)
 
-      -- an entry more in the open period
+      -- one more entry in the open period
       pub open-insert : (old new : List (K × V)) (k : K) (v : V)
           → ((q : K) → find R q new ≡ cond (eq_by_cmp R q k) (Some v) (find R q old))
           → table_with new ≡ insert (table_with old) (number, k) v
@@ -133,7 +133,7 @@ module _ {K : Type 0} (R : K → K → Ordering) where
           ∙ ap (cond (eq_by_cmp (by_period R) q (number, k)) (Some v))
           (sym (find-last q n number periods old is)))
 
-      -- an entry less
+      -- one entry less
       pub open-remove : (old new : List (K × V)) (k : K)
           → ((q : K) → find R q new ≡ cond (eq_by_cmp R q k) None (find R q old))
           → table_with new ≡ remove (table_with old) (number, k)

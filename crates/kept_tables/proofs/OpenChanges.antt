@@ -31,13 +31,13 @@ open_days book price counted =
     from_entries (numbered 1 (map (days_by price) book.past
     ++ days_at (prices_by price counted) ∷ []))
 
--- the table of the lines, by the records that those of the open period add and take back
+-- the table of the lines, by the records that those of the open period add and reverse
 abbrev pub open_lines : Naming → Book → Records → Records → LineTable
 open_lines naming book plus minus =
     from_entries (numbered 1 (map (line_entries naming) book.past
     ++ (signed_names naming true plus ++ signed_names naming false minus) ∷ []))
 
--- the open period's number is behind those of the others
+-- the open period's number comes after those of the others
 pub number_is : {X : Type 0} (book : Book) → length book.past ≡ length book.rulings.closes
     → (f : Period → X) → open_number book ≡ 1 + length (map f book.past)
 number_is book closed f = let past = length-map book.past f in omega arith
@@ -65,7 +65,7 @@ lines_is naming book charged =
 
 module _ (naming : Naming) (book : Book)
     (closed : length book.past ≡ length book.rulings.closes) where
-  -- a record that the rows count too adds its price
+  -- a record that the rows now count adds its price
   pub days-add : (price : List ℕ → Option Priced) (counted : Records) (bytes : List ℕ)
       (priced : Priced)
       → has counted bytes ≡ false → price bytes ≡ Some priced
@@ -87,7 +87,7 @@ module _ (naming : Naming) (book : Book)
       (get-open by_key by_key_total by_key_exact 1 (open_number book) rows number (days_at old) key)
       ∙ days-or_empty old key))
 
-  -- a record that they count no more takes it away
+  -- a record that they no longer count takes its price away
   pub days-take : (price : List ℕ → Option Priced) (counted : Records) (one : List ℕ)
       (priced : Priced)
       → has counted one ≡ true → price one ≡ Some priced
@@ -120,7 +120,7 @@ module _ (naming : Naming) (book : Book)
       (at true (with plus bytes)) (at false minus) q
       (lines-with naming true bytes plus unnamed q))
 
-  -- a record that is added no more loses it
+  -- a record that is no longer added loses it
   pub lines-drop : (plus minus : Records) (one : List ℕ) → has plus one ≡ true
       → IsUnnamed naming one (except one plus)
       → IsUnnamed naming one minus
@@ -137,7 +137,7 @@ module _ (naming : Naming) (book : Book)
       (no_line naming false one minus no_minus)
       (lines-except naming true one plus there unnamed q))
 
-  -- a record that is taken back has a minus line
+  -- a record that is reversed has a minus line
   pub lines-minus : (plus minus : Records) (one : List ℕ) → IsUnnamed naming one plus
       → IsUnnamed naming one minus
       → open_lines naming book plus (with minus one)
@@ -153,7 +153,7 @@ module _ (naming : Naming) (book : Book)
       (no_line naming true one plus no_plus)
       (lines-with naming false one minus unnamed q))
 
-  -- a record that is taken back no more loses it
+  -- a record that is no longer reversed loses it
   pub lines-drop_minus : (plus minus : Records) (one : List ℕ) → has minus one ≡ true
       → IsUnnamed naming one plus
       → IsUnnamed naming one (except one minus)

@@ -1,4 +1,4 @@
--- Names of records that are held, and which of them the open period adds and takes back.
+-- Names of records that are held, and which of them the open period adds and reverses.
 use Rattle.std.proofs.Common.{◌≡◌, ℕ, List, refl, sym, ap, ◌∙◌, true, false, true≢false, not}
 use Rattle.std.proofs.lemmas.Map.Lookups.{exact_bytes}
 use Rattle.std.proofs.lemmas.Map.Views.{tells_apart}
@@ -12,7 +12,7 @@ use Rattle.kept_tables.proofs.LineChanges.{added, taken}
 abbrev pub plus_of : Book → Records
 plus_of book = added (last_close book.rulings) book.posted (charged_of book)
 
--- and those that it takes back
+-- and those that it reverses
 abbrev pub minus_of : Book → Records
 minus_of book = taken book.posted (charged_of book)
 
@@ -32,7 +32,7 @@ module _ (naming : Naming) (book : Book) (sound : IsSound naming book) where
         | false ↦ λ e. refl
       ] refl
 
-  -- so one of them has no name of another set of such
+  -- so one of them has no name of a set of others
   pub unnamed_in : (one : List ℕ) (records : Records) → has book.held one ≡ true
       → ((other : List ℕ) → has records other ≡ true → has book.held other ≡ true)
       → ((other : List ℕ) → has records other ≡ true → is other one ≡ false)
@@ -46,7 +46,7 @@ module _ (naming : Naming) (book : Book) (sound : IsSound naming book) where
   before_held other in_it = in_those _ book.held other in_it
 
   module _ (charged : Records) where
-    -- what is added, and what is taken back, by what is charged
+    -- what is added, and what is reversed, by what is charged
     abbrev plus : Records
     plus = added (last_close book.rulings) book.posted charged
 
@@ -65,11 +65,11 @@ module _ (naming : Naming) (book : Book) (sound : IsSound naming book) where
         not_true (has book.posted other) (passes_those (λ b. not (has book.posted b)) charged other
         (in_those _ (those (λ b. not (has book.posted b)) charged) other in_it))
 
-    -- what is taken back was posted
+    -- what is reversed was posted,
     pub taken_posted : (other : List ℕ) → has minus other ≡ true → has book.posted other ≡ true
     taken_posted other in_it = in_those _ book.posted other in_it
 
-    -- and is charged no more
+    -- and is no longer charged
     pub taken_gone : (other : List ℕ) → has minus other ≡ true → has charged other ≡ false
     taken_gone other in_it =
         not_true (has charged other)

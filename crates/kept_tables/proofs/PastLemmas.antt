@@ -7,7 +7,7 @@ use Rattle.book_model.proofs.ReadingLemmas.{same_rows, same_lines}
 use Rattle.kept_tables.specs.ReadingLaws.{PastStays}
 use Rattle.kept_tables.proofs.HeldPeriods.{one_of}
 
--- the law of it
+-- the law
 pub past_stays : PastStays
 past_stays naming book text terms place period sound done there =
     let last : Option ℤ = last_close book.rulings in

@@ -1,4 +1,4 @@
--- Where a period stands among all periods of a book.
+-- The place of a period among all periods of a book.
 use Rattle.std.proofs.Common.{◌≡◌, ℕ, zero, suc, ◌+◌, ◌-◌, List, [], ◌∷◌, map, length, refl, sym}
 use Rattle.std.proofs.Common.{ap, ◌∙◌, true, false, true≢false, Bool, Option, Some, None, arith}
 use Rattle.std.proofs.Common.{◌≢◌}
@@ -9,7 +9,7 @@ use Rattle.book_model.specs.Words.{Book, open_number, open_period, all_periods, 
 use Rattle.book_model.specs.Words.{Naming, IsSound}
 use Rattle.book_model.proofs.ListLemmas.{slice_get-front, slice_get-behind}
 
--- numbers that are not one by their test
+-- numbers that are not equal by their test
 eqb-not : (a b : ℕ) → (a == b) ≡ false → a ≢ b
 eqb-not a b apart same = true≢false (sym (eq-eqb a b same) ∙ apart)
 
@@ -50,7 +50,7 @@ place_by book closed number period false false zeroth last is =
       slice_get-front book.past (open_period book) (number - 1) within ∙ is,
     )
 
--- the same of a period that the book has
+-- the same for a period that the book has
 pub at_place : (naming : Naming) (book : Book) → IsSound naming book
     → (number : ℕ) (period : Period) → period_of book number ≡ Some period
     → (k : ℕ) × (number ≡ 1 + k) × (slice_get (all_periods book) k ≡ Some period)

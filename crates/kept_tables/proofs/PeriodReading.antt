@@ -17,7 +17,7 @@ use Rattle.kept_tables.proofs.MoveLemmas.{not_number}
 use Rattle.kept_tables.proofs.NumberedLemmas.{by_period_total, by_period_exact, is_number}
 use Rattle.kept_tables.proofs.NumberedLemmas.{find-under}
 
--- two ways to tell that numbers are one
+-- two ways to say that numbers are equal
 number-eq : (a b : ℕ) → (a == b) ≡ is_number a b
 number-eq a b = grind (arith, nat_tests)
 

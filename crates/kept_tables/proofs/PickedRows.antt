@@ -16,7 +16,7 @@ use Rattle.book_model.proofs.SetLemmas.{members-those}
 use Rattle.kept_tables.proofs.CostLemmas.{day-price}
 use Rattle.kept_tables.proofs.DayChanges.{days_at, days-found, found_at}
 
--- what is given, where it passes a test
+-- what is given, if it passes a test
 abbrev kept : {Y : Type 0} → (Y → Bool) → Option Y → Option Y
 kept test None = None
 kept test (Some y) = cond (test y) (Some y) None
@@ -49,14 +49,14 @@ module _ {X Y : Type 0} (give : X → Option Y) (test : Y → Bool) where
         | false ↦ rest
       ]
 
-  -- nothing is given, whichever way
+  -- nothing is given, either way
   nothing : (b c : Bool) → ◌≡◌ {A = Option Y} (cond b None None) (cond c None None)
   nothing true true = refl
   nothing true false = refl
   nothing false true = refl
   nothing false false = refl
 
-  -- tests that agree where something is given that passes
+  -- tests that agree wherever something that passes is given
   one_picked : (a b : Bool) (given : Option Y) → ((y : Y) → given ≡ Some y → test y ≡ true → a ≡ b)
       → cond a (kept test given) None ≡ cond b (kept test given) None
   one_picked a b None agree = nothing a b
@@ -76,7 +76,7 @@ module _ {X Y : Type 0} (give : X → Option Y) (test : Y → Bool) where
       ∙ (λ i. filter_map (λ x. one_picked (p x) (q x) (give x) (agree x) i) xs)
       ∙ sym (filter-picked q xs)
 
-  -- none pass a test that fails
+  -- nothing passes a test that always fails
   filter-nothing : (xs : List X) → filter (λ x. false) xs ≡ []
   filter-nothing [] = refl
   filter-nothing (x ∷ xs) = filter-nothing xs

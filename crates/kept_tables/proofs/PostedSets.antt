@@ -1,4 +1,4 @@
--- What a close posts: what is charged, and dated no later than its day.
+-- What a close posts: what is charged, and dated on or before its day.
 use Rattle.std.proofs.Common.{◌≡◌, ℕ, List, refl, sym, ap, ◌∙◌, true, false, Bool, ◌&&◌}
 use Rattle.std.specs.Prelude.{ℤ}
 use Rattle.book_model.specs.Words.{is_undisputed, is_dated_by, charged_now, charged_through}
@@ -6,13 +6,13 @@ use Rattle.book_model.specs.Words.{Records, Rulings, has}
 use Rattle.book_model.proofs.RecordSets.{has_those}
 
 module _ (rulings : Rulings) (held : Records) (day : ℤ) where
-  -- who is posted
+  -- which records are posted
   has_posted : (q : List ℕ) → has (charged_through rulings day held) q
       ≡ ((is_undisputed rulings held q && is_dated_by day q) && has held q)
   has_posted q =
       has_those (λ bytes. is_undisputed rulings held bytes && is_dated_by day bytes) held q
 
-  -- what is posted is what is charged and dated by the day
+  -- what is posted is what is charged and dated on or before the day
   pub posted_is : (q : List ℕ)
       → has (charged_through rulings day held) q
       ≡ (is_dated_by day q && has (charged_now rulings held) q)
@@ -26,7 +26,7 @@ module _ (rulings : Rulings) (held : Records) (day : ℤ) where
       turn false true h = refl
       turn false false h = refl
 
-  -- in the order in which rows and lines ask: after a close, then by the day
+  -- in the order in which rows and lines ask: after a close, then on or before the day
   pub posted_where : (test : List ℕ → Bool) (q : List ℕ)
       → (test q && has (charged_through rulings day held) q)
       ≡ ((test q && is_dated_by day q) && has (charged_now rulings held) q)

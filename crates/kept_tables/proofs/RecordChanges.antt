@@ -25,7 +25,7 @@ use Rattle.std.specs.FinMap as fin
 
 module _ (naming : Naming) (price : List ℕ → Option Priced) (identity : List ℕ → List ℕ)
     (posted : Records) where
-  -- how records stand, by what is charged
+  -- the state of the records, by what is charged
   abbrev stand : Records → Standing
   stand charged = record { price = price; identity = identity; charged = charged }
 
@@ -33,7 +33,7 @@ module _ (naming : Naming) (price : List ℕ → Option Priced) (identity : List
   abbrev pub record_table : Records → Records → RecordTable
   record_table held charged = from_entries (entries_by naming (stand charged) held posted)
 
-  -- a name that no record of a set has finds no row
+  -- a name that no record of a set has has no row
   pub no_row : (bytes : List ℕ) (held charged : Records) → IsUnnamed naming bytes held
       → find by_bytes (name_of naming bytes) (entries_by naming (stand charged) held posted)
       ≡ None
@@ -52,7 +52,7 @@ module _ (naming : Naming) (price : List ℕ → Option Priced) (identity : List
       by_price other None apart = refl
       by_price other (Some priced) apart = apart
 
-  -- a record more has its row more
+  -- one more record has one more row
   pub records-with : (held charged : Records) (bytes : List ℕ) (priced : Priced)
       → IsUnnamed naming bytes held
       → price bytes ≡ Some priced
@@ -89,7 +89,7 @@ module _ (naming : Naming) (price : List ℕ → Option Priced) (identity : List
       (price bytes))
       (agree bytes there)))
 
-  -- where what is charged changes at one record alone, that one's row has its mark
+  -- if what is charged changes at one record alone, that record's row has its mark
   pub records-marked : (held charged now : Records) (one : List ℕ) (priced : Priced) (mark : Bool)
       → has held one ≡ true
       → IsUnnamed naming one (except one held) → price one ≡ Some priced → has now one ≡ mark
@@ -119,7 +119,7 @@ module _ (naming : Naming) (price : List ℕ → Option Priced) (identity : List
       (sym (get-inserted nat_list_cmp_total exact_bytes rest name own))
       ∙ ap (λ table. mark_at mark name (get table name) table) (sym before)
 
-  -- a record that is charged no more loses its mark
+  -- a record that is no longer charged loses its mark
   pub records-unmark : (held charged : Records) (one : List ℕ) (priced : Priced)
       → has held one ≡ true
       → IsUnnamed naming one (except one held) → price one ≡ Some priced
@@ -131,7 +131,7 @@ module _ (naming : Naming) (price : List ℕ → Option Priced) (identity : List
       (λ bytes apart. has_those (λ b. not (is b one)) charged bytes
       ∙ ap (λ t. not t && has charged bytes) apart)
 
-  -- one that is charged too is marked
+  -- one that becomes charged is marked
   pub records-mark : (held charged : Records) (one : List ℕ) (priced : Priced)
       → has held one ≡ true
       → IsUnnamed naming one (except one held) → price one ≡ Some priced
@@ -142,7 +142,7 @@ module _ (naming : Naming) (price : List ℕ → Option Priced) (identity : List
       (has_with charged one one ∙ ap (λ b. b || has charged one) (is_itself one))
       (λ bytes apart. has_with charged one bytes ∙ ap (λ t. t || has charged bytes) apart)
 
--- the row of the book counts a record more
+-- the row of the book counts one more record
 pub book_row-with : (rulings : Rulings) (held : Records) (bytes : List ℕ) (priced : Priced)
     → has held bytes ≡ false
     → price_in rulings bytes ≡ Some priced

@@ -1,4 +1,4 @@
--- What a tariff does to one record, and then to all, as steps of one table each.
+-- What a tariff does to one record, and then to all, in steps that change one table each.
 use Rattle.std.proofs.Common.{◌≡◌, ◌∙◌, ℕ, List, [], ◌∷◌, Bool, true, false}
 use Rattle.std.proofs.Common.{cond, Option, Some, None, refl, sym, ap}
 use Rattle.std.specs.Prelude.{int_lt}
@@ -10,7 +10,7 @@ use Rattle.kept_tables.specs.RowChanges.{add_price, price_at, take_price}
 use Rattle.kept_tables.specs.TableChanges.{reprice, reprice_row, reprice_step, walk}
 use Rattle.kept_tables.specs.Tables.{BookRow, DayTable, RecordRow, TariffTable, Tables}
 
--- the steps, by the row that stands under the name
+-- the steps, by the row that is stored under the name
 abbrev stepped : List ℕ → Priced → Tables → DayTable → Option RecordRow → Bool → Tables
 stepped name priced tables days found charged =
     let priced_row : Tables =
@@ -38,7 +38,7 @@ reprice_is_steps period name row priced tables there =
     same name row priced tables days row.charged
     ∙ ap (λ found. stepped name priced tables days found row.charged) (sym there)
 
--- a step of the walk changes no tariff, and not the row of the book
+-- a step of the walk changes no tariff, nor the row of the book,
 abbrev Aside : Type 0
 Aside = TariffTable × BookRow
 

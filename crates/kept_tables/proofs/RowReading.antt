@@ -19,7 +19,7 @@ rows_back : (number : ℕ) (rows : List ChargeRow)
 rows_back number [] = refl
 rows_back number (row ∷ rows) = ap (λ rows. row ∷ rows) (rows_back number rows)
 
--- the law of it
+-- the law
 pub rows_follow : RowsFollow
 rows_follow naming book number period sound is =
     let place = at_place naming book sound number period is in

@@ -1,5 +1,5 @@
--- The tables of a book whose records stand somehow, and where one record stands otherwise: it is
--- charged too, or charged no more.
+-- The tables of a book at some state of its records, and where one record differs: it becomes
+-- charged, or is no longer charged.
 use Rattle.std.proofs.Common.{◌≡◌, ℕ, List, refl, sym, ap, ◌∙◌, true, false, Bool, not, ◌&&◌}
 use Rattle.std.proofs.Common.{Option, Some, None}
 use Rattle.std.specs.Prelude.{ℤ, if◌then◌else◌}
@@ -48,7 +48,7 @@ module _ (naming : Naming) (book : Book) (sound : IsSound naming book)
   abbrev current : List ℕ → Bool
   current = is_dated_after last
 
-  -- how the records stand, by what is charged
+  -- the state of the records, by what is charged
   abbrev stand : Records → Standing
   stand charged = record { price = price; identity = identity; charged = charged }
 
@@ -76,7 +76,7 @@ module _ (naming : Naming) (book : Book) (sound : IsSound naming book)
       (λ other in_it. not_true (is other one)
       (passes_those (λ b. not (is b one)) book.held other in_it))
 
-  -- so its row stands under its name
+  -- so its row is stored under its name
   pub row-found : (charged : Records) (one : List ℕ) → has book.held one ≡ true
       → (cost : Priced) → price one ≡ Some cost
       → get (table_of charged) (name_of naming one)
@@ -95,7 +95,7 @@ module _ (naming : Naming) (book : Book) (sound : IsSound naming book)
   module _ (charged : Records) (within : AreAmong charged book.held) (one : List ℕ)
       (there : has book.held one ≡ true) (cost : Priced) (costs : price one ≡ Some cost)
       (its_day : cost.day ≡ day_of one) where
-    -- what is added and taken back
+    -- what is added and reversed
     abbrev plus : Records
     plus = added last book.posted charged
 
@@ -115,18 +115,18 @@ module _ (naming : Naming) (book : Book) (sound : IsSound naming book)
       posted = is_posted;
     }
 
-    -- it is after the last close by its price as by its header
+    -- it is after the last close by its price if it is by its header
     day : is_after last cost.day ≡ current one
     day = ap (is_after last) its_day ∙ sym (dated-after last one)
 
-    -- where it is not in a set of records that are held, none of these has its name
+    -- if it is not in a set of records that are held, none of these has its name
     apart_from : (records : Records) → AreAmong records book.held → has records one ≡ false
         → IsUnnamed naming one records
     apart_from records held out =
         unnamed_in naming book sound one records there held
         (λ other in_it. not_new records other one in_it out)
 
-    -- what is added is held, and so is what is taken back
+    -- what is added is held, and so is what is reversed
     plus_held : AreAmong plus book.held
     plus_held other in_it = within other (added_before naming book sound charged other in_it)
 
@@ -134,7 +134,7 @@ module _ (naming : Naming) (book : Book) (sound : IsSound naming book)
     minus_held other in_it =
         sound.posted other (taken_posted naming book sound charged other in_it)
 
-    -- who is no member of a set is no member of it without a record
+    -- what is not in a set is not in it without a record
     except_out : (records : Records) → has (except one records) one ≡ false
     except_out records = has-except records one
 
@@ -153,9 +153,9 @@ module _ (naming : Naming) (book : Book) (sound : IsSound naming book)
         (lines_is naming book (with charged one) ∙ lines
         ∙ ap (change_line (open_number book) effects.line) (sym (lines_is naming book charged)))
 
-    -- a record that is held, and was not charged, is charged
+    -- a record that is held, and was not charged, becomes charged
     module _ (new : has charged one ≡ false) where
-      -- where it was posted, it is taken back no more
+      -- if it was posted, it is no longer reversed
       charge-posted : has book.posted one ≡ true
           → tables (with charged one)
           ≡ charge_in (open_number book) name (charges None (Some (DropMinus name)))
@@ -175,7 +175,7 @@ module _ (naming : Naming) (book : Book) (sound : IsSound naming book)
           (λ other in_it. minus_held other (in_those (λ b. not (is b one)) minus other in_it))
           (except_out minus)))
 
-      -- else, where it is current, it joins its row
+      -- else, if it is current, it joins its row
       charge-current : has book.posted one ≡ false → current one ≡ true
           → tables (with charged one)
           ≡ charge_in (open_number book) name (charges (Some (Add cost)) None) (tables charged)
@@ -223,7 +223,7 @@ module _ (naming : Naming) (book : Book) (sound : IsSound naming book)
                 ] refl
           ] refl
 
-    -- a record that was charged is charged no more
+    -- a record that was charged is no longer charged
     module _ (was : has charged one ≡ true) where
       withdraw-by : (effects : Effects) → effects.unmark ≡ Some name
           → days_of (except one charged)
@@ -241,7 +241,7 @@ module _ (naming : Naming) (book : Book) (sound : IsSound naming book)
           (lines_is naming book (except one charged) ∙ lines
           ∙ ap (change_line (open_number book) effects.line) (sym (lines_is naming book charged)))
 
-      -- where it was posted, it is taken back
+      -- if it was posted, it is reversed
       withdraw-posted : has book.posted one ≡ true
           → tables (except one charged)
           ≡ apply (open_number book) (unmarks name None (Some (AddMinus name))) (tables charged)
@@ -259,7 +259,7 @@ module _ (naming : Naming) (book : Book) (sound : IsSound naming book)
           is_back other one
           ∙ not_new charged one other was (taken_gone naming book sound charged other in_it))))
 
-      -- else, where it is current, it leaves its row
+      -- else, if it is current, it leaves its row
       withdraw-current : has book.posted one ≡ false → current one ≡ true
           → tables (except one charged)
           ≡ apply (open_number book) (unmarks name (Some (Take cost)) None) (tables charged)

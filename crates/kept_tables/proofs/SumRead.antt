@@ -1,4 +1,4 @@
--- What the records will cost together under a tariff is read of their rows.
+-- What the records will cost together under a tariff is read from their rows.
 use Rattle.std.proofs.Common.{◌≡◌, ℕ, List, [], ◌∷◌, map, refl, sym, ap, ◌∙◌, subst, true, false}
 use Rattle.std.proofs.Common.{◌||◌, Option, Some, arith}
 use Rattle.std.specs.Prelude.{sum_by, int_lt, filter, if◌then◌else◌}
@@ -86,7 +86,7 @@ module _ (naming : Naming) (book : Book) (sound : IsSound naming book)
         )
       ] refl
 
-  -- so it is with the records of a list
+  -- the same holds for the records of a list,
   of_list : (ks : List (List ℕ))
       → ((k : List ℕ) → list_any (is k) ks ≡ true → has book.held k ≡ true)
       → sum_by (λ (e : List ℕ × RecordRow). amount_under terms e.1) (filter_map entry ks)
@@ -117,7 +117,7 @@ module _ (naming : Naming) (book : Book) (sound : IsSound naming book)
       ∙ ap (λ price. sum_by (λ (p : Priced). p.amount) (cons_option price (filter_map new ks)))
       (sym own.1)
 
-  -- and with those of the table
+  -- and for those of the table
   of_table : sum_by (amount_under terms) (fin.values table)
       ≡ total_of (with_tariff (Some text) terms book.rulings) book.held
   of_table =
@@ -137,7 +137,7 @@ module _ (naming : Naming) (book : Book) (sound : IsSound naming book)
       (entries table) (filter_map entry all) same)
       ∙ of_list all among
 
--- the law of it
+-- the law
 pub sum_is_read : SumIsRead
 sum_is_read naming book text terms sound framed later =
     of_table naming book sound framed text terms later

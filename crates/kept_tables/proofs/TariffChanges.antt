@@ -1,4 +1,4 @@
--- The tables of a book with one tariff more are those without it, walked over.
+-- The tables of a book with one more tariff are those without it after a walk.
 use Rattle.std.proofs.Common.{◌≡◌, ℕ, List, [], ◌∷◌, ◌++◌, map, refl, sym, ap, ◌∙◌, true, false}
 use Rattle.std.proofs.Common.{true≢false, Bool, cond, not, ◌||◌, ◌&&◌, Option, Some, None, Ok}
 use Rattle.std.proofs.Common.{get_or, subst, arith}
@@ -73,7 +73,7 @@ late_is_current : (last : Option ℤ) (bytes : List ℕ) (first : ℤ)
 late_is_current None bytes first forward late = refl
 late_is_current (Some close) bytes first forward late = grind (arith, ints)
 
--- all elements pass where nothing is asked
+-- all elements pass if nothing is asked
 pub filter_all : {X : Type 0} (xs : List X) → filter (λ (x : X). true) xs ≡ xs
 filter_all [] = refl
 filter_all (x ∷ xs) = ap (λ rest. x ∷ rest) (filter_all xs)
@@ -125,7 +125,7 @@ module _ (naming : Naming) (book : Book) (sound : IsSound naming book)
   abbrev new : List ℕ → Option Priced
   new = price_in ruled
 
-  -- what is charged, and what of it the open period counts
+  -- what is charged, and which of that the open period counts
   abbrev charged : Records
   charged = charged_of book
 
@@ -198,7 +198,7 @@ module _ (naming : Naming) (book : Book) (sound : IsSound naming book)
         ∙ sym (λ i. same_bytes-by_cmp i name (name_of naming q))
         ∙ same_names naming book sound q one in_it there ∙ apart)
 
-    -- where it is dated before the first day, nothing changes
+    -- if it is dated before the first day, nothing changes
     early_step : int_lt (day_of one) terms.effective ≡ true → tables price ≡ tables next
     early_step early = tables-agree price next (λ q in_it.
         by_record q one (λ t. price q) (λ t. next q)
@@ -219,7 +219,7 @@ module _ (naming : Naming) (book : Book) (sound : IsSound naming book)
       costs_then : price one ≡ Some cost
       costs_then = own_price ∙ costs
 
-      -- it is dated after the last close
+      -- it is dated after the last close,
       is_current : current one ≡ true
       is_current =
           late_is_current (last_close book.rulings) one terms.effective
@@ -266,7 +266,7 @@ module _ (naming : Naming) (book : Book) (sound : IsSound naming book)
           costs_then)
           ∙ ap (table price) whole)
 
-      -- the charge rows, where it is charged
+      -- the charge rows, if it is charged,
       days_step : has charged one ≡ true
           → open_days book next counted
           ≡ add_price (open_number book) own
@@ -284,7 +284,7 @@ module _ (naming : Naming) (book : Book) (sound : IsSound naming book)
           settled_alike
           ∙ days-take naming book sound.closed price counted one cost in_it costs_then)
 
-      -- and where it is not
+      -- and if it is not
       days_stay : has charged one ≡ false
           → open_days book next counted ≡ open_days book price counted
       days_stay out =
@@ -293,7 +293,7 @@ module _ (naming : Naming) (book : Book) (sound : IsSound naming book)
           (not_new charged q one (in_those current charged q there) out))
           settled_alike
 
-      -- so it is priced anew
+      -- so it gets its new price
       late_step : reprice (open_number book) name row own (tables price) ≡ tables next
       late_step =
           sym (tables-by next price
@@ -427,7 +427,7 @@ module _ (naming : Naming) (book : Book) (sound : IsSound naming book)
       refl refl refl refl refl in
       made ∙ ap row (sym walked)
 
--- the law of it
+-- the law
 pub tariff_follows : TariffFollows
 tariff_follows naming book text terms sound framed done =
     tariff-tables naming book sound framed text terms done

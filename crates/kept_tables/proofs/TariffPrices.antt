@@ -1,4 +1,4 @@
--- What a tariff that comes into force makes records cost.
+-- What records cost under a tariff that comes into force.
 use Rattle.std.proofs.Common.{◌≡◌, ℕ, List, refl, true, false, Bool, Some, Ok}
 use Rattle.std.specs.Prelude.{int_lt}
 use Rattle.std.specs.List.{list_any}
@@ -8,7 +8,7 @@ use Rattle.book_model.specs.declared.answer.Ruled.TheVariants.{Done}
 use Rattle.book_model.proofs.CallLemmas.{by_tests, passes}
 use Rattle.book_model.proofs.LatestLemmas.{later-before, later_price}
 
--- a tariff that is put in force has a day that no other has
+-- a tariff that is put in force has a first day that no other has
 day_is_free : (told there later dear : Bool) → by_tests told there later dear ≡ Ok Done
     → there ≡ false
 day_is_free true there later dear done = cc

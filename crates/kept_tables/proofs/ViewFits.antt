@@ -1,4 +1,4 @@
--- A view that is read from tables has a member alone where it counts one.
+-- A view that is read from tables gives a member only if it counts one.
 use Rattle.std.proofs.Common.{◌≡◌, ℕ, suc, List, [], ◌∷◌, length, refl, true, false}
 use Rattle.std.proofs.Common.{Some, None, is_some, arith}
 use Rattle.std.specs.Prelude.{◌==◌, if◌then◌else◌}
@@ -23,6 +23,6 @@ fits choices (one ∷ other ∷ more) = not_one (length more)
     not_one : (n : ℕ) → false ≡ (suc (suc n) == 1)
     not_one n = grind (arith, nat_tests)
 
--- the law of it
+-- the law
 pub view_fits : ViewFits
 view_fits tables identity = fits tables.choices (rows_with identity tables.records)

@@ -41,9 +41,9 @@ use Rattle.kept_tables.proofs.RecordChanges.{record_table}
 use Rattle.kept_tables.proofs.TableParts.{what_is}
 use Rattle.std.specs.FinMap as fin
 
--- The closes stand in the order of their periods.
+-- The closes are in the order of their periods.
 
--- a number is below those of the closes behind it
+-- a number is below those of the closes after it
 closes_above : (m n : ℕ) (days : List ℤ) → m < n → T (below_all nat_cmp m (close_entries n days))
 closes_above m n [] less = tt
 closes_above m n (day ∷ days) less =
@@ -51,7 +51,7 @@ closes_above m n (day ∷ days) less =
     subst (λ r. T (is_lt r && below_all nat_cmp m (close_entries (suc n) days))) first
     (closes_above m (suc n) days (omega arith))
 
--- so the closes stand in the order of their periods
+-- so the closes are in the order of their periods
 pub closes_rise : (n : ℕ) (days : List ℤ) → T (is_sorted nat_cmp (close_entries n days))
 closes_rise n [] = tt
 closes_rise n (day ∷ days) =
@@ -86,11 +86,11 @@ many_rows choices [] n count = absurd (omega arith)
 many_rows choices (one ∷ []) n count = absurd (omega arith)
 many_rows choices (one ∷ other ∷ more) n count = (refl, refl)
 
--- where a record is held, tests of it and of that are tests of it
+-- if a record is held, tests of it and of what is held are tests of it
 pub held_too : (a held c : Bool) → held ≡ true → (a && held) ≡ c → a ≡ c
 held_too a held c there both = sym (and-true a) ∙ ap (λ h. a && h) (sym there) ∙ both
 
--- The choices stand in the order of their numbers.
+-- The choices are in the order of their numbers.
 choices_above : (naming : Naming) (m n : ℕ) (choices : List Choice) → m < n
     → T (below_all nat_cmp m (choice_entries naming n choices))
 choices_above naming m n [] less = tt
@@ -134,7 +134,7 @@ names_in naming book =
     ∙ named_rows naming 1 book.rulings.choices
 
 module _ (naming : Naming) (book : Book) (sound : IsSound naming book) where
-  -- names of records that are held tell them apart
+  -- names of records that are held distinguish them
   pub same_names : (one other : List ℕ) → has book.held one ≡ true → has book.held other ≡ true
       → same_bytes (name_of naming other) (name_of naming one) ≡ is one other
   same_names one other there too =
@@ -150,7 +150,7 @@ module _ (naming : Naming) (book : Book) (sound : IsSound naming book) where
             (is_back other one ∙ apart)
       ] refl
 
-  -- some choice of a list names a record where it is among those that were chosen
+  -- some choice of a list names a record if the record is among those that were chosen
   any_named : (choices : List Choice) (one : List ℕ) → has book.held one ≡ true
       → All (IsChoiceOf book.held) choices
       → list_any (λ name. same_bytes name (name_of naming one)) (chosen_names naming choices)
@@ -163,7 +163,7 @@ module _ (naming : Naming) (book : Book) (sound : IsSound naming book) where
       (All-tail (IsChoiceOf book.held) choice choices all) in
       λ i. first i || rest i
 
-  -- so it is with those of the table
+  -- the same holds for those of the table
   pub choices_named : (one : List ℕ) → has book.held one ≡ true
       → is_named (tables_of naming book).choices (name_of naming one)
       ≡ list_any (is one) (all_chosen book.rulings)
@@ -300,7 +300,7 @@ module _ (naming : Naming) (book : Book) (sound : IsSound naming book) (bytes : 
     record_row book.rulings charged_then book.posted one priced,
   )
 
-  -- where one record has the identity, some choice names it where it is chosen
+  -- if one record has the identity, some choice names it if it is chosen
   lone_named : (one : List ℕ) → sharing book bytes ≡ one ∷ []
       → is_named (tables_of naming book).choices (name_of naming one)
       ≡ is_chosen book.rulings one
@@ -318,7 +318,7 @@ module _ (naming : Naming) (book : Book) (sound : IsSound naming book) (bytes : 
       choices_named naming book sound one there
       ∙ sym (lone_chosen book.rulings book.held one sound.chosen alone)
 
-  -- so the members are counted the same, and the only one is the same
+  -- so the members are counted alike, and the only one is the same
   members_rows : (shared : List (List ℕ)) → sharing book bytes ≡ shared
       → (rows_count (tables_of naming book).choices its_rows ≡ members_of book.rulings shared)
       × (only_row (tables_of naming book).choices its_rows ≡ only_by naming book shared)
@@ -354,7 +354,7 @@ module _ (naming : Naming) (book : Book) (sound : IsSound naming book) (bytes : 
       let many = many_rows choices its_rows (length rest) count in
       (many.0 ∙ count, many.1)
 
--- the law of it
+-- the law
 pub view_follows : ViewFollows
 view_follows naming book bytes sound =
     let shared : List (List ℕ) = sharing book bytes in

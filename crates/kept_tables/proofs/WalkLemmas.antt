@@ -94,12 +94,12 @@ module _ (naming : Naming) (book : Book) (sound : IsSound naming book)
       sym (contains_key-keys table (name_of naming one))
       ∙ ap is_some (row-found naming book sound price identity charged one there cost.0 cost.1)
 
-  -- keys stand in order
+  -- keys are in order
   keys_in_order : IsStrictlySortedBy by_bytes (keys table)
   keys_in_order = keys_rise by_bytes (entries table) (entries_sorted table)
 
-  -- What a step does for the name of each record that is held, a walk does for all of them: where T
-  -- has the tables by the names that are done.
+  -- What a step does for the name of each record that is held, a walk does for all of them, where T
+  -- gives the tables by the names that are done.
   module _ (T : (List ℕ → Bool) → Tables) (step : List ℕ → Tables → Tables)
       (one_step : (done : List ℕ → Bool) (one : List ℕ) → has book.held one ≡ true
       → done (name_of naming one) ≡ false

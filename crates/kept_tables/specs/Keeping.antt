@@ -1,4 +1,4 @@
--- Tables that are kept step by step, each step from what they held before it.
+-- Tables that are updated step by step, each step from what they held before it.
 use Rattle.std.specs.Prelude.{ℕ, ◌+◌, List, [], ◌∷◌, length, Option, Some, None}
 use Rattle.std.specs.FinMap.{empty}
 use Rattle.tariff_rules.specs.declared.priced.Priced.{Priced}

@@ -22,7 +22,7 @@ use Rattle.kept_tables.specs.TablesOf.{tables_of}
 use Rattle.kept_tables.specs.Views.{view_of, view_in, member_of, member_in, current_of, current_in}
 use Rattle.kept_tables.specs.Views.{is_due_in}
 
--- The tables of a book with one record more are those without it, with the record's row, counted in
+-- The tables of a book with one more record are those without it, with the record's row, counted in
 -- the row of the book, and with its effects.
 abbrev pub KeptFollows : Type 0
 KeptFollows =
@@ -43,7 +43,7 @@ CloseFollows =
     → close_answer book number day ≡ Ok Done
     → tables_of naming (close day book) ≡ close_tables number day (tables_of naming book)
 
--- The tables after a tariff are those before it, walked over: each record that is dated on its
+-- The tables after a tariff are those before it after a walk: each record that is dated on its
 -- first day or later has its new price, the charge rows of the open period have it too, and the
 -- tariff has its row.
 abbrev pub TariffFollows : Type 0
@@ -54,14 +54,14 @@ TariffFollows =
     → tables_of naming (put_in_force (Some text) terms book)
     ≡ put_tariff (open_number book) (Some text) terms (tables_of naming book)
 
--- What a tariff does to one record is done by steps of one table each.
+-- What a tariff does to one record is done in steps that change one table each.
 abbrev pub RepriceIsSteps : Type 0
 RepriceIsSteps =
     (period : ℕ) (name : List ℕ) (row : RecordRow) (priced : Priced) (tables : Tables)
     → get tables.records name ≡ Some row
     → reprice period name row priced tables ≡ reprice_by_steps period name row priced tables
 
--- A tariff by steps is the tariff, where the sum is what the records cost together then.
+-- A tariff in steps is the tariff, if the sum is what the records then cost together.
 abbrev pub TariffIsSteps : Type 0
 TariffIsSteps =
     (period : ℕ) (text : List ℕ) (terms : Terms) (amount : ℕ) (tables : Tables)
@@ -69,7 +69,7 @@ TariffIsSteps =
     → tariff_by_steps period text terms amount tables ≡ put_tariff period (Some text) terms tables
 
 -- What the records will cost together under a tariff that begins later than all that was ruled is
--- read of their rows: the amount of a row that is dated before the first day, and else what the
+-- read from their rows: the amount of a row that is dated before the first day, else what the
 -- terms say.
 abbrev pub SumIsRead : Type 0
 SumIsRead =
@@ -79,7 +79,7 @@ SumIsRead =
     → sum_by (amount_under terms) (values (tables_of naming book).records)
     ≡ total_of (with_tariff (Some text) terms book.rulings) book.held
 
--- The tables after a choice are those before it, with its row, and with its effects.
+-- The tables after a choice are those before it, with its row and its effects.
 abbrev pub ChoiceFollows : Type 0
 ChoiceFollows =
     (naming : Naming) (book : Book) (name bytes : List ℕ) (chosen : Member)
@@ -92,7 +92,7 @@ ChoiceFollows =
     (choice_effects (last_close book.rulings) (current_of naming book bytes) chosen)
     (tables_of naming book)
 
--- The tables under the second rule of identity are those before it, walked over: each record has
+-- The tables under the second rule of identity are those before it after a walk: each record has
 -- its new identity, and each that is undisputed now is charged.
 abbrev pub AdoptionFollows : Type 0
 AdoptionFollows =
@@ -102,13 +102,13 @@ AdoptionFollows =
     → tables_of naming (adopt book)
     ≡ adopt_tables (open_number book) (last_close book.rulings) is_due_in (tables_of naming book)
 
--- An adoption by steps is the adoption.
+-- An adoption in steps is the adoption.
 abbrev pub AdoptionIsSteps : Type 0
 AdoptionIsSteps =
     (period : ℕ) (last : Option ℤ) (is_due : Tables → List ℕ → Bool) (tables : Tables)
     → adoption_by_steps period last is_due tables ≡ adopt_tables period last is_due tables
 
--- Whether a record is to be charged stays as it was before the walk that charges records: that
+-- Whether a record is to be charged stays as it was before the walk that charges records: the walk
 -- changes neither identities nor choices.
 abbrev pub DueStays : Type 0
 DueStays =
@@ -116,18 +116,18 @@ DueStays =
     (tables : Tables) (name : List ℕ)
     → is_due_in (walk (settle_step period last is_due) names tables) name ≡ is_due_in tables name
 
--- what a ledger looks at for a new record stands in the tables alone
+-- what a ledger looks at for a new record is in the tables alone
 abbrev pub ViewFollows : Type 0
 ViewFollows =
     (naming : Naming) (book : Book) (bytes : List ℕ)
     → IsSound naming book
     → view_in (tables_of naming book) (identity_by book.rulings bytes) ≡ view_of naming book bytes
 
--- a view that is read from tables has a member alone where it counts one
+-- a view that is read from tables gives a member only if it counts one
 abbrev pub ViewFits : Type 0
 ViewFits = (tables : Tables) (identity : List ℕ) → HasOnly (view_in tables identity)
 
--- The record that a choice withdraws stands in the tables alone, and so does the chosen one.
+-- The record that a choice withdraws is read from the tables alone, and so is the chosen one.
 pub record ChoiceIsRead (naming : Naming) (book : Book) (bytes : List ℕ) : Type 0 where
   pub current : current_in (tables_of naming book) (identity_by book.rulings bytes)
       ≡ current_of naming book bytes
@@ -140,15 +140,15 @@ ChoiceReads =
     → IsSound naming book → has book.held bytes ≡ true
     → ChoiceIsRead naming book bytes
 
--- tables that are kept over a history of records that measure work, each step from what they held,
--- are those of the book
+-- tables that are updated over a history of records that measure work, each step from what they
+-- held, are those of the book
 abbrev pub TablesFollow : Type 0
 TablesFollow =
     (naming : Naming) (history : List Event) → IsAnswered naming history
     → AreUsage (book_after history).held
     → tables_after naming history ≡ tables_of naming (book_after history)
 
--- a choice changes five rows at most
+-- a choice changes at most five rows
 abbrev pub AtMostFiveDiffer : Type 0
 AtMostFiveDiffer =
     (naming : Naming) (book : Book) (name bytes : List ℕ)
@@ -157,7 +157,7 @@ AtMostFiveDiffer =
     → chosen_answer book (Some bytes) ≡ Ok Done
     → DifferInAtMost 5 (tables_of naming book) (tables_of naming (choose bytes book))
 
--- a record that is kept changes four rows at most
+-- a record that is kept changes at most four rows
 abbrev pub AtMostFourDiffer : Type 0
 AtMostFourDiffer =
     (naming : Naming) (book : Book) (bytes : List ℕ)

@@ -1,8 +1,8 @@
--- Read in this order: rows that stand under the number of a period; the tables, and those of a
+-- Read in this order: rows that are stored under the number of a period; the tables, and those of a
 -- book; what a ledger looks at for a new record, by the book and by the tables; how maps change,
--- how rows change by a new record's effects, and how the tables change by each event; the steps of
--- one table that such a change is made of; tables that are kept over a history; what is read back
--- of them; which rows may differ after a record; and the laws.
+-- how rows change by a new record's effects, and how the tables change by each event; the steps on
+-- one table that such a change is made of; tables that are updated over a history; what is read
+-- back from them; which rows may differ after a record; and the laws.
 pub mod Numbered
 pub mod Tables
 pub mod TablesOf

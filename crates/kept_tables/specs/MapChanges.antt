@@ -3,7 +3,7 @@ use Rattle.std.specs.Prelude.{map}
 use Rattle.std.specs.FinMap.{FinMap, entries, from_entries}
 use Rattle.std.specs.declared.cmp.Ordering.{Ordering}
 
--- each row with a change, under the keys that they have
+-- each row changed, under the same key
 abbrev pub updated :
     {K V : Type 0} {R : K → K → Ordering} → (V → V) → FinMap R V → FinMap R V
 updated {K} {V} change rows =

@@ -1,4 +1,4 @@
--- Rows that stand under the number of their period and a key within it.
+-- Rows that are stored under the number of their period and a key within it.
 use Rattle.std.specs.Prelude.{ℕ, suc, ◌==◌, List, [], ◌∷◌, ◌++◌, map, filter}
 use Rattle.std.specs.FinMap.{FinMap, entries}
 use Rattle.std.specs.Ordering.{nat_cmp, ordering_then}
@@ -12,12 +12,12 @@ by_period R one other = ordering_then (nat_cmp one.0 other.0) (R one.1 other.1)
 abbrev pub under : {K V : Type 0} → ℕ → List (K × V) → List ((ℕ × K) × V)
 under {K} {V} number rows = map {B = (ℕ × K) × V} (λ (row : K × V). ((number, row.0), row.1)) rows
 
--- the rows of several periods, the first of which has this number
+-- the rows of several periods, where this is the number of the first
 abbrev pub numbered : {K V : Type 0} → ℕ → List (List (K × V)) → List ((ℕ × K) × V)
 numbered number [] = []
 numbered number (rows ∷ later) = under number rows ++ numbered (suc number) later
 
--- the rows of a table that stand under a number
+-- the rows of a table that are stored under a number
 abbrev pub rows_under :
     {K V : Type 0} {R : ℕ × K → ℕ × K → Ordering} → ℕ → FinMap R V → List ((ℕ × K) × V)
 rows_under number table = filter (λ row. row.0.0 == number) (entries table)

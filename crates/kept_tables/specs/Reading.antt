@@ -37,13 +37,13 @@ AreFramed records = (bytes : List ℕ) → has records bytes ≡ true → IsFram
 abbrev pub AreUsage : Records → Type 0
 AreUsage records = (bytes : List ℕ) → has records bytes ≡ true → IsUsageRecord bytes
 
--- the period takes back no record that it adds
+-- the period reverses no record that it adds
 abbrev pub IsApart : Period → Type 0
 IsApart period =
     (bytes : List ℕ) → has period.added bytes ≡ true → has period.taken bytes ≡ false
 
--- What reading lines rests on, beside a sound book: the records that are held are known by their
--- data, and no closed period takes back what it adds.
+-- What reading lines rests on, besides a sound book: the records that are held are known by their
+-- data, and no closed period reverses what it adds.
 pub record HasLines (book : Book) : Type 0 where
   pub framed : AreFramed book.held
   pub apart : All IsApart book.past

@@ -31,14 +31,14 @@ less_price row one = record row {
   amount = row.amount - one.amount;
 }
 
--- a price joins the row of its place; where there is none, it makes one
+-- a price joins the row of its place; if there is none, it makes one
 abbrev pub add_price : ℕ → Priced → DayTable → DayTable
 add_price period priced days =
     let place : ℕ × RowKey = (period, key_of priced) in
     let row : ChargeRow = unwrap_or (get days place) (row_at [] (key_of priced)) in
     insert days place (with_price row priced)
 
--- a price leaves a row; a row whose count falls to 0 is deleted
+-- a price leaves a row; a row is deleted if its count falls to 0
 abbrev pub take_at : ℕ × RowKey → Option ChargeRow → Priced → DayTable → DayTable
 take_at place None priced days = days
 take_at place (Some row) priced days =
@@ -76,11 +76,11 @@ abbrev pub price_at : Priced → List ℕ → Option RecordRow → RecordTable �
 price_at priced name None records = records
 price_at priced name (Some row) records = insert records name (record row { priced = priced })
 
--- the records after one of them, if any, is charged no more
+-- the records after one of them, if any, is no longer charged
 abbrev pub change_mark : Option (List ℕ) → RecordTable → RecordTable
 change_mark None records = records
 change_mark (Some name) records = unmark_at name (get records name) records
 
--- the records after one of them is charged
+-- the records after one of them becomes charged
 abbrev pub put_mark : List ℕ → RecordTable → RecordTable
 put_mark name records = mark_at true name (get records name) records

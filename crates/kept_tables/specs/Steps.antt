@@ -1,4 +1,4 @@
--- The steps of which every change of the tables is made: each changes rows of one table.
+-- The steps that every change of the tables is made of: each changes rows of one table.
 use Rattle.std.specs.Prelude.{ℕ, ℤ, Bool, int_lt, if◌then◌else◌, List, Option, Some, None}
 use Rattle.std.specs.FinMap.{get, insert, keys, remove}
 use Rattle.tariff_rules.specs.declared.priced.Priced.{Priced}
@@ -14,12 +14,12 @@ use Rattle.kept_tables.specs.TableChanges.{by_second_rule, move_on, reprice_step
 use Rattle.kept_tables.specs.Tables.{RecordRow, Tables}
 use Rattle.kept_tables.specs.TablesOf.{place_of}
 
--- the book counts so many records, which cost so much together
+-- the book counts this many records, which cost this much together
 abbrev pub set_sums : ℕ → ℕ → Tables → Tables
 set_sums held amount tables =
     record tables { book = record tables.book { held = held; amount = amount } }
 
--- a tariff's text stands under its first day
+-- a tariff's text is stored under its first day
 abbrev pub put_tariff_row : ℤ → List ℕ → Tables → Tables
 put_tariff_row day text tables =
     record tables { tariffs = insert tables.tariffs day (Some text) }
@@ -44,14 +44,14 @@ set_mark_row mark name tables =
 abbrev pub mark_row : List ℕ → Tables → Tables
 mark_row name tables = record tables { records = put_mark name tables.records }
 
--- a record that was chosen, and the period that was open then, stand under the choice's number
+-- a record that was chosen, and the period that was open then, are stored under the choice's number
 abbrev pub put_choice_row : ℕ → List ℕ → ℕ → Tables → Tables
 put_choice_row number name period tables =
     record tables {
       choices = insert tables.choices number (record { name = name; period = period });
     }
 
--- a record costs something else; its row stays otherwise
+-- a record costs something else; its row is otherwise unchanged
 abbrev pub put_price_row : List ℕ → Priced → Tables → Tables
 put_price_row name priced tables =
     record tables { records = price_at priced name (get tables.records name) tables.records }
@@ -65,7 +65,7 @@ set_rule rule period tables =
 abbrev pub rename_rows : Tables → Tables
 rename_rows tables = record tables { records = updated by_second_rule tables.records }
 
--- The second rule of identity is adopted by steps: each record has its new identity; then each that
+-- The second rule of identity is adopted in steps: each record has its new identity; then each that
 -- is due is charged, in a walk by name; then the row of the book has the rule.
 abbrev pub adoption_by_steps : ℕ → Option ℤ → (Tables → List ℕ → Bool) → Tables → Tables
 adoption_by_steps period last is_due tables =
@@ -73,7 +73,7 @@ adoption_by_steps period last is_due tables =
     set_rule second_rule period
     (walk (settle_step period last (is_due named)) (keys named.records) named)
 
--- a record that is dated by the day is posted as it is charged; the others stay as they are
+-- a record that is dated on or before the day is posted if it is charged; the others are unchanged
 abbrev pub post_by : ℤ → RecordRow → RecordRow
 post_by day row =
     if int_lt day row.priced.day then row else record row { posted = row.charged }
@@ -94,7 +94,7 @@ abbrev pub change_day_row : ℕ → Option DayChange → Tables → Tables
 change_day_row period change tables =
     record tables { days = change_day period change tables.days }
 
--- A record gets another price in three steps: its row has it; where it is charged, the old price
+-- A record gets another price in three steps: its row has it; if it is charged, the old price
 -- leaves its charge row in the open period, and then the new one joins its own.
 abbrev pub reprice_by_steps : ℕ → List ℕ → RecordRow → Priced → Tables → Tables
 reprice_by_steps period name row priced tables =
@@ -104,7 +104,7 @@ reprice_by_steps period name row priced tables =
     (change_day_row period (Some (Take row.priced)) priced_row)
     else priced_row
 
--- A tariff by steps: each record that it is for gets its new price, in a walk by name; then the
+-- A tariff in steps: each record that it is for gets its new price, in a walk by name; then the
 -- tariff's row, and what all of them cost together now.
 abbrev pub tariff_by_steps : ℕ → List ℕ → Terms → ℕ → Tables → Tables
 tariff_by_steps period text terms amount tables =

@@ -51,7 +51,7 @@ put_new naming rulings period bytes priced effects tables =
     put_record (name_of naming bytes) (new_row rulings bytes priced effects)
     (apply period effects tables)
 
--- the row is posted where the record is charged and dated no later than the day
+-- the row is posted if the record is charged and dated on or before the day
 abbrev pub post : ℤ → RecordRow → RecordRow
 post day row = record row { posted = row.charged && not (int_lt day row.priced.day) }
 
@@ -74,7 +74,7 @@ charge_in period name effects tables =
     let applied : Tables = apply period effects tables in
     record applied { records = put_mark name applied.records }
 
--- the tables with one choice more, under its number, and with its effects
+-- the tables with one more choice, under its number, and with its effects
 abbrev pub put_choice : ℕ → ℕ → List ℕ → ChoiceEffects → Tables → Tables
 put_choice number period name effects tables =
     let withdrawn : Tables =
@@ -98,7 +98,7 @@ reprice period name row priced tables = record tables {
       else tables.days;
 }
 
--- what a row's record will cost under a tariff: as it does, where it is dated before the first day
+-- what a row's record will cost under a tariff: as before, if it is dated before the first day
 abbrev pub amount_under : Terms → RecordRow → ℕ
 amount_under terms row =
     if int_lt row.priced.day terms.effective then row.priced.amount
@@ -115,7 +115,7 @@ abbrev pub reprice_step : ℕ → Terms → List ℕ → Tables → Tables
 reprice_step period terms name tables =
     reprice_row period terms name (get tables.records name) tables
 
--- the tables with one tariff more: the walk, then its row, and the sum in the row of the book
+-- the tables with one more tariff: the walk, then its row, and the sum in the row of the book
 abbrev pub put_tariff : ℕ → Option (List ℕ) → Terms → Tables → Tables
 put_tariff period text terms tables =
     let walked : Tables = walk (reprice_step period terms) (keys tables.records) tables in
@@ -130,7 +130,7 @@ put_tariff period text terms tables =
 abbrev pub by_second_rule : RecordRow → RecordRow
 by_second_rule row = record row { identity = identity2_of (record_with row.data_bytes) }
 
--- A step of the walk after it: a record that is not charged is charged where it is to be.
+-- A step of the walk after it: a record that is not charged becomes charged if it is to be.
 abbrev pub settle_row : ℕ → Option ℤ → Bool → List ℕ → Option RecordRow → Tables → Tables
 settle_row period last is_due name None tables = tables
 settle_row period last is_due name (Some row) tables =

@@ -20,7 +20,7 @@ pub record BookRow : Type 0 where
 abbrev pub never_adopted : ℕ
 never_adopted = 0
 
--- A record: its identity, its data behind the descriptor, what it costs and where, whether it is
+-- A record: its identity, its data after the descriptor, what it costs and where, whether it is
 -- charged now, and whether the last close charged it.
 pub record RecordRow : Type 0 where
   pub identity : List ℕ

@@ -13,14 +13,14 @@ use Rattle.book_model.specs.declared.row.RowKey.{RowKey}
 use Rattle.kept_tables.specs.Numbered.{numbered}
 use Rattle.kept_tables.specs.Tables.{BookRow, RecordRow, ChoiceRow, Tables, never_adopted}
 
--- How records stand: what each of them costs, whose work it measures, and which are charged. A
--- ruling that touches many records leads from one standing to another, a record at a time.
+-- The state of the records: what each of them costs, whose work it measures, and which are charged.
+-- A ruling that touches many records leads from one such state to another, a record at a time.
 pub record Standing : Type 0 where
   pub price : List ℕ → Option Priced
   pub identity : List ℕ → List ℕ
   pub charged : Records
 
--- how the records of a book stand by its rulings
+-- the state of the records of a book by its rulings
 abbrev pub standing_of : Book → Standing
 standing_of book = record {
   price = price_in book.rulings;
@@ -50,14 +50,14 @@ row_by identity charged posted bytes priced = record {
 abbrev pub record_row : Rulings → Records → Records → List ℕ → Priced → RecordRow
 record_row rulings = row_by (identity_by rulings)
 
--- the row under the record's name, where the record has a price
+-- the row under the record's name, if the record has a price
 abbrev pub entry_by : Naming → Standing → Records → List ℕ → Option (List ℕ × RecordRow)
 entry_by naming standing posted bytes =
     option_map
     (λ priced. (name_of naming bytes, row_by standing.identity standing.charged posted bytes priced))
     (standing.price bytes)
 
--- how records stand by some rulings, by what is charged
+-- the state of records by some rulings, by what is charged
 abbrev pub standing_by : Rulings → Records → Standing
 standing_by rulings charged =
     record { price = price_in rulings; identity = identity_by rulings; charged = charged }
@@ -125,7 +125,7 @@ abbrev pub periods_by : Book → Records → List Period
 periods_by book charged =
     book.past ++ period_by (last_close book.rulings) book.posted charged ∷ []
 
--- all tables of a book whose records stand so
+-- all tables of a book at this state of its records
 abbrev pub tables_at : Naming → Book → Standing → Tables
 tables_at naming book standing = record {
   book = book_row book.rulings book.held;

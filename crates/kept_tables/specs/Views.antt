@@ -11,7 +11,7 @@ use Rattle.book_core.specs.declared.effect_table.Member.{Member}
 use Rattle.book_core.specs.declared.effect_table.View.{View}
 use Rattle.kept_tables.specs.Tables.{RecordRow, RecordTable, ChoiceTable, Tables}
 
--- the one element of a list, where it has one
+-- the only element of a list, if it has just one
 abbrev pub only_of : {X : Type 0} → List X → Option X
 only_of [] = None
 only_of (x ∷ []) = Some x
@@ -35,8 +35,8 @@ member_of naming book bytes = member_by naming book bytes (price_in book.rulings
 abbrev pub sharing : Book → List ℕ → List (List ℕ)
 sharing book bytes = members (those (share_identity book.rulings bytes) book.held)
 
--- what the view counts where one record has the identity: one that is chosen stands for two, since
--- no new record changes that it is charged
+-- what the view counts if one record has the identity: one that is chosen counts as two, since
+-- no new record changes whether it is charged
 abbrev pub lone_members : Bool → ℕ
 lone_members chosen = if chosen then 2 else 1
 
@@ -101,7 +101,7 @@ view_in tables identity = record {
   only = only_row tables.choices (rows_with identity tables.records);
 }
 
--- the record of a list that is charged, if one is: a choice withdraws it
+-- the record of a list that is charged, if there is one: a choice withdraws it
 abbrev pub current_of : Naming → Book → List ℕ → Option Member
 current_of naming book bytes =
     option_and_then (member_of naming book)
@@ -123,7 +123,7 @@ abbrev pub has_identity : RecordTable → List ℕ → List ℕ → Bool
 has_identity records identity name =
     option_map_or (λ row. same_bytes row.identity identity) (get records name) false
 
--- the name of the record that was chosen last of those of an identity
+-- the name of the record that was chosen last among those of an identity
 abbrev pub last_named : Tables → List ℕ → Option (List ℕ)
 last_named tables identity =
     last_or None (filter (has_identity tables.records identity)

@@ -1,5 +1,5 @@
-//! Laws of the kept tables, which hold over their definitions alone. Each stands on a function that
-//! does nothing.
+//! Laws of the kept tables, which hold of their definitions alone. Each is the contract of a
+//! function that does nothing.
 
 ghost use Rattle.kept_tables.specs.Laws.{AdoptionFollows, AdoptionIsSteps, AtMostFiveDiffer};
 ghost use Rattle.kept_tables.specs.Laws.{AtMostFourDiffer, DueStays};
@@ -8,7 +8,7 @@ ghost use Rattle.kept_tables.specs.Laws.{RepriceIsSteps, SumIsRead, TablesFollow
 ghost use Rattle.kept_tables.specs.Laws.{TariffIsSteps, ViewFits, ViewFollows};
 ghost use Rattle.kept_tables.specs.ReadingLaws.{LinesFollow, LinesStay, PastStays, RowsFollow};
 
-/// The tables of a book with one record more are those without it, with the record's row, counted
+/// The tables of a book with one more record are those without it, with the record's row, counted
 /// in the row of the book, and with its effects.
 pub fn kept_follows()
     ensures { KeptFollows }
@@ -20,39 +20,39 @@ pub fn close_follows()
     ensures { CloseFollows }
 {}
 
-/// The tables after a tariff are those before it, walked over: each record that is dated on its
+/// The tables after a tariff are those before it after a walk: each record that is dated on its
 /// first day or later has its new price.
 pub fn tariff_follows()
     ensures { TariffFollows }
 {}
 
-/// What a tariff does to one record is done by steps of one table each.
+/// What a tariff does to one record is done in steps that change one table each.
 pub fn reprice_is_steps()
     ensures { RepriceIsSteps }
 {}
 
-/// A tariff by steps is the tariff, where the sum is what the records cost together then.
+/// A tariff in steps is the tariff, if the sum is what the records then cost together.
 pub fn tariff_is_steps()
     ensures { TariffIsSteps }
 {}
 
-/// What the records will cost together under a tariff is read of their rows.
+/// What the records will cost together under a tariff is read from their rows.
 pub fn sum_is_read()
     ensures { SumIsRead }
 {}
 
-/// The tables after a choice are those before it, with its row, and with its effects.
+/// The tables after a choice are those before it, with its row and its effects.
 pub fn choice_follows()
     ensures { ChoiceFollows }
 {}
 
-/// The tables under the second rule of identity are those before it, walked over: each record has
+/// The tables under the second rule of identity are those before it after a walk: each record has
 /// its new identity, and each that is undisputed now is charged.
 pub fn adoption_follows()
     ensures { AdoptionFollows }
 {}
 
-/// An adoption by steps of one table each is the adoption.
+/// An adoption in steps that change one table each is the adoption.
 pub fn adoption_is_steps()
     ensures { AdoptionIsSteps }
 {}
@@ -62,32 +62,32 @@ pub fn due_stays()
     ensures { DueStays }
 {}
 
-/// The record that a choice withdraws stands in the tables alone, and so does the chosen one.
+/// The record that a choice withdraws is read from the tables alone, and so is the chosen one.
 pub fn choice_reads()
     ensures { ChoiceReads }
 {}
 
-/// A choice changes five rows at most.
+/// A choice changes at most five rows.
 pub fn at_most_five_differ()
     ensures { AtMostFiveDiffer }
 {}
 
-/// What a ledger looks at for a new record stands in the tables alone.
+/// What a ledger looks at for a new record is in the tables alone.
 pub fn view_follows()
     ensures { ViewFollows }
 {}
 
-/// A view that is read from tables has a member alone where it counts one.
+/// A view that is read from tables gives a member only if it counts one.
 pub fn view_fits()
     ensures { ViewFits }
 {}
 
-/// Tables that are kept over a history, each step from what they held, are those of the book.
+/// Tables that are updated over a history, each step from what they held, are those of the book.
 pub fn tables_follow()
     ensures { TablesFollow }
 {}
 
-/// A record that is kept changes four rows at most.
+/// A record that is kept changes at most four rows.
 pub fn at_most_four_differ()
     ensures { AtMostFourDiffer }
 {}

@@ -19,7 +19,7 @@ use Rattle.office.specs.Requests.{Dump, Told, telling, told_by, IsAskable, IsAsk
 use Rattle.office.specs.Requests.{IsAsked}
 use Rattle.office.specs.Runs.{AsksAlone, IsAskableAlone}
 
--- a call of the ledger, told
+-- a call of the ledger, as an answer
 pub calls_told : {V A : Type 0} (view : V → A) (say : A → Told) (outcome : Book → Outcome A)
     (result : Result V LedgerFault) (was : Bool) (before : Book) (events : List Event) (is : Bool)
     → Calls view outcome result was before events is
@@ -46,7 +46,7 @@ calls_told view say outcome (Err fault) was before events is called = record {
   reopens = record { reopen = called.reopens.reopen; store = called.reopens.store };
 }
 
--- so is the work of one
+-- so is the work of a request
 pub work_told : {V A : Type 0} {old new : Seen} {view : V → A} (say : A → Told)
     {outcome : Book → Outcome A} {result : Result V LedgerFault} {told : Result Told LedgerFault}
     → told ≡ shown_by (λ value. say (view value)) result
@@ -73,7 +73,7 @@ pub as_asked : {books : Books} {asked : Asked} {answer : Result Answer LedgerFau
 as_asked {books = books} {answer = answer} same {input = input} is done =
     subst (λ asked. IsAsked asked answer books input) (sym is) done
 
--- there is one proof at most that it may be asked
+-- there is at most one proof that it may be asked
 pub askable_once : (asked : Asked) → IsProp (IsAskableAnew asked)
 askable_once (Tariff text) = hlevel props
 askable_once (Close period through) = hlevel props

@@ -29,7 +29,7 @@ use Rattle.office.specs.Laws.{Exchange, ledger_after, AreAnswered}
 use Rattle.office.specs.Laws.{AnswersFollowHistory, AnswersAreFree, IsStillOpen, DiffersAsAllowed}
 use Rattle.office.proofs.LeavingLemmas.{work_leaves, open_earlier}
 
--- the event of an outcome is answered, where calls with it make answered events only
+-- the event of an outcome is answered, if calls with it make only answered events
 event_answered : {A : Type 0} (naming : Naming) (outcome : Book → Outcome A)
     → MakesAnswered naming (Calls {V = A} (λ value. value) outcome (Err Store))
     → (history : List Event) → IsAnswered naming history
@@ -89,7 +89,7 @@ same_done outcome told book events is made =
     let events_are = ap (λ told. events_by told (outcome book).event) is ∙ sym made in
     λ i. record { told = is i; events = events_are i }
 
--- a call on open books that leaves them open told what the definitions say, unless memory ran out
+-- a call on open books that leaves them open said what the definitions say, unless memory ran out
 calls_done : (outcome : Book → Outcome Told) (told : Result Told LedgerFault) (book : Book)
     (events : List Event) → Calls (λ told. told) outcome told false book events false
     → is_hindered told ≡ false
@@ -184,14 +184,14 @@ answers_follow_history seen naming start before (exchange ∷ later) answered op
       left = rest.left;
     }
 
--- histories that differ as allowed define one book
+-- histories that differ as allowed define one book,
 same_book : (one other : List Event) → DiffersAsAllowed one other → book_of one ≡ book_of other
 same_book one other differs =
     sym (books_follow_history one)
     ∙ order_is_free new_book one other differs.rulings differs.between
     ∙ books_follow_history other
 
--- so they are told the same
+-- so their answers are the same
 pub answers_are_free : {L M : Type 0} (seen : L → Seen) (seen_other : M → Seen)
     → AnswersAreFree seen seen_other
 answers_are_free seen seen_other naming history other one two made made_other first second differs

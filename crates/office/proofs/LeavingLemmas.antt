@@ -1,11 +1,11 @@
--- What work on an open ledger leaves of it, where it is still open.
+-- What work on an open ledger leaves of it, if it is still open.
 use Rattle.std.proofs.Common.{◌≡◌, ◌∙◌, Bool, true, false, List, refl, sym, ap, subst}
 use Rattle.book_model.specs.Words.{Book, Event, after_all, Naming}
 use Rattle.book_core.specs.Ledgers.{Seen, StandsAt, stands_by, IsOpenAt}
 use Rattle.book_core.specs.Work.{Work, IsWork}
 use Rattle.office.specs.Laws.{IsStillOpen}
 
--- an open ledger stands at its own book, and at no other
+-- an open ledger is at its own book, and at no other
 stands_open : (seen : Seen) → seen.must_reopen ≡ false → StandsAt seen seen.book
 stands_open seen is_open = subst (λ shut. stands_by shut seen seen.book) (sym is_open) refl
 

@@ -72,7 +72,7 @@ pub none_run : (naming : Naming) (told : List (Result Answer LedgerFault)) → t
 none_run naming told so was before events is none =
     subst (λ told. Runs naming [] told was before events is) (sym so) none
 
--- one request more was answered
+-- one more request was answered
 pub one_more_run : (naming : Naming) (requests all : List Asked)
     (answers told : List (Result Answer LedgerFault)) (asked : Asked)
     (answer : Result Answer LedgerFault) → requests ++ asked ∷ [] ≡ all

@@ -1,4 +1,4 @@
--- What the definitions say of a request, by the book before it: one function.
+-- What the definitions say about a request, by the book before it: one function.
 use Rattle.std.specs.Prelude.{Bool, true, false, List, [], Option, Result, Ok, Err, string_bytes}
 use Rattle.book_model.specs.declared.fault.LedgerFault.{LedgerFault}
 use Rattle.book_model.specs.declared.fault.LedgerFault.TheVariants.{Memory, Store}
@@ -15,7 +15,7 @@ use Rattle.office.specs.declared.request.Asked.TheVariants.{Tariff, Close, Choos
 use Rattle.office.specs.declared.request.Asked.TheVariants.{ImportBytes, Report}
 use Rattle.office.specs.Requests.{Dump, Told, Ruling, Count, Text, telling}
 
--- what the books tell, and the events that they make, the newest first
+-- what the books answer, and the events that they make, the newest first
 pub record Done : Type 0 where
   pub told : Result Told LedgerFault
   pub events : List Event
@@ -47,13 +47,13 @@ does naming (Import layout) dump book = import_done naming dump book
 does naming (ImportBytes layout bytes) dump book = import_done naming dump book
 does naming (Report report) dump book = done_by (telling Text (report_outcome naming report) book)
 
--- want of memory or the store stopped an import
+-- a lack of memory or the store stopped an import
 abbrev pub is_hindering : Stop → Bool
 is_hindering (Ledger Memory) = true
 is_hindering (Ledger Store) = true
 is_hindering stop = false
 
--- want of memory stands in place of the answer; or it or the store stopped an import
+-- out of memory is in place of the answer; or a lack of memory or the store stopped an import
 abbrev pub is_hindered : Result Told LedgerFault → Bool
 is_hindered (Err Memory) = true
 is_hindered (Ok (Count receipt)) = is_hindering receipt.stop

@@ -1,4 +1,4 @@
--- Requests, one after the other, on one ledger: what each is told is what the whole history before
+-- Requests, one after the other, on one ledger: each has the answer that the whole history before
 -- it defines.
 use Rattle.std.specs.Prelude.{◌≡◌, false, List, [], ◌∷◌, ◌++◌}
 use Rattle.streams.specs.Sides.{Input, Output}
@@ -11,7 +11,7 @@ use Rattle.office.specs.Requests.{Dump, Gives, Asks, told_by}
 use Rattle.office.specs.Answers.{Answers, IsTold}
 use Rattle.office.specs.Does.{does, is_hindered}
 
--- no store has failed, and what the ledger is kept on returned what was written
+-- no store has failed, and what the ledger is stored on returned what was written
 pub record IsStillOpen (seen : Seen) : Type 0 where
   pub is_open : seen.must_reopen ≡ false
   pub honest : seen.is_honest
@@ -42,8 +42,8 @@ AreAnswered seen before (exchange ∷ later) =
     Answers exchange.asked exchange.reply (books seen before exchange.after) exchange.input
     exchange.output × AreAnswered seen exchange.after later
 
--- After a history this was asked, answered and told, and these events were made, the newest first.
--- Unless want of memory or the store hindered it, the answer is what the definitions say of the
+-- After a history this was asked, answered and written, and it made these events, the newest first.
+-- Unless a lack of memory or the store hindered it, the answer is what the definitions say of the
 -- history, looked at as a whole.
 pub record IsToldAfter {L : Type 0} (naming : Naming) (history : List Event)
     (exchange : Exchange L) (made : List Event) : Type 0 where
@@ -58,7 +58,7 @@ pub record IsToldAfter {L : Type 0} (naming : Naming) (history : List Event)
   pub told : IsTold exchange.reply.answer exchange.output exchange.reply.told
   pub answered : IsAnswered naming (made ++ history)
 
--- so was each, after the history that goes on with what those before it made
+-- so was each, after the history that goes on with what those before it made,
 abbrev pub AreToldAfter : {L : Type 0} → Naming → List Event → List (Exchange L) → List Event
     → Type 0
 AreToldAfter naming history [] end = end ≡ history
@@ -83,7 +83,7 @@ AnswersFollowHistory {L} seen =
     → FollowHistory naming start exchanges (seen (ledger_after before exchanges))
 
 -- The same is asked of two ledgers, with the same dump, after histories that differ as allowed: both
--- are told the same, unless something hindered one.
+-- give the same answer, unless something hindered one.
 abbrev pub AnswersAreFree : {L M : Type 0} → (L → Seen) → (M → Seen) → Type 0
 AnswersAreFree {L} {M} seen seen_other =
     (naming : Naming) (history other : List Event) (one : Exchange L) (two : Exchange M)

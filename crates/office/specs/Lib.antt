@@ -1,4 +1,4 @@
--- Read in this order: what is asked and what the books answer, also where no reader is at hand; what
+-- Read in this order: what is asked and what the books answer, also with no reader at hand; what
 -- is written of it; and the laws.
 pub mod Requests
 pub mod Runs

@@ -16,7 +16,7 @@ pub record Leaves (Made : Work) (before book : Book) : Type 0 where
   pub made : Made false before events false
   pub leads : book ≡ after_all events before
 
--- The same dump twice in a row leaves the book that one leaves, where neither want of memory nor the
+-- The same dump twice in a row leaves the book that one leaves, if neither a lack of memory nor the
 -- store stopped the first import.
 abbrev pub RunTwiceIsOnce : Type 0
 RunTwiceIsOnce =

@@ -31,7 +31,7 @@ pub record Dump : Type 0 where
   pub cut : Option Stop
   pub bytes : List ℕ
 
--- what the books tell: of a ruling, of a dump, or a report's text
+-- what the books answer: about a ruling, about a dump, or with a report's text
 pub data Told : Type 0 where
   Ruling : ruled.Ruled → Told
   Count : receipt.Receipt → Told
@@ -45,7 +45,7 @@ told_of (answer.Text text) = Text text.items
 abbrev pub told_by : Result Answer LedgerFault → Result Told LedgerFault
 told_by answer = shown_by told_of answer
 
--- the outcome of a call, told
+-- the outcome of a call, as an answer
 abbrev pub telling : {A : Type 0} → (A → Told) → (Book → Outcome A) → Book → Outcome Told
 telling say outcome book =
     record { answer = shown_by say (outcome book).answer; event = (outcome book).event }
@@ -56,12 +56,12 @@ pub record IsReady (reader : ReaderSeen) : Type 0 where
   pub failed : reader.has_failed ≡ false
   pub ended : reader.has_ended ≡ false
 
--- What may be asked with a reader that was not asked yet: a close is through a day.
+-- What may be asked with a reader that has not been asked yet: a close is through a day.
 abbrev pub IsAskableAnew : Asked → Type 0
 IsAskableAnew (Close period through) = IsDay through
 IsAskableAnew asked = Unit {0}
 
--- the same with any reader: a dump is read of one that may be asked
+-- the same with any reader: a dump is read from one that may be asked
 abbrev pub IsAskable : Asked → ReaderSeen → Type 0
 IsAskable (Import layout) reader = IsReady reader
 IsAskable asked reader = IsAskableAnew asked
@@ -73,13 +73,13 @@ cut_by reader =
     else if reader.has_ended then None
     else Some ReadLimit
 
--- the bytes of a dump were taken for this receipt, and no more than it wanted
+-- the bytes of a dump were taken for this receipt, and no more than it needed
 abbrev pub IsReadBy : Dump → Result Told LedgerFault → Input → Type 0
 IsReadBy dump (Ok (Count receipt)) input =
     IsReadFor dump.layout most_reads dump.bytes receipt input
 IsReadBy dump told input = ⊥
 
--- A dump was read of a reader, up to the stop of its receipt and no further.
+-- A dump was read from a reader, up to the stop of its receipt and no further.
 pub record IsReadOf (layout : Layout) (dump : Dump) (told : Result Told LedgerFault) (input : Input)
     : Type 0 where
   pub form : dump.layout ≡ layout
@@ -88,7 +88,7 @@ pub record IsReadOf (layout : Layout) (dump : Dump) (told : Result Told LedgerFa
   pub at_end : NothingIsLeft input.new.has_ended input.new.left
   pub reads : input.new.reads ≤ input.old.reads + most_reads
 
--- nothing was read of the reader, and this is the dump
+-- nothing was read from the reader, and this is the dump
 pub record IsUnread (dump found : Dump) (input : Input) : Type 0 where
   pub is : found ≡ dump
   pub same : input.new ≡ input.old
@@ -100,8 +100,8 @@ whole_dump layout bytes = record { layout = layout; cut = None; bytes = bytes }
 abbrev pub no_dump : Dump
 no_dump = whole_dump Rdw []
 
--- The dump of what was asked, and what it took of the reader: an import alone has one, and one that
--- is here is not read.
+-- The dump of what was asked, and what it took from the reader: only an import has one, and one
+-- that is here is not read.
 abbrev pub Gives : Asked → Dump → Result Told LedgerFault → Input → Type 0
 Gives (Import layout) dump told input = IsReadOf layout dump told input
 Gives (ImportBytes layout bytes) dump told input =
@@ -118,7 +118,7 @@ Receives naming dump (Ok (Count receipt)) =
     Imports naming dump.layout dump.cut dump.bytes receipt
 Receives naming dump told = Never
 
--- the books were asked, and told this
+-- the books were asked, and answered this
 abbrev pub Asks : Naming → Asked → Dump → Result Told LedgerFault → Work
 Asks naming (Tariff text) dump told =
     Calls (λ told. told) (telling Ruling (tariff_outcome (string_bytes text))) told

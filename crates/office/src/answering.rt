@@ -27,8 +27,8 @@ fn tell<W: Write + Drop>(answer: &Answer, sink: &mut Sink<W>) -> Result<(), Repo
     }
 }
 
-/// Does what is asked of the books, and writes what they answer. Where they refuse, nothing is
-/// written. What they answered is handed on also where it could not be written.
+/// Does what is asked of the books, and writes what they answer. If they refuse, nothing is
+/// written. What they answered is returned even if it could not be written.
 pub fn answer<L: Ledger, R: Read + Drop, W: Write + Drop>(
     alloc: Global,
     ledger: &mut L,

@@ -11,14 +11,14 @@ use book_core::{Ledger, LedgerFault};
 use std::alloc::{AllocError, Global};
 
 /// Does what is asked, one request after the other, each whatever came of those before it. Each
-/// brings its dump, if it has one. An error is want of memory for the answers: nothing was asked.
+/// brings its dump, if it has one. An error is a lack of memory for the answers: nothing was asked.
 pub fn run<L: Ledger>(
     alloc: Global,
     ledger: &mut L,
     requests: &[Asked],
 ) -> Result<Vec<Result<Answer, LedgerFault>>, AllocError>
     requires { All IsAskableAlone requests.now }
-    // Each answer is the definitions' one, and the books are those after it.
+    // Each answer is that of the definitions, and the books are those after it.
     ensures runs { IfOk result (λ answers. IsWork (L.seen ledger.old) (L.seen ledger.new)
         (Runs (L.seen ledger.old).naming requests.now answers.items)) }
     // These are the books that the whole history defines.
@@ -26,7 +26,7 @@ pub fn run<L: Ledger>(
         (Runs (L.seen ledger.old).naming requests.now answers.items)) }
     ensures none { OnErr result (ledger.new ≡ ledger.old) }
 {
-    // The room for all answers is taken first: want of memory then leaves the books as they were.
+    // The room for all answers is taken first: if there is too little, the books stay as they were.
     let mut answers = Vec::with_capacity(alloc, requests.len())?;
     for asked in requests {
         let answer = ask_alone(alloc, ledger, asked);

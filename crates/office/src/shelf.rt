@@ -1,6 +1,6 @@
 //! Books by their names, as a program keeps them in files, and what is done with them while they are
-//! open. What a file holds no contract can say: what is done to open books, the calls of a ledger
-//! promise.
+//! open. No contract can say what a file holds; what is done to open books is what the calls of a
+//! ledger promise.
 
 use book_core::{Ledger, LedgerFault};
 
@@ -28,10 +28,10 @@ pub enum ShelfFault {
 
 /// Where books are kept by their names.
 pub trait Shelf {
-    /// Says whether there is something of that name.
+    /// Says whether there is something with that name.
     fn expect(&self, book: &str) -> Result<(), ShelfFault>;
 
-    /// Makes new books of a name that is not there yet.
+    /// Makes new books under a name that is not there yet.
     fn make(&self, book: &str) -> Result<(), ShelfFault>;
 
     /// Opens the books of a name, does something with them, and closes them.

@@ -1,4 +1,4 @@
--- What makes a check: a dump whose pieces were listed one after another.
+-- What makes a check: a dump, listed piece by piece.
 use Rattle.std.proofs.Common.{◌≡◌, ℕ, List, [], ◌++◌, length, sym, ap, subst, Option, Some, None}
 use Rattle.std.proofs.Common.{Result, Ok, Err, ◌∙◌, ◌+◌, ◌≤◌, false, append-nil}
 use Rattle.std.specs.Prelude.{◌||◌}
@@ -29,14 +29,14 @@ use Rattle.book_reports.specs.Writing.{WritesPrefix}
 use Rattle.program_answers.proofs.ListingLemmas.{written_of_more, is_prefix, listed_whole}
 use Rattle.program_answers.proofs.ListingLemmas.{prefix_grows, grows_on, lines_written}
 
--- the lines of the records were written, or wait
+-- the lines of the records were written, or are waiting
 abbrev pub AreListed : Option (List ℕ) → Option (List ℕ) → Listing → List (List ℕ) → Type 0
 AreListed held holds listing records = HasListed records held holds listing
 
 module _ {layout : Layout} {bytes : List ℕ} {joiner : Joining} (began now : Listing)
     (held had has : Option (List ℕ))
     (lists : HasPassed layout bytes joiner (AreListed held had began)) where
-  -- where the lines of a piece were written or wait, so are those of all bytes so far
+  -- where the lines of a piece were written or are waiting, so are those of all bytes so far
   lists_on : (piece : List ℕ) (found : Option FrameFault)
       → ListsOn joiner piece began now had has (Ok found)
       → AreListed held has now (front layout (bytes ++ piece)).records
@@ -45,13 +45,13 @@ module _ {layout : Layout} {bytes : List ℕ} {joiner : Joining} (began now : Li
       → AreListed held has now (front l (text ++ piece)).records)
       (λ text stood. over text held stood) lists.done
 
-  -- a piece more
+  -- one more piece
   pub lists_more : {new : Joining} {piece : List ℕ} → TakesAll joiner piece new
       → ListsOn joiner piece began now had has (Ok None)
       → HasPassed layout (bytes ++ piece) new (AreListed held has now)
   lists_more {piece = piece} taken over = passed_more lists taken (lists_on piece None over)
 
--- the stop that is answered is the one at which the reading ended so
+-- the stop that is answered is the one at which the reading ended
 ends_told : (allowed : ℕ) (found : Front) (input : Input) (stop : Stop)
     (answer : Result Stop ReportFault) → IfOk answer (λ told. told ≡ stop)
     → EndsBy allowed (is_early found stop) input
@@ -89,7 +89,7 @@ module _ {layout : Layout} {cut : Option Stop} {allowed : ℕ} {input : Input} w
         (ap (λ (one : ReaderSeen). one.reads) same);
   }
 
-  -- the last line was written behind the lines of these bytes, or a prefix of what was left of them
+  -- the last line was written after the lines of these bytes, or a prefix of what was left of them
   is_check : (bytes : List ℕ) (began : Listing) (held had has : Option (List ℕ))
       (stop : Stop) (answer : Result Stop ReportFault)
       → HasListed (front layout bytes).records held had began
@@ -166,7 +166,7 @@ module _ {layout : Layout} {cut : Option Stop} {allowed : ℕ} {input : Input} w
         (grows_on had has gets grown (prefix_grows (waiting now ++ last_line (count_of now)
         (Frame fault)) has gets answer written)) reads few failed ended)
 
-    -- a line was not written, or found no memory
+    -- a line was not written, or there was no memory for it
     pub check_cut : (fault : ReportFault) → ListsOn joiner piece began now had has (Err fault)
         → IsCheck layout cut allowed input held has (Err fault)
     check_cut fault some =

@@ -1,4 +1,4 @@
--- What makes a trial and a check, laws of trials, and which number each fault has.
+-- What makes a trial and a check, laws of trials, and the number of each fault.
 pub mod TrialLemmas
 pub mod LineLemmas
 pub mod ListingLemmas

@@ -1,4 +1,4 @@
--- Texts of which a part was written: how parts join, and what a list gains with a line.
+-- Texts that were written in part: how parts join, and what a list gains with a line.
 use Rattle.std.proofs.Common.{◌≡◌, ◌∙◌, ℕ, ◌+◌, List, [], ◌∷◌, ◌++◌, length, take, drop}
 use Rattle.std.proofs.Common.{refl, sym, ap, subst, append_assoc, append-nil, length-append}
 use Rattle.std.proofs.Common.{Option, Result, Ok, Err}
@@ -65,13 +65,13 @@ then_written text rest left held had has written next = record {
       ∙ sym (append_assoc written.first next.first left);
 }
 
--- the same, of another text that is equal
+-- the same for another text that is equal
 pub written_as : (text other left : List ℕ) (held holds : Option (List ℕ)) → text ≡ other
     → WritesBut text left held holds → WritesBut other left held holds
 written_as text other left held holds same written =
     subst (λ b. WritesBut b left held holds) same written
 
--- the lines so far, with the line of one record more
+-- the lines so far, with the line of one more record
 lines_on : (records : List (List ℕ)) (bytes : List ℕ) (held had : Option (List ℕ))
     (began : Listing) → HasListed records held had began
     → WritesBut (record_lines 1 (records ++ bytes ∷ []))
@@ -84,7 +84,7 @@ lines_on records bytes held had began listed =
     ∙ sym (one_more_line records bytes))
     (written_of_more (record_lines 1 records) (waiting began) line held had listed.lines)
 
--- one record more was listed
+-- one more record was listed
 pub listed_more : (records : List (List ℕ)) (bytes : List ℕ) (held had has : Option (List ℕ))
     (began now : Listing) → HasListed records held had began
     → WritesBut (waiting began ++ record_line (count_of began + 1) bytes) (waiting now) had has
@@ -97,7 +97,7 @@ listed_more records bytes held had has began now listed line count = record {
       (lines_on records bytes held had began listed) line;
 }
 
--- at the line of one record more there was a fault, whatever records follow
+-- at the line of one more record there was a fault, whatever records follow
 pub line_cut : (records later : List (List ℕ)) (bytes left : List ℕ)
     (held had has : Option (List ℕ)) (began : Listing) → HasListed records held had began
     → WritesBut (waiting began ++ record_line (count_of began + 1) bytes) left had has
@@ -115,7 +115,7 @@ line_cut records later bytes left held had has began listed line =
           (written_of_more all left others held has so_far),
     )
 
--- what waited was written
+-- what was waiting was written
 pub listed_flushed : (records : List (List ℕ)) (held had has : Option (List ℕ))
     (began now : Listing) → HasListed records held had began
     → Appends had has (waiting began) → waiting now ≡ [] → count_of now ≡ count_of began
@@ -126,7 +126,7 @@ listed_flushed records held had has began now listed grown none count = record {
       listed.lines (all_written (waiting began) (waiting now) had has none grown);
 }
 
--- a part of what waited was written, whatever records follow
+-- a part of what was waiting was written, whatever records follow
 pub flush_cut : (records later : List (List ℕ)) (count : ℕ) (held had has : Option (List ℕ))
     (began : Listing) → HasListed records held had began
     → Appends had has (take count (waiting began))
@@ -142,7 +142,7 @@ flush_cut records later count held had has began listed grown =
           part.1)),
     )
 
--- the last line was written behind the others, or a prefix of what was left before a fault
+-- the last line was written after the others, or a prefix of what was left before a fault
 pub listed_whole : (records : List (List ℕ)) (stop : Stop) (held had has : Option (List ℕ))
     (began : Listing) (answer : Result Stop ReportFault) → HasListed records held had began
     → WritesPrefix (waiting began ++ last_line (count_of began) stop) had has answer
@@ -167,20 +167,20 @@ listed_whole records stop held had has began answer listed ended =
         is_prefix text left.0 held has
         (then_written text rest left.0 held had has written left.1)
 
--- a prefix of a text, or all of it, came behind what the writer held
+-- a prefix of a text, or all of it, came after what the writer held
 pub prefix_grows : {A : Type 0} (text : List ℕ) (held holds : Option (List ℕ))
     (answer : Result A ReportFault) → WritesPrefix text held holds answer
     → (more : List ℕ) × Appends held holds more
 prefix_grows text held holds (Ok value) written = (text, written)
 prefix_grows text held holds (Err fault) written = (take written.0 text, written.1)
 
--- and then more came behind it
+-- and then more came after it
 pub grows_on : (held had has : Option (List ℕ)) → (more : List ℕ) × Appends held had more
     → (more : List ℕ) × Appends had has more → (more : List ℕ) × Appends held has more
 grows_on held had has one other =
     (one.0 ++ other.0, Appends-trans held had has one.0 other.0 one.1 other.1)
 
--- lines of which none waits were written, whatever was written then
+-- lines of which none is waiting were written, whatever was written then
 pub lines_written : (records : List (List ℕ)) (listing : Listing) (held had has : Option (List ℕ))
     → HasListed records held had listing → waiting listing ≡ []
     → (more : List ℕ) × Appends had has more → AreWritten held has records

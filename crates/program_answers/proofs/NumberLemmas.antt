@@ -31,7 +31,7 @@ number_at [] meaning = 0
 number_at (texts ∷ rest) meaning =
     if bytes_eq texts.0 meaning then 1 else 1 + number_at rest meaning
 
--- where the texts of each fault stand at its number, they are those of any fault of that number
+-- where the texts of each fault are found at its number, they are those of any fault of that number
 by_number : {F : Type 0} (number_of : F → ℕ) (meaning_of advice_of : F → List ℕ)
     (table : List (List ℕ × List ℕ))
     → ((fault : F) → texts_at table (number_of fault) ≡ (meaning_of fault, advice_of fault))
@@ -40,7 +40,8 @@ by_number number_of meaning_of advice_of table stands fault other same =
     let texts = sym (stands fault) ∙ ap (texts_at table) same ∙ stands other in
     (ap (λ texts. texts.0) texts, ap (λ texts. texts.1) texts)
 
--- where the number of each fault is found by its meaning, faults of one meaning have one number
+-- where the number of each fault is found by its meaning, faults with the same meaning have the
+-- same number
 by_meaning : {F : Type 0} (number_of : F → ℕ) (meaning_of : F → List ℕ)
     (table : List (List ℕ × List ℕ))
     → ((fault : F) → number_at table (meaning_of fault) ≡ number_of fault)

@@ -12,7 +12,8 @@ use Rattle.program_answers.specs.Listings.{WritesBut, HasListed, TakesOrBreaks, 
 use Rattle.program_answers.specs.Listings.{waiting, count_of}
 use Rattle.program_answers.proofs.ListingLemmas.{line_cut, flush_cut}
 
--- where the lines of the records before a piece were written or wait, so are those of all found
+-- where the lines of the records before a piece were written or are waiting, so are those of all
+-- found
 abbrev pub ListsOver : Listing → Listing → Option (List ℕ) → Option (List ℕ) → Doing
 ListsOver began now had has first found =
     (held : Option (List ℕ)) → HasListed first held had began → HasListed found held has now
@@ -32,7 +33,7 @@ come_cut {old = old} began now next had has gets one left fault goes fed one_is 
     (line_cut (front old.layout (text ++ goes.seen)).records later.0 one left held has gets now
     (goes.done text stood held listed) line)
 
--- behind a piece that was taken or broken, the records of what follows come last
+-- after a piece that was taken or broken, the records of what follows come last
 records_behind : (old new : Joining) (piece : List ℕ) (found : Option FrameFault)
     → TakesOrBreaks old piece found new → (text more : List ℕ) → StandsAfter text old
     → (later : List (List ℕ)) × ((front old.layout ((text ++ piece) ++ more)).records
@@ -45,7 +46,7 @@ records_behind old new piece (Some fault) breaks text more stood = (
       ∙ sym (append-nil (front old.layout (text ++ piece)).records),
 )
 
--- of the lines that waited behind a piece a part was written
+-- a part of the lines that were waiting after a piece was written
 pub come_unflushed : (old new : Joining) (piece : List ℕ) (found : Option FrameFault)
     (began now next : Listing) (had has gets : Option (List ℕ)) (count : ℕ) (fault : ReportFault)
     → TakesOrBreaks old piece found new → ListsOn old piece began now had has (Ok found)

@@ -1,4 +1,4 @@
--- A check: what every record of a dump is, and why there are no more.
+-- A check: what every record of a dump is, and why the list ends.
 use Rattle.std.specs.Prelude.{◌≡◌, ℕ, List, ◌++◌, Option, Result, IfOk}
 use Rattle.std.specs.Io.KnownBytes.{Consumes, Appends}
 use Rattle.smf_frames.specs.declared.dump.Layout.{Layout}
@@ -11,14 +11,14 @@ use Rattle.book_reports.specs.declared.fault.ReportFault.{ReportFault}
 use Rattle.book_reports.specs.CheckLists.{record_lines, check_list_text}
 use Rattle.book_reports.specs.Writing.{WritesPrefix}
 
--- the lines of these records were written, and perhaps more behind them
+-- the lines of these records were written, and perhaps more after them
 abbrev pub AreWritten : Option (List ℕ) → Option (List ℕ) → List (List ℕ) → Type 0
 AreWritten held holds records =
     (more : List ℕ) × Appends held holds (record_lines 1 records ++ more)
 
--- A check took these bytes from the reader, whose reading something may have cut short, and wrote
--- the list of their records and its stop, or a prefix of it before a fault. It took no more than
--- that wanted: the lines of the records that were whole before the last read were all written.
+-- A check took these bytes from the reader, whose reading may have been cut short, and wrote the
+-- list of their records and its stop, or a prefix of it before a fault. It read no further than it
+-- needed: the lines of the records that were whole before the last read were all written.
 pub record IsCheck (layout : Layout) (cut : Option Stop) (allowed : ℕ) (input : Input)
     (held holds : Option (List ℕ)) (answer : Result Stop ReportFault) : Type 0 where
   pub bytes : List ℕ

@@ -17,7 +17,7 @@ abbrev pub HasNumber : {F : Type 0} → (F → ℕ) → ℕ → Option F → Typ
 HasNumber number_of number (Some fault) = number_of fault ≡ number
 HasNumber number_of number None = (fault : _) → number_of fault ≢ number
 
--- a text tells the meaning of the fault that has a number, and what to do about it
+-- a text says what the fault with a number means, and what to do about it
 pub record TellsOf {F : Type 0} (number_of : F → ℕ) (meaning_of advice_of : F → List ℕ)
     (number : ℕ) (told : Explanation) : Type 0 where
   pub fault : F
@@ -25,7 +25,7 @@ pub record TellsOf {F : Type 0} (number_of : F → ℕ) (meaning_of advice_of : 
   pub meaning : told.meaning.now ≡ meaning_of fault
   pub advice : told.advice.now ≡ advice_of fault
 
--- a number is explained where some fault has it, and there alone
+-- a number is explained exactly where some fault has it
 abbrev pub ExplainsBy : {F : Type 0} → (F → ℕ) → (F → List ℕ) → (F → List ℕ) → ℕ
     → Option Explanation → Type 0
 ExplainsBy number_of meaning_of advice_of number (Some told) =
@@ -38,13 +38,13 @@ Explains Ledger = ExplainsBy ledger_number ledger_meaning ledger_advice
 Explains Tariff = ExplainsBy tariff_number tariff_meaning tariff_advice
 Explains Damage = ExplainsBy damage_number damage_meaning (λ damage. not_charged)
 
--- of two faults of one number the meaning is one, and so is the advice
+-- two faults with the same number have the same meaning and the same advice
 abbrev pub NumbersTell : {F : Type 0} → (F → ℕ) → (F → List ℕ) → (F → List ℕ) → Type 0
 NumbersTell {F} number_of meaning_of advice_of = (fault other : F)
     → number_of fault ≡ number_of other
     → (meaning_of fault ≡ meaning_of other) × (advice_of fault ≡ advice_of other)
 
--- two faults of one meaning have one number
+-- two faults with the same meaning have the same number
 abbrev pub MeaningsTell : {F : Type 0} → (F → ℕ) → (F → List ℕ) → Type 0
 MeaningsTell {F} number_of meaning_of = (fault other : F)
     → meaning_of fault ≡ meaning_of other → number_of fault ≡ number_of other

@@ -14,8 +14,8 @@ use Rattle.book_reports.specs.BookTexts.{dispute_text, open_statement}
 abbrev pub distinct_records : Layout → List ℕ → Records
 distinct_records layout bytes = set_of by_bytes (front layout bytes).records
 
--- A trial's import of these bytes, whose reading something may have cut short, answered this
--- receipt and made these events, and no record was refused.
+-- A trial's import of these bytes, whose reading may have been cut short, answered this receipt and
+-- made these events, and no record was refused.
 pub record IsWholeImport (terms : Terms) (layout : Layout) (cut : Option Stop) (bytes : List ℕ)
     (told : Receipt) (events : List Event) : Type 0 where
   pub booked : Imports sha256 layout cut bytes told false (flat_book terms) events false
@@ -26,8 +26,8 @@ abbrev pub trial_book : Terms → List Event → Book
 trial_book terms events = after_all events (flat_book terms)
 
 -- Dumps with the same records, each counted once, have the same statement and the same disputes,
--- where the books refuse none: it makes no difference in which layout, segments and order the
--- records lie, nor how often.
+-- where the books refuse none: the layout, the segments and the order of the records make no
+-- difference, nor how often they come.
 abbrev pub SameRecordsSameTexts : Type 0
 SameRecordsSameTexts =
     (terms : Terms) (layout other_layout : Layout) (cut other_cut : Option Stop)

@@ -1,5 +1,5 @@
 -- Read in this order: what a trial and a check are, the exit statuses, the name that a word spells,
--- what each number means, and laws that follow.
+-- what each number means, and the laws that follow.
 pub mod Trials
 pub mod Checks
 pub mod Listings

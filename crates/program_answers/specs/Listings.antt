@@ -18,19 +18,20 @@ most_written = 65536
 abbrev pub longest_line : ℕ
 longest_line = 64
 
--- the bytes that wait to be written
+-- the bytes that are waiting to be written
 abbrev pub waiting : Listing → List ℕ
 waiting listing = string_bytes listing.text
 
--- how many records have their line
+-- how many records have a line
 abbrev pub count_of : Listing → ℕ
 count_of listing = listing.count
 
--- a line more can be written at once with what waits
+-- one more line can be written together with what is waiting
 abbrev pub HasRoom : Listing → Type 0
 HasRoom listing = length (waiting listing) + longest_line ≤ most_written
 
--- of a text the first bytes were written, where the writer tells, and this rest was not
+-- the first bytes of a text were written, where what the writer holds is known, and this rest was
+-- not
 pub record WritesBut (text rest : List ℕ) (held holds : Option (List ℕ)) : Type 0 where
   pub first : List ℕ
   pub grown : Appends held holds first
@@ -48,13 +49,13 @@ pub record HasListed (records : List (List ℕ)) (held holds : Option (List ℕ)
   pub count : count_of listing ≡ length records
   pub lines : WritesBut (record_lines 1 records) (waiting listing) held holds
 
--- first lines of a text's records were written, whatever bytes follow the text
+-- the the first lines of a text's records were written, whatever bytes follow the text
 abbrev pub WritesSome : Layout → List ℕ → Option (List ℕ) → Option (List ℕ) → Type 0
 WritesSome layout text held holds = (more : List ℕ) → (left : List ℕ)
     × WritesBut (record_lines 1 (front layout (text ++ more)).records) left held holds
 
--- Where the lines of the records before a piece were written, or wait: so are now those of the
--- records that the piece completes; or before a fault first lines were written.
+-- Where the lines of the records before a piece were written, or are waiting, so are now those of
+-- the records that the piece completes; or, before a fault, the first of these lines were written.
 abbrev pub ListsOn : Joining → List ℕ → Listing → Listing → Option (List ℕ) → Option (List ℕ)
     → Result (Option FrameFault) ReportFault → Type 0
 ListsOn joining piece began listing had has (Ok found) = (text : List ℕ) (held : Option (List ℕ))

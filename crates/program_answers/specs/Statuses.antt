@@ -18,7 +18,7 @@ code_of Refused = 3
 code_of Store = 4
 code_of Memory = 5
 
--- books that refuse: memory ran out, their store failed, or it is what was asked of them
+-- books that refuse: memory ran out, their store failed, or the request itself was at fault
 abbrev pub ledger_status : LedgerFault → Status
 ledger_status ledger.Memory = Memory
 ledger_status ledger.Store = Store

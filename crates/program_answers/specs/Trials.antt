@@ -1,5 +1,5 @@
--- A trial: a dump that is imported into new books under one tariff, and the three texts that tell
--- of it.
+-- A trial: a dump that is imported into new books under one tariff, and the three texts that report
+-- it.
 use Rattle.std.specs.Prelude.{◌≡◌, ℕ, false, List, [], ◌∷◌, Option, Result, IfOk}
 use Rattle.sha2.specs.Sha256.{sha256}
 use Rattle.smf_frames.specs.declared.dump.Layout.{Layout}
@@ -20,9 +20,9 @@ trial_texts receipt book =
     receipt_line_text receipt ∷ open_statement book ∷ dispute_text book ∷ []
 
 -- A trial took these bytes from the reader, up to the stop and no further, and imported them, which
--- answered this receipt and made these events; and it wrote the texts on that, or those before a
--- fault. What the reader had and has left, and what the writer held and holds, is seen where they
--- tell.
+-- answered this receipt and made these events; and it wrote the texts about that, or those before a
+-- fault. What the reader had and has left, and what the writer held and holds, is seen where these
+-- are known.
 pub record IsTrial (terms : Terms) (layout : Layout) (cut : Option Stop) (allowed : ℕ)
     (input : Input) (held holds : Option (List ℕ)) (answer : Result Receipt ReportFault)
     : Type 0 where

@@ -91,9 +91,9 @@ fn list_piece<W: Write + Drop>(
 }
 
 /// Writes what every record of a dump is, and why there are no more. The lines of a piece are
-/// written before the next one is read; held are a piece, a record, and lines that are written at
-/// once. Behind a fault at a descriptor, or a write that failed, nothing more is read. After a fault
-/// the writer has a prefix of the list.
+/// written before the next one is read; it holds a piece, a record, and the lines that are written
+/// at once. After a fault at a descriptor, or a write that failed, nothing more is read. After a
+/// fault the writer has a prefix of the list.
 pub fn check_list<R: Read + Drop, W: Write + Drop>(
     alloc: Global,
     source: &mut Source<R>,
@@ -112,14 +112,14 @@ pub fn check_list<R: Read + Drop, W: Write + Drop>(
         (input R.remaining source.old source.new)
         (W.contents (writer_of sink.old)) (W.contents (writer_of sink.new)) result }
 
-    // Where the source has ended, nothing is left of a reader that tells its bytes.
+    // Where the source has ended, no bytes are left of a reader whose bytes are known.
     ensures left { NothingIsLeft (sources.has_ended source.new)
         (R.remaining (sources.reader_of source.new)) }
 
     ensures asked { sources.reads_of source.new ≤ sources.reads_of source.old + reads }
 
-    // A fault is a failed write, or want of memory; Write comes where a write failed, and nowhere
-    // else. No books are asked, so none stop the list or refuse it.
+    // A fault is a failed write, or a lack of memory; Write is answered only where a write failed.
+    // No books are asked, so none stop the list or refuse it.
     ensures failed { has_failed sink.new ≡ is_write_fault result }
     ensures fault { IfErr result (λ fault. is_write_or_memory fault ≡ true) }
     ensures stop { IfOk result (λ stop. is_stop_of_books stop ≡ false) }

@@ -15,7 +15,7 @@ use smf_frames::FrameFault;
 use smf_type30::Damage;
 use tariff_rules::{Key, TariffFault};
 
-/// What a number is the number of.
+/// What kind of thing a number stands for.
 #[derive(Clone, Copy)]
 pub enum Numbered {
     /// A fault of a dump's framing.
@@ -37,7 +37,7 @@ pub struct Explanation {
     pub advice: &'static str,
 }
 
-/// The fault of a dump of a number.
+/// The fault of a dump that has a number.
 fn frame_of(number: u16) -> Option<FrameFault>
     ensures { HasNumber frame_number number result }
 {
@@ -54,7 +54,7 @@ fn frame_of(number: u16) -> Option<FrameFault>
     }
 }
 
-/// The refusal of the books of a number.
+/// The refusal of the books that has a number.
 fn ledger_of(number: u16) -> Option<LedgerFault>
     ensures { HasNumber ledger_number number result }
 {
@@ -79,7 +79,7 @@ fn ledger_of(number: u16) -> Option<LedgerFault>
     }
 }
 
-/// The fault of a tariff file of a number.
+/// The fault of a tariff file that has a number.
 fn tariff_of(number: u16) -> Option<TariffFault>
     ensures { HasNumber tariff_number number result }
 {
@@ -95,7 +95,7 @@ fn tariff_of(number: u16) -> Option<TariffFault>
     }
 }
 
-/// The damage of a record of a number.
+/// The damage of a record that has a number.
 fn damage_of(number: u16) -> Option<Damage>
     ensures { HasNumber damage_number number result }
 {

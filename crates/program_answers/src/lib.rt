@@ -1,6 +1,5 @@
-//! What the program writes of a dump alone, the lines that it says on standard error, the statuses
-//! with which it ends, what each number means, and the name that a word spells. No file is opened
-//! here.
+//! What the program writes about a single dump, its lines on standard error, its exit statuses,
+//! what each number means, and the name that a word spells. No file is opened here.
 #![tactic(auto)]
 
 mod check;

@@ -19,7 +19,7 @@ const MOST_WRITTEN: usize = 65_536;
 /// No line of a list is longer.
 const LONGEST_LINE: usize = 64;
 
-/// The lines of a list that wait to be written, and how many records have their line.
+/// The lines of a list that are waiting to be written, and how many records have a line.
 #[derive(Drop)]
 pub struct Listing {
     text: String,
@@ -27,7 +27,7 @@ pub struct Listing {
 }
 
 impl Listing {
-    /// A list with no line yet. It takes the memory for what is written at once.
+    /// A list with no line yet. It takes the memory for the lines that are written at once.
     pub(crate) fn new(alloc: Global) -> Result<Listing, AllocError>
         ensures waits { IfOk result (λ made. waiting made ≡ []) }
         ensures count { IfOk result (λ made. count_of made ≡ 0) }

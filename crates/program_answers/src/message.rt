@@ -47,8 +47,8 @@ fn say_ledger<E: Write>(errors: &mut E, fault: LedgerFault) -> io::Result<()> {
     }
 }
 
-/// Says that a file, a socket or the output failed. A line that can't be written is let go: the
-/// status tells the same.
+/// Says that a file, a socket or the output failed. A line that can't be written is dropped: the
+/// status says the same.
 pub fn io_failed<E: Write>(errors: &mut E) -> Status
     ensures { result ≡ Status.Io }
 {

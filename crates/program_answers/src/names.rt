@@ -10,7 +10,7 @@ use hex::FromHex;
 /// case.
 pub fn name_of_text(text: &str) -> Option<[u8; 32]>
     ensures read { result ≡ name_in text.now }
-    // A name that is copied from a list is the name that stands there.
+    // A name that is copied from a list is the name in that list.
     ensures copied { (name : List ℕ) → length name ≡ name_length → IsBytes name
         → text.now ≡ encode_lower name → result ≡ Some name }
 {

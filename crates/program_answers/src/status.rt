@@ -9,7 +9,7 @@ pub enum Status {
     /// A file, a socket or the output failed, or the reads that were allowed did not reach the
     /// input's end.
     Io,
-    /// The words ask for nothing that it does.
+    /// The words ask for nothing that the program does.
     Usage,
     /// The input was refused.
     Refused,

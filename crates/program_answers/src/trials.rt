@@ -16,8 +16,8 @@ use std::io::{Read, Write};
 use tariff_rules::Tariff;
 
 /// Imports a dump into new books under one tariff, and writes the receipt line, the statement of
-/// their one period and their disputes, whatever stopped the import. Want of memory leaves the
-/// texts before it, a failed write a prefix of its text.
+/// their one period and their disputes, whatever stopped the import. Where memory runs out the
+/// texts before that are written; a failed write leaves a prefix of its text.
 pub fn trial<R: Read + Drop, W: Write + Drop>(
     alloc: Global,
     source: &mut Source<R>,
@@ -37,14 +37,13 @@ pub fn trial<R: Read + Drop, W: Write + Drop>(
         (input R.remaining source.old source.new)
         (W.contents (writer_of sink.old)) (W.contents (writer_of sink.new)) result }
 
-    // Where the source has ended, nothing is left of a reader that tells its bytes.
+    // Where the source has ended, no bytes are left of a reader whose bytes are known.
     ensures left { NothingIsLeft (sources.has_ended source.new)
         (R.remaining (sources.reader_of source.new)) }
 
     ensures asked { sources.reads_of source.new ≤ sources.reads_of source.old + reads }
 
-    // A fault is a failed write, or want of memory; Write comes where a write failed, and nowhere
-    // else.
+    // A fault is a failed write, or a lack of memory; Write is answered only where a write failed.
     ensures failed { has_failed sink.new ≡ is_write_fault result }
     ensures fault { IfErr result (λ fault. is_write_or_memory fault ≡ true) }
 {

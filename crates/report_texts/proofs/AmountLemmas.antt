@@ -7,7 +7,7 @@ use Rattle.std.proofs.lemmas.Grind.{common_steps}
 use Rattle.book_model.specs.declared.line.Line.{Line}
 use Rattle.report_texts.specs.AdjustmentLists.{charged_by, taken_by}
 
--- a line charges no more than its amount, and takes back no more
+-- a line charges no more than its amount, and reverses no more
 charged_within : (line : Line) → charged_by line ≤ line.priced.amount
 charged_within line = either line.plus line.priced.amount
   where
@@ -25,7 +25,7 @@ taken_within line = either line.plus line.priced.amount
 abbrev amount_of : Line → ℕ
 amount_of line = line.priced.amount
 
--- a sum of so many lines, and the next
+-- a sum of that many lines, and the next
 below : (part : Line → ℕ) → ((line : Line) → part line ≤ amount_of line) → (lines : List Line)
     (i : ℕ) (next : Line) → i < length lines
     → sum_by part (take i lines) + part (get_or lines i next) ≤ sum_by amount_of lines

@@ -9,7 +9,7 @@ use Rattle.report_texts.specs.Columns.{digits_in}
 abbrev zeros_before : ℕ → ℕ → List ℕ
 zeros_before width n = padded_integral (format_spec 32 0 4 width (2 ^ 64 - 1)) false [] (decimal n)
 
--- that is the number in so many digits
+-- that is the number in that many digits
 zeros_before-digits_in : (width n : ℕ) → zeros_before width n ≡ digits_in width n
 zeros_before-digits_in width n =
     padded_integral_zeros (format_spec 32 0 4 width (2 ^ 64 - 1)) (decimal n) refl refl

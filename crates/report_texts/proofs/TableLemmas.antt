@@ -20,7 +20,7 @@ use Rattle.report_texts.specs.StatementTables.{comma_line}
 abbrev pub IsPlain : List ℕ → Type 0
 IsPlain field = list_any (needs_byte default_writer) field ≡ false
 
--- a byte behind the comma calls for none
+-- a byte after the comma calls for none
 plain_byte : (b : ℕ) → 44 < b → needs_byte default_writer b ≡ false
 plain_byte b above =
     rw (
@@ -34,7 +34,7 @@ plain_byte b above =
 plain_before : (b : ℕ) (rest : List ℕ) → 44 < b → IsPlain rest → IsPlain (b ∷ rest)
 plain_before b rest above plain = let first = plain_byte b above in rw (first, plain) refl
 
--- two plain fields, one behind the other
+-- two plain fields, one after the other
 plain_append : (one other : List ℕ) → IsPlain one → IsPlain other → IsPlain (one ++ other)
 plain_append one other plain plain_other =
     rw (list_any-append (needs_byte default_writer) one other, plain, plain_other) refl
@@ -53,7 +53,7 @@ plain_zeros : (count : ℕ) → IsPlain (replicate count 48)
 plain_zeros zero = refl
 plain_zeros (suc count) = plain_before 48 (replicate count 48) (omega arith) (plain_zeros count)
 
--- a number in so many digits
+-- a number in a given count of digits
 plain_digits : (width n : ℕ) → n < 2 ^ 64 → IsPlain (digits_in width n)
 plain_digits width n below =
     plain_append (replicate (width - length (decimal n)) 48) (decimal n)
@@ -100,7 +100,7 @@ plain_day day =
     (plain_pair date.month (45 ∷ days)
     (plain_before 45 days (omega arith) (plain_pair date.day [] refl)))))
 
--- a character of a name is behind the comma
+-- a character of a name is above the comma
 name_above : (c : ℕ) → is_name_character c ≡ true → 44 < c
 name_above c is = grind (arith, nat_tests)
 
@@ -124,7 +124,7 @@ ArePlain (field ∷ rest) = IsPlain field × ArePlain rest
 plain_field : (field : List ℕ) → IsPlain field → field_text default_writer field ≡ field
 plain_field field plain = rw plain refl
 
--- fields behind the first are written with a comma before each
+-- fields after the first are written with a comma before each
 plain_fields : (fields : List (List ℕ)) → ArePlain fields
     → fields_text default_writer fields ≡ flat_map (λ field. codes "," ++ field) fields
 unfolding fields_text

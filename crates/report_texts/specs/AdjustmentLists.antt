@@ -1,4 +1,4 @@
--- Lists of adjustments: what a period adds to closed periods and takes back, a line for each record
+-- Lists of adjustments: what a period adds to closed periods and reverses, a line for each record
 -- and one for their sum.
 use Rattle.std.specs.Prelude.{ℕ, ◌-◌, nat_lt, if◌then◌else◌, Bool, true, false, List, [], ◌++◌}
 use Rattle.std.specs.Prelude.{codes, flat_map, sum_by, Option, ℤ}
@@ -9,7 +9,7 @@ use Rattle.report_texts.specs.Columns.{line_end, left, right, amount_text}
 use Rattle.report_texts.specs.Periods.{title_line}
 use Rattle.report_texts.specs.Statements.{key_columns}
 
--- what is charged less what is taken back, a minus sign before what is below zero
+-- what is charged less what is reversed, a minus sign before what is below zero
 unfoldable pub signed_text : ℕ → ℕ → List ℕ
 signed_text charged taken =
     if nat_lt charged taken then codes "-" ++ amount_text (taken - charged)
@@ -19,11 +19,11 @@ signed_text charged taken =
 abbrev pub charged_by : Line → ℕ
 charged_by line = if line.plus then line.priced.amount else 0
 
--- what it takes back
+-- what it reverses
 abbrev pub taken_by : Line → ℕ
 taken_by line = if line.plus then 0 else line.priced.amount
 
--- whether a line charges its record, or takes the charge back
+-- whether a line charges its record, or reverses the charge
 abbrev pub word_of : Bool → List ℕ
 word_of true = codes "PLUS"
 word_of false = codes "MINUS"

@@ -6,11 +6,11 @@ use Rattle.std.specs.Str.{byte}
 abbrev pub line_end : List ℕ
 line_end = codes "\n"
 
--- so many blanks
+-- a number of blanks
 abbrev pub blanks : ℕ → List ℕ
 blanks count = replicate count (byte " ")
 
--- a text at the left of a column of that width, blanks behind it
+-- a text at the left of a column of that width, blanks after it
 abbrev pub left : ℕ → List ℕ → List ℕ
 left width text = text ++ blanks (width - length text)
 
@@ -18,7 +18,7 @@ left width text = text ++ blanks (width - length text)
 abbrev pub right : ℕ → List ℕ → List ℕ
 right width text = blanks (width - length text) ++ text
 
--- a number in so many digits, zeros before it
+-- a number in a given count of digits, zeros before it
 abbrev pub digits_in : ℕ → ℕ → List ℕ
 digits_in width number = replicate (width - length (decimal number)) (byte "0") ++ decimal number
 

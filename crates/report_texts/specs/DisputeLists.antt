@@ -12,7 +12,7 @@ use Rattle.report_texts.specs.Columns.{line_end, right, amount_text}
 unfoldable pub job_text : List ℕ → List ℕ
 job_text identity = show_text (part identity 0 4) ++ codes " " ++ show_text (part identity 4 8)
 
--- the time and the date at which a reader took in the job, the next 4 bytes each
+-- when a reader took in the job: time and date, the next 4 bytes each
 unfoldable pub reader_text : List ℕ → List ℕ
 reader_text identity =
     codes " READER " ++ encode_upper (part identity 12 4)
@@ -24,7 +24,7 @@ step_text identity =
     codes " SUBTYPE " ++ decimal (number identity 20 2)
     ++ codes " STEP " ++ decimal (number identity 22 2)
 
--- by the second rule also the time and the date at which the work was initiated, 4 bytes each
+-- by the second rule also when the work was initiated: time and date, 4 bytes each
 unfoldable pub start_text : List ℕ → List ℕ
 start_text identity =
     codes " START " ++ encode_upper (part identity 24 4)

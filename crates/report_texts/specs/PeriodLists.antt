@@ -1,4 +1,4 @@
--- Lists of periods: the closed ones in order, and the open one behind them.
+-- Lists of periods: the closed ones in order, and then the open one.
 use Rattle.std.specs.Prelude.{ℕ, ◌+◌, ℤ, List, [], ◌∷◌, ◌++◌, length, codes, Option, Some, None}
 use Rattle.std.specs.Fmt.{decimal}
 use Rattle.report_texts.specs.Columns.{line_end}

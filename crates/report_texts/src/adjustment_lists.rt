@@ -1,4 +1,4 @@
-//! Lists of adjustments: what a period adds to closed periods and takes back.
+//! Lists of adjustments: what a period adds to closed periods and reverses.
 
 ghost use Rattle.std.specs.Prelude.{◌≡◌, ◌++◌, IfOk, OnOk, flat_map, string_bytes, sum_by};
 ghost use Rattle.std.specs.Option.{ForSome};
@@ -12,7 +12,7 @@ use book_model::Line;
 use smf_text::{day_text, show};
 use std::alloc::{AllocError, Global};
 
-/// What is charged less what is taken back, in units: a minus sign stands before what is below
+/// What is charged less what is reversed, in units: a minus sign comes before what is below
 /// zero.
 #[tactic(auto, unfolding(crate::specs::AdjustmentLists::signed_text))]
 fn signed_text(alloc: Global, charged: u64, taken: u64) -> Result<String, AllocError>
@@ -58,7 +58,7 @@ fn charged_by(line: &Line) -> u64
     if line.plus { line.priced.amount } else { 0 }
 }
 
-/// What a line takes back.
+/// What a line reverses.
 fn taken_by(line: &Line) -> u64
     ensures { result ≡ spec.taken_by line.now }
 {
@@ -104,7 +104,7 @@ fn push_lines(alloc: Global, out: &mut String, lines: &[Line]) -> Result<(), All
     Ok(())
 }
 
-/// What lines charge, and what they take back.
+/// What lines charge, and what they reverse.
 fn sums(lines: &[Line]) -> (u64, u64)
     requires { AreLines lines.now }
     ensures { result ≡ (sum_by spec.charged_by lines.now, sum_by spec.taken_by lines.now) }

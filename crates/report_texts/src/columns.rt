@@ -16,7 +16,7 @@ fn push_blanks(out: &mut String, count: usize) -> Result<(), AllocError>
     Ok(())
 }
 
-/// Appends a text at the left of a column. A text that is wider than the column stands whole.
+/// Appends a text at the left of a column. A text that is wider than the column is kept whole.
 pub(crate) fn push_left(out: &mut String, width: usize, text: &str) -> Result<(), AllocError>
     ensures { OnOk result (string_bytes out.new
         ≡ string_bytes out.old ++ spec.left width text.now) }
@@ -25,7 +25,7 @@ pub(crate) fn push_left(out: &mut String, width: usize, text: &str) -> Result<()
     push_blanks(out, width.saturating_sub(text.len()))
 }
 
-/// Appends a text at the right of a column. A text that is wider than the column stands whole.
+/// Appends a text at the right of a column. A text that is wider than the column is kept whole.
 pub(crate) fn push_right(out: &mut String, width: usize, text: &str) -> Result<(), AllocError>
     ensures { OnOk result (string_bytes out.new
         ≡ string_bytes out.old ++ spec.right width text.now) }

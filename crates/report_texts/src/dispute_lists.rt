@@ -16,7 +16,7 @@ use std::alloc::{AllocError, Global};
 /// The bytes of an identity by the second rule.
 const SECOND_RULE: usize = 32;
 
-/// So many bytes at an offset.
+/// The given number of bytes at an offset.
 fn part(bytes: &[u8], at: usize, count: usize) -> &[u8]
     requires { at + count ≤ length bytes.now }
     ensures { result.now ≡ numbers.part bytes.now at count }

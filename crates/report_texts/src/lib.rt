@@ -1,4 +1,4 @@
-//! The texts of the office's reports, byte for byte, made of what books answer.
+//! The texts of the office's reports, byte for byte, made from the answers of books.
 #![tactic(auto)]
 
 mod adjustment_lists;

@@ -1,4 +1,4 @@
-//! Lists of periods: the closed ones in order, and the open one behind them.
+//! Lists of periods: the closed ones in order, and then the open one.
 
 ghost use Rattle.std.specs.Prelude.{◌≡◌, ◌++◌, All, IfOk, OnOk, string_bytes};
 ghost use Rattle.std.specs.Option.{ForSome};
@@ -39,7 +39,7 @@ fn push_closed(alloc: Global, out: &mut String, closes: &[i32]) -> Result<(), Al
 }
 
 /// The list of periods, by the days through which they were closed, in order. The open period comes
-/// behind them.
+/// after them.
 pub fn period_list_text(alloc: Global, closes: &[i32]) -> Result<String, AllocError>
     requires { All IsDay closes.now }
     ensures { IfOk result (λ text. string_bytes text ≡ spec.period_list_text closes.now) }

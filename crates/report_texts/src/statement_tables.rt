@@ -12,7 +12,7 @@ use csv::{Writer, WriterBuilder};
 use smf_text::day_text;
 use std::alloc::{AllocError, Global};
 
-/// Writes fields as one row. Nothing but want of memory keeps a row from a vector.
+/// Writes fields as one row. Nothing but a lack of memory keeps a row from a vector.
 fn write_fields(table: &mut Writer<Vec<u8>>, fields: &[&[u8]]) -> Result<(), AllocError>
     ensures { OnOk result ((bytes : List ℕ) → IsBetweenRows table.old bytes
         → IsBetweenRows table.new

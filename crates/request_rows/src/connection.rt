@@ -10,7 +10,7 @@ pub(crate) struct Connection {
 }
 
 impl Connection {
-    /// All comes at a read, all is taken at a write, and nothing fails.
+    /// Everything comes in one read, everything is taken in one write, and nothing fails.
     pub(crate) fn whole() -> Connection {
         Connection {
             reads: Limits::none(),
@@ -18,7 +18,8 @@ impl Connection {
         }
     }
 
-    /// The connection that words tell: `pieces:SIZE`, `reads:COUNT`, `takes:SIZE`, `writes:COUNT`.
+    /// The connection that words describe: `pieces:SIZE`, `reads:COUNT`, `takes:SIZE`,
+    /// `writes:COUNT`.
     pub(crate) fn of(words: &[&str]) -> Answered<Connection> {
         let mut connection = Connection::whole();
         for word in words {

@@ -15,8 +15,8 @@ pub(crate) struct Exchange {
     pub(crate) writer: Taker,
 }
 
-/// Adds a byte as it is shown: a line's end and what is printed as itself, a carriage return as
-/// `\r`, a backslash as two, every other as `\x` and two digits.
+/// Adds a byte as it is shown: a line's end and what prints as itself as they are, a carriage
+/// return as `\r`, a backslash as two, every other as `\x` and two digits.
 fn push_byte(out: &mut Vec<u8>, byte: u8) -> Answered {
     match byte {
         b'\r' => out.extend_from_slice(b"\\r")?,
@@ -27,7 +27,7 @@ fn push_byte(out: &mut Vec<u8>, byte: u8) -> Answered {
     Ok(())
 }
 
-/// Adds bytes as they are shown. A backslash stands at the end where no line's end does.
+/// Adds bytes as they are shown. A backslash is at the end where no line's end is.
 fn push_bytes(out: &mut Vec<u8>, bytes: &[u8]) -> Answered {
     for byte in bytes {
         push_byte(out, *byte)?;
@@ -66,7 +66,7 @@ impl Exchange {
         }
     }
 
-    /// Adds what was taken, what was served, and, where a write failed, how often was asked.
+    /// Adds what was taken, what was served, and, where a write failed, how often it was asked.
     pub(crate) fn push(&self, out: &mut Vec<u8>) -> Answered {
         push_bytes(out, &self.writer.taken)?;
         push_served(out, self.served)?;

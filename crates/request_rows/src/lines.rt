@@ -56,7 +56,7 @@ impl RequestLines {
     }
 }
 
-/// Answers a line that asks by requests. False where it is none, or can't be read.
+/// Answers a line that asks by requests. False where it is not one, or can't be read.
 pub fn answer_request<L: Ledger>(
     lines: &mut RequestLines,
     named: &Named,

@@ -12,7 +12,7 @@ const MOST_WRITES: u32 = 10_000;
 
 impl Sending<'_> {
     /// The request, with the count of writes at a place in its dump, in two bytes, if a place is
-    /// told: each count then has a request of its own.
+    /// given: each count then has a request of its own.
     fn counted(self, place: Option<&str>, writes: u32) -> Answered<Vec<u8>> {
         let Some(place) = place else {
             return self.request();
@@ -27,8 +27,8 @@ impl Sending<'_> {
         Sending { told, ..self }.request()
     }
 
-    /// A write failed behind so many, once more was asked for, and what was taken is a front of the
-    /// answer: no more than these writes take, and what one less took, with more behind it.
+    /// A write failed after this many, one more was asked for, and what was taken is a prefix of
+    /// the answer: no more than these writes take, and what one fewer took, with more after it.
     fn is_front(self, before: &[u8], lost: &Exchange, writes: u32) -> bool {
         let taken = lost.writer.taken.as_slice();
         let most = self.connection.writes.size.saturating_mul(writes as usize);
@@ -39,7 +39,7 @@ impl Sending<'_> {
             && (writes == 0 || taken.len() > before.len())
     }
 
-    /// Adds what was taken: of a front of the answer, only that it is one.
+    /// Adds what was taken: of a prefix of the answer, only that it is one.
     fn push_taken(
         self,
         before: &[u8],
@@ -58,8 +58,8 @@ impl Sending<'_> {
         Ok(())
     }
 
-    /// Sends requests whose writes fail behind each count, up to the first whose answer was
-    /// written, and each of them again.
+    /// Sends requests whose writes fail after each count, up to the first whose answer was written,
+    /// and each of them again.
     pub(crate) fn each_write<L: Ledger>(
         self,
         place: Option<&str>,

@@ -1,4 +1,4 @@
-//! A request that a script tells: sent once, cut at each length, or broken at each read.
+//! A request that a script gives: sent once, cut at each length, or broken at each read.
 
 use crate::connection::Connection;
 use crate::exchange::Exchange;
@@ -7,7 +7,7 @@ use row_scripts::{Answered, Ask, Cases, LineFault, Named};
 use std::alloc::Global;
 use std::io::Write;
 
-/// A request that is told by a verb, the words behind it and a body, and its connection.
+/// A request that is given by a verb, the words after it and a body, and its connection.
 #[derive(Clone, Copy)]
 pub(crate) struct Sending<'a> {
     pub(crate) named: &'a Named,
@@ -20,14 +20,14 @@ impl<'a> Sending<'a> {
         self.named.alloc()
     }
 
-    /// The same, but for a request that these words tell.
+    /// The same, but for a request that these words give.
     pub(crate) fn telling(self, verb: &'a str, words: &'a [&'a str]) -> Sending<'a> {
         let body = self.told.body;
         let told = Ask { verb, words, body };
         Sending { told, ..self }
     }
 
-    /// A request that hands in the dump of parts.
+    /// A request that submits the dump of parts.
     fn post(self, path: &str, parts: &[&str]) -> Answered<Vec<u8>> {
         let dump = self.named.read_dump(parts)?;
         let size = dump.len();
@@ -85,7 +85,7 @@ impl<'a> Sending<'a> {
         Ok(())
     }
 
-    /// Sends each front of the request that is not all of it.
+    /// Sends each prefix of the request that is not all of it.
     pub(crate) fn each_length<L: Ledger>(self, ledger: &mut L, out: &mut Vec<u8>) -> Answered {
         let request = self.request()?;
         let mut cases = Cases::new(self.alloc(), out, "BYTES");
@@ -95,7 +95,7 @@ impl<'a> Sending<'a> {
         cases.say()
     }
 
-    /// Sends the request with reads that fail behind each count of reads that does not give all of
+    /// Sends the request with reads that fail after each count of reads that does not give all of
     /// it.
     pub(crate) fn each_read<L: Ledger>(self, ledger: &mut L, out: &mut Vec<u8>) -> Answered {
         let request = self.request()?;

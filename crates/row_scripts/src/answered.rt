@@ -1,4 +1,4 @@
-//! What comes of a line, or why nothing does.
+//! The result of a line, or why there is none.
 
 use std::alloc::{AllocError, AllocFailed};
 use std::io;
@@ -13,10 +13,10 @@ pub enum LineFault {
     Memory,
 }
 
-/// What comes of a line.
+/// The result of a line.
 pub type Answered<T = ()> = Result<T, LineFault>;
 
-/// What came of a line, if it could be read.
+/// The result of a line, if it could be read.
 pub fn if_read<T: Drop>(answered: Answered<T>) -> Result<Option<T>, AllocError> {
     match answered {
         Ok(value) => Ok(Some(value)),

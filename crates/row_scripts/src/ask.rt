@@ -13,7 +13,8 @@ pub struct Ask<'a> {
 
 /// What answers the lines of a script.
 pub trait Answers: Drop {
-    /// Begins a row, with nothing left of the one before. False where no row begins by these words.
+    /// Begins a row, with nothing left of the one before. False where no row begins with these
+    /// words.
     fn begin(&mut self, named: &Named, words: &[&str]) -> Result<bool, AllocError>;
 
     /// Adds the answer to a line, in whole lines. False where the line can't be read.

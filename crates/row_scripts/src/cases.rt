@@ -1,5 +1,5 @@
-//! What came of one case after the other: it is said once of all that follow each other and had the
-//! same.
+//! The results of one case after another: a result is shown once for all that follow each other and
+//! have the same.
 
 use crate::answered::Answered;
 use std::alloc::Global;
@@ -9,7 +9,7 @@ use std::io::Write;
 #[derive(Drop)]
 pub struct Cases<'a> {
     out: &'a mut Vec<u8>,
-    /// What a case has so many of.
+    /// What is counted of a case.
     unit: &'a str,
     /// The first that had what the last one had.
     first: u32,
@@ -20,7 +20,7 @@ pub struct Cases<'a> {
 }
 
 impl<'a> Cases<'a> {
-    /// None yet. What is said of them is added to a text.
+    /// None yet. What is said about them is added to a text.
     pub fn new(alloc: Global, out: &'a mut Vec<u8>, unit: &'a str) -> Cases<'a> {
         Cases {
             out,

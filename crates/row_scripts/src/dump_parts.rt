@@ -79,7 +79,7 @@ fn put_hex(alloc: Global, out: &mut [u8], place: &str, word: &str) -> Answered {
     put_at(out, place, &bytes)
 }
 
-/// Adds so many copies of bytes.
+/// Adds a given number of copies of bytes.
 fn push_copies(out: &mut Vec<u8>, bytes: &[u8], count: &str) -> Answered {
     let times = count.parse::<usize>()?;
     if times > MOST_TIMES {
@@ -91,7 +91,8 @@ fn push_copies(out: &mut Vec<u8>, bytes: &[u8], count: &str) -> Answered {
     Ok(())
 }
 
-/// Adds so many copies of bytes, each with its number, from 0 on, in two bytes at a place of it.
+/// Adds a given number of copies of bytes, each with its number, from 0 on, in two bytes at a place
+/// of it.
 fn push_numbered(
     alloc: Global,
     out: &mut Vec<u8>,
@@ -108,7 +109,7 @@ fn push_numbered(
     Ok(())
 }
 
-/// The place that a word spells; where it is empty, the end of so many bytes.
+/// The place that a word spells; where it is empty, the end of a given number of bytes.
 fn end_of(place: &str, len: usize) -> Option<usize> {
     if place.is_empty() {
         Some(len)
@@ -130,7 +131,8 @@ fn named<'a>(dumps: &'a Dumps, part: &str) -> Option<&'a [u8]> {
     slice_of(dumps.get(name)?.as_slice(), places)
 }
 
-/// Adds so many copies of bytes, with the number of each at the place after an at sign, if any.
+/// Adds a given number of copies of bytes, with the number of each at the place after an at sign,
+/// if any.
 fn push_times(alloc: Global, out: &mut Vec<u8>, bytes: &[u8], times: &str) -> Answered {
     match times.split_once('@') {
         None => push_copies(out, bytes, times),
@@ -147,7 +149,7 @@ fn push_named(alloc: Global, dumps: &Dumps, out: &mut Vec<u8>, part: &str) -> An
     }
 }
 
-/// Adds a part that names no dump: what stands before its colon, and after it.
+/// Adds a part that names no dump: what is before its colon, and after it.
 fn push_kind(alloc: Global, out: &mut Vec<u8>, kind: &str, word: &str) -> Answered {
     match kind {
         "x" => push_bytes(out, word),

@@ -1,5 +1,5 @@
 //! Worked rows as texts: a script is a session as an office would type it, with each answer written
-//! beside it from outside. It is played line by line, and compared with what was answered.
+//! beside it from outside. It is played line by line, and compared with what is answered.
 #![tactic(auto)]
 
 mod answered;

@@ -1,4 +1,4 @@
-//! A reader that gives bytes in pieces, and a writer that takes them so. Either may fail.
+//! A reader that gives bytes in pieces, and a writer that takes them in pieces. Either may fail.
 
 use std::alloc::Global;
 use std::io;
@@ -7,14 +7,14 @@ use std::io::{ErrorKind, Read, Write};
 /// What the calls of a reader or a writer are limited to.
 #[derive(Clone, Copy)]
 pub struct Limits {
-    /// How many bytes go over at a call, at most.
+    /// How many bytes go over in one call, at most.
     pub size: usize,
-    /// Each call after so many fails.
+    /// Each call after this many fails.
     pub calls: u32,
 }
 
 impl Limits {
-    /// All goes over at a call, and none fails.
+    /// Everything goes over in one call, and none fails.
     pub fn none() -> Limits {
         Limits {
             size: usize::MAX,
@@ -72,7 +72,7 @@ pub struct Taker {
 }
 
 impl Taker {
-    /// Has taken nothing yet.
+    /// It has taken nothing yet.
     pub fn new(alloc: Global, limits: Limits) -> Taker {
         Taker {
             limits,

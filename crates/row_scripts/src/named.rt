@@ -5,7 +5,7 @@ use crate::dump_parts::{Dumps, dump_of, push_hex_lines};
 use std::alloc::{AllocError, Global};
 use std::collections::BTreeMap;
 
-/// What is named so far. A name may be given again, and then means what it was given last.
+/// What is named so far. A name may be given again, and then means what it was last given to.
 #[derive(Drop)]
 pub struct Named {
     alloc: Global,

@@ -1,6 +1,6 @@
 //! A script, line by line. A line that begins with `> ` asks, and lines after it that begin with
 //! `|` are its body. A line that begins with `#`, and an empty one, say nothing. Every other line
-//! is an answer that is wanted: it is left out, and what is answered is written in its place.
+//! is an expected answer: it is left out, and the answer that is given is written in its place.
 
 use crate::answered::{Answered, LineFault, if_read, read_where};
 use crate::ask::{Answers, Ask};

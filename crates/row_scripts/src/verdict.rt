@@ -1,11 +1,11 @@
-//! What is said of a script that was played.
+//! What is said about a script that was played.
 
 use crate::ask::Answers;
 use crate::player::{Played, Player};
 use std::test::Fail;
 use std::{fs, io};
 
-/// How many lines are shown where a script was answered otherwise.
+/// How many lines are shown where a script was answered differently.
 const SHOWN: usize = 40;
 
 /// How many lines two texts have in common, up to the first that differs.
@@ -26,7 +26,7 @@ fn print_counts(rt: &HostRuntime, name: &str, played: &Played) -> io::Result<()>
     print!(rt; "{name}: {rows} rows, {answers} answers, {unread} not understood, ")
 }
 
-/// Prints some lines of a text, after so many.
+/// Prints some lines of a text, after a given number.
 fn print_lines(rt: &HostRuntime, text: &str, after: usize) -> io::Result<()> {
     for line in text.lines().skip(after).take(SHOWN) {
         println!(rt; "{line}")?;
@@ -34,7 +34,7 @@ fn print_lines(rt: &HostRuntime, text: &str, after: usize) -> io::Result<()> {
     Ok(())
 }
 
-/// Prints where a script was answered otherwise, and how.
+/// Prints where a script was answered differently, and how.
 fn print_other(rt: &HostRuntime, got: &str, want: &str) -> io::Result<()> {
     let same = same_lines(got, want);
     println!(rt; "OTHER IN LINE {}", same.saturating_add(1))?;
@@ -53,15 +53,15 @@ fn print_verdict(rt: &HostRuntime, name: &str, script: &str, played: &Played) ->
     Ok(())
 }
 
-/// Plays the script of a file, and prints what came of it.
+/// Plays the script of a file, and prints the result.
 fn play_file<A: Answers>(rt: &HostRuntime, player: &mut Player<A>, name: &str) -> Result<(), Fail> {
     let script = fs::read_to_string(rt, name)?;
     player.play(script.as_str())?;
     print_verdict(rt, name, script.as_str(), &player.played)
 }
 
-/// Plays the scripts of these files, one after the other, and prints of each what came of it. What
-/// one names is named in those after it.
+/// Plays the scripts of these files, one after the other, and prints the result of each. What one
+/// names is named in those after it.
 pub fn play_files<A: Answers>(rt: &HostRuntime, answers: A, names: &[String]) -> Result<(), Fail> {
     let mut player = Player::new(rt.alloc(), answers);
     for name in names {

@@ -27,7 +27,7 @@ use Rattle.run_laws.specs.AllRead.{ListsConserve}
 use Rattle.run_laws.specs.Calls.{works_of}
 use Rattle.run_laws.proofs.CallLemmas.{calls_follow_history}
 
--- what stands behind a front is found at its length
+-- what comes after a prefix is found at its length
 found_behind : {X : Type 0} (front later : List X) (x : X)
     → slice_get (front ++ x ∷ later) (length front) ≡ Some x
 found_behind [] later x = refl
@@ -73,7 +73,7 @@ AreAnswered outcome number [] = Unit {0}
 AreAnswered outcome number (list ∷ later) =
     ((outcome number).answer ≡ Ok list) × AreAnswered outcome (suc number) later
 
--- Lists that a sound book answers for its periods, one after the other, amount to what those of
+-- Lists that a sound book answers for its periods, one after the other, amount to what the lists of
 -- the periods do.
 module _ {A : Type 0} (f : Period → A) (amount : A → ℕ) (book : Book)
     (closed : length book.past ≡ length book.rulings.closes) where
@@ -117,7 +117,7 @@ module _ {A : Type 0} (f : Period → A) (amount : A → ℕ) (book : Book)
       let long : length lists ≡ length (all_periods book) = omega arith in
       amounts_from [] (all_periods book) lists refl long answered
 
--- what all rows and lines amount to that a book answers whose amounts are balanced
+-- what all rows and lines that a book answers amount to, if its amounts are balanced
 module _ (naming : Naming) (book : Book) (closed : length book.past ≡ length book.rulings.closes)
     (rows : List (List ChargeRow)) (lines : List (List Line)) where
   lists_balance : IsBalanced naming book
@@ -135,7 +135,7 @@ module _ (naming : Naming) (book : Book) (closed : length book.past ≡ length b
       adjustments in
       (λ i. pos (cost i + plus i) -ℤ pos (minus i)) ∙ balanced
 
--- calls that read the lists of periods tell those that the book answers
+-- calls that read the lists of periods give those that the book answers
 lists_answered : (naming : Naming) (number : ℕ) (periods : List PeriodLists) (was : Bool)
     (book : Book) (events : List Event) (is : Bool)
     → works_of naming (list_calls number periods) was book events is

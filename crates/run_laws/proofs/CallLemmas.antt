@@ -28,7 +28,7 @@ readings_answered naming view outcome result none =
     subst (λ event. IsAnswered naming (listed event ++ history))
     (sym (none (book_after history))) answered)
 
--- nor does no call
+-- nor does the absence of calls
 none_answered : (naming : Naming) → MakesAnswered naming NoEvent
 none_answered naming = λ history was events is none answered.
     subst (λ events. IsAnswered naming (events ++ history)) (sym none.none) answered

@@ -37,7 +37,7 @@ next_answered naming history run after =
     runs_answered naming run.requests run.answers history after.was run.events after.is after.runs
     after.answered
 
--- the law of it
+-- the law
 pub runs_make_history : RunsMakeHistory
 runs_make_history = record {
   new = λ naming was is run runs. record { answered = tt; was = was; is = is; runs = runs };
@@ -51,7 +51,7 @@ pub runs_follow_history : RunsFollowHistory
 runs_follow_history naming history run after =
     left_after history run ∙ books_follow_history (history_with history run)
 
--- who is charged now is held and undisputed
+-- what is charged now is held and undisputed
 charges_once : (history : List Event) → ChargesOnce (book_after history)
 charges_once history bytes =
     let book : Book = book_after history in
@@ -70,7 +70,7 @@ runs_conserve naming history run after =
     subst (IsBalanced naming) (sym (left_after history run))
     (conserved naming (history_with history run) (next_answered naming history run after))
 
--- equal books tell alike
+-- equal books have equal texts
 tell_alike : (one other : Book) → one ≡ other → TellAlike one other
 tell_alike one other same = record {
   book = same;
@@ -87,7 +87,7 @@ run_order_is_free naming before_one before_other one other after_one after_other
     between
     ∙ sym (left_after before_other other))
 
--- what is read alike makes one statement
+-- periods that are read alike have one statement
 same_statement : (naming : Naming) (number : ℕ) (old new : Book)
     → IsReadAlike naming number old new → statement_of new number ≡ statement_of old number
 same_statement naming number old new alike =

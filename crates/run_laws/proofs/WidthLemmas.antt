@@ -103,7 +103,7 @@ length-key day centre shift day_fits centre_fits shift_fits =
     key_cells (left 10 day) (left 16 centre) (left 16 shift) (length-left 10 day day_fits)
     (length-left 16 centre centre_fits) (length-left 16 shift shift_fits)
 
--- numbers that their columns have room for
+-- numbers that fit their columns
 pub record FitColumns (count cpu blocks amount : ℕ) : Type 0 where
   pub count_fits : count < 10 ^ 8
   pub cpu_fits : cpu < 10 ^ 18
@@ -152,13 +152,13 @@ All-members {R} o exact P ks all =
     let here = Contains-from_any (tells_apart exact) q ks (sym (any_tied-members o ks q) ∙ among) in
     All-contains P ks q all here)
 
--- prices whose sums the columns have room for
+-- prices with sums that fit the columns
 abbrev pub FitTogether : List Priced → Type 0
 FitTogether priced =
     FitColumns (length priced) (sum_by (λ one. one.cpu) priced) (sum_by (λ one. one.excp) priced)
     (sum_by (λ one. one.amount) priced)
 
--- so have they for sums that are no greater
+-- then so do sums that are no greater
 fit_within : (all some : List Priced) → FitTogether all
     → ((f : Priced → ℕ) → sum_by f some ≤ sum_by f all) → FitTogether some
 fit_within all some fit within =

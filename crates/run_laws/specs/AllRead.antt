@@ -36,7 +36,7 @@ rows_cost rows = sum_by (λ some. sum_by (λ row. row.amount) some) rows
 
 -- Nothing is lost or made: a ledger at the books of any history that calls made is asked for the
 -- lists of its periods, from the first to the open one, and answers them all. Then all rows and
--- plus lines, less all minus lines, come to what the records cost that are charged by the history.
+-- plus lines, less all minus lines, add up to what the records charged by the history cost.
 abbrev pub ListsConserve : {L : Type 0} → (L → Seen) → Type 0
 ListsConserve {L} seen =
     (naming : Naming) (history : List Event) (before : L) (steps : List (Step L))

@@ -10,7 +10,7 @@ use Rattle.book_reports.specs.BookTexts.{open_statement}
 use Rattle.run_laws.specs.Runs.{Run, IsRunOn, IsRunAfter, book_left, history_with}
 use Rattle.run_laws.specs.Statements.{statement_of, TellAlike, StaysClosed}
 
--- New books have no history, and new books under one tariff have that tariff alone: any run on them
+-- New books have no history, and new books under one tariff have only that tariff: any run on them
 -- is a run after it. And calls made the history that goes on with a run, so another run may follow.
 pub record RunsMakeHistory : Type 0 where
   pub new : (naming : Naming) (was is : Bool) (run : Run)
@@ -27,7 +27,7 @@ RunsFollowHistory =
     (naming : Naming) (history : List Event) (run : Run) → IsRunAfter naming history run
     → book_left history run ≡ book_of (history_with history run)
 
--- Over all periods of the book, the open one with them, each record that is held and undisputed is
+-- Over all periods of the book, including the open one, each record that is held and undisputed is
 -- charged once net; any other nets to nothing.
 abbrev pub ChargesOnce : Book → Type 0
 ChargesOnce book =
@@ -35,14 +35,14 @@ ChargesOnce book =
     → net_count (all_periods book) bytes
     ≡ pos (one_if (is_undisputed book.rulings book.held bytes && has book.held bytes))
 
--- so it is of the book that any run leaves
+-- this holds for the book that any run leaves
 abbrev pub RunsChargeOnce : Type 0
 RunsChargeOnce =
     (naming : Naming) (history : List Event) (run : Run) → IsRunAfter naming history run
     → ChargesOnce (book_left history run)
 
 -- Nothing is lost or made in any run: all rows and plus lines less all minus lines, as they are
--- read, come to what the records cost that are charged now.
+-- read, add up to what the records cost that are charged now.
 abbrev pub RunsConserve : Type 0
 RunsConserve =
     (naming : Naming) (history : List Event) (run : Run) → IsRunAfter naming history run
@@ -50,7 +50,7 @@ RunsConserve =
 
 -- It makes no difference how records are cut into dumps, requests and runs, in which order they
 -- come between two rulings, and how often: histories with the same rulings in the same order, and
--- the same sets of records between neighbouring rulings, leave books that tell alike.
+-- the same sets of records between neighbouring rulings, leave books with the same texts.
 abbrev pub RunOrderIsFree : Type 0
 RunOrderIsFree =
     (naming : Naming) (before_one before_other : List Event) (one other : Run)
@@ -66,7 +66,7 @@ ClosedStatementsStay =
     → IsRunAfter naming history run → IsClosed number (book_after history)
     → StaysClosed naming number (book_after history) (book_left history run)
 
--- That statement is the one that is written of books that were never closed, for their one period.
+-- That statement is the one that is written for books that were never closed, for their one period.
 abbrev pub OpenStatementIsFirst : Type 0
 OpenStatementIsFirst =
     (book : Book) → book.rulings.closes ≡ [] → statement_of book 1 ≡ Some (open_statement book)

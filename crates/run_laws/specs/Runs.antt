@@ -23,7 +23,7 @@ pub record IsRunAfter (naming : Naming) (history : List Event) (run : Run) : Typ
   pub is : Bool
   pub runs : IsRunOn naming (book_after history) was run is
 
--- the book that the run leaves of them
+-- the book that the run leaves
 abbrev pub book_left : List Event → Run → Book
 book_left history run = after_all run.events (book_after history)
 

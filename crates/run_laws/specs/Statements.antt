@@ -1,4 +1,4 @@
--- The statement of any period of books, and what the same books tell.
+-- The statement of any period of books, and the texts of equal books.
 use Rattle.std.specs.Prelude.{◌≡◌, ℕ, ◌-◌, List, Option, slice_get}
 use Rattle.std.specs.Option.{option_map}
 use Rattle.std.specs.Result.{result_ok}
@@ -14,7 +14,7 @@ statement_of book number =
     option_map (statement_text number (slice_get book.rulings.closes (number - 1)))
     (result_ok (charges_outcome number book).answer)
 
--- the books are the same, and so are all texts that tell of them
+-- the books are the same, and so are all texts about them
 pub record TellAlike (one other : Book) : Type 0 where
   pub book : one ≡ other
   pub statements : (number : ℕ) → statement_of one number ≡ statement_of other number

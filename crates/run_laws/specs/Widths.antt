@@ -9,14 +9,14 @@ use Rattle.table_readings.specs.FromCalls.{IsFromCalls}
 abbrev pub line_length : ℕ
 line_length = 115
 
--- each line below the first is as long, in the statement of a period that has these rows
+-- each line after the first has that length, in the statement of a period that has these rows
 pub record AreEven (rows : List ChargeRow) : Type 0 where
   pub above : length heading ≡ line_length
   pub each : All (λ row. length (row_line row) ≡ line_length) rows
   pub below : length (total_line rows) ≡ line_length
 
--- So it is of the rows of any period of books that calls made: the office's limits keep each number
--- within its column.
+-- This holds for the rows of any period of books that calls made: the office's limits keep each
+-- number within its column.
 abbrev pub StatementsAreEven : Type 0
 StatementsAreEven =
     (naming : Naming) (book : Book) (number : ℕ) (rows : List ChargeRow)

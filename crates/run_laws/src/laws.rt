@@ -1,4 +1,4 @@
-//! Laws of runs, which hold over the definitions alone. Each stands on a function that does
+//! Laws of runs, which hold of the definitions alone. Each is the contract of a function that does
 //! nothing.
 
 ghost use Rattle.run_laws.specs.AllRead.{ListsConserve};
@@ -27,8 +27,8 @@ pub fn runs_charge_once()
     ensures { RunsChargeOnce }
 {}
 
-/// After any run all rows and plus lines, less all minus lines, come to what the records cost that
-/// are charged now.
+/// After any run all rows and plus lines, less all minus lines, add up to what the records cost
+/// that are charged now.
 pub fn runs_conserve()
     ensures { RunsConserve }
 {}
@@ -44,13 +44,13 @@ pub fn closed_statements_stay()
     ensures { ClosedStatementsStay }
 {}
 
-/// The statements that these laws speak of are the one that is written, of books that were never
+/// The statement that these laws speak of is the one that is written, for books that were never
 /// closed.
 pub fn open_statement_is_first()
     ensures { OpenStatementIsFirst }
 {}
 
-/// Whatever calls are made on the books of a history, one after another: where the ledger is still
+/// Whatever calls are made on the books of a history, one after another: if the ledger is still
 /// open, it is at the books of the history that goes on with what they made.
 pub fn calls_follow_history<L: Ledger>()
     ensures { CallsFollowHistory L.seen }
@@ -62,8 +62,8 @@ pub fn lists_conserve<L: Ledger>()
     ensures { ListsConserve L.seen }
 {}
 
-/// Each line of a statement but the first has 114 characters, whatever period of books that calls
-/// made it is of: within the office's limits no number is wider than its column.
+/// Each line of a statement but the first has 114 characters, for any period of books that calls
+/// made: within the office's limits no number is wider than its column.
 pub fn statements_are_even()
     ensures { StatementsAreEven }
 {}

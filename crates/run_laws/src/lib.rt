@@ -1,6 +1,6 @@
 //! Laws of runs: whatever requests are run on books, each record is charged once, all amounts are
 //! conserved, cuts and order make no difference, and a closed statement never changes; and what
-//! calls of any kind, one after another, leave of a ledger and are told of its lists.
+//! calls of any kind, one after another, leave of a ledger and learn about its lists.
 #![tactic(auto)]
 
 mod laws;

@@ -1,4 +1,4 @@
--- What a segment that passes the tests makes of a group that is begun: the group goes on, or it is
+-- What a segment that passes the tests makes of a begun group: the group continues, or it is
 -- whole.
 use Rattle.std.proofs.Common.{◌≡◌, ℕ, ◌≤◌, true, false, not, List, [], ◌∷◌, ◌++◌, length, map, refl}
 use Rattle.std.proofs.Common.{sym, ap, ◌∙◌, arith, subst, length-drop, length-append, append-nil}
@@ -28,7 +28,7 @@ data_len_or : (segments : List (List ℕ))
 data_len_or [] = refl
 data_len_or (segment ∷ segments) = refl
 
--- the data with a segment more
+-- the data with one more segment
 pub joined_push : (segments : List (List ℕ)) (segment : List ℕ)
     → joined (segments ++ segment ∷ []) ≡ joined_with (data_in segments) segment
 joined_push segments segment =
@@ -36,13 +36,13 @@ joined_push segments segment =
     ∙ ap (λ d. joined segments ++ d) (append-nil (data_of segment))
     ∙ ap (λ d. d ++ data_of segment) (sym (data_in_or segments))
 
--- a group with a segment more is begun
+-- a group with one more segment is begun
 pub data_in_push : (segments : List (List ℕ)) (segment : List ℕ)
     → data_in (segments ++ segment ∷ []) ≡ Some (joined_with (data_in segments) segment)
 data_in_push [] segment = ap (λ d. Some d) (joined_push [] segment)
 data_in_push (first ∷ segments) segment = ap (λ d. Some d) (joined_push (first ∷ segments) segment)
 
--- the kind of a segment that may come where nothing is begun, by whether its record goes on
+-- the kind of a segment that may come where nothing is begun, by whether its record continues
 first_kind : (kind : SegmentKind) → not (begins_record kind) ≡ false
     → ((goes_on kind ≡ true) → kind ≡ First) × ((goes_on kind ≡ false) → kind ≡ Complete)
 first_kind Complete e = (λ on. absurd cc, λ off. refl)
@@ -87,8 +87,8 @@ push_short segments segment may = omega (
   may.short,
 )
 
--- The kinds of a group with a segment more: what is to be true of them is true of the kind of the
--- segment where it comes first, and of the kinds of a begun group with that kind where it comes
+-- The kinds of a group with one more segment: what has to be shown of them is shown of the kind of
+-- the segment where it comes first, and of the kinds of a begun group with that kind where it comes
 -- later.
 kinds_push : (P : List SegmentKind → Type 0) (lone later : SegmentKind) → P (lone ∷ [])
     → ((head : SegmentKind) (rest : List SegmentKind) → AreBegun (head ∷ rest)
@@ -105,7 +105,7 @@ kinds_push P lone later one more (first ∷ rest) segment is_lone is_later begun
     (subst (λ k. P (kind_of first ∷ map kind_of rest ++ k ∷ [])) (sym (is_later may.begins))
     (more (kind_of first) (map kind_of rest) begun))
 
--- where the record goes on, the group is still begun
+-- where the record continues, the group is still begun
 pub group_goes_on : (segments : List (List ℕ)) (segment : List ℕ) → IsBegunGroup segments
     → MayJoin (data_in segments) segment
     → goes_on (kind_of segment) ≡ true → IsBegunGroup (segments ++ segment ∷ [])

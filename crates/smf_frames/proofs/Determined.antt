@@ -9,14 +9,14 @@ use Rattle.smf_frames.specs.Front.{front}
 use Rattle.smf_frames.specs.Joining.{Joining, StandsAfter, broken_by}
 use Rattle.smf_frames.specs.Feeding.{Feeds, FeedIsDetermined}
 
--- the same list with one element more is not that list
+-- the same list with one more element is not that list
 none_more : (records : List (List ℕ)) (standing : Option (List ℕ))
     → records ++ option_to_list standing ≡ records → standing ≡ None
 none_more records None is = refl
 none_more records (Some one) is =
     absurd (omega (arith, ap length is, length-append records (one ∷ [])))
 
--- lists with at most one element more are alike only where that is alike
+-- lists with at most one more element are alike only where that is alike
 same_more : (records : List (List ℕ)) (one two : Option (List ℕ))
     → records ++ option_to_list one ≡ records ++ option_to_list two → one ≡ two
 same_more [] None None is = refl

@@ -67,7 +67,7 @@ fails_over text rest now new fault stands none failed = record {
         ∙ ap (behind records) (found [])
         ∙ (λ i. broken_by (append-nil records i) fault)
 
--- after what a joiner stands, so far in a piece
+-- after which bytes a joiner stands, so far in a piece
 record Reached (text piece rest : List ℕ) (old now : Joining) : Type 0 where
   seen : List ℕ
   parts : seen ++ rest ≡ text ++ piece
@@ -99,7 +99,7 @@ reached text piece rest old now stands none (inr went) = record {
       ∙ append-nil (front old.layout text).records;
 }
 
--- a fault behind that breaks the front of the text and all of the piece
+-- a later fault breaks the front of the text and all of the piece
 breaks_piece : (text piece rest : List ℕ) (old now new : Joining) (fault : FrameFault)
     → StandsAfter text old → now.standing ≡ None → Fed old piece rest now
     → IsFailed now rest fault new

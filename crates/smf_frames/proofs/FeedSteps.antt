@@ -34,8 +34,8 @@ steps_passes : (joining new : Joining) → Steps joining new → fault_held join
 steps_passes joining new (over_block holds) = holds.passes
 steps_passes joining new (over_segment holds) = holds.on.passes
 
--- How far a joiner has come in a piece, which it began as `old`: over some bytes, of which it holds
--- none.
+-- How far a joiner has come in a piece, which it began as `old`: over some bytes, none of which it
+-- holds.
 pub record Went (old : Joining) (piece rest : List ℕ) (now : Joining) : Type 0 where
   pub taken : ℕ
   pub within : taken ≤ length piece
@@ -124,7 +124,7 @@ empty_waits joining empty =
     subst (λ held. next_of joining.layout begun joining.place.left held ≡ Stops) (sym empty)
     (short_stops joining.layout begun joining.place.left [] (lit< tt))
 
--- what is to be true of a record that stands is true where none does
+-- what has to be true of a record that stands is true where none does
 pub none_if_some : (P : List ℕ → Type 0) (standing : Option (List ℕ)) → standing ≡ None
     → IfSome standing P
 none_if_some P None is = tt

@@ -1,4 +1,4 @@
--- What a joiner answers to a piece of which it takes bytes.
+-- What a joiner answers to a piece when it takes bytes of it.
 use Rattle.std.proofs.Common.{◌≡◌, ℕ, ◌-◌, ◌≤◌, ◌<◌, true, false, List, [], ◌∷◌, ◌++◌, length, take}
 use Rattle.std.proofs.Common.{drop, refl, sym, ap, ◌∙◌, arith, length-append, length-drop}
 use Rattle.std.proofs.Common.{append_assoc, append-nil, subst, Option, Some, None, Ok, ◌⊎◌, inl}
@@ -98,7 +98,7 @@ module _ (text piece : List ℕ) (old new : Joining) (n : ℕ) (stands : StandsA
       ∙ ap (λ b. (front old.layout b).records) parts
       ∙ same)
 
-  -- so no fault breaks the front behind the records of the text
+  -- so no fault breaks the front after the records of the text
   breaks_not : (fault : FrameFault)
       → front old.layout (text ++ piece) ≡ broken_by (front old.layout text).records fault
       → (standing : Option (List ℕ)) → new.standing ≡ standing → ⊥
@@ -135,7 +135,7 @@ takes_feeds old new piece n takes = record {
   broken = tt;
 }
 
--- where a record stands behind the bytes, or stood before them
+-- where a record stands after the bytes, or stood before them
 pub feeds_standing : (old new : Joining) (piece rest : List ℕ) → Fed old piece rest new
     → is_some new.standing ≡ true → Feeds old piece (Ok (length piece - length rest)) new
 feeds_standing old new piece rest (inl begins) some =

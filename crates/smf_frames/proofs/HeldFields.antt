@@ -20,7 +20,7 @@ begun_len {fields} keeps begun =
     ∙ ap (λ n. n - 4) (length-take-le fields.mark fields.joined keeps.marked) in
     ap Some (sym len_is) ∙ ap (λ b. data_len (cond b (Some begun_data) None)) (sym begun)
 
--- where the descriptor is not whole, nothing behind it is held
+-- where the descriptor is not whole, nothing after it is held
 pub held_short : {fields : Fields} → Keeps fields → fields.got < 4
     → drop fields.mark fields.joined ≡ []
 held_short {fields} keeps short =
@@ -29,7 +29,7 @@ held_short {fields} keeps short =
       | inr all ↦ drop_all fields.mark fields.joined all
     ]
 
--- so many bytes of the descriptor are held
+-- that many bytes of the descriptor are held
 pub got_len : {fields : Fields} → Keeps fields
     → length (take fields.got fields.descriptor) ≡ fields.got
 got_len {fields} keeps =
@@ -71,7 +71,7 @@ end_is {fields} keeps begun =
           rw (here, there) refl
     ]
 
--- both tests tell of what the joiner holds, where they are told how much data is begun
+-- both tests describe what the joiner holds, where they are given how much data is begun
 pub tests_held : {fields : Fields} → Keeps fields → {joining : Joining}
     → joining_in fields ≡ joining → {begun : Option ℕ} → begun ≡ data_len joining.place.begun
     → (descriptor_fault fields.layout begun fields.left (take fields.got fields.descriptor)

@@ -1,8 +1,8 @@
 -- Read in this order: what the tests show; the way of a reader, and what a loop keeps of it; where
--- ways end; how segments join; that each text of groups has its way, and each way its groups; and
--- that the reader so finds the front; that a fault at a descriptor stays. Then a joiner, which gets
--- the dump in pieces: where it waits, how it goes on, after which bytes it stands; what its fields
--- show; what it answers to a piece, step by step; and that this leaves it no choice.
+-- ways end; how segments join; that each text of groups has its way, and each way its groups; that
+-- the reader so finds the front; and that a fault at a descriptor stays. Then a joiner, which gets
+-- the dump in pieces: where it waits, how it continues, after which bytes it stands; what its
+-- fields show; what it answers to a piece, step by step; and that this leaves it no choice.
 pub mod Numbers
 pub mod Steps
 pub mod Ways

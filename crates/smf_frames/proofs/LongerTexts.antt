@@ -1,4 +1,4 @@
--- The segments of a text with one more segment behind it, or with the descriptor of a block.
+-- The segments of a text with one more segment after it, or with the descriptor of a block.
 use Rattle.std.proofs.Common.{◌≡◌, ℕ, zero, suc, ◌-◌, ◌≤◌, ◌<◌, List, [], ◌∷◌, ◌++◌, length, refl}
 use Rattle.std.proofs.Common.{sym, ap, ◌∙◌, arith, subst, length-append, append_assoc, append-nil}
 use Rattle.std.proofs.Common.{Option, None}
@@ -30,7 +30,7 @@ concat_push (first ∷ segments) segment =
     ap (λ b. first ++ b) (concat_push segments segment)
     ∙ sym (append_assoc first (concat segments) segment)
 
--- a block with a segment more
+-- a block with one more segment
 block_push : (block segment : List ℕ) (segments : List (List ℕ)) (left : ℕ)
     → IsBlock block segments left → IsSegment segment
     → length segment ≤ left → IsBlock (block ++ segment) (segments ++ segment ∷ [])
@@ -56,7 +56,7 @@ blocks_same {text} {text'} {segments} {segments'} {left} same_text same_segments
     subst (λ t. HasBlocks t segments' left) same_text
     (subst (λ s. HasBlocks text s left) same_segments blocks)
 
--- a block of which so much is left
+-- a block with that much left
 block_left : (block : List ℕ) (segments : List (List ℕ)) (left : ℕ) → IsBlock block segments left
     → HasBlocks block segments (left_of_block left)
 block_left block segments zero is =
@@ -67,7 +67,7 @@ block_left block segments (suc n) is =
     subst (λ l. HasBlocks block segments l) (sym (left_some (suc n) some))
     (begun_block block segments (suc n) some is)
 
--- blocks with a segment more
+-- blocks with one more segment
 blocks_push : (text segment : List ℕ) (segments : List (List ℕ)) (left : Option ℕ)
     → HasBlocks text segments left
     → IsSegment segment → HasRoomFor Bdw left (length segment)
@@ -83,7 +83,7 @@ blocks_push text segment segments left (whole_block block on inside later l bloc
     (left_after l (length segment)) block_is
     (blocks_push on segment later l rest is room))
 
--- a text with a segment more
+-- a text with one more segment
 pub segments_push : (layout : Layout) (text segment : List ℕ) (segments : List (List ℕ))
     (left : Option ℕ)
     → HasSegments layout text segments left → IsSegment segment
@@ -122,7 +122,7 @@ blocks_begin text descriptor segments left
     (left_of_block (named_len descriptor - 4)) block_is
     (blocks_begin on descriptor later l rest is none))
 
--- a text with the descriptor of a block more
+-- a text with the descriptor of one more block
 pub segments_begin : (layout : Layout) (text descriptor : List ℕ) (segments : List (List ℕ))
     (left : Option ℕ)
     → HasSegments layout text segments left → IsDescriptor descriptor → layout ≡ Bdw → left ≡ None

@@ -1,4 +1,4 @@
--- How a joiner goes on over the bytes that come.
+-- How a joiner continues over the bytes that come.
 use Rattle.std.proofs.Common.{◌≡◌, ℕ, ◌+◌, ◌-◌, ◌≤◌, ◌<◌, Bool, true, false, cond, List, [], ◌∷◌}
 use Rattle.std.proofs.Common.{◌++◌, length, take, drop, refl, sym, ap, ◌∙◌, arith, length-append}
 use Rattle.std.proofs.Common.{length-drop, append_assoc, subst, Option, Some, None, inl, inr}
@@ -23,8 +23,8 @@ use Rattle.smf_frames.proofs.Ways.{next_at, front_stops, front_block, front_segm
 use Rattle.smf_frames.proofs.Lasting.{descriptor_stays}
 use Rattle.smf_frames.proofs.Waits.{short_stops, less_stops, before_stops}
 
--- A joiner goes on over these bytes, and is another then: whatever bytes follow, the record that
--- stands then comes first, and then what is found from its place; and it is not whole sooner.
+-- A joiner continues over these bytes, and is then another one: whatever bytes follow, the record
+-- that stands then comes first, and then what is found from its place; and it is not whole sooner.
 pub record GoesOver (old : Joining) (bytes : List ℕ) (new : Joining) : Type 0 where
   pub layout_is : new.layout ≡ old.layout
   pub on : (more : List ℕ) → front_from old.layout old.place (old.held ++ (bytes ++ more))
@@ -82,7 +82,7 @@ module _ (old : Joining) (bytes : List ℕ) where
   all = old.held ++ bytes
 
   -- Where that is at most one descriptor or one segment, no record is whole sooner; so the joiner
-  -- goes on over the bytes, if it finds what it should behind them.
+  -- continues over the bytes, if it finds what it should after them.
   goes_tight : (new : Joining) → new.layout ≡ old.layout
       → ((more : List ℕ) → front_from old.layout old.place (all ++ more)
       ≡ behind (option_to_list new.standing)

@@ -1,4 +1,4 @@
--- The fields of a joiner behind a segment.
+-- The fields of a joiner after a segment.
 use Rattle.std.proofs.Common.{◌≡◌, ℕ, ◌+◌, ◌≤◌, Bool, true, false, cond, List, [], ◌++◌}
 use Rattle.std.proofs.Common.{length, take, drop, refl, sym, ap, ◌∙◌, arith, length-drop, subst}
 use Rattle.std.proofs.Common.{Option, Some, None}
@@ -103,7 +103,7 @@ segment_held fields keeps none four =
         ∙ ap (drop 4) (take-append-drop fields.mark fields.joined)
     by false is = ap (λ n. drop n fields.joined) (keeps.fresh is none)
 
--- the fields behind a segment: nothing of a descriptor is there
+-- the fields after a segment: nothing of a descriptor is there
 abbrev pub passed : Fields → Option ℕ → Bool → List ℕ → ℕ → Bool → Fields
 passed fields left is_begun joined mark stands = record {
   layout = fields.layout;
@@ -142,7 +142,7 @@ passed_keeps keeps short left is_begun stands joined mark mark_is len_is begun_i
 
 module _ {fields : Fields} (keeps : Keeps fields) (holds : HoldsSegment (joining_in fields))
     (none : fields.stands ≡ false) where
-  -- behind a whole segment nothing is held, and what is left of the block is less
+  -- after a whole segment nothing is held, and what is left of the block is less
   behind_segment : (is_begun stands : Bool) (joined : List ℕ)
       → length joined ≡ length fields.joined
       → cond is_begun (Some (drop 4 (take (length fields.joined) joined))) None
@@ -163,7 +163,7 @@ module _ {fields : Fields} (keeps : Keeps fields) (holds : HoldsSegment (joining
         standing = made_is i;
       }
 
-  -- where its record goes on, these are the fields of the joiner behind the segment
+  -- where its record continues, these are the fields of the joiner after the segment
   pub passed_on : goes_on (kind_of fields.descriptor) ≡ true
       → joining_in (passed fields (left_after fields.left (named_len fields.descriptor)) true
       fields.joined (length fields.joined) false)
@@ -178,7 +178,7 @@ module _ {fields : Fields} (keeps : Keeps fields) (holds : HoldsSegment (joining
       ∙ ap Some (sym is.inside) ∙ ap (λ b. cond b (Some all) None) (sym on))
       (ap (λ b. cond b None (Some (record_with all))) (sym on))
 
-  -- and where it is whole now, with its descriptor written in front of its data
+  -- and where it is whole now, with its descriptor written before its data
   pub passed_whole : goes_on (kind_of fields.descriptor) ≡ false
       → (whole : List ℕ) → whole ≡ record_with (drop 4 fields.joined)
       → length whole ≡ length fields.joined
@@ -194,7 +194,7 @@ module _ {fields : Fields} (keeps : Keeps fields) (holds : HoldsSegment (joining
       (ap Some (whole_is ∙ ap record_with (sym is.inside))
       ∙ ap (λ b. cond b None (Some (record_with all))) (sym off))
 
--- a record has as many bytes as its data behind a descriptor
+-- a record has as many bytes as its data after a descriptor
 pub described_len : (joined : List ℕ) → 4 ≤ length joined
     → length (record_with (drop 4 joined)) ≡ length joined
 described_len joined long = omega (arith, length-drop 4 joined)

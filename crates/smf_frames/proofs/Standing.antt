@@ -1,4 +1,4 @@
--- After which bytes a joiner stands: at the start, behind what it takes, with the record let go,
+-- After which bytes a joiner stands: at the start, after what it takes, with the record released,
 -- at a fault, and at the end.
 use Rattle.std.proofs.Common.{lit<, ◌≡◌, ℕ, ◌<◌, false, All, arith, length-append, List, [], ◌∷◌}
 use Rattle.std.proofs.Common.{◌++◌, length, take, sym, ap, ◌∙◌, append_assoc, append-nil, subst}
@@ -68,7 +68,7 @@ module _ (text : List ℕ) (joining : Joining) (stands : StandsAfter text joinin
 
 module _ (text bytes : List ℕ) (old new : Joining) (stands : StandsAfter text old)
     (goes : GoesOver old bytes new) where
-  -- what is behind a text, where a joiner went on over some bytes
+  -- what follows a text, where a joiner went on over some bytes
   over : (more : List ℕ) → front old.layout ((text ++ bytes) ++ more)
       ≡ behind ((front old.layout text).records ++ option_to_list new.standing)
       (front_from old.layout new.place (new.held ++ more))
@@ -93,7 +93,7 @@ module _ (text bytes : List ℕ) (old new : Joining) (stands : StandsAfter text 
       (stops_without old.layout new.place (new.held ++ []) here)
       ∙ append-nil records
 
-  -- behind the bytes over which a joiner went on
+  -- after the bytes over which a joiner went on
   pub stands_over : next_held new ≡ Stops → IfSome new.standing (λ _. new.held ≡ [])
       → StandsAfter (text ++ bytes) new
   stands_over waits empty = record {

@@ -1,4 +1,4 @@
--- What one step of a joiner over the rest of a piece comes to.
+-- What one step of a joiner does over the rest of a piece.
 use Rattle.std.proofs.Common.{◌≡◌, ℕ, ◌+◌, ◌-◌, ◌≤◌, ◌<◌, List, ◌++◌, length, take, drop}
 use Rattle.std.proofs.Common.{sym, ap, ◌∙◌, arith, length-append, length-drop, append_assoc}
 use Rattle.std.proofs.Common.{take-add, subst, Some, None}
@@ -22,7 +22,7 @@ holding_twice joining bytes more = λ i. record {
   standing = joining.standing;
 }
 
--- with more bytes behind it the same descriptor is held
+-- with more bytes after it the same descriptor is held
 on_more : (mid : Joining) (more : List ℕ) → OnSegment mid
     → OnSegment (holding mid more) × (named_len (mid.held ++ more) ≡ named_len mid.held)
 on_more mid more on = (
@@ -47,10 +47,10 @@ holds_segment mid new more on enough len_is new_is =
       named = omega (arith, length-append mid.held more, later.1);
     })
 
--- A step of a joiner over the rest of a piece, of which it holds a front first.
+-- A step of a joiner over the rest of a piece, when it holds a prefix of it first.
 module _ (old mid : Joining) (rest : List ℕ) (n : ℕ)
     (mid_is : mid ≡ holding old (take n rest)) where
-  -- with what comes behind the front, it holds all
+  -- with what follows the prefix, it holds all
   holding_on : (more : List ℕ) → more ≡ drop n rest → holding mid more ≡ holding old rest
   holding_on more more_is =
       (λ i. holding (mid_is i) (more_is i)) ∙ holding_twice old (take n rest) (drop n rest)

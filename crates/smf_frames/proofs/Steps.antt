@@ -1,5 +1,5 @@
 -- What the tests show of a step that a reader takes, and the other way round; and that more bytes
--- behind it change nothing of it.
+-- after it change nothing of it.
 use Rattle.std.proofs.Common.{◌≡◌, ℕ, ◌+◌, ◌-◌, ◌≤◌, ◌<◌, Bool, true, false, not, ◌&&◌, cond}
 use Rattle.std.proofs.Common.{nat_lt, List, ◌++◌, length, refl, sym, ap, ◌∙◌, Option, Some, None}
 use Rattle.std.proofs.Common.{arith, length-append, true≢false}
@@ -188,7 +188,7 @@ module _ (layout : Layout) (begun left : Option ℕ) (bytes : List ℕ) (len : �
         le-ltb len 4 takes.long,
       ) refl
 
--- the four bytes of a descriptor are there with more bytes behind them
+-- the four bytes of a descriptor are there with more bytes after them
 four_there : (bytes more : List ℕ) → 4 ≤ length bytes
     → nat_lt (length (bytes ++ more)) 4 ≡ nat_lt (length bytes) 4
 four_there bytes more long =
@@ -209,7 +209,7 @@ module _ (layout : Layout) (begun left : Option ℕ) (bytes more : List ℕ) whe
       (cond (nat_lt (same.len i) 4) (Some BlockLength) None))
       (segment_fault begun left (same.len i) (same.kind i))))
 
-  -- what is whole stands there, whatever bytes follow
+  -- what is whole is there, whatever bytes follow
   next_same : 4 ≤ length bytes
       → (is_block_due layout left ≡ false → named_len bytes ≤ length bytes)
       → next_of layout begun left (bytes ++ more) ≡ next_of layout begun left bytes

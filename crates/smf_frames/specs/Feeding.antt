@@ -42,7 +42,7 @@ pub record Feeds (old : Joining) (piece : List ℕ) (answer : Result ℕ FrameFa
   -- a fault at the descriptor that is held is answered to every piece
   pub for_good : (fault : FrameFault) → fault_held old ≡ Some fault → old.standing ≡ None
       → answer ≡ Err fault
-  -- and behind a fault it is held, and no record stands
+  -- and after a fault it is held, and no record stands
   pub broken : IfErr answer (λ fault. (fault_held new ≡ Some fault) × (new.standing ≡ None))
 
 -- The clauses leave no choice: two joiners in which no record stands, and which stand after one

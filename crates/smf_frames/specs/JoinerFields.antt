@@ -7,9 +7,9 @@ use Rattle.smf_frames.specs.Framed.{most_data, data_of}
 use Rattle.smf_frames.specs.Faults.{is_block_due}
 use Rattle.smf_frames.specs.Joining.{Joining}
 
--- The fields, and for how many bytes there is room. What is joined has room for a descriptor, then
--- the data of the record that is begun, up to the mark, and then the data of a begun segment, whose
--- descriptor is kept apart: so many of its bytes have come.
+-- The fields, and how many bytes there is room for. What is joined has room for a descriptor, then
+-- the data of the record that is begun, up to the mark, and then the data of a begun segment. Its
+-- descriptor is kept apart: this is how many of its bytes have come.
 pub record Fields : Type 0 where
   pub layout : Layout
   pub left : Option ℕ
@@ -49,7 +49,7 @@ pub record Keeps (fields : Fields) : Type 0 where
   pub short : fields.mark ≤ most_data + descriptor_len
   pub fresh : fields.is_begun ≡ false → fields.stands ≡ false → fields.mark ≡ descriptor_len
   pub four : length fields.descriptor ≡ descriptor_len
-  -- data of a segment is there only behind its descriptor, and no more than that names
+  -- data of a segment is there only after its descriptor, and no more than that names
   pub got_four : fields.got ≤ descriptor_len
   pub whole : fields.mark < length fields.joined → fields.got ≡ descriptor_len
   pub due : is_block_due fields.layout fields.left ≡ true → fields.mark ≡ length fields.joined

@@ -17,7 +17,7 @@ abbrev pub made : Option (List ℕ) → List ℕ → Option (List ℕ)
 made begun segment =
     if goes_on (kind_of segment) then None else Some (record_with (joined_with begun segment))
 
--- behind the block's descriptor that is held
+-- after the block's descriptor that is held
 abbrev pub past_block : Joining → Joining
 past_block joining = record {
   layout = joining.layout;
@@ -26,7 +26,7 @@ past_block joining = record {
   standing = None;
 }
 
--- behind the segment that is held
+-- after the segment that is held
 abbrev pub past_segment : Joining → Joining
 past_segment joining = record {
   layout = joining.layout;
@@ -35,19 +35,19 @@ past_segment joining = record {
   standing = made joining.place.begun joining.held;
 }
 
--- the descriptor of a block is held, and nothing behind it
+-- the descriptor of a block is held, and nothing after it
 pub record HoldsBlock (joining : Joining) : Type 0 where
   pub four : length joining.held ≡ descriptor_len
   pub passes : fault_held joining ≡ None
   pub due : is_block_due joining.layout joining.place.left ≡ true
 
--- a segment's descriptor is held that has no fault, and perhaps bytes behind it
+-- a segment's descriptor is held that has no fault, and perhaps bytes after it
 pub record OnSegment (joining : Joining) : Type 0 where
   pub four : descriptor_len ≤ length joining.held
   pub passes : fault_held joining ≡ None
   pub due : is_block_due joining.layout joining.place.left ≡ false
 
--- a whole segment is held, and nothing behind it
+-- a whole segment is held, and nothing after it
 pub record HoldsSegment (joining : Joining) : Type 0 where
   pub on : OnSegment joining
   pub named : length joining.held ≡ named_len joining.held
@@ -59,12 +59,12 @@ pub record HoldsLess (joining : Joining) : Type 0 where
       → (is_block_due joining.layout joining.place.left ≡ false)
       × (length joining.held < named_len joining.held)
 
--- a joiner with these bytes is this one, and is behind a descriptor or a segment now
+-- a joiner with these bytes is this one, and is past a descriptor or a segment now
 pub data Steps (joining : Joining) : Joining → Type 0 where
   over_block : HoldsBlock joining → Steps joining (past_block joining)
   over_segment : HoldsSegment joining → Steps joining (past_segment joining)
 
--- a step over the rest of a piece: all of it is held and more is to come; or so many bytes make it
+-- a step over the rest of a piece: all of it is held and more is to come; or as many bytes do it
 abbrev pub IsStep : Joining → List ℕ → Option ℕ → Joining → Type 0
 IsStep old rest None new = (new ≡ holding old rest) × HoldsLess (holding old rest)
 IsStep old rest (Some n) new = (n ≤ length rest) × Steps (holding old (take n rest)) new

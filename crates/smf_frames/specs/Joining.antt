@@ -9,10 +9,10 @@ use Rattle.smf_frames.specs.Faults.{descriptor_fault}
 use Rattle.smf_frames.specs.Front.{Front, Progress, start, data_len, next_of, behind, front_from}
 use Rattle.smf_frames.specs.Front.{front}
 
--- What a joiner holds: the place where it stands in the middle of a dump (the data of the record
--- that is begun, and what is left of the block); the bytes behind that place that it holds, of a
+-- What a joiner holds: the place where it is in the middle of a dump (the data of the record
+-- that is begun, and what is left of the block); the bytes after that place that it holds, of a
 -- descriptor or a segment that is not whole yet; and the record that stands, if one does, until it
--- is let go.
+-- is released.
 pub record Joining : Type 0 where
   pub layout : Layout
   pub place : Progress
@@ -23,7 +23,7 @@ pub record Joining : Type 0 where
 abbrev pub nothing_joined : Layout → Joining
 nothing_joined layout = record { layout = layout; place = start; held = []; standing = None }
 
--- what stands at the start of the bytes held: where it stops, nothing of them is whole
+-- what comes at the start of the bytes held: where it stops, nothing of them is whole
 abbrev pub next_held : Joining → Next
 next_held joining =
     next_of joining.layout (data_len joining.place.begun) joining.place.left joining.held
@@ -33,14 +33,14 @@ abbrev pub fault_held : Joining → Option FrameFault
 fault_held joining = descriptor_fault joining.layout (data_len joining.place.begun)
     joining.place.left joining.held
 
--- a record that stands is the last of these, and nothing is held behind it
+-- a record that stands is the last of these, and nothing is held after it
 abbrev pub StandsLast : List (List ℕ) → Joining → Type 0
 StandsLast records joining = IfSome joining.standing (λ one.
     (joining.held ≡ []) × (earlier : List (List ℕ)) × (records ≡ earlier ++ one ∷ []))
 
 -- The joiner stands after this text. Whatever bytes follow, the records of the text come first, and
 -- then the front of what is held and what follows, from the place where the joiner stands. A record
--- that stands is the last of the text's, and nothing is held behind it.
+-- that stands is the last of the text's, and nothing is held after it.
 pub record StandsAfter (text : List ℕ) (joining : Joining) : Type 0 where
   pub goes_on : (more : List ℕ) → front joining.layout (text ++ more)
       ≡ behind (front joining.layout text).records
@@ -66,6 +66,6 @@ abbrev pub bytes_seen : Result ℕ FrameFault → List ℕ → List ℕ
 bytes_seen (Ok n) piece = take n piece
 bytes_seen (Err fault) piece = piece
 
--- the record that stands, if one does, has been let go
+-- the record that stands, if one does, has been released
 abbrev pub let_go : Joining → Joining
 let_go joining = record joining { standing = None }

@@ -8,7 +8,7 @@ pub fn left_of_block(n: usize) -> Option<usize>
     if n == 0 { None } else { Some(n) }
 }
 
-/// What is left of a block behind a segment of that length.
+/// What is left of a block after a segment of that length.
 pub fn left_after(left: Option<usize>, len: usize) -> Option<usize>
     ensures { result ≡ spec.left_after left len }
 {

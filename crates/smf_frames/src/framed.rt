@@ -5,8 +5,8 @@ ghost use Rattle.smf_frames.specs.Framed as spec;
 use crate::descriptor::DESCRIPTOR_LEN;
 use std::alloc::{AllocError, Global};
 
-/// The most data that a record has, in bytes: with its descriptor, whose two bytes name the length
-/// of both, it has 65,535.
+/// The most data that a record has, in bytes: with its descriptor, which names the length of both
+/// in two bytes, it has 65,535.
 pub const MAX_DATA: usize = 65_531;
 
 /// The record with that data.
@@ -24,7 +24,7 @@ pub fn record_with(alloc: Global, joined: &[u8]) -> Result<Vec<u8>, AllocError>
     Ok(bytes)
 }
 
-/// Writes the descriptor of a record into the bytes that stand in front of its data.
+/// Writes the descriptor of a record into the bytes before its data.
 pub fn describe(bytes: &mut [u8])
     requires long { descriptor_len ≤ length bytes.old }
     requires short { length bytes.old ≤ descriptor_len + spec.most_data }

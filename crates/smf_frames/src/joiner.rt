@@ -33,7 +33,7 @@ pub struct Joiner {
     left: Option<usize>,
     /// A record is begun.
     is_begun: bool,
-    /// Room for a record's descriptor, the data of the record that is begun, and behind the mark
+    /// Room for a record's descriptor, the data of the record that is begun, and after the mark
     /// the data of the segment that is begun.
     joined: Vec<u8>,
     mark: usize,
@@ -77,7 +77,7 @@ impl Model for Joiner {
 }
 
 impl Joiner {
-    /// A joiner to which nothing has come. It takes the memory that it ever needs.
+    /// A joiner that has got nothing yet. It takes all the memory that it ever needs.
     pub fn new(alloc: Global, layout: Layout) -> Result<Joiner, AllocError>
         ensures value { IfOk result (λ made. made ≡ nothing_joined layout) }
         ensures stands { IfOk result (λ made. StandsAfter [] made) }
@@ -110,7 +110,7 @@ impl Joiner {
         }
     }
 
-    /// Lets the record go that stands, if one does.
+    /// Releases the record that stands, if one does.
     pub fn next(&mut self)
         ensures value { self.new ≡ let_go self.old }
         ensures stands { (text : List ℕ) → StandsAfter text self.old → StandsAfter text self.new }
@@ -123,7 +123,7 @@ impl Joiner {
     }
 
     /// Takes bytes of a piece up to the end of the next record, which then stands, or all of them;
-    /// none while a record stands. A fault stands at a descriptor, and is answered for good.
+    /// none while a record stands. A fault is at a descriptor, and is answered for good.
     pub fn feed(&mut self, piece: &[u8]) -> Result<usize, FrameFault>
         ensures { Feeds self.old piece.now result self.new }
     {
@@ -140,7 +140,7 @@ impl Joiner {
         Ok(piece.len() - rest.len())
     }
 
-    /// What the end of the dump leaves undone behind the bytes taken, or the fault that stays.
+    /// What the end of the dump leaves undone after the bytes taken, or the fault that stays.
     pub fn finish(&self) -> Result<(), FrameFault>
         ensures exact { (text : List ℕ) → StandsAfter text self.now
             → fault_in result ≡ (front self.now.layout text).fault }
@@ -200,7 +200,7 @@ impl Joiner {
         is_block_due(self.layout, self.left)
     }
 
-    /// How many bytes the segment lacks whose descriptor is held.
+    /// How many bytes are missing of the segment that has its descriptor held.
     fn missing(&self) -> usize
         requires { descriptor_len ≤ length self.now.held }
         ensures exact { result ≡ named_len self.now.held - length self.now.held }
@@ -225,7 +225,7 @@ impl Joiner {
         n
     }
 
-    /// Holds bytes of the segment whose descriptor is held.
+    /// Holds bytes of the segment that has its descriptor held.
     fn hold_data(&mut self, part: &[u8])
         requires none { self.old.standing ≡ None }
         requires on { OnSegment self.old }
@@ -235,7 +235,7 @@ impl Joiner {
         self.joined.extend_from_slice(part).unwrap();
     }
 
-    /// Goes on behind the block's descriptor that is held.
+    /// Continues after the block's descriptor that is held.
     fn pass_block(&mut self)
         requires none { self.old.standing ≡ None }
         requires holds { HoldsBlock self.old }
@@ -245,7 +245,7 @@ impl Joiner {
         self.got = 0;
     }
 
-    /// Goes on behind the segment that is held: its record stands now, or is begun.
+    /// Continues after the segment that is held: its record stands now, or is begun.
     fn pass_segment(&mut self)
         requires none { self.old.standing ≡ None }
         requires holds { HoldsSegment self.old }

@@ -26,7 +26,7 @@ fn data_len(begun: &Option<Vec<u8>>) -> Option<usize>
 }
 
 /// Joins a segment to the record that is begun, if one is; a record that is whole now joins the
-/// others. Gives what is begun behind the segment.
+/// others. Gives what is begun after the segment.
 fn join(
     alloc: Global,
     records: &mut Vec<Vec<u8>>,
@@ -57,7 +57,7 @@ fn join(
     Ok(None)
 }
 
-/// The records, and the fault before bytes with which no record goes on.
+/// The records, and the fault before bytes that continue no record.
 fn stopped(
     records: Vec<Vec<u8>>,
     layout: Layout,
@@ -78,7 +78,7 @@ fn stopped(
     }
 }
 
-/// Cuts a dump into its records: each is the joined data of its segments, behind a descriptor of
+/// Cuts a dump into its records: each is the joined data of its segments, after a descriptor of
 /// its own. A dump that stops being lawful gives the records before that, and says why.
 pub fn split(alloc: Global, layout: Layout, bytes: &[u8]) -> Result<Split, AllocError>
     // By the public standard: the records of the longest prefix that is whole records, and why

@@ -68,7 +68,7 @@ equal_options None (Some y) h = cc
 equal_options (Some x) None h = cc
 equal_options (Some x) (Some y) h = ap Some (eqb-true x y h)
 
--- the first entry with a character stands where the runs have it
+-- the first entry with a character is where the runs have it
 finds : ℕ → Bool
 finds character =
     nat_eq character 0

@@ -12,14 +12,14 @@ use Rattle.jiff_fmt.specs.Text as jiff
 use Rattle.smf_text.specs.Day.{CalendarDate, IsDay, day_of_date, last_begun, date_of, day_text_of}
 use Rattle.smf_text.proofs.YearLemmas.{first_day_is, next_century}
 
--- this one has begun by the day, and the one behind it has not
+-- this one has begun by the day, and the one after it has not
 pub record IsLastBegun (begins : ℕ → ℤ) (first last : ℕ) (day : ℤ) (n : ℕ) : Type 0 where
   pub early : first ≤ n
   pub late : n ≤ last
   pub begun : begins n ≤ℤ day
   pub not_next : day <ℤ begins (n + 1)
 
--- the last that has begun is found, where the first has begun and the one behind all has not
+-- the last that has begun is found, where the first has begun and the one after all has not
 last_begun_found : (begins : ℕ → ℤ) (first more : ℕ) (day : ℤ) → begins first ≤ℤ day
     → day <ℤ begins (first + more + 1)
     → IsLastBegun begins first (first + more) day (last_begun begins first more day)

@@ -46,7 +46,7 @@ is_day-holds day is =
     let parts = and_parts (le_z first_day day) (le_z day last_day) is in
     (omega (arith, signed_arith, parts.0), omega (arith, signed_arith, parts.1))
 
--- a day is the one whose text this is
+-- a day is the one that has this text
 day_of_text_of-some : (text : List ℕ) (day : ℤ) → IsDay day → text ≡ day_text_of day
     → Some day ≡ day_of_text_of text
 unfolding day_of_text_of
@@ -55,7 +55,7 @@ day_of_text_of-some text day h is =
     let same = (bytes_eq-Decides (day_text_of day) text).1 (sym is) in
     rw (spelled, is_day-passes day h, same) refl
 
--- an option that is the day whose text this is, is the day that the text spells
+-- an option that is the day with this text is the day that the text spells
 pub the_day_found : (text : List ℕ) (r : Option ℤ)
     → ((day : ℤ) → IsDay day → ((r ≡ Some day) ↔ (text ≡ day_text_of day))) → IfSome r IsDay
     → r ≡ day_of_text_of text

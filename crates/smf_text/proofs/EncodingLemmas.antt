@@ -7,7 +7,7 @@ use Rattle.smf_text.specs.CodePage.{char_of, byte_of}
 use Rattle.smf_text.specs.Encoding.{is_in_page, page_bytes}
 use Rattle.smf_text.proofs.CodePageLemmas.{char_of-byte_of}
 
--- the byte of the next character goes behind those of the characters so far
+-- the byte of the next character goes after those of the characters so far
 pub page_bytes-more : (text before buffer : List ℕ) (i byte : ℕ) → i < length text
     → i < length before → Some byte ≡ byte_of (get_or text i 0)
     → buffer ≡ page_bytes (take i text) ++ drop i before

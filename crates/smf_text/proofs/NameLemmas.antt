@@ -21,7 +21,7 @@ name_is_utf8 text h =
     IsUtf8-from_ascii text
     (IsAscii-from_all text (λ k d within. name_character_is_ascii _ (characters k d within)))
 
--- a text at the front of zeros is kept as a name is
+-- a text at the start of zeros is kept as a name is
 pub padded_at_front : (text front letters : List ℕ) → IsName text → front ≡ text
     → letters ≡ replicate longest_name 0
     → IsPadded (front ++ drop (length text) letters) (length text)

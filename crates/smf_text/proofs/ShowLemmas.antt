@@ -27,21 +27,21 @@ without_blanks-other (byte ∷ rest) last other =
     rw (list_all-append, other, and-false) refl in
     rw (blanks, and-false, without_blanks-other rest last other) refl
 
--- the last byte of a front
+-- the last byte of a prefix
 front-last : (bytes : List ℕ) (end : ℕ) → 0 < end → end ≤ length bytes
     → take end bytes ≡ take (end - 1) bytes ++ get_or bytes (end - 1) 0 ∷ []
 front-last bytes end some within =
     let is : end ≡ end - 1 + 1 = omega arith in
     ap (λ n. take n bytes) is ∙ take_more bytes (end - 1) 0 (omega arith)
 
--- a front that ends in a blank shows no more without it
+-- a prefix that ends in a blank shows no more without it
 pub without_blanks-drops : (bytes : List ℕ) (end : ℕ) → 0 < end → end ≤ length bytes
     → get_or bytes (end - 1) 0 ≡ 0x40
     → without_blanks (take (end - 1) bytes) ≡ without_blanks (take end bytes)
 without_blanks-drops bytes end some within blank =
     rw (front-last bytes end some within, blank, without_blanks-blank) refl
 
--- a front that is empty, or ends in another byte, has no blanks at its end
+-- a prefix that is empty, or ends in another byte, has no blanks at its end
 pub without_blanks-keeps : (bytes : List ℕ) (end : ℕ) → end ≤ length bytes
     → (0 < end → get_or bytes (end - 1) 0 ≢ 0x40) → without_blanks (take end bytes) ≡ take end bytes
 without_blanks-keeps bytes end within other =

@@ -33,7 +33,7 @@ read_back_everywhere : all_below is_read_back 256 ≡ true
 unfolding is_read_back shown_byte digit_value shown_length char_of byte_of
 read_back_everywhere = refl
 
--- characters whose first tells how many they are
+-- characters that show by their first how many they are
 record IsUnit (text : List ℕ) : Type 0 where
   long : length text ≡ shown_length (get_or text 0 0)
 
@@ -61,13 +61,13 @@ unit_begins text unit = go (nat_eq (get_or text 0 0) 0x5C) unit.long where
   go true e = omega arith
   go false e = omega arith
 
--- texts that are equal have equal fronts of one length, and go on alike
+-- texts that are equal have equal prefixes of one length, and continue alike
 same_fronts : (a b xs ys : List ℕ) → length a ≡ length b → a ++ xs ≡ b ++ ys → (a ≡ b) × (xs ≡ ys)
 same_fronts a b xs ys long e =
     let front : a ≡ b = sym (take-append_seam a xs) ∙ rw (long, e) (take-append_seam b ys) in
     (front, append_cancel_left b xs ys (rw front at e))
 
--- a text has one unit at its front
+-- a text has one unit at its start
 same_units : (a b xs ys : List ℕ) → IsUnit a → IsUnit b → a ++ xs ≡ b ++ ys → (a ≡ b) × (xs ≡ ys)
 same_units [] b xs ys u v e = absurd (omega (arith, unit_begins [] u))
 same_units (x ∷ a) [] xs ys u v e = absurd (omega (arith, unit_begins [] v))
@@ -75,7 +75,7 @@ same_units (x ∷ a) (y ∷ b) xs ys u v e =
     let first : x ≡ y = cc in
     same_fronts (x ∷ a) (y ∷ b) xs ys (u.long ∙ ap shown_length first ∙ sym v.long) e
 
--- a text shows one byte at its front
+-- a text shows one byte at its start
 same_bytes : (a b : ℕ) (xs ys : List ℕ) → a < 256 → b < 256 → show_byte a ++ xs ≡ show_byte b ++ ys
     → (a ≡ b) × (xs ≡ ys)
 same_bytes a b xs ys h k e =
@@ -138,7 +138,7 @@ show_text-injective (x ∷ xs) (y ∷ ys) long a b e =
           let tails = rest same.1 in
           rw (same.0, tails) refl
 
--- what holds of each byte of a text holds of the zeros behind it
+-- what holds of each byte of a text holds of the zeros after it
 pub bytes_everywhere : (bytes : List ℕ) → All (λ byte. byte < 256) bytes → (i : ℕ)
     → get_or bytes i 0 < 256
 bytes_everywhere bytes all i = elim (cases_lt i (length bytes)) [

@@ -32,7 +32,7 @@ pub first_day_is : day_of_date 1900 1 1 ≡ first_day
 first_day_is =
     omega (arith, signed_arith, day_count-1900, days_from_civil-day_count (pos 1900) 1 1)
 
--- 2100-01-01 is the day behind the last
+-- 2100-01-01 is the day after the last
 pub next_century : day_of_date 2100 1 1 ≡ last_day +ℤ pos 1
 next_century =
     omega (arith, signed_arith, day_count-2100, days_from_civil-day_count (pos 2100) 1 1)

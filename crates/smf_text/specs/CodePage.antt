@@ -3,7 +3,7 @@ use Rattle.std.specs.Prelude.{ℕ, ◌+◌, ◌-◌, ◌==◌, ◌&&◌, ◌/◌
 use Rattle.std.specs.List.{flat_map, list_all, position_from}
 use Rattle.std.specs.Option.{option_map, option_or}
 
--- the runs of the page: a first byte, and the characters that it and the bytes behind it stand for
+-- the runs of the page: a first byte, and the characters that it and the bytes after it stand for
 abbrev pub runs : List (ℕ × List ℕ)
 runs =
     (0x40, codes " ") ∷

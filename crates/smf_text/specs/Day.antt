@@ -41,7 +41,7 @@ nth_day_of year n = day_of_date year 1 1 +ℤ pos (n - 1)
 unfoldable pub weekday_of : ℤ → ℕ
 weekday_of day = weekday_number day + 1
 
--- the last that has begun by a day, of a first year or month and so many behind it
+-- the last that has begun by a day, of a first year or month and a number of others after it
 unfoldable pub last_begun : (ℕ → ℤ) → ℕ → ℕ → ℤ → ℕ
 last_begun begins first zero day = first
 last_begun begins first (suc more) day =
@@ -80,7 +80,7 @@ day_spelled_by text =
     let year = 100 * two_digits_at text 0 + two_digits_at text 2 in
     day_of_date year (two_digits_at text 5) (two_digits_at text 8)
 
--- the day from 1900-01-01 to 2099-12-31 whose text this is: the one that its digits spell, if the
+-- the day from 1900-01-01 to 2099-12-31 with this text: the one that its digits spell, if the
 -- text is that day's
 unfoldable pub day_of_text_of : List ℕ → Option ℤ
 day_of_text_of text =

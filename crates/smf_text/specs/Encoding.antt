@@ -13,7 +13,7 @@ is_in_page text = list_all (λ character. is_some (byte_of character)) text
 abbrev pub page_bytes : List ℕ → List ℕ
 page_bytes text = map (λ character. unwrap_or (byte_of character) 0) text
 
--- what comes of encoding a text into so many bytes: its length, or the first test that it fails
+-- the result of encoding a text into that many bytes: its length, or the first test that it fails
 abbrev pub encode_of : List ℕ → ℕ → Result ℕ TextFault
 encode_of text room =
     if not (is_in_page text) then Err NotInPage

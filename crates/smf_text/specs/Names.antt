@@ -29,7 +29,7 @@ IsName text = IsTrue (is_name text)
 abbrev pub padded : List ℕ → List ℕ
 padded text = text ++ replicate (longest_name - length text) 0
 
--- how a name is kept: sixteen bytes, of which the first are its text and the others are zeros
+-- how a name is kept: sixteen bytes, first its text and then zeros
 pub record IsPadded (letters : List ℕ) (len : ℕ) : Type 0 where
   pub name : IsName (take len letters)
   pub lasts : length (take len letters) ≡ len

@@ -6,7 +6,7 @@ use Rattle.smf_text.specs.Day.{nth_day_of}
 use Rattle.smf_text.specs.declared.packed_date.DateFault.{DateFault}
 use Rattle.smf_text.specs.declared.packed_date.DateFault.TheVariants.{Digit, Century, DayOfYear, Sign}
 
--- where the half-bytes stand, from 0: c, the two of yy, the three of ddd, and the sign
+-- where the half-bytes are, from 0: c, the two of yy, the three of ddd, and the sign
 abbrev pub century_at : ℕ
 century_at = 1
 

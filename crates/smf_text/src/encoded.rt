@@ -38,7 +38,7 @@ fn is_in_page(text: &str) -> bool
     text.bytes().all(|character| byte_of(character).is_some())
 }
 
-/// Writes the page's bytes of a text at the front of a buffer, one for each character, and gives
+/// Writes the page's bytes of a text at the start of a buffer, one for each character, and gives
 /// their number. The rest of the buffer stays; where the text is refused, all of it.
 pub fn encode(text: &str, buffer: &mut [u8]) -> Result<usize, TextFault>
     ensures exact { result ≡ encode_of text.now (length buffer.old) }

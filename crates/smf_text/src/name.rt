@@ -19,7 +19,7 @@ pub const MAX_NAME: usize = 16;
 /// contract sees it as its text.
 #[derive(Clone, Copy)]
 pub struct Name {
-    /// The characters, and zeros behind them.
+    /// The characters, followed by zeros.
     letters: [u8; MAX_NAME],
     /// How many characters there are.
     len: u8,

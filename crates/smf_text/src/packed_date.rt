@@ -9,16 +9,16 @@ use jiff::civil;
 use jiff_core::civil::days_in_year;
 use thiserror::Error;
 
-/// Where the half-byte of the century stands.
+/// Where the half-byte of the century is.
 const CENTURY_AT: usize = 1;
 
-/// Where the two half-bytes of the year stand.
+/// Where the two half-bytes of the year are.
 const YEAR_AT: usize = 2;
 
-/// Where the three half-bytes of the day of the year stand.
+/// Where the three half-bytes of the day of the year are.
 const DAY_AT: usize = 4;
 
-/// Where the sign stands.
+/// Where the sign is.
 const SIGN_AT: usize = 7;
 
 /// The year that centuries are counted from.
@@ -37,10 +37,10 @@ const OTHER_SIGN: u8 = 0xC;
 #[derive(Clone, Copy, Debug, PartialEq, Eq, Error)]
 pub enum DateFault {
     /// One of the first seven half-bytes is above 9.
-    #[error("a half-byte of a packed date is no decimal digit")]
+    #[error("a half-byte of a packed date is not a decimal digit")]
     Digit,
     /// The first half-byte is not 0, or the second, which names the century, is above 1.
-    #[error("a packed date has no century that is known")]
+    #[error("a packed date has an unknown century")]
     Century,
     /// The day of the year is 0, or beyond the last day of the year.
     #[error("a packed date has a day that its year does not have")]

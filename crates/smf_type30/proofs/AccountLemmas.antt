@@ -11,13 +11,13 @@ use Rattle.smf_type30.specs.Section.{count_of}
 use Rattle.smf_type30.specs.Accounts.{text_of, AreAccounts, IsAccount, fields_in, accounts_of}
 use Rattle.smf_type30.specs.Accounts.{account_of}
 
--- so many fields, with which a text begins
+-- a number of fields, with which a text begins
 record Begins (count : ℕ) (text : List ℕ) (fields : List (List ℕ)) : Type 0 where
   number : length fields ≡ count
   rest : List ℕ
   begins : text ≡ text_of fields ++ rest
 
--- what a walk that goes on found: a field that lies inside the text, and others behind it
+-- what a walk that continues found: a field that lies inside the text, and others after it
 record GoesOn (len : ℕ) (text : List ℕ) (others : Option (List (List ℕ)))
     (fields : List (List ℕ)) : Type 0 where
   inside : nat_lt (length text) len ≡ false
@@ -25,7 +25,7 @@ record GoesOn (len : ℕ) (text : List ℕ) (others : Option (List (List ℕ)))
   found : others ≡ Some behind
   all : fields ≡ take len text ∷ behind
 
--- a walk that finds fields goes on at each
+-- a walk that finds fields continues at each
 goes_on : (short : Bool) (len : ℕ) (text : List ℕ) (others : Option (List (List ℕ)))
     (fields : List (List ℕ)) → nat_lt (length text) len ≡ short
     → cond short None (option_map (λ list. take len text ∷ list) others) ≡ Some fields
@@ -35,7 +35,7 @@ goes_on false len text None fields is e = cc
 goes_on false len text (Some behind) fields is e =
     record { inside = is; behind = behind; found = refl; all = sym (same_Some _ _ e) }
 
--- a text begins with one field more where, behind it, it begins with the others
+-- a text begins with one more field where, after it, it begins with the others
 one_more : (len : ℕ) (text : List ℕ) (behind : List (List ℕ)) (rest : List ℕ) → len ≤ length text
     → drop len text ≡ text_of behind ++ rest
     → len ∷ text ≡ text_of (take len text ∷ behind) ++ rest

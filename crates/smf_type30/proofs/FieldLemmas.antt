@@ -7,7 +7,7 @@ use Rattle.std.proofs.lemmas.Option.{same_Some}
 use Rattle.smf_type30.specs.Accounts.{fields_in, nth_of}
 use Rattle.smf_type30.specs.Walk.{BeginsWith, BeginsWithNone, EndsBefore, LeavesRest}
 
--- a list of which nothing can be dropped is not there
+-- a list from which nothing can be dropped is not there
 option_map-none : {A B : Type 0} (f : A → B) (fields : Option A) → option_map f fields ≡ None
     → fields ≡ None
 option_map-none f None e = refl
@@ -34,7 +34,7 @@ is_some-dropped : {A B : Type 0} (f : A → B) (fields : Option A) (left : B)
 is_some-dropped f None left e = cc
 is_some-dropped f (Some list) left e = refl
 
--- where a walk passed so many fields, they are there
+-- where a walk passed that many fields, they are there
 pub is_some-fields_in : (count : ℕ) (text rest : List ℕ) → LeavesRest count text rest
     → is_some (fields_in count text) ≡ true
 is_some-fields_in count text rest leaves =
@@ -74,7 +74,7 @@ nth_of-past_next : (short : Bool) (field : List ℕ) (fields : Option (List (Lis
 nth_of-past_next true field fields n e = refl
 nth_of-past_next false field fields n e = nth_of-next field fields n ∙ e
 
--- behind the last field there is none
+-- after the last field there is none
 pub nth_of-past : (count n : ℕ) (text : List ℕ) → count ≤ n → nth_of (fields_in count text) n ≡ None
 nth_of-past zero n text le = refl
 nth_of-past (suc count) n [] le = refl
@@ -82,7 +82,7 @@ nth_of-past (suc count) zero (len ∷ text) le = absurd (omega arith)
 nth_of-past (suc count) (suc n) (len ∷ text) le =
     nth_of-past_next _ _ _ n (nth_of-past count n (drop len text) (omega arith))
 
--- the first member behind n others is that at n
+-- the first member after n others is that at n
 slice_get-drop : {A : Type 0} (n : ℕ) (xs others : List A) (x : A) → drop n xs ≡ x ∷ others
     → slice_get xs n ≡ Some x
 slice_get-drop zero [] others x e = cc
@@ -98,7 +98,7 @@ nth_of-drop None others n field some e = cc
 nth_of-drop (Some xs) None n field some e = cc
 nth_of-drop (Some xs) (Some ys) n field some e = slice_get-drop n xs ys field (same_Some _ _ e)
 
--- the field at which a walk stands
+-- the field at which a walk is
 pub nth_of-rest : (count n : ℕ) (text rest field after : List ℕ) → n < count
     → IsSome (fields_in count text) → LeavesRest n text rest → BeginsWith rest field after
     → nth_of (fields_in count text) n ≡ Some field

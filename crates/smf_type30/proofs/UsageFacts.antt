@@ -1,4 +1,4 @@
--- What the class of a usage record tells of it: it passes every test of the ladders.
+-- What the class of a usage record shows of it: it passes every test of the ladders.
 use Rattle.std.proofs.Common.{◌≡◌, ◌≢◌, ◌≤◌, ◌<◌, ◌==◌, ◌⊎◌, inl, inr, ℕ, List, length, nat_lt}
 use Rattle.std.proofs.Common.{Bool, true, false, not, ◌||◌, cond, Option, Some, None, is_none}
 use Rattle.std.proofs.Common.{if◌then◌else◌, is_some, is_err, IsTrue, refl, sym, ap, ◌∙◌, arith}
@@ -131,7 +131,7 @@ AtEnd Usage = Unit {0}
 AtEnd (Damaged Accounting) = Unit {0}
 AtEnd earlier = ⊥
 
--- the ladder of classes, where it comes to its end
+-- the ladder of classes, where it gets to its end
 work_facts : (bytes : List ℕ) (class : Class) → AtEnd class → class_of bytes ≡ class
     → WorkFacts bytes class
 unfolding class_of class_of_work measures_work
@@ -309,10 +309,10 @@ pub ruleset usage = (
   usage_accounts,
 )
 
--- what reading wants of them
+-- what reading asks of them
 pub ruleset reading = (usage_long, usage_undamaged, undamaged_usage)
 
--- where a section is there, what it says is told
+-- where a section is there, what it says is known
 pub present : {A : Type 0} (count : ℕ) (absent told : A) → count ≢ 0
     → told ≡ cond (count == 0) absent told
 present count absent told there = sym (cond-false _ absent told (ne_eqb count 0 there))

@@ -5,14 +5,14 @@ use Rattle.std.specs.Prelude.{option_and_then, slice_get}
 use Rattle.smf_type30.specs.Layout.{accounting}
 use Rattle.smf_type30.specs.Section.{offset_of, count_of}
 
--- fields one after the other, each a byte that tells its length, and that many bytes (SMF30ACL,
+-- fields one after the other, each a byte that gives its length, and that many bytes (SMF30ACL,
 -- SMF30ACT)
 abbrev pub text_of : List (List ℕ) → List ℕ
 text_of [] = []
 text_of (field ∷ fields) = length field ∷ field ++ text_of fields
 
--- the accounting fields of a record: as many as the triplet counts, with which the text begins that
--- stands from the triplet's offset on
+-- the accounting fields of a record: as many as the triplet counts, at the start of the text that
+-- begins at the triplet's offset
 pub record AreAccounts (bytes : List ℕ) (fields : List (List ℕ)) : Type 0 where
   pub number : length fields ≡ count_of bytes accounting
   pub rest : List ℕ
@@ -28,7 +28,7 @@ pub record IsAccount (bytes : List ℕ) (n : ℕ) (account : Option (List ℕ)) 
   pub are : AreAccounts bytes fields
   pub nth : account ≡ (if n == 0 then None else slice_get fields (n - 1))
 
--- so many fields at the front of a text, found one by one; none where they do not all lie inside it
+-- a number of fields at the start of a text, found one by one; none where not all lie inside it
 abbrev pub fields_in : ℕ → List ℕ → Option (List (List ℕ))
 fields_in zero text = Some []
 fields_in (suc count) [] = None
@@ -40,7 +40,7 @@ fields_in (suc count) (len ∷ text) =
 unfoldable pub accounts_of : List ℕ → Option (List (List ℕ))
 accounts_of bytes = fields_in (count_of bytes accounting) (drop (offset_of bytes accounting) bytes)
 
--- the field behind n others
+-- the field after n others
 abbrev pub nth_of : Option (List (List ℕ)) → ℕ → Option (List ℕ)
 nth_of fields n = option_and_then (λ list. slice_get list n) fields
 

@@ -51,7 +51,7 @@ usage_unless None = Usage
 usage_unless (Some damage) = Damaged damage
 
 -- the class of a record of type 30. One that measures no CPU time, as the number of its processor
--- sections is 0, is a continuation: a word of this project, which does not ask what it goes on with
+-- sections is 0, is a continuation: a word of this project, which does not ask what it continues
 unfoldable pub class_of_work : List ℕ → Class
 class_of_work bytes =
     if nat_lt (length bytes) subtype_end then Damaged Short
@@ -81,6 +81,6 @@ measures_work bytes =
     && (subtype_of bytes == step_end || subtype_of bytes == job_end)
     && not (count_of bytes processor == 0)
 
--- what keeps a record from being read that measures work, if it is long enough to tell
+-- why a record cannot be read that measures work, if it is long enough to say so
 abbrev pub read_fault : List ℕ → Option Damage
 read_fault bytes = if nat_lt (length bytes) triplets_end then Some Short else damage_of bytes

@@ -18,7 +18,7 @@ pub record Lends (bytes : List ℕ) (section : Section) (lent : List ℕ) : Type
   pub parts : (field : Field) → field.offset + field.len ≤ section.least
       → part lent field.offset field.len ≡ part_in bytes section field
 
--- a usage record, with the system, the day and the time that its header tells
+-- a usage record, with the system, the day and the time that its header gives
 pub record IsRead (bytes system : List ℕ) (moment : Moment) : Type 0 where
   pub usage : IsUsage bytes
   pub system_is : system ≡ (header_of bytes).system

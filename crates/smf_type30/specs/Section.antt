@@ -1,5 +1,5 @@
--- The sections of a work record (SA38-0667, type 30). A triplet in the header tells where a section
--- stands in the record (4 bytes), how long it is (2) and how many there are (2).
+-- The sections of a work record (SA38-0667, type 30). A triplet in the header says where a section
+-- is in the record (4 bytes), how long it is (2) and how many there are (2).
 use Rattle.std.specs.Prelude.{ℕ, ◌+◌, ◌≤◌, ◌==◌, ◌&&◌, ◌||◌, Bool, nat_le, List, length}
 use Rattle.smf_frames.specs.Number.{number, part}
 use Rattle.smf_type30.specs.declared.layout.Field.{Field}

@@ -2,7 +2,7 @@
 use Rattle.std.specs.Prelude.{◌≡◌, ℕ, suc, ◌+◌, List, ◌∷◌, drop, None, option_map}
 use Rattle.smf_type30.specs.Accounts.{fields_in}
 
--- the text begins with a field, behind which the rest stands
+-- the text begins with a field, and after it comes the rest
 abbrev pub BeginsWith : List ℕ → List ℕ → List ℕ → Type 0
 BeginsWith text field rest =
     (more : ℕ)
@@ -12,11 +12,11 @@ BeginsWith text field rest =
 abbrev pub BeginsWithNone : List ℕ → Type 0
 BeginsWithNone text = (more : ℕ) → fields_in (suc more) text ≡ None
 
--- behind so many fields the rest stands
+-- after a number of fields comes the rest
 abbrev pub LeavesRest : ℕ → List ℕ → List ℕ → Type 0
 LeavesRest count text rest =
     (more : ℕ) → option_map (drop count) (fields_in (count + more) text) ≡ fields_in more rest
 
--- the text ends before so many fields do
+-- the text ends before that many fields do
 abbrev pub EndsBefore : ℕ → List ℕ → Type 0
 EndsBefore count text = (more : ℕ) → fields_in (count + more) text ≡ None

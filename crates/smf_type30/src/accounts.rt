@@ -16,7 +16,7 @@ fn split_field(text: &[u8]) -> Option<(&[u8], &[u8])>
     rest.split_at_checked(*len as usize)
 }
 
-/// What follows so many fields of a text, if they all lie inside it.
+/// What follows a number of fields of a text, if they all lie inside it.
 fn skip_fields(count: u16, text: &[u8]) -> Option<&[u8]>
     ensures inside { is_some result ≡ is_some (fields_in count text.now) }
     ensures none { IsNone result → EndsBefore count text.now }
@@ -30,7 +30,7 @@ fn skip_fields(count: u16, text: &[u8]) -> Option<&[u8]>
     Some(rest)
 }
 
-/// The field behind n others, of so many at the front of a text.
+/// The field after n others, among the given number at the start of a text.
 fn nth_field(count: u16, text: &[u8], n: u16) -> Option<&[u8]>
     requires { IsSome (fields_in count text.now) }
     ensures { option_copied result ≡ nth_of (fields_in count text.now) n }
@@ -42,7 +42,7 @@ fn nth_field(count: u16, text: &[u8], n: u16) -> Option<&[u8]>
     Some(field)
 }
 
-/// A record from a section on, in which no field has to be: nothing where it begins outside.
+/// A record from a section on that need not have any field: nothing where it begins outside.
 fn from_section(bytes: &[u8], section: Section) -> &[u8]
     requires triplet { HasTriplet bytes.now section }
     requires no_field { section.least ≡ 0 }
@@ -51,7 +51,7 @@ fn from_section(bytes: &[u8], section: Section) -> &[u8]
     bytes.get(offset(bytes, section)..).unwrap_or_default()
 }
 
-/// Tells whether the accounting fields lie inside the record.
+/// Whether the accounting fields lie inside the record.
 #[tactic(auto, unfolding(crate::specs::Accounts::accounts_of))]
 pub fn has_accounts(bytes: &[u8]) -> bool
     requires { triplets_end ≤ length bytes.now }

@@ -3,15 +3,15 @@ use crate::damage::Damage;
 /// What a record is for the office.
 #[derive(Clone, Copy, Debug, PartialEq, Eq)]
 pub enum Class {
-    /// Stands at the front of a dump.
+    /// Begins a dump.
     DumpHeader,
-    /// Stands at the end of a dump.
+    /// Ends a dump.
     DumpTrailer,
-    /// Tells that records were lost.
+    /// Says that records were lost.
     DataLost,
     /// Is of no concern: another type, or another subtype of type 30.
     Other,
-    /// Measures no CPU time, for want of a processor section: a word of this project. It is counted
+    /// Measures no CPU time, as it has no processor section: a word of this project. It is counted
     /// and never charged.
     Continuation,
     /// Measures the work of a step or of a job.

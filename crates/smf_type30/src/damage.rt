@@ -2,7 +2,7 @@ ghost use Rattle.std.specs.Prelude.{◌≡◌};
 
 use thiserror::Error;
 
-/// What is wrong with a record. Where more than one thing is, the first in this order is told.
+/// What is wrong with a record. Where more than one thing is, the first in this order is reported.
 #[derive(Clone, Copy, Debug, PartialEq, Eq, Error)]
 pub enum Damage {
     /// The record lacks a whole header: it ends before its standard header does, or, where it is of

@@ -6,7 +6,7 @@ ghost use Rattle.smf_type30.specs.Section as spec;
 use crate::layout::{Field, Section};
 use crate::number::{number2, number4};
 
-/// The offset that a section's triplet tells.
+/// The offset that a section's triplet gives.
 pub fn offset(bytes: &[u8], section: Section) -> usize
     requires { HasTriplet bytes.now section }
     ensures { result ≡ spec.offset_of bytes.now section }
@@ -18,7 +18,7 @@ pub fn offset(bytes: &[u8], section: Section) -> usize
     number4(bytes, field) as usize
 }
 
-/// The length that a section's triplet tells.
+/// The length that a section's triplet gives.
 pub fn len(bytes: &[u8], section: Section) -> u16
     requires { HasTriplet bytes.now section }
     ensures { result ≡ spec.length_of bytes.now section }
@@ -30,7 +30,7 @@ pub fn len(bytes: &[u8], section: Section) -> u16
     number2(bytes, field)
 }
 
-/// The number that a section's triplet tells, 0 where the section is absent.
+/// The number that a section's triplet gives, 0 where the section is absent.
 pub fn count(bytes: &[u8], section: Section) -> u16
     requires { HasTriplet bytes.now section }
     ensures { result ≡ spec.count_of bytes.now section }
@@ -42,7 +42,7 @@ pub fn count(bytes: &[u8], section: Section) -> u16
     number2(bytes, field)
 }
 
-/// Tells whether a section is absent, or long enough and inside the record.
+/// Whether a section is absent, or long enough and inside the record.
 pub fn fits(bytes: &[u8], section: Section) -> bool
     requires { HasTriplet bytes.now section }
     ensures { result ≡ spec.fits bytes.now section }

@@ -40,7 +40,7 @@ impl<'a> Model for Type30<'a> {
 }
 
 impl<'a> Type30<'a> {
-    /// Reads a record, its descriptor included, that measures work if it is long enough to tell.
+    /// Reads a record, its descriptor included, that measures work if it is long enough to say so.
     /// One that is no usage record is answered with its damage: with `Short` where it ends before
     /// its triplets do, whatever its type.
     #[tactic(auto, using(crate::proofs::UsageFacts::reading))]

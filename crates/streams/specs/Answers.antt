@@ -3,13 +3,13 @@ use Rattle.std.specs.Prelude.{ℕ, List, Option, Result}
 use Rattle.std.specs.Io.{ReadsAtMost, WritesAtMost}
 use Rattle.std.specs.Io.KnownBytes.{ReadConsumes, WriteAppends}
 
--- a read answered so many bytes of those that stand in the room now, and took them from the reader
+-- a read answered this many bytes: they are in the room now, and gone from the reader
 pub record MayRead {E : Type 0} (had left : Option (List ℕ)) (answer : Result ℕ E) (given : List ℕ)
     : Type 0 where
   pub bound : ReadsAtMost answer given
   pub bytes : ReadConsumes had left answer given
 
--- a write took so many of the bytes, and they stand behind what the writer held
+-- a write took this many of the bytes, and they follow what the writer held
 pub record MayWrite {E : Type 0} (held holds : Option (List ℕ)) (answer : Result ℕ E)
     (bytes : List ℕ) : Type 0 where
   pub bound : WritesAtMost answer bytes

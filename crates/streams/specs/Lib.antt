@@ -1,4 +1,4 @@
--- What a call of a reader or a writer may answer, and what the answer tells; then what is seen of a
+-- What a call of a reader or a writer may answer, and what the answer shows; then what is seen of a
 -- source and of a sink, and of both before and after a call.
 pub mod Answers
 pub mod Marks

@@ -39,7 +39,7 @@ impl<W: Writer + Drop> Sink<W> {
         self.inner
     }
 
-    /// Writes once, and answers how many bytes the writer took. Behind a write that failed, nothing
+    /// Writes once, and answers how many bytes the writer took. After a write that failed, nothing
     /// is written.
     pub fn write(&mut self, bytes: &[u8]) -> io::Result<usize>
         requires { has_failed self.old ≡ false }

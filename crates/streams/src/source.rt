@@ -64,7 +64,7 @@ impl<R: Reader + Drop> Source<R> {
         self.inner
     }
 
-    /// Asks the reader once. Behind its end, or behind a read that failed, nothing is read.
+    /// Asks the reader once. After its end, or after a read that failed, nothing is read.
     pub fn read(&mut self, buffer: &mut [u8]) -> io::Result<usize>
         requires asked { reads_of self.old < 2 ^ 63 }
         requires failed { has_failed self.old ≡ false }

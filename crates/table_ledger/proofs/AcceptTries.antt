@@ -1,4 +1,4 @@
--- A record that is tried: what it answers, and what it makes of the book.
+-- A record that is tried: the answer, and what becomes of the book.
 use Rattle.std.proofs.Common.{◌≡◌, ◌≢◌, ◌∙◌, ℕ, ◌+◌, List, [], refl, sym, ap, subst, Bool}
 use Rattle.std.proofs.Common.{true, false, true≢false, ◌||◌, Option, Some, None, Result, Ok, Err}
 use Rattle.std.specs.Prelude.{nat_le, nat_lt, if◌then◌else◌, IfSome, IsErr}
@@ -42,7 +42,7 @@ use Rattle.table_ledger.proofs.TryLemmas.{try_answered, try_done, try_refused, t
 
 -- ---- the answer by a row that is found
 
--- the answer to a record whose name one has that is held
+-- the answer to a record whose name is that of a held one
 abbrev by_data : Bool → Result Accepted LedgerFault
 by_data same = if same then Ok Known else Err DigestClash
 
@@ -119,7 +119,7 @@ module _ (naming : Naming) (was : Summary) (bytes name : List ℕ) (usage : IsUs
       ∙ (λ i. row_answer tables.book (get tables.records (sym named i)) bytes
       (price_under (sym ready.remembers.tariffs i) bytes))
 
-  -- the answer where no row of the name was found
+  -- the answer if no row of the name was found
   new_by : (book : Book) {view : View} → IsReadyAt naming was view book
       → FindsRecord name (tables_of naming book) None
       → accept_answer naming book bytes
@@ -130,7 +130,7 @@ module _ (naming : Naming) (was : Summary) (bytes name : List ℕ) (usage : IsUs
       ∙ ap (λ found. row_answer tables.book found bytes (price_under was.tariffs.items bytes))
       (none_found name (get tables.records name) known)
 
-  -- An answer other than that the record is kept, by looks alone.
+  -- An answer other than that the record is kept, from looks alone.
   try_other : {old new : State} {Known : Tables → Type 0} (answer : Result Accepted LedgerFault)
       → Saw old new Known → IsPlain answer → answer ≢ Ok Kept
       → ((book : Book) → IsReadyAt naming was old.view book → Known (tables_of naming book)
@@ -238,7 +238,7 @@ module _ (naming : Naming) (was : Summary) (bytes name : List ℕ) (usage : IsUs
       amount = sym remembers.total;
     }
 
-    -- A record that is new, has a price and for which there is room is an event.
+    -- A record that is new, has a price, and for which there is room is an event.
     pub accept_is_event : IsPriced priced → {view : View} (book : Book)
         → IsReadyAt naming was view book → FindsRecord name (tables_of naming book) None
         → IsEvent (λ (accepted : Accepted). accepted) naming was (accept_outcome naming bytes)

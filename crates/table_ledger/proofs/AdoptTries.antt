@@ -55,13 +55,13 @@ pub adopt_makes : (answer : Result Ruled LedgerFault) (rule : ℕ) (book : Book)
 adopt_makes answer rule book is other =
     ruled_makes (adopt_outcome rule book) answer is other (λ already. ap adopt_event (is ∙ already))
 
--- what is Done is the second rule,
+-- if it is Done, it is the second rule,
 is_second : (same second : Bool) → by_tests same second ≡ Ok Done → second ≡ true
 is_second true second done = cc
 is_second false true done = refl
 is_second false false done = cc
 
--- which is not in force
+-- and that is not in force,
 not_both : (test : Bool) → by_tests test test ≡ Ok Done → ⊥
 not_both true done = cc
 not_both false done = cc
@@ -69,7 +69,7 @@ not_both false done = cc
 same_number : (m n : ℕ) → (m == n) ≡ true → m ≡ n
 same_number m n is = grind (arith, nat_tests)
 
--- so none was adopted
+-- so no rule was adopted
 done_by : (rule : ℕ) (adopted : Option ℕ)
     → by_tests (rule == (if is_some adopted then second_rule else first_rule))
     (rule == second_rule) ≡ Ok Done
@@ -85,7 +85,7 @@ module _ (is_steps : AdoptionIsSteps) (naming : Naming) (was : Summary) (view : 
   pub adopt_done : adopt_answer book rule ≡ Ok Done
   adopt_done = sym (adopt_remembered was book rule ready.remembers) ∙ done
 
-  -- none was adopted
+  -- no rule was adopted
   parts : (rule ≡ second_rule) × (book.rulings.adopted ≡ None)
   parts = done_by rule book.rulings.adopted adopt_done
 

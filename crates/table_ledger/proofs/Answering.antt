@@ -1,4 +1,4 @@
--- Answers that are no event.
+-- Answers that make no event.
 use Rattle.std.proofs.Common.{◌≡◌, ◌≢◌, inl, Ok, Err, Result, [], None, refl, sym, ap}
 use Rattle.book_model.specs.declared.answer.Ruled.{Ruled}
 use Rattle.book_model.specs.declared.answer.Ruled.TheVariants.{Done, Already}
@@ -15,7 +15,7 @@ makes_refused view outcome Store is = inl refl
 makes_refused view outcome Reopen is = refl
 makes_refused view outcome fault is = (is, refl)
 
--- an answer is given, where the outcome has no event
+-- an answer is given, if the outcome has no event
 pub makes_answer : {V A : Type 0} (view : V → A) (outcome : Outcome A) (value : V)
     → outcome.answer ≡ Ok (view value) → outcome.event ≡ None → Makes view outcome (Ok value) []
 makes_answer view outcome value is none = (is, sym (ap listed none))

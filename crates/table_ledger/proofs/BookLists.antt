@@ -1,4 +1,4 @@
--- Lists of books that calls made: what is read of their tables can be shown.
+-- Lists of books that calls made: what is read from their tables can be shown.
 use Rattle.std.proofs.Common.{◌≡◌, ◌∙◌, ℕ, Bool, List, [], ◌∷◌, Option, None, Some, map, sym, ap, subst}
 use Rattle.std.proofs.Common.{refl, true}
 use Rattle.std.specs.Prelude.{All}
@@ -40,13 +40,13 @@ use Rattle.table_ledger.proofs.BookRows.{uncharged_taken}
 
 -- ---- the names of lines that are read rise where those of the stored lines do
 
--- a stored line that is read, in front of others, where its record is there
+-- a stored line that is read, before others, if its record is there
 abbrev read_one : StoredLine → Option RecordRow → List Line → List Line
 read_one one found lines =
     cons_option (option_map (λ (row : RecordRow). line_with one (one.name, row)) found) lines
 
 module _ (period : ℕ) (records : RecordTable) where
-  -- a name is before those of the lines that are read, where it is before those of all
+  -- a name is before those of the lines that are read, if it is before those of all of them,
   read_below : (name : List ℕ) (stored : List StoredLine)
       → AllByRecursion (λ other. by_bytes name other ≡ Less)
       (map (λ (one : StoredLine). one.name) stored)
@@ -84,7 +84,7 @@ module _ {naming : Naming} {summary : Summary} {view : View} {book : Book}
   whole : IsReadable naming book
   whole = calls_read naming book ready.kept.calls
 
-  -- a period that there is by what is remembered, there is
+  -- a period that exists by what is remembered exists
   there_is : (number : ℕ) → is_period number (ruled_in summary) ≡ true
       → is_period number book.rulings ≡ true
   there_is number is = ap (is_period number) (rulings_are ready.remembers) ∙ is

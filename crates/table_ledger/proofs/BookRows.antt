@@ -1,5 +1,5 @@
--- The rows of books that calls made: they fit, they can be shown, and they are no more than are
--- listed at once.
+-- The rows of books that calls made: they fit, they can be shown, and there are no more of them
+-- than can be listed at once.
 use Rattle.std.proofs.Common.{◌≡◌, ◌∙◌, ◌+◌, ◌*◌, ◌≤◌, ℕ, List, [], ◌∷◌, length, map}
 use Rattle.std.proofs.Common.{Bool, true, false, cond, ◌&&◌, Option, None, Some, refl, sym, ap, subst}
 use Rattle.std.proofs.Common.{arith}
@@ -63,7 +63,7 @@ use Rattle.tree_tables.specs.UsageData.{IsUsageData}
 -- ---- how many there are
 
 module _ {K V : Type 0} {R : K → K → Ordering} (o : IsTotalOrder R) where
-  -- an entry that is put into a map is one more at most
+  -- putting an entry into a map adds at most one
   put_few : (m : FinMap R V) (k : K) (v : V) → len (insert m k v) ≤ len m + 1
   put_few m k v = subst (λ n. n ≤ len m + 1) (sym (len-insert o m k v)) (by (contains_key m k))
     where
@@ -80,7 +80,7 @@ module _ {K V : Type 0} {R : K → K → Ordering} (o : IsTotalOrder R) where
       omega (arith, rest, one)
 
 module _ {K : Type 0} {R : K → K → Ordering} (o : IsTotalOrder R) where
-  -- and a set no more members
+  -- and a set no more members than it is made of
   set_few : (ks : List K) → len (set_of R ks) ≤ length ks
   set_few [] = subst (λ n. n ≤ 0) (sym (len-empty R (Unit {0}))) (omega arith)
   set_few (k ∷ ks) =
@@ -100,13 +100,13 @@ rows_few priced =
     let all = length-map priced key_of in
     omega (arith, rows, keys, few, all)
 
--- what one gives is one more at most
+-- what is given for one element is at most one more
 one_given : {Y : Type 0} (given : Option Y) (others : List Y) (n : ℕ) → length others ≤ n
     → length (cons_option given others) ≤ n + 1
 one_given None others n few = omega (arith, few)
 one_given (Some given) others n few = omega (arith, few)
 
--- no more are given than there are
+-- no more are given than there are elements
 given_few : {X Y : Type 0} (give : X → Option Y) (xs : List X)
     → length (filter_map give xs) ≤ length xs
 given_few give [] = omega arith
@@ -116,7 +116,7 @@ given_few give (x ∷ xs) =
 
 -- ---- records
 
--- what is asked of a record's row: it fits, its data are those of a usage record, and it can be
+-- what is required of a record's row: it fits, its data are those of a usage record, and it can be
 -- shown
 pub record IsTaken (row : List ℕ × RecordRow) : Type 0 where
   pub fits : RecordFits (record_columns row)
@@ -124,7 +124,7 @@ pub record IsTaken (row : List ℕ × RecordRow) : Type 0 where
   pub shown : IsShownRow row
 
 module _ (naming : Naming) (book : Book) (whole : IsReadable naming book) where
-  -- there are no more records among those that are held than these
+  -- there are no more records among those that are held than these,
   few_among : (some : Records) → AreAmong some book.held
       → length (members some) ≤ length (members book.held)
   few_among some among =
@@ -187,7 +187,7 @@ module _ (naming : Naming) (book : Book) (whole : IsReadable naming book) where
         };
       }
 
-  -- so are all rows of records
+  -- so are all rows of records,
   all_taken : HasWideNames naming → AllByRecursion IsTaken (all_entries naming book whole.sound)
   all_taken wide =
       each_entry naming book whole.sound IsTaken (λ bytes. Unit {0})
@@ -204,7 +204,7 @@ module _ (naming : Naming) (book : Book) (whole : IsReadable naming book) where
       (sym (get-from_entries nat_list_cmp_total (all_entries naming book whole.sound) name)
       ∙ there)
 
-  -- there are no more rows of records than may be held
+  -- there are no more rows of records than records may be held
   few_records : length (entries (tables_of naming book).records) ≤ most_held
   few_records =
       let all = all_entries naming book whole.sound in
@@ -255,7 +255,7 @@ charge_fits place row fits = record {
 
 -- ---- lines
 
--- lines of wide names fit
+-- lines whose names are wide fit
 under_fit : (number : ℕ) (es : List (List ℕ × Bool))
     → AllByRecursion (λ (e : List ℕ × Bool). length e.0 ≡ 32) es
     → AllByRecursion LineFits (map line_columns (under number es))
@@ -286,7 +286,7 @@ signed_wide naming wide plus (k ∷ ks) = (wide (data_of k), signed_wide naming 
 
 module _ (naming : Naming) (book : Book) (whole : IsReadable naming book) (number : ℕ)
     (is : is_period number book.rulings ≡ true) where
-  -- the period of this number speaks of records that are held
+  -- the period of this number refers to records that are held
   period_held : (period : Period) × AreHeld book.held period
   period_held =
       let period = period_there book whole.sound.closed number is in
@@ -296,7 +296,7 @@ module _ (naming : Naming) (book : Book) (whole : IsReadable naming book) (numbe
             (all_held naming book whole.sound) place.2,
       )
 
-  -- its charge rows are no more than records may be held
+  -- there are no more charge rows than records may be held,
   few_days : length (rows_under number (tables_of naming book).days) ≤ most_held
   unfolding period_held
   few_days =
@@ -331,7 +331,7 @@ module _ (naming : Naming) (book : Book) (whole : IsReadable naming book) (numbe
   abbrev its_lines : List (List ℕ × Bool)
   its_lines = line_entries naming period_held.0
 
-  -- its lines stand under its number
+  -- its lines are stored under its number
   lines_under : rows_under number (tables_of naming book).lines
       ≡ under number (entries (from_entries {R = by_bytes} its_lines))
   unfolding period_held
@@ -342,7 +342,7 @@ module _ (naming : Naming) (book : Book) (whole : IsReadable naming book) (numbe
       (map (line_entries naming) (all_periods book)) its_lines
       (slice_get-map (line_entries naming) (all_periods book) place.0 period.0 place.2) place.1
 
-  -- they are no more than twice as many as records may be held
+  -- there are at most twice as many as records may be held,
   few_lines : length (entries (from_entries {R = by_bytes} its_lines)) ≤ 2 * most_held
   few_lines =
       let period = period_held.0 in

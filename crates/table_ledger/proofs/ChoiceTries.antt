@@ -82,7 +82,7 @@ saw_shared {sharing = sharing} name stored is same looks shared =
       subst (λ identity. FindsSharing identity tables sharing.items) same known.1,
     ))
 
--- where none passes a test, each fails it
+-- if no row passes a test, each fails it
 all_fail : {X : Type 0} (p : X → Bool) (xs : List X) → filter p xs ≡ []
     → AllByRecursion (λ x. p x ≡ false) xs
 all_fail p [] none = tt
@@ -127,7 +127,7 @@ chosen_one naming book name done = by_found (record_named naming book.held name)
         let none : Err NoSuchRecord ≡ Ok Done = sym (ap (chosen_answer book) is) ∙ done in cc
     by_found (Some bytes) is = (bytes, is)
 
--- the numbers of choices are below the one behind them
+-- the numbers of choices are below the next one,
 numbers_below : (naming : Naming) (number n : ℕ) (choices : List Choice)
     → n + length choices ≤ number → find nat_cmp number (choice_entries naming n choices) ≡ None
 numbers_below naming number n [] past = refl
@@ -142,7 +142,7 @@ numbers_below naming number n (choice ∷ choices) past =
     other : (number n : ℕ) → n < number → is_eq (nat_cmp number n) ≡ false
     other number n less = grind (arith, nat_tests)
 
--- so no choice has that
+-- so no choice has that number
 pub next_is_new : (naming : Naming) (book : Book) (number : ℕ)
     → number ≡ length book.rulings.choices + 1 → IsNext number (tables_of naming book)
 next_is_new naming book number is =
@@ -178,7 +178,7 @@ module _ (naming : Naming) (was : Summary) (name : List ℕ) (view : View) (book
       → choose_answer naming book name ≡ choose_row tables found
   told found is = choices_follow.answer naming book name readable ∙ ap (choose_row tables) is
 
-  -- no record of the name
+  -- there is no record of the name
   pub choose_none : FindsRecord name tables None
       → choose_answer naming book name ≡ Err NoSuchRecord
   choose_none known = told None (none_row name (get tables.records name) known)

@@ -66,7 +66,7 @@ close_plain book number day =
     plain_by (open_number book) (is_closed number day book.rulings) (number == open_number book)
     (is_early day book.rulings) (number == last_period)
 
--- the answer hangs on the rulings alone, which are remembered
+-- the answer depends only on the rulings, which are remembered
 pub close_remembered : (summary : Summary) (book : Book) (number : ℕ) (day : ℤ)
     → Remembers summary book
     → close_answer (book_ruled summary) number day ≡ close_answer book number day
@@ -93,7 +93,7 @@ not_full open_one false true true full done = cc
 not_full open_one false true false true done = cc
 not_full open_one false true false false done = refl
 
--- so there is room for one close more
+-- so there is room for one more close
 pub close_room : (summary : Summary) (number : ℕ) (day : ℤ) (items : List ℤ)
     → close_answer (book_ruled summary) number day ≡ Ok Done
     → items ≡ summary.closes.items ++ day ∷ [] → length items < last_period
@@ -121,7 +121,7 @@ close_room summary number day items done is =
 
 -- ---- what is written
 
--- no row stands beyond the last period
+-- there is no row beyond the last period
 find_beyond : {K V : Type 0} (R : K → K → Ordering) (q : ℕ × K) (n : ℕ)
     (periods : List (List (K × V))) → n + length periods ≤ q.0
     → find (by_period R) q (numbered n periods) ≡ None
@@ -147,8 +147,8 @@ none_next naming book number sound is place =
     (get-from_entries (by_period_total by_key by_key_total) (numbered 1 lists) (suc number, place)
     ∙ find_beyond by_key (suc number, place) 1 lists (omega (arith, counted, closed, is)))
 
--- a row that is dated by the day is posted as it is charged: where the marks are the same already,
--- it stays
+-- a row that is dated on or before the day is posted if it is charged: if the marks are the same
+-- already, it stays
 post_cases : (row : RecordRow) (late charged posted : Bool)
     → (if late then record row { charged = charged; posted = posted }
     else record row { charged = charged; posted = charged })

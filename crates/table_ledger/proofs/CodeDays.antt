@@ -1,4 +1,4 @@
--- Days, as the code hands them over.
+-- Days, as the code passes them.
 use Rattle.std.proofs.Common.{◌≡◌, ℤ, w32, to_z, of_z}
 use Rattle.std.proofs.lemmas.Int.{to_z-of_z}
 use Rattle.book_model.specs.Words.{IsDay}

@@ -39,7 +39,7 @@ module _ {K V : Type 0} {R : K → K → Ordering} (o : IsTotalOrder R) (exact :
   get-removed m k =
       get-remove o m k k ∙ ap (λ b. cond b None (get m k)) ((eq_by_cmp_equiv o).refl k)
 
-  -- what is put in its place might have been put over it
+  -- what is put in its place might as well have been put over it
   insert-remove : (m : FinMap R V) (k : K) (v : V) → insert (remove m k) k v ≡ insert m k v
   insert-remove m k v =
       same_map o exact (insert (remove m k) k v) (insert m k v) (λ q.
@@ -160,7 +160,7 @@ module _ (period : ℕ) (change : Option DayChange) (write : Option DayWrite) (e
       (subst (λ change. Writes period change tables Leave) (sym none)
       (writes_none period tables)))))
 
-  -- the write that was made of the row
+  -- the write that was made from the row
   one_made : {old middle new : State} (place : RowKey) (found : Option ChargeRow)
       (made : Option DayWrite)
       → write ≡ made → new ≡ middle
@@ -175,7 +175,7 @@ module _ (period : ℕ) (change : Option DayChange) (write : Option DayWrite) (e
       (saw_so (saw_found looks) (λ tables known.
       subst (λ write. IfSome write (Writes period change tables)) (sym is) (writes tables known))))
 
-  -- a price turns its row, as the change says: what is made of the row that was found is written
+  -- a price changes its row as the change says: what is made of the row that was found is written
   look_made : {old middle new : State} (turn : Priced → DayChange)
       (Says : Option ChargeRow → Priced → DayWrite → Type 0)
       → ((priced : Priced) (tables : Tables) (found : Option ChargeRow) (write : DayWrite)

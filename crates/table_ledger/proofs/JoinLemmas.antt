@@ -18,7 +18,7 @@ use Rattle.tree_tables.specs.Stored.{stored_entry}
 use Rattle.tree_tables.specs.declared.stored_record.StoredRecord.{StoredRecord}
 use Rattle.table_ledger.specs.DisputeReads.{IsShownRow}
 
--- a row behind disputes joins the last of them, or comes behind it
+-- a row after disputes joins the last of them, or comes after it
 pub join_behind : (front : List Disputed) (last : Disputed) (row : NamedRow)
     → join_last (front ++ last ∷ []) row ≡ front ++ join_last (last ∷ []) row
 join_behind [] last row = refl
@@ -26,7 +26,7 @@ join_behind (first ∷ []) last row = refl
 join_behind (first ∷ next ∷ others) last row =
     ap (λ (rest : List Disputed). first ∷ rest) (join_behind (next ∷ others) last row)
 
--- the last dispute with a row more, where both have one identity
+-- the last dispute with one more row, if both have one identity
 pub join_same : (last : Disputed) (row : NamedRow)
     → same_bytes last.identity row.1.identity ≡ true
     → join_last (last ∷ []) row
@@ -36,7 +36,7 @@ join_same last row same =
     then record last { members = last.members ++ variant_read row ∷ [] } ∷ []
     else last ∷ of_one row ∷ []) same
 
--- a dispute more, where they differ
+-- one more dispute, if they differ
 pub join_other : (last : Disputed) (row : NamedRow)
     → same_bytes last.identity row.1.identity ≡ false
     → join_last (last ∷ []) row ≡ last ∷ of_one row ∷ []
@@ -45,7 +45,7 @@ join_other last row differ =
     then record last { members = last.members ++ variant_read row ∷ [] } ∷ []
     else last ∷ of_one row ∷ []) differ
 
--- the last of some disputes gets a row more
+-- the last of some disputes gets one more row
 pub joined_same : (olds news : List Dispute) (last joined : Dispute) (row : NamedRow)
     → olds ≡ news ++ last ∷ []
     → same_bytes last.identity.items row.1.identity ≡ true
@@ -62,7 +62,7 @@ joined_same olds news last joined row is same made =
     (sym (map-append dispute_shown news (last ∷ [])))
     ∙ ap (λ (all : List Dispute). join_last (map dispute_shown all) row) (sym is)
 
--- a dispute of a row comes behind some disputes, the last of which has another identity
+-- a dispute of one row comes after some disputes, if the last of these has another identity
 pub joined_other : (olds news : List Dispute) (last one : Dispute) (row : NamedRow)
     → olds ≡ news ++ last ∷ []
     → same_bytes last.identity.items row.1.identity ≡ false
@@ -87,7 +87,7 @@ one_shows row shown = record {
       (shown.day, tt);
 }
 
--- a row that can be shown, behind disputes that can be
+-- a row that can be shown, after disputes that can be
 last_shows : (disputes : List Disputed) (row : NamedRow) → IsShownRow row
     → AllByRecursion IsDispute disputes → AllByRecursion IsDispute (join_last disputes row)
 last_shows [] row shown all = (one_shows row shown, tt)
@@ -108,7 +108,7 @@ last_shows (last ∷ []) row shown all = by_test (same_bytes last.identity row.1
 last_shows (first ∷ next ∷ others) row shown all =
     (all.0, last_shows (next ∷ others) row shown all.1)
 
--- Disputes that can be shown can be so with a row more that can.
+-- Disputes that can be shown still can with one more row that can.
 pub joined_show : (before behind : List Disputed) (row : NamedRow)
     → behind ≡ join_last before row → IsShownRow row → AreDisputes before → AreDisputes behind
 joined_show before behind row is shown all =
@@ -116,7 +116,7 @@ joined_show before behind row is shown all =
     (All-from_recursion IsDispute (join_last before row)
     (last_shows before row shown (recursion_from_All IsDispute before all)))
 
--- none can
+-- no disputes can be shown
 pub none_show : AreDisputes []
 none_show = All-from_recursion IsDispute [] tt
 
@@ -131,7 +131,7 @@ module _ (keeps : NamedRow → Bool) (rows : List StoredRecord) (at : ℕ) (one 
   abbrev kept : List NamedRow
   kept = filter keeps done
 
-  -- the row behind them joins their groups where it is kept
+  -- the row after them joins their groups if it is kept,
   joined : (olds : List Disputed) (settled : Bool) → not settled ≡ keeps (stored_entry one)
       → olds ≡ grouped kept
       → (if settled then olds else join_last olds (stored_entry one))
@@ -144,7 +144,7 @@ module _ (keeps : NamedRow → Bool) (rows : List StoredRecord) (at : ℕ) (one 
       ∙ sym (grouped-push kept (stored_entry one))
       ∙ ap (λ (is : Bool). grouped (kept ++ cond is (stored_entry one ∷ []) [])) told
 
-  -- so these are the groups of one row more
+  -- so these are the groups with one more row
   pub grouped_more : (olds news : List Disputed) (settled : Bool) → at < length rows
       → one ≡ slice_index_or rows at one → not settled ≡ keeps (stored_entry one)
       → news ≡ (if settled then olds else join_last olds (stored_entry one))

@@ -24,13 +24,13 @@ module _ (mark : Bool) (name : List ℕ) (records : RecordTable) where
   keys_mark : keys (mark_at mark name (get records name) records) ≡ keys records
   keys_mark = names_marked (get records name) refl
 
--- nor does one that is taken, if one is
+-- nor does taking a mark, if one is taken
 keys_change : (unmark : Option (List ℕ)) (records : RecordTable)
     → keys (change_mark unmark records) ≡ keys records
 keys_change None records = refl
 keys_change (Some name) records = keys_mark false name records
 
--- nor a record that is charged
+-- nor charging a record
 charged_names : (period : ℕ) (name : List ℕ) (effects : Effects) (tables : Tables)
     → keys (charge_in period name effects tables).records ≡ keys tables.records
 charged_names period name effects tables =

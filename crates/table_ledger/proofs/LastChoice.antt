@@ -1,4 +1,4 @@
--- The number of the last choice: there are as many.
+-- The number of the last choice: it is their count.
 use Rattle.std.proofs.Common.{◌≡◌, ◌∙◌, length}
 use Rattle.book_model.specs.Words.{Book, Naming}
 use Rattle.kept_tables.specs.TablesOf.{tables_of}

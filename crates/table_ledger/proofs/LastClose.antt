@@ -4,7 +4,7 @@ use Rattle.std.proofs.lemmas.List.{length-append}
 use Rattle.std.specs.Prelude.{slice_get}
 use Rattle.std.specs.List.{last_or}
 
--- behind a first element, the last is found at the end
+-- after a first element, the last is found at the end
 last_or-is : {X : Type 0} (x : X) (xs : List X)
     → last_or None (x ∷ xs) ≡ slice_get (x ∷ xs) (length xs)
 last_or-is x [] = refl

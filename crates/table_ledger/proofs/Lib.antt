@@ -1,5 +1,5 @@
--- The lemmas: what survives two calls, and what stands of a store behind them; calls that are tried,
--- refused, answered and settled; steps and their commit; and then a file a subject.
+-- The lemmas: what survives two calls, and what stays of a store after them; calls that are tried,
+-- refused, answered and settled; steps and their commit; and then one file for each subject.
 mod SurvivalLemmas
 mod Standing
 mod TryLemmas

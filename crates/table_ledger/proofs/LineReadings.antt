@@ -1,4 +1,4 @@
--- Adjustment lines, as they are found in the tables.
+-- Adjustment lines as they are found in the tables.
 use Rattle.std.proofs.Common.{◌≡◌, ◌∙◌, ℕ, Bool, List, [], ◌∷◌, ◌++◌, ◌+◌, ◌<◌, length, take}
 use Rattle.std.proofs.Common.{slice_index_or, Option, Some, None, Err, option_map, refl, sym, ap}
 use Rattle.std.proofs.Common.{map}
@@ -72,7 +72,7 @@ pub look_refused : {A B : Type 0} {old middle new : State} {Known : Tables → T
 look_refused {B = B} {Others = Others} saw looks =
     looks_refused saw (looks_err {A = B} {B = B} {Answers = Others} {Others = Others} looks)
 
--- The lines that are read behind a stored line more.
+-- The lines that are read after one more stored line.
 pub line_more : (period : ℕ) (records : RecordTable) (stored : List StoredLine) (at : ℕ)
     (any one : StoredLine) (olds news : List Line) (line : Option Line) → at < length stored
     → one ≡ slice_index_or stored at any → news ≡ olds ++ cons_option line []
@@ -86,7 +86,7 @@ line_more period records stored at any one olds news line within is more before 
     ∙ ap (λ (last : StoredLine). reads (take at stored ++ last ∷ [])) is
     ∙ ap reads (sym (take_more stored at any within))
 
--- what a list of names gives, it gives behind what they name
+-- what a list of names gives, it gives after what they name
 listed_through : {X Y Z : Type 0} (make : Y → Option Z) (name : X → Y) (all : List X)
     → filter_map (λ one. make (name one)) all ≡ filter_map make (map name all)
 listed_through make name [] = refl
@@ -97,7 +97,7 @@ listed_through make name (one ∷ others) =
 abbrev line_named : RecordTable → List ℕ × Bool → Option Line
 line_named records named = line_read records ((0, named.0), named.1)
 
--- The lines are read where the stored lines are those of the period.
+-- The lines are read if the stored lines are those of the period.
 pub lines_listed : (period : ℕ) (tables : Tables) (stored : List StoredLine)
     (lines sorted : List Line) → ListsLines period tables stored
     → lines ≡ lines_stored period tables.records stored

@@ -21,7 +21,7 @@ use Rattle.table_ledger.specs.declared.summary.Summary.{Summary}
 use Rattle.table_ledger.proofs.Remembered.{rulings_are}
 use Rattle.table_ledger.proofs.TryLemmas.{saw_none, try_answered, try_refused}
 
--- a look that is refused is so with any error
+-- a look that is refused is refused with any error
 pub looks_err : {A B : Type 0} {old new : State} {Answers : Tables → A → Type 0}
     {Others : Tables → B → Type 0} {error other : StoreError} → Looks {A = A} (Err error) old new Answers
     → Looks {A = B} (Err other) old new Others
@@ -40,7 +40,7 @@ first_refused {B = B} view naming summary outcome {Answers = Answers} looks =
     try_refused view naming summary outcome {B = B} {Answers = Answers} saw_none
     (looks_err {A = B} {B = B} {Answers = Answers} {Others = Answers} looks)
 
--- A look behind others is refused, with any error.
+-- A look after others is refused, with any error.
 pub later_refused : {V A B : Type 0} (view : V → A) (naming : Naming) (summary : Summary)
     (outcome : Book → Outcome A) {old middle new : State} {Known : Tables → Type 0}
     {Answers : Tables → B → Type 0} {error other : StoreError} → Saw old middle Known
@@ -85,7 +85,7 @@ module _ {V A : Type 0} {view : V → A} {naming : Naming} {summary : Summary}
     {outcome : Book → Outcome A} (number : ℕ) (read : Tables → A)
     (law : (book : Book) → IsReadable naming book
     → outcome book ≡ reading (of_period number book.rulings (read (tables_of naming book)))) where
-  -- A period that there is not is answered so.
+  -- A period that does not exist is answered so.
   pub no_period : {state : State} → is_period number (ruled_in summary) ≡ false
       → Tries view naming summary summary state state outcome (Ok (Err NoSuchPeriod))
   no_period absent = try_answered view naming summary outcome saw_none (record { stored = refl; served = refl })
@@ -96,7 +96,7 @@ module _ {V A : Type 0} {view : V → A} {naming : Naming} {summary : Summary}
         refl,
       ))
 
-  -- A list of a period that there is.
+  -- A list of a period that exists.
   pub period_read : {old new : State} {Known : Tables → Type 0} (value : V)
       → is_period number (ruled_in summary) ≡ true → Saw old new Known
       → ((tables : Tables) → Known tables → read tables ≡ view value)

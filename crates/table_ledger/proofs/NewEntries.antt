@@ -1,4 +1,4 @@
--- A new record that is written makes the tables that it is to make.
+-- Writing a new record makes the tables that it is to make.
 use Rattle.std.proofs.Common.{◌≡◌, ◌∙◌, ℕ, ◌+◌, List, Bool, true, false, length, refl, sym, ap}
 use Rattle.std.proofs.Common.{subst, Result, Option, Some, None, cond, true≢false}
 use Rattle.std.specs.List.{last_or}
@@ -46,7 +46,7 @@ kept_by row held amount period effects day tables =
     set_sums held amount (put_record_row row.0 row.1
     (write_mark effects.unmark (write_line period effects.line (write_days period day tables))))
 
--- what is written are the tables with the record and its effects
+-- what is written makes the tables with the record and its effects
 pub entry_kept : (summary : Summary) (name bytes identity behind : List ℕ) (priced : Priced)
     (period : ℕ) (effects : Effects) (day : DayWrite) (tables : Tables)
     → identity ≡ identity_by (ruled_in summary) bytes → behind ≡ data_of bytes
@@ -104,7 +104,7 @@ entry_kept summary name bytes identity behind priced period effects day tables o
     (rows_with (identity_by (ruled_in summary) bytes) tables.records)) name priced)
     (sym remembered.closes))
 
--- a commit may be told in other words
+-- a commit may be described in other words
 pub commit_so : {T : Type 0} {old new : State} {When Other : Tables → Type 0}
     {change told : Tables → Tables} {result : Result T StoreError}
     → CommitsOne result old new When change
@@ -121,7 +121,7 @@ commit_so {old = old} {new = new} {result = result} commit so = record {
       (commit.done clean rest tables holds same.0);
 }
 
--- a name that no record has is that of none still where a mark was taken
+-- a name that no record has is still that of none after a mark was taken
 pub new_still : (unmark : Option (List ℕ)) (records : RecordTable) (name : List ℕ)
     → get records name ≡ None → get (change_mark unmark records) name ≡ None
 new_still None records name new = new

@@ -58,7 +58,7 @@ module _ {V A : Type 0} (view : V → A) (old new : Shelf) (outcome : Book → O
   was_clean : HasCleanDisk new.state → HasCleanDisk old.state
   was_clean clean = clean_before serves.survives clean
 
-  -- whatever a stop may leave behind the call are books that calls made
+  -- whatever a stop may leave after the call are books that calls made
   books_left : HasCleanDisk new.state → AreBooksOn old → (trees : Trees) → new.state.may_leave trees
       → KeepBooks new.naming trees
   books_left clean books trees left =
@@ -72,7 +72,7 @@ module _ {V A : Type 0} (view : V → A) (old new : Shelf) (outcome : Book → O
         }
       ])
 
-  -- the ledger is ready again, where no store failed
+  -- the ledger is ready again, if no store failed,
   ready_again : HasCleanDisk new.state → AreBooksOn old → new.must_reopen ≡ false
       → IsReady new.naming new.summary new.state.view
   ready_again clean books open_now =
@@ -91,12 +91,12 @@ module _ {V A : Type 0} (view : V → A) (old new : Shelf) (outcome : Book → O
     ready = λ open_now clean_now. ready_again clean books open_now;
   }
 
-  -- it stood at the book with which it was ready
+  -- it was at the book with which it was ready
   stood : (ready : IsReady old.naming old.summary old.state.view) → StandsAt (seen_on old) ready.book
   stood ready = subst (λ flag. stands_by flag (seen_on old) ready.book) (sym is_open)
       (sym (told_ready ready.ready))
 
-  -- where the store failed, the next open finds the book before the call or the one behind it
+  -- if the store failed, the next open finds the book before the call or the one after it
   moves_failed : (ready : IsReady old.naming old.summary old.state.view) → is_store result ≡ true
       → (book : Book)
       → (book ≡ ready.book) ⊎ (book ≡ after_any (outcome ready.book).event ready.book)
@@ -125,7 +125,7 @@ module _ {V A : Type 0} (view : V → A) (old new : Shelf) (outcome : Book → O
     leads = made ∙ after_listed (outcome ready.book).event ready.book;
   }
 
-  -- where it did not, the book is the one that the call made
+  -- if it did not, the book is the one that the call made
   moves_served : (ready : IsReady old.naming old.summary old.state.view) → is_store result ≡ false
       → HasCleanDisk new.state → (book : Book) → book ≡ told_by new.state.view.trees
       → ComesFrom (seen_on old) (seen_on new) (Calls view outcome result) book

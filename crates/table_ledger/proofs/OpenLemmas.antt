@@ -56,7 +56,7 @@ pub new_follow : (naming : Naming) → new_tables ≡ tables_of naming new_book
 new_follow naming =
     tables_follow naming [] tt (λ bytes there. absurd (true≢false (sym there ∙ none_in bytes)))
 
--- new books are open, where nothing is remembered
+-- new books are open, when nothing is remembered
 pub created : (naming : Naming) (state : State) (summary : Summary)
     → LeavesTheLast state.view state.may_leave → HasCleanDisk state → Keeping state.view new_tables
     → ruled_in summary ≡ no_rulings → summary.choices ≡ 0 → summary.held ≡ 0 → summary.total ≡ 0

@@ -1,4 +1,4 @@
--- Books that calls made are read again: their rows fit, and what fails has a cause of the store.
+-- Books that calls made are read again: their rows fit, and what fails has a cause in the store.
 use Rattle.std.proofs.Common.{◌≡◌, ◌∙◌, ◌+◌, ◌≤◌, ◌<◌, ◌^◌, ℕ, ℤ, suc, List, [], ◌∷◌, Option, Some}
 use Rattle.std.proofs.Common.{Result, Ok, Err, IsTrue, ap, arith, false, inl, inr, length, map, pos}
 use Rattle.std.proofs.Common.{refl, rules, subst, sym, true, true≢false}
@@ -36,7 +36,7 @@ use Rattle.table_ledger.proofs.LastChoice.{last_counts}
 use Rattle.table_ledger.proofs.Standing.{holds_on}
 use Rattle.table_ledger.proofs.SurvivalLemmas.{clean_before, survives_then}
 
--- what fails behind looks at tables has a cause of the store as it was before them
+-- what fails after looks at tables has a cause in the store as it was before them
 pub fails_behind : {old middle new : State} {Known When : Tables → Type 0} (error : StoreError)
     → Saw old middle Known → Survives middle new (λ trees. ⊥)
     → (HasCleanDisk new → (tables : Tables) → Holds middle.view.trees tables → When tables
@@ -49,7 +49,7 @@ fails_behind {old} {middle} {new} error saw survives cause clean tables holds wh
     saw.survives.counts
     (cause clean tables (holds_on old.view middle.view tables seen.same holds) when)
 
--- a tariff's text that is one of characters
+-- a tariff's text that consists of characters
 text_fits : (found : Option (List ℕ)) (text : List ℕ) → found ≡ Some text → IsUtf8 text
     → HasText (text_of found)
 text_fits found text is utf8 = (text, utf8, ap text_of is)
@@ -72,7 +72,7 @@ tariffs_fit (tariff ∷ tariffs) texted texts =
           (All-tail Utf8 tariff tariffs texts),
     )
 
--- the rows of so many closes fit
+-- the rows of this many closes fit
 closes_fit : (number : ℕ) (days : List ℤ) → number + length days ≤ last_period → All IsDay days
     → AllByRecursion CloseFits (map closed_columns (close_entries number days))
 closes_fit number [] few dated = tt
@@ -90,13 +90,13 @@ closes_many : (number : ℕ) (days : List ℤ)
 closes_many number [] = refl
 closes_many number (day ∷ days) = ap suc (closes_many (suc number) days)
 
--- as many as tariffs
+-- and as many as tariffs
 tariffs_many : (tariffs : List Tariffed)
     → length (map tariff_columns (tariff_entries tariffs)) ≡ length tariffs
 tariffs_many [] = refl
 tariffs_many (tariff ∷ tariffs) = ap suc (tariffs_many tariffs)
 
--- rising tariffs are no more than the days from the first of them on
+-- rising tariffs are no more than the days from the first of them on,
 rising_few : (tariff : Tariffed) (tariffs : List Tariffed) → are_rising (tariff ∷ tariffs) ≡ true
     → All IsTexted (tariff ∷ tariffs)
     → (pos (length tariffs) +ℤ tariff.terms.effective) ≤ℤ pos 47481
@@ -158,7 +158,7 @@ can_be_listed naming book calls texts =
           (let most = whole.limits.choices in omega (arith, most));
     }
 
--- a fault of the store behind more faults of the disk
+-- a fault of the store after more faults of the disk
 faults_since : (old middle new : State) (fault : LedgerFault) → (fault ≡ Memory) ⊎ (fault ≡ Store)
     → middle.faults ≤ new.faults → MoreFaults old.faults middle.faults → IsOpenCause old new fault
 faults_since old middle new fault (inl memory) less more = inl memory
@@ -168,7 +168,7 @@ faults_since old middle new fault (inr store) less more =
     later : (one two three : ℕ) → two ≤ three → MoreFaults one two → MoreFaults one three
     later one two three less more = search rules
 
--- where memory was wanting, the fault of the store is that a disk failed in the rollback
+-- if memory ran out, the fault of the store is that a disk failed in the rollback
 wanting : (old new : State) (fault : LedgerFault) → (fault ≡ Memory) ⊎ (fault ≡ Store)
     → (new.view.is_broken ≡ false → fault ≡ Memory)
     → (IsTrue new.view.is_open → new.view.is_broken ≡ false)
@@ -198,7 +198,7 @@ cause_told old middle new Broken fault rest cause one two clean kind served mend
 cause_told old middle new Unstorable fault rest cause one two clean kind served mended =
     absurd cause
 
--- an answer of looks is no fault of the store, where calls made the tables
+-- an answer of looks is no fault of the store, if calls made the tables
 pub own_answer : (old new : State) (answer : Result Summary LedgerFault)
     → Looks (Ok answer) old new IsRecalled → ReadsItsOwn answer old new
 own_answer old new (Ok summary) looks = tt
@@ -209,7 +209,7 @@ own_answer old new (Err fault) looks = λ clean naming book calls texts keeping.
       | inr store ↦ absurd (known.1 store naming book calls refl)
     ]
 
--- nor are looks that were refused
+-- nor is that of looks that were refused
 pub own_refused : (old middle new : State) (error : StoreError) (fault : LedgerFault)
     → (HasCleanDisk middle → (tables : Tables) → Holds old.view.trees tables → CanBeListed tables
     → IsCaused old middle error)

@@ -54,7 +54,7 @@ zip_next Says (first ∷ rows) (suc at) (other ∷ values) row value so_far belo
     let rest : at < length rows = omega (arith, below) in
     (so_far.0, zip_next Says rows at values row value so_far.1 rest is said)
 
--- one row more says a value
+-- one more row gives a value
 pub zip_at : {A B : Type 0} (Says : A → B → Type 0) (rows : List A) (at : ℕ) (values : List B)
     (row : A) (value : B) → AllZip Says (take at rows) values → at < length rows
     → Says (slice_index_or rows at row) value
@@ -63,7 +63,7 @@ zip_at Says rows at values row value so_far below says =
     zip_next Says rows at values (slice_index_or rows at row) value so_far below
     (index_again rows at row (slice_index_or rows at row) below) says
 
--- tariffs that rows say are those that are read of them
+-- tariffs that rows give are those that are read from them
 pub tariffs_said : (rows : List StoredTariff) (tariffs : List Tariffed)
     → AllZip SaysTariff rows tariffs → filter_map tariff_read (map tariff_of rows) ≡ tariffs
 tariffs_said [] [] said = refl
@@ -91,7 +91,7 @@ all_days (row ∷ rows) [] had = absurd had
 all_days (row ∷ rows) (day ∷ days) had =
     All-cons IsDay day days had.0.1 (all_days rows days had.1)
 
--- the rule that a row says is the one that is read of it
+-- the rule that a row gives is the one that is read from it
 said_rule : (row : Stored) (closes : ℕ) (adopted : Option ℕ) → SaysRule closes row adopted
     → adopted ≡ adopted_read (book_of row)
 said_rule row closes None says =
@@ -99,7 +99,7 @@ said_rule row closes None says =
 said_rule row closes (Some period) says =
     λ i. if sym says.0 i == second_rule then Some (sym says.1 i) else None
 
--- a summary that rows show is that of the tables that they are the rows of
+-- a summary that rows show is that of the tables that have these rows,
 pub recalled : (summary : Summary) (tables : Tables) (row : Stored) (tariffs : List StoredTariff)
     (closes : List Close) (choices : ℕ) → Shows row tariffs closes choices summary
     → book_of row ≡ tables.book
@@ -120,7 +120,7 @@ recalled summary tables row tariffs closes choices shows book texts days last =
       total = shows.total ∙ ap (λ (kept : BookRow). kept.amount) book;
     }
 
--- so is what is answered of the rows
+-- so is what is answered from the rows
 pub recalled_by : (answer : Result Summary LedgerFault) (tables : Tables) (row : Stored)
     (texts : List StoredTariff) (days : List Close) (choices : ℕ)
     → IfOk answer (Shows row texts days choices)
@@ -180,7 +180,7 @@ reads_refused old middle new error fault looks survives is = record {
   refused = λ clean tables holds. is;
 }
 
--- a query behind looks is refused, and its error handed on
+-- a query after looks is refused, and its error passed on
 pub refused_at : {A B : Type 0} {old middle new : State} {Known : Tables → Type 0}
     {Answers : Tables → A → Type 0} {Others : Tables → B → Type 0} {error : StoreError}
     (Q : StoreError → Type 0) (result : Result A StoreError) → IsErrAnd result Q → Saw old middle Known
@@ -191,13 +191,13 @@ refused_at {A} {B} {old} {middle} {new} {Known} {Answers} {Others} {error} Q res
     subst (λ (said : Result A StoreError). Looks said old new Answers) (sym refused.1)
     (record { survives = looked.survives; found = λ clean. tt; refused = looked.refused })
 
--- the row of the book is never missed
+-- the row of the book is never missing
 pub never_missed : (found : Option Stored) (book : BookRow) → option_map book_of found ≡ Some book
     → found ≡ None → ⊥
 never_missed None book same none = absurd (let e = same in cc)
 never_missed (Some row) book same none = absurd (let e = none in cc)
 
--- a fault of the store is not that there are no books
+-- a fault of the store does not say that there are no books
 pub never_both : (fault : LedgerFault) → fault ≡ NotBooks → IsStoreFault fault → ⊥
 never_both fault none (inl memory) = absurd (let e = sym none ∙ memory in cc)
 never_both fault none (inr store) = absurd (let e = sym none ∙ store in cc)

@@ -1,4 +1,4 @@
--- What a function that stops at a refusal answers: an error, whichever.
+-- What a function that stops at a refusal answers: an error, whichever it is.
 use Rattle.std.proofs.Common.{◌≡◌, true≢false, sym, subst, Result, Ok, Err, Option, Some, None}
 use Rattle.std.specs.Prelude.{IsErr, IfSome}
 use Rattle.std.specs.Option.{ok_or}
@@ -17,7 +17,7 @@ looks_failed (Err other) failed looks =
     record { survives = looks.survives; found = λ clean. tt; refused = looks.refused }
 looks_failed (Ok value) failed looks = absurd (true≢false (sym failed))
 
--- looks, behind which an answer was found or none
+-- looks after which an answer was found, or none
 pub looks_told : {A : Type 0} {old new : State} {Answers : Tables → A → Type 0}
     (found : Option A) (error : StoreError) (result : Result A StoreError)
     → result ≡ ok_or found error → Saw old new (λ tables. IfSome found (Answers tables))

@@ -1,4 +1,4 @@
--- What a ledger remembers of the rulings of its book: all but which records were chosen.
+-- What a ledger remembers of the rulings of its book: everything but which records were chosen.
 use Rattle.std.proofs.Common.{◌≡◌, sym}
 use Rattle.book_model.specs.Words.{Book}
 use Rattle.table_ledger.specs.Ready.{Remembers}

@@ -1,4 +1,4 @@
--- What a record's new price does, and what the costs of all come to.
+-- What a record's new price changes, and what the costs of all records add up to.
 use Rattle.std.proofs.Common.{◌≡◌, ◌∙◌, ℕ, ◌<◌, ◌≤◌, List, true, false, cond, Some, None, sym}
 use Rattle.std.proofs.Common.{ap, arith}
 use Rattle.std.specs.Prelude.{int_lt, nat_lt}
@@ -44,7 +44,7 @@ module _ (period : ℕ) (name : List ℕ) (row : RecordRow) (priced : Priced) (t
       ] is
       ∙ ap (λ found. reprice_row period terms name found tables) (sym there)
 
--- a cost that is no more than the books hold has room
+-- a cost that is no more than the books can hold has room
 no_more : (m n : ℕ) → n ≤ m → nat_lt m n ≡ false
 no_more m n small = grind (arith, nat_tests, small)
 

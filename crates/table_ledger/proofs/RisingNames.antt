@@ -14,13 +14,13 @@ use Rattle.book_model.specs.declared.line.Line.{Line}
 use Rattle.book_model.specs.Words.{by_bytes, same_bytes}
 use Rattle.book_model.proofs.SetLemmas.{same_bytes-by_cmp}
 
--- each name below a place stands before the next one
+-- each name below a place comes before the next one
 abbrev pub RiseBelow : List Line → ℕ → Type 0
 RiseBelow lines at = (k : ℕ) (any : Line) → k + 1 < at
     → true ≡ is_lt (by_bytes (slice_index_or lines k any).name
     (slice_index_or lines (k + 1) any).name)
 
--- what is less is said to be so
+-- what is less compares as less
 is_less : (order : Ordering) → true ≡ is_lt order → order ≡ Less
 is_less Less is = refl
 is_less Equal is = absurd (true≢false is)
@@ -52,7 +52,7 @@ rising_apart lines rise =
     subst (λ same. IsDistinct same (names lines)) (sym same_bytes-by_cmp)
     (IsDistinct-from_sorted by_bytes (names lines) (names_rise lines rise))
 
--- Of lines whose names rise, one stands before a later one.
+-- Of lines whose names rise, an earlier one has the lesser name.
 pub rise_at : (lines : List Line) (at later : ℕ) (one other : Line) → at < later
     → later < length lines → one ≡ slice_index_or lines at one
     → other ≡ slice_index_or lines later other

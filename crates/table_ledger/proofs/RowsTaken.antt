@@ -1,4 +1,4 @@
--- Rows of books are taken: what is refused of rows that are read in order is none of a book.
+-- Rows of books are accepted: a row that is refused among rows read in order is none of a book.
 use Rattle.std.proofs.Common.{◌≡◌, ◌∙◌, ℕ, ℤ, zero, suc, List, [], ◌∷◌, ap, arith, map, refl}
 use Rattle.std.proofs.Common.{subst, sym, None, Option, Some, slice_index_or, take, ◌<◌, ◌+◌, true}
 use Rattle.std.proofs.Common.{length, Bool, ◌&&◌}
@@ -31,7 +31,7 @@ use Rattle.table_ledger.proofs.LastChoice.{last_counts}
 use Rattle.table_ledger.specs.Recalled.{AreCloses, AreRowsOf, HasDay, IsNextClose, SaysRule}
 use Rattle.table_ledger.specs.Recalled.{SaysTariff, TellsTariff}
 
--- a place within a list has its element, whatever stands for none
+-- a place within a list has its element, whatever is returned otherwise
 pub index_again : {A : Type 0} (rows : List A) (at : ℕ) (row other : A) → at < length rows
     → slice_index_or rows at row ≡ slice_index_or rows at other
 index_again [] at row other below = absurd (omega (arith, below))
@@ -40,7 +40,7 @@ index_again (first ∷ rows) (suc at) row other below =
     let rest : at < length rows = omega (arith, below) in
     index_again rows at row other rest
 
--- of rows that say values, the row at a place says one
+-- of rows that give values, the row at a place gives one
 pub zip_found : {A B : Type 0} (Says : A → B → Type 0) (rows : List A) (at : ℕ) (values : List B)
     (row : A) → AllZip Says rows values → at < length rows → row ≡ slice_index_or rows at row
     → (value : B) × Says row value
@@ -52,13 +52,13 @@ zip_found Says (first ∷ rows) (suc at) (value ∷ values) row says below is =
     let rest : at < length rows = omega (arith, below) in
     zip_found Says rows at values row says.1 rest is
 
--- what a row says is one tariff
+-- a row gives just one tariff
 one_tariff : (row : StoredTariff) (one other : Tariffed) → SaysTariff row one
     → SaysTariff row other → one ≡ other
 one_tariff row one other says too =
     let both : Some one ≡ Some other = sym says ∙ too in cc
 
--- a test that all tariffs pass, the one of a row does
+-- if all tariffs pass a test, so does that of a row
 passes_at : (test : Tariffed → Bool) (rows : List StoredTariff) (at : ℕ) (tariffs : List Tariffed)
     (row : StoredTariff) (tariff : Tariffed) → AllZip TellsTariff rows tariffs
     → list_all test tariffs ≡ true → at < length rows → row ≡ slice_index_or rows at row
@@ -117,7 +117,7 @@ late_first (Some last) day days behind =
     let less : last <ℤ day = int_ranked last day Less (sym behind.0) in
     grind (arith, ints)
 
--- a row of closes is that of the next one behind those before it
+-- a row of closes is that of the next close after those before it,
 next_from : (number at : ℕ) (last : Option ℤ) (rows : List Close) (so_far days : List ℤ)
     (row : Close) → AllZip HasDay (take at rows) so_far → map close_of rows ≡ close_entries number days
     → All IsDay days → IsStrictlySortedBy int_cmp days → Behind last days → at < length rows
@@ -195,7 +195,7 @@ pub as_many : (rows : List Close) (days closes : List ℤ) → AllZip HasDay row
 as_many rows days closes had are =
     sym (days_count rows days had) ∙ closes_count 1 rows closes are.numbered
 
--- rows that hold tariffs with texts tell them
+-- rows that hold tariffs with texts give them
 texts_tell : (rows : List StoredTariff) (tariffs : List Tariffed) → All IsTexted tariffs
     → map tariff_of rows ≡ tariff_entries tariffs → AllZip TellsTariff rows tariffs
 texts_tell [] [] texted same = tt
@@ -211,7 +211,7 @@ texts_tell (row ∷ rows) (tariff ∷ tariffs) texted same =
       texts_tell rows tariffs (All-tail IsTexted tariff tariffs texted) rest,
     )
 
--- the row of a book says its rule
+-- the row of a book gives its rule
 rule_said : (row : Stored) (adopted : Option ℕ) (closes : ℕ)
     → row.rule ≡ (if is_some adopted then second_rule else first_rule)
     → row.adopted ≡ unwrap_or adopted never_adopted

@@ -16,7 +16,7 @@ use Rattle.table_ledger.specs.declared.summary.Summary.{Summary}
 use Rattle.table_ledger.proofs.OneCall.{call_served}
 use Rattle.table_ledger.proofs.SurvivalLemmas.{clean_before, survives_then}
 
--- a ledger is ready again where the store went back to its last commit
+-- a ledger is ready again if the store went back to its last commit
 pub ready_back : {naming : Naming} {was is : Summary} {book : Book} (old middle new : View)
     → IsReadyAt naming was old book → IsRefused is old middle book → IsBack middle new
     → IsReadyAt naming is new book
@@ -30,7 +30,7 @@ ready_back {naming} {was} {is} {book} old middle new ready refused back = record
 
 module _ {S V A : Type 0} (ghosts : Ghosts S) (view : V → A) (naming : Naming) (was is : Summary)
     (first middle last : S) (outcome : Book → Outcome A) where
-  -- the ledger before the call, and behind it
+  -- the ledger before the call, and after it
   abbrev shelf_before : Bool → Shelf
   shelf_before flag = record {
     naming = naming;

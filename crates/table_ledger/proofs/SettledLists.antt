@@ -16,7 +16,7 @@ use Rattle.table_ledger.specs.declared.summary.Summary.{Summary}
 use Rattle.table_ledger.proofs.OwnBooks.{cause_told}
 use Rattle.table_ledger.proofs.SurvivalLemmas.{clean_before}
 
--- two faults that are answered are one
+-- two faults that are answered are equal
 same_fault : {V : Type 0} (result : Result V LedgerFault) (one other : LedgerFault)
     → result ≡ Err one → result ≡ Err other → one ≡ other
 same_fault result one other is too =
@@ -33,7 +33,7 @@ module _ {S V A : Type 0} (ghosts : Ghosts S) (view : V → A) (naming : Naming)
     summary = summary;
   }
 
-  -- and behind it
+  -- and after it
   abbrev behind : Bool → Shelf
   behind flag = record {
     naming = naming;
@@ -42,14 +42,14 @@ module _ {S V A : Type 0} (ghosts : Ghosts S) (view : V → A) (naming : Naming)
     summary = summary;
   }
 
-  -- an answer of its own is a refusal of its own
+  -- a refusal of the answer is a refusal of the list
   by_answer : (was is : Bool) (answer : Result V LedgerFault)
       → IfErr answer (λ fault. fault ≡ NoSuchPeriod)
       → FailsAsItsOwn answer (before was) (behind is)
   by_answer was is (Ok value) own = tt
   by_answer was is (Err fault) own = λ other clean books open_now. absurd (other own)
 
-  -- a list that was tried fails as its own
+  -- a list that was tried fails as stated
   pub own_settled : (was is : Bool) (tried : Result (Result V LedgerFault) StoreError)
       (result : Result V LedgerFault)
       → Tries view naming summary summary (state ghosts first) (state ghosts middle) outcome tried

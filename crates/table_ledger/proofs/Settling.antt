@@ -32,7 +32,7 @@ use Rattle.table_ledger.proofs.ChoiceTries.{found_row, none_row}
 use Rattle.table_ledger.proofs.Standing.{holds_on}
 use Rattle.table_ledger.proofs.SurvivalLemmas.{clean_before, survives_then}
 
--- a step behind looks may rest on what was seen
+-- a step after looks may rest on what was seen
 pub does_seen : {T : Type 0} {old middle new : State} {Known When : Tables → Type 0}
     {change : Tables → Tables} (result : Result T StoreError) → Saw old middle Known
     → Does result middle new (λ tables. When tables × Known tables) change
@@ -81,7 +81,7 @@ joins_found chosen more name stored tables found puts identity =
     turned : (one other : List ℕ) → same_bytes one other ≡ same_bytes other one
     turned one other = same_is one other ∙ is_back one other ∙ sym (same_is other one)
 
--- a choice of which no record was found changes nothing
+-- a choice for which no record was found changes nothing
 pub joins_none : (chosen : Chosen) (name : List ℕ) (tables : Tables)
     → FindsRecord name tables None → (identity : List ℕ)
     → name_of chosen identity
@@ -90,7 +90,7 @@ joins_none chosen name tables found identity =
     ap (λ (is : Bool). if is then Some name else name_of chosen identity)
     (sym (ap (has_row identity) (none_row name (get tables.records name) found)))
 
--- one choice more
+-- one more choice
 pub last_more : (names : List (List ℕ)) (name : List ℕ) (records : RecordTable)
     (chosen more : Chosen) → IsLastOf names records chosen
     → ((identity : List ℕ) → name_of more identity
@@ -127,7 +127,7 @@ last_listed choices chosen tables lists lasts identity =
 
 -- ---- what is due
 
--- a record that stands as it was read is due where it is alone, or is the one that was chosen last
+-- a record that is as it was read is due if it is alone, or is the one that was chosen last
 due_by : (stored : StoredRecord) (tables : Tables) (chosen : Chosen) → IsAsRead stored tables
     → IsLast chosen tables
     → is_due_in tables stored.name
@@ -147,7 +147,7 @@ due_chosen stored tables chosen is stands lasts =
     let lone : Bool = length (rows_with stored.identity.items tables.records) == 1 in
     sym (due_by stored tables chosen stands lasts ∙ ap (λ b. lone || b) is ∙ or-true lone)
 
--- it is not, so that it is to be alone
+-- it is not, so it has to be alone
 pub due_alone : (stored : StoredRecord) (tables : Tables) (chosen : Chosen)
     (sharing : List StoredRecord) (alone : Bool)
     → is_last chosen stored.identity.items stored.name ≡ false
@@ -216,7 +216,7 @@ module _ (period : ℕ) (last : Option ℤ) (stored : StoredRecord) (tables : Ta
 
 -- ---- the walk
 
--- what is still so in the walk: the same records are due as before it, and the same ones were chosen
+-- what still holds in the walk: the same records are due as before it, and the same ones were chosen
 -- last
 pub record IsStill (chosen : Chosen) (before now : Tables) : Type 0 where
   pub due : (name : List ℕ) → is_due_in now name ≡ is_due_in before name
@@ -226,12 +226,12 @@ pub record IsStill (chosen : Chosen) (before now : Tables) : Type 0 where
 abbrev pub settle_of : ℕ → Option ℤ → Tables → List ℕ → Tables → Tables
 settle_of period last before = settle_step period last (is_due_in before)
 
--- so it is before the first step
+-- this holds before the first step,
 pub still_first : (chosen : Chosen) (tables : Tables) → IsLast chosen tables
     → IsStill chosen tables tables
 still_first chosen tables lasts = record { due = λ name. refl; lasts = lasts }
 
--- and behind each one
+-- and after each one
 pub still_next : (period : ℕ) (last : Option ℤ) (chosen : Chosen) (before now : Tables)
     (name : List ℕ) → IsStill chosen before now
     → IsStill chosen before (settle_of period last before name now)
@@ -243,7 +243,7 @@ still_next period last chosen before now name still = record {
       ∙ sym (last_stays period last (is_due_in before) name now identity);
 }
 
--- the step by what is due now is that by what was due before the walk
+-- the step by what is due now is the step by what was due before the walk
 pub settles_still : (period : ℕ) (last : Option ℤ) (chosen : Chosen) (before now : Tables)
     (name : List ℕ) → IsStill chosen before now
     → settle_step period last (is_due_in now) name now ≡ settle_of period last before name now

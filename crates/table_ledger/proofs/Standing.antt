@@ -1,4 +1,4 @@
--- What stands of a store behind calls that change nothing.
+-- What stays of a store after calls that change nothing.
 use Rattle.std.proofs.Common.{◌≡◌, ◌∙◌, refl, sym, ap, subst}
 use Rattle.sqlite_trees.specs.View.{View, KeepsCommitted}
 use Rattle.kept_tables.specs.Tables.{Tables}
@@ -7,7 +7,7 @@ use Rattle.tree_tables.specs.Holds.{Holds}
 use Rattle.tree_tables.specs.Steps.{Stands}
 use Rattle.table_ledger.specs.Commits.{IsAtRest}
 
--- the trees are those of before
+-- the trees are those from before,
 pub trees_same : (old new : View) → IsUnchanged old new → new.trees ≡ old.trees
 trees_same old new same = ap (λ (v : View). v.trees) same
 
@@ -19,7 +19,7 @@ committed_same old new same = ap (λ (v : View). v.committed) same
 pub open_same : (old new : View) → IsUnchanged old new → new.is_open ≡ old.is_open
 open_same old new same = ap (λ (v : View). v.is_open) same
 
--- nothing is changed by no call, and by two that change nothing
+-- no call changes nothing, nor do two that change nothing
 pub unchanged_none : (view : View) → IsUnchanged view view
 unchanged_none view = refl
 
@@ -28,13 +28,13 @@ pub unchanged_then : (first middle last : View) → IsUnchanged first middle
 unchanged_then first middle last one two =
     two ∙ ap (λ (v : View). record v { cursors = last.cursors }) one
 
--- trees that hold the tables hold them still
+-- trees that hold the tables still hold them
 pub holds_on : (old new : View) (tables : Tables) → IsUnchanged old new → Holds old.trees tables
     → Holds new.trees tables
 holds_on old new tables same holds =
     subst (λ trees. Holds trees tables) (sym (trees_same old new same)) holds
 
--- a store at rest is at rest still
+-- a store at rest is still at rest
 pub rest_on : (old new : View) → IsUnchanged old new → IsAtRest old → IsAtRest new
 rest_on old new same rest = record {
   is_open = open_same old new same ∙ rest.is_open;
@@ -42,18 +42,18 @@ rest_on old new same rest = record {
   settled = trees_same old new same ∙ rest.settled ∙ sym (committed_same old new same);
 }
 
--- the last commit stands where nothing is changed,
+-- the last commit stays if nothing is changed,
 pub stands_same : (old new : View) → IsUnchanged old new → Stands old new
 stands_same old new same = record {
   was_open = λ is_open. sym (open_same old new same) ∙ is_open;
   committed = λ is_open. committed_same old new same;
 }
 
--- where a call says so,
+-- if a call says so,
 pub stands_kept : {old new : View} → KeepsCommitted old new → Stands old new
 stands_kept kept = record { was_open = kept.was_open; committed = kept.committed }
 
--- and behind one after another
+-- and after one call after another
 pub stands_then : {first middle last : View} → Stands first middle → Stands middle last
     → Stands first last
 stands_then one two = record {
@@ -61,7 +61,7 @@ stands_then one two = record {
   committed = λ is_open. two.committed is_open ∙ one.committed (two.was_open is_open);
 }
 
--- each call keeps the last commit that changes nothing
+-- each call that changes nothing keeps the last commit
 pub kept_same : (old new : View) → IsUnchanged old new → KeepsCommitted old new
 kept_same old new same = record {
   shape = ap (λ (v : View). v.shape) same;

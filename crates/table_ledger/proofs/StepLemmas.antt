@@ -62,7 +62,7 @@ does_nothing {state = state} same = record {
   refused = λ clean. tt;
 }
 
--- a step may be told in other words
+-- a step may be described in other words
 pub does_so : {T : Type 0} {first last : State} {When Other : Tables → Type 0}
     {change told : Tables → Tables} (result : Result T StoreError)
     → Does result first last When change
@@ -96,7 +96,7 @@ commit_unwritten does = record {
   done = λ clean rest tables holds when. stands_kept (does.refused clean);
 }
 
--- the last commit stands behind steps
+-- the last commit stays after steps
 stands_only : (old new : View) → OnlyWrites old new → Stands old new
 stands_only old new only = record {
   was_open = λ is_open. sym (ap (λ (v : View). v.is_open) only) ∙ is_open;
@@ -159,13 +159,13 @@ makes_none survives = record {
   made = λ clean rest none. tt;
 }
 
--- the row of new books was not written behind a look
+-- the row of new books was not written after a look
 pub makes_refused : {T U : Type 0} {first old new : State} {Known : Tables → Type 0}
     {error : StoreError} → Saw first old Known → Makes {T = U} (Err error) old new
     → MakesNew {T = T} (Err error) first new
 makes_refused saw makes = makes_none (survives_then saw.survives makes.survives)
 
--- it was written behind a look, and committed
+-- it was written after a look, and committed
 pub makes_all : {T U : Type 0} {first old middle last : State} {Known : Tables → Type 0} {made : U}
     (result : Result T StoreError) → Saw first old Known → Makes (Ok made) old middle
     → OnOk result (HasCleanDisk last → Commits middle.view last.view)

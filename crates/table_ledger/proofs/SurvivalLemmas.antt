@@ -3,7 +3,7 @@ use Rattle.std.proofs.Common.{inl, inr, arith, rules}
 use Rattle.sqlite_trees.specs.Tree.{Trees}
 use Rattle.tree_tables.specs.States.{State, HasCleanDisk, Survives}
 
--- the disk was clean before a call, if it is behind it
+-- the disk was clean before a call, if it is after it
 pub clean_before : {old new : State} {Commits : Trees → Type 0} → Survives old new Commits
     → HasCleanDisk new → HasCleanDisk old
 clean_before survives clean =
@@ -49,7 +49,7 @@ pub survives_then : {first middle last : State} {Commits : Trees → Type 0}
 survives_then one two =
     survives_both one two (λ clean trees made. made) (λ clean trees none. absurd none)
 
--- what is told of a commit may be told in other words
+-- what is known of a commit may be described in other words
 pub survives_so : {first last : State} {One Other : Trees → Type 0} → Survives first last One
     → (HasCleanDisk last → (trees : Trees) → One trees → Other trees) → Survives first last Other
 survives_so one so = record {
@@ -63,7 +63,7 @@ survives_so one so = record {
   ];
 }
 
--- no call at all survives
+-- nothing else survives when there is no call
 pub survives_none : {state : State} {Commits : Trees → Type 0} → Survives state state Commits
 survives_none {state} = record {
   clean = omega arith;

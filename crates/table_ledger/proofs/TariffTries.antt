@@ -68,7 +68,7 @@ plain_by false false false much = record { stored = refl; served = refl }
 plain_by false false true true = record { stored = refl; served = refl }
 plain_by false false true false = record { stored = refl; served = refl }
 
--- an answer that is not Done hangs on no cost
+-- an answer that is not Done depends on no cost
 other_by : (told there later much : Bool) → by_tests told there later false ≢ Ok Done
     → by_tests told there later much ≡ by_tests told there later false
 other_by true there later much other = refl
@@ -76,7 +76,7 @@ other_by false true later much other = refl
 other_by false false false much other = refl
 other_by false false true much other = absurd (other refl)
 
--- where all is Done but for the cost, that decides
+-- if all is Done but for the cost, the cost decides,
 done_by : (told there later much : Bool) → by_tests told there later false ≡ Ok Done
     → by_tests told there later much ≡ (if much then Err Full else Ok Done)
 done_by true there later much done = cc
@@ -91,7 +91,7 @@ later_by false true later done = cc
 later_by false false true done = refl
 later_by false false false done = cc
 
--- what a cost says of room
+-- what a cost says about room
 no_room : (cost : ℕ) → None ≡ if_room cost → nat_lt most_cost cost ≡ true
 no_room cost is =
     elim (nat_lt most_cost cost) as (λ much. None ≡ cond much None (Some cost) → much ≡ true) [
@@ -109,21 +109,21 @@ room cost found is =
     ] is
 
 module _ (summary : Summary) (text : List ℕ) (terms : Terms) where
-  -- the answer by some rulings, where the records cost too much or not
+  -- the answer by some rulings, if the records cost too much or not
   abbrev answer_by : Rulings → Bool → Result Ruled LedgerFault
   answer_by rulings much =
       by_tests (list_any (has_text text) rulings.tariffs)
       (list_any (is_effective terms.effective) rulings.tariffs)
       (is_later terms.effective rulings) much
 
-  -- what is answered without a look at the records leaves the books open
+  -- an answer without a look at the records leaves the books open
   pub tariff_plain : IsPlain (terms_ruled (ruled_in summary) text terms)
   tariff_plain =
       plain_by (list_any (has_text text) summary.tariffs.items)
       (list_any (is_effective terms.effective) summary.tariffs.items)
       (is_later terms.effective (ruled_in summary)) false
 
-  -- a tariff that is Done but for the cost is behind the others
+  -- a tariff that is Done but for the cost comes after the others
   pub tariff_rising : terms_ruled (ruled_in summary) text terms ≡ Ok Done
       → are_rising (summary.tariffs.items ++ record { text = Some text; terms = terms } ∷ []) ≡ true
   tariff_rising done =
@@ -181,13 +181,13 @@ module _ (summary : Summary) (text : List ℕ) (terms : Terms) where
         (ap (λ rulings. answer_by rulings false) (sym same) ∙ done)
         ∙ ap (λ (found : Bool). if found then Err Full else Ok Done) is
 
-    -- so it is Full where there is no room
+    -- so it is Full if there is no room
     pub tariff_full : terms_ruled (ruled_in summary) text terms ≡ Ok Done
         → CostUnder terms (tables_of naming book) None
         → (tariff_outcome text book).answer ≡ Err Full
     tariff_full done known = decided done true (no_room cost known.cost)
 
-    -- and Done where there is
+    -- and Done if there is
     pub tariff_done : terms_ruled (ruled_in summary) text terms ≡ Ok Done → (amount : ℕ)
         → CostUnder terms (tables_of naming book) (Some amount)
         → (tariff_outcome text book).answer ≡ Ok Done
@@ -197,7 +197,7 @@ module _ (summary : Summary) (text : List ℕ) (terms : Terms) where
     pub terms_told : terms_answer book text terms ≡ (tariff_outcome text book).answer
     terms_told = sym (ap (tariff_answer book text) said)
 
-    -- the tables behind a tariff that is Done
+    -- the tables after a tariff that is Done
     pub tables_behind : terms_answer book text terms ≡ Ok Done
         → tables_of naming (put_in_force (Some text) terms book)
         ≡ put_tariff (open_number book) (Some text) terms (tables_of naming book)
@@ -216,7 +216,7 @@ module _ (summary : Summary) (text : List ℕ) (terms : Terms) where
           (list_any (is_effective terms.effective) summary.tariffs.items)
           (is_later terms.effective (ruled_in summary)) done
 
-      -- the sum is what all records cost then
+      -- the sum is what all records then cost
       pub sum_is : amount ≡ total_of (with_tariff (Some text) terms book.rulings) book.held
       sum_is =
           (room cost amount known.cost).1

@@ -55,7 +55,7 @@ saw_then {first} {middle} {last} {One} {Other} one other = record {
       };
 }
 
--- what is known may be known in other words
+-- what is known may be described in other words
 pub saw_so : {old new : State} {One Other : Tables → Type 0} → Saw old new One
     → ((tables : Tables) → One tables → Other tables) → Saw old new Other
 saw_so one so = record {
@@ -78,7 +78,7 @@ looks_known saw answers = record {
   refused = λ clean. tt;
 }
 
--- looks, behind which there is no answer
+-- looks after which there is no answer
 pub looks_stopped : {A : Type 0} {old new : State} {Known : Tables → Type 0}
     {Answers : Tables → A → Type 0} {error : StoreError} → Saw old new Known
     → Looks {A = A} (Err error) old new Answers
@@ -101,9 +101,9 @@ looks_refused saw looks = record {
       kept_behind (saw.seen (clean_before looks.survives clean)).same (looks.refused clean);
 }
 
--- ---- commits behind looks
+-- ---- commits after looks
 
--- what was done behind a look was done before it
+-- what was done after a look was done before it
 done_since : {T : Type 0} (old middle new : View) (changed : Tables)
     → IsUnchanged old middle → (result : Result T StoreError) → IsDone middle new changed result
     → IsDone old new changed result
@@ -147,7 +147,7 @@ commit_refused {old = old} {middle = middle} saw looks = record {
 
 -- ---- calls
 
--- a ledger is ready behind what changes nothing
+-- a ledger is ready after what changes nothing
 pub ready_same : {naming : Naming} {was : Summary} {book : Book} (old new : View)
     → IsUnchanged old new → IsReadyAt naming was old book → IsReadyAt naming was new book
 ready_same {naming} {was} {book} old new same ready = record {
@@ -176,7 +176,7 @@ module _ {V A : Type 0} (view : V → A) (naming : Naming) (was : Summary)
         };
   }
 
-  -- The call stops behind looks, for want of memory or since a row is ill-formed.
+  -- The call stops after looks, because memory ran out or a row is ill-formed.
   pub try_stopped : {old new : State} {Known : Tables → Type 0} {error : StoreError}
       → Saw old new Known → Tries view naming was was old new outcome (Err error)
   try_stopped {old} {new} saw = record {
@@ -205,7 +205,7 @@ module _ {V A : Type 0} (view : V → A) (naming : Naming) (was : Summary)
     };
   }
 
-  -- what a commit makes of a book: an event of the outcome, whose tables it leaves
+  -- what a commit makes of a book: an event of the outcome, and the tables that it leaves
   pub record IsEvent (When : Tables → Type 0) (change : Tables → Tables) (book : Book) : Type 0 where
     pub event : Event
     pub is : (outcome book).event ≡ Some event
@@ -295,7 +295,7 @@ module _ {V A : Type 0} (view : V → A) (naming : Naming) (was : Summary)
           };
     }
 
-  -- The ledger may remember the same otherwise.
+  -- What the ledger remembers may be described in other words.
   pub tries_so : {is other : Summary} {old new : State}
       {tried : Result (Result V LedgerFault) StoreError}
       → Tries view naming was is old new outcome tried
@@ -324,13 +324,13 @@ module _ {V A : Type 0} (view : V → A) (naming : Naming) (was : Summary)
         remembers = so book found.remembers;
       }
 
-  -- The error may be told otherwise.
+  -- The error may be described in other words.
   pub tries_told : {is : Summary} {old new : State} {error told : StoreError}
       → Tries view naming was is old new outcome (Err error)
       → Tries view naming was is old new outcome (Err told)
   tries_told tries = record { plain = tt; survives = tries.survives; found = tries.found }
 
-  -- A call whose result is an error, whichever.
+  -- A call whose result is an error, whichever it is.
   pub tries_err : {is : Summary} {old new : State}
       (tried : Result (Result V LedgerFault) StoreError) → IsErr tried
       → ((error : StoreError) → Tries view naming was is old new outcome (Err error))

@@ -1,4 +1,4 @@
--- Walks over all records whose steps hang on the tables before the first one, as calls on a store
+-- Walks over all records whose steps depend on the tables before the first one, as calls on a store
 -- make them.
 use Rattle.std.proofs.Common.{◌≡◌, ℕ, List, Option, Some, None, Result, Ok, Err, refl, sym, subst}
 use Rattle.std.proofs.Common.{true≢false, ap, ◌∙◌, Bool, true, false, cond, map, [], ◌∷◌}
@@ -20,7 +20,7 @@ use Rattle.tree_tables.proofs.Looking.{only_both, only_looks, survives_both, was
 use Rattle.tree_tables.proofs.WalkNames.{IsWalking, KeepsNames, names_left, next_names, walking_ends}
 use Rattle.table_ledger.proofs.SurvivalLemmas.{survives_none}
 
--- what is told of any error is told of one
+-- what is known of any error is known of one
 does_err : {T : Type 0} {When : Tables → Type 0} {change : Tables → Tables} {old new : State}
     (result : Result T StoreError) → IsErr result → Survives old new (λ trees. ⊥)
     → (HasCleanDisk new → KeepsCommitted old.view new.view) → Does result old new When change
@@ -43,7 +43,7 @@ keys_passing {K} {V} p (e ∷ es) =
       | false ↦ keys_passing p es
     ]
 
--- so the same names are left where the names are the same
+-- so the same names are left if the names are the same
 names_stay : (last : Option (List ℕ)) (one other : Tables)
     → keys one.records ≡ keys other.records → names_left last one ≡ names_left last other
 names_stay None one other same = same
@@ -52,7 +52,7 @@ names_stay (Some name) one other same =
     ∙ ap (filter (λ k. is_lt (by_bytes name k))) same
     ∙ sym (keys_passing (λ k. is_lt (by_bytes name k)) (entries other.records))
 
--- A walk has come to a name. Nothing is committed; and of the tables as they are now this is still so,
+-- A walk has reached a name. Nothing is committed; and of the tables as they are now this still holds,
 -- by those before the walk.
 pub record WalksOf (When : Tables → Type 0) (Still : Tables → Tables → Type 0)
     (step : Tables → List ℕ → Tables → Tables) (old new : State) (last : Option (List ℕ)) : Type 0
@@ -163,7 +163,7 @@ module _ (When : Tables → Type 0) (Still : Tables → Tables → Type 0)
     of_no_more result failed =
         does_err result failed walks.survives (λ clean. kept_by (walks.only clean))
 
-    -- a look of it fails
+    -- a look in it fails
     pub of_blind : {A T : Type 0} {new : State} {Answers : Tables → A → Type 0}
         {Then : Tables → Type 0} {change : Tables → Tables} {why : StoreError}
         (result : Result T StoreError) → IsErr result → Looks {A = A} (Err why) mid new Answers
@@ -172,7 +172,7 @@ module _ (When : Tables → Type 0) (Still : Tables → Tables → Type 0)
         does_err result failed (survives_both walks.survives looks.survives) (λ clean.
         kept_after (walks.only (was_clean looks.survives clean)) (looks.refused clean))
 
-    -- a step of it fails
+    -- a step in it fails
     pub of_fail : {T U : Type 0} {new : State} {Then Other : Tables → Type 0}
         {change other : Tables → Tables} {why : StoreError} (result : Result T StoreError)
         → IsErr result → Does {T = U} (Err why) mid new Other other

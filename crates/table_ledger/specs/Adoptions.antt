@@ -1,4 +1,4 @@
--- Which record was chosen last of an identity, as an adoption remembers it.
+-- Which record of an identity was chosen last, as an adoption remembers it.
 use Rattle.std.specs.Prelude.{◌≡◌, ℕ, Bool, false, List, Option}
 use Rattle.std.specs.BTreeMap.{get_by}
 use Rattle.std.specs.Cmp.Lexicographic.{slice_cmp}
@@ -11,7 +11,7 @@ use Rattle.kept_tables.specs.Tables.{RecordTable, Tables}
 use Rattle.kept_tables.specs.Views.{has_identity, last_named}
 use Rattle.table_ledger.specs.declared.chosen.Chosen.{Chosen}
 
--- the name of the record that was chosen last of an identity, if one was chosen
+-- the name of the record of an identity that was chosen last, if one was chosen
 abbrev pub name_of : Chosen → List ℕ → Option (List ℕ)
 name_of chosen identity = get_by (λ key. slice_cmp nat_cmp identity key.items) chosen.names
 
@@ -19,13 +19,13 @@ name_of chosen identity = get_by (λ key. slice_cmp nat_cmp identity key.items) 
 abbrev pub is_last : Chosen → List ℕ → List ℕ → Bool
 is_last chosen identity name = option_map_or (same_bytes name) (name_of chosen identity) false
 
--- of some names that were chosen, the last of each identity is remembered
+-- from some names that were chosen, the last of each identity is remembered
 abbrev pub IsLastOf : List (List ℕ) → RecordTable → Chosen → Type 0
 IsLastOf names records chosen =
     (identity : List ℕ)
     → name_of chosen identity ≡ last_or None (filter (has_identity records identity) names)
 
--- of all that were chosen
+-- from all that were chosen
 abbrev pub IsLast : Chosen → Tables → Type 0
 IsLast chosen tables =
     (identity : List ℕ) → name_of chosen identity ≡ last_named tables identity

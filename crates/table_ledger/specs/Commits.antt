@@ -14,12 +14,12 @@ pub record IsAtRest (view : View) : Type 0 where
   pub sound : view.is_broken ≡ false
   pub settled : view.trees ≡ view.committed
 
--- Looks at the tables were answered, and left them alone: this is known of them.
+-- Looks at the tables were answered, and changed nothing: this is known of the tables.
 pub record Saw (old new : State) (Known : Tables → Type 0) : Type 0 where
   pub survives : Survives old new (λ trees. ⊥)
   pub seen : HasCleanDisk new → Sees old.view new.view Known
 
--- what a commit may leave where a stop comes within it: the changed tables, whole
+-- what a commit may leave if a stop comes within it: the changed tables, whole
 abbrev pub MayWrite : View → (Tables → Type 0) → (Tables → Tables) → Trees → Type 0
 MayWrite old When change trees =
     (tables : Tables) → Holds old.trees tables → When tables → Holds trees (change tables)
@@ -29,12 +29,12 @@ pub record Keeping (view : View) (tables : Tables) : Type 0 where
   pub holds : Holds view.trees tables
   pub rest : IsAtRest view
 
--- the tables are changed and committed; or the last commit stands
+-- the tables are changed and committed; or the last commit stays
 abbrev pub IsDone : {T : Type 0} → View → View → Tables → Result T StoreError → Type 0
 IsDone old new after (Ok value) = Keeping new after
 IsDone old new after (Err error) = Stands old new
 
--- A change of the tables is tried as one commit, where the premise is true of them.
+-- A change of the tables is tried as one commit, if the premise is true of them.
 pub record CommitsOne {T : Type 0} (result : Result T StoreError) (old new : State)
     (When : Tables → Type 0) (change : Tables → Tables) : Type 0 where
   pub survives : Survives old new (MayWrite old.view When change)

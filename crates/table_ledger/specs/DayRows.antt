@@ -12,7 +12,7 @@ abbrev pub IsAdded : Option ChargeRow → Priced → DayWrite → Type 0
 IsAdded None priced write = write ≡ Put (with_price (row_at [] (key_of priced)) priced)
 IsAdded (Some row) priced write = write ≡ Put (with_price row priced)
 
--- a price leaves the row that was found, which goes with the last one
+-- a price leaves the row that was found, which is removed with its last price
 abbrev pub taken_from : ChargeRow → Priced → DayWrite
 taken_from row priced = if row.count == 1 then Drop (key_of priced) else Put (less_price row priced)
 

@@ -27,7 +27,7 @@ abbrev pub Writes : ℕ → Option DayChange → Tables → DayWrite → Type 0
 Writes period change tables write =
     day_written period write tables.days ≡ change_day period change tables.days
 
--- what is written is one price in the place of another, in one row
+-- what is written replaces one price by another, in one row
 abbrev pub Turns : ℕ → Priced → Priced → Tables → DayWrite → Type 0
 Turns period old new tables write =
     day_written period write tables.days ≡ add_price period new (take_price period old tables.days)

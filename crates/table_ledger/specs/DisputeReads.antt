@@ -1,4 +1,4 @@
--- Records that are not charged, as disputes are made of them.
+-- Records that are not charged, as disputes are made from them.
 use Rattle.std.specs.Prelude.{◌≡◌, ◌⊎◌, length}
 use Rattle.book_model.specs.Words.{IsDay, identity_length, identity2_length}
 use Rattle.table_readings.specs.DisputesRead.{NamedRow}

@@ -29,12 +29,12 @@ IsNext number tables = get tables.choices number ≡ None
 abbrev pub write_days : ℕ → DayWrite → Tables → Tables
 write_days period write tables = record tables { days = day_written period write tables.days }
 
--- a line comes or goes
+-- a line is added or removed
 abbrev pub write_line : ℕ → Option LineChange → Tables → Tables
 write_line period change tables =
     record tables { lines = change_line period change tables.lines }
 
--- a mark goes
+-- a mark is removed
 abbrev pub write_mark : Option (List ℕ) → Tables → Tables
 write_mark unmark tables = record tables { records = change_mark unmark tables.records }
 
@@ -44,7 +44,7 @@ write_effects entry tables =
     write_mark entry.effects.unmark (write_line entry.period entry.effects.line
     (write_days entry.period entry.day tables))
 
--- the record's row comes, and the sums are these
+-- the record's row is added, and the sums are these
 abbrev pub write_row : Entry → Tables → Tables
 write_row entry tables =
     set_sums entry.sums.held entry.sums.amount

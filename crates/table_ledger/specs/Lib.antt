@@ -1,5 +1,5 @@
--- Read in this order: what a ledger remembers of its book, and when it is ready; what is seen of
--- it; how a call is tried on the store, and how it is answered.
+-- Read in this order: what a ledger remembers of its book, and when it is ready; what can be seen
+-- of it; how a call is tried on the store, and how it is answered.
 pub mod Commits
 pub mod Ready
 pub mod Summaries

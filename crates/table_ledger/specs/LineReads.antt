@@ -1,4 +1,4 @@
--- Adjustment lines that are read of the tables.
+-- Adjustment lines that are read from the tables.
 use Rattle.std.specs.Prelude.{ℕ, List, Option, map}
 use Rattle.std.specs.List.{filter_map}
 use Rattle.std.specs.List.Sorted.{IsStrictlySortedBy}
@@ -12,7 +12,7 @@ use Rattle.tree_tables.specs.declared.line_rows.StoredLine.{StoredLine}
 abbrev pub line_stored : ℕ → RecordTable → StoredLine → Option Line
 line_stored period records stored = line_read records ((period, stored.name), stored.plus)
 
--- those whose records are there
+-- those for which there are records
 abbrev pub lines_stored : ℕ → RecordTable → List StoredLine → List Line
 lines_stored period records = filter_map (line_stored period records)
 

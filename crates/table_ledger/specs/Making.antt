@@ -9,11 +9,11 @@ use Rattle.tree_tables.specs.States.{State, HasCleanDisk, Survives}
 use Rattle.tree_tables.specs.Steps.{HasNoRows}
 use Rattle.table_ledger.specs.Commits.{IsAtRest, Keeping}
 
--- what the commit may leave where a stop comes within it: new books, whole
+-- what the commit may leave if a stop comes within it: new books, whole
 abbrev pub MayHoldNew : View → Trees → Type 0
 MayHoldNew old trees = HasNoRows old.trees → Holds trees new_tables
 
--- The tables of new books are made and committed, where the trees had no rows.
+-- The tables of new books are made and committed, if the trees had no rows.
 pub record MakesNew {T : Type 0} (result : Result T StoreError) (old new : State) : Type 0 where
   pub survives : Survives old new (MayHoldNew old.view)
   pub made : HasCleanDisk new → IsAtRest old.view → HasNoRows old.view.trees

@@ -24,7 +24,7 @@ pub record IsKeptIn (naming : Naming) (book : Book) (trees : Trees) : Type 0 whe
   pub calls : IsFromCalls naming book
   pub holds : Holds trees (tables_of naming book)
 
--- so it is with some book
+-- this holds for some book
 pub record KeepBooks (naming : Naming) (trees : Trees) : Type 0 where
   pub book : Book
   pub kept : IsKeptIn naming book trees
@@ -37,7 +37,7 @@ pub record IsReadyAt (naming : Naming) (summary : Summary) (view : View) (book :
     pub kept : IsKeptIn naming book view.trees
     pub remembers : Remembers summary book
 
--- so it is with some book
+-- this holds for some book
 pub record IsReady (naming : Naming) (summary : Summary) (view : View) : Type 0 where
   pub book : Book
   pub ready : IsReadyAt naming summary view book

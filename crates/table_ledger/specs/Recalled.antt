@@ -1,4 +1,4 @@
--- What is read of a store when its books are opened.
+-- What is read from a store when its books are opened.
 use Rattle.std.specs.Prelude.{◌≡◌, ◌≢◌, ◌⊎◌, ◌≤◌, ◌<◌, ◌+◌, ◌^◌, All, IfErr, IfOk, Option, Some, None, Result, Ok}
 use Rattle.std.specs.Prelude.{Err, List, ℕ, ℤ, int_lt, length, map, false, true}
 use Rattle.std.specs.List.{AllZip, last_or}
@@ -31,7 +31,7 @@ use Rattle.table_ledger.specs.Commits.{Keeping}
 use Rattle.table_ledger.specs.Shelf.{Shelf, seen_on}
 use Rattle.table_ledger.specs.declared.summary.Summary.{Summary}
 
--- want of memory, or another fault of the store
+-- out of memory, or another fault of the store
 abbrev pub IsStoreFault : LedgerFault → Type 0
 IsStoreFault fault = (fault ≡ Memory) ⊎ (fault ≡ Store)
 
@@ -39,19 +39,19 @@ IsStoreFault fault = (fault ≡ Memory) ⊎ (fault ≡ Store)
 abbrev pub IsOpenFault : LedgerFault → Type 0
 IsOpenFault fault = (fault ≡ NotBooks) ⊎ IsStoreFault fault
 
--- a row's text says the tariff
+-- a row's text gives the tariff
 abbrev pub SaysTariff : StoredTariff → Tariffed → Type 0
 SaysTariff row tariff = tariff_read (tariff_of row) ≡ Some tariff
 
--- it does, and the row stands under the first day of the tariff
+-- it does, and the row is stored under the first day of the tariff
 abbrev pub TellsTariff : StoredTariff → Tariffed → Type 0
 TellsTariff row tariff = SaysTariff row tariff × (tariff.terms.effective ≡ row.day)
 
--- a row has the day, which is one
+-- a row has the day, and it is a valid one
 abbrev pub HasDay : Close → ℤ → Type 0
 HasDay row day = (day ≡ row.through) × IsDay day
 
--- a row is that of the next close behind those through some days: of the next period, through a day
+-- a row is that of the next close after those through some days: of the next period, through a day
 -- that is later than the last of them
 pub record IsNextClose (days : List ℤ) (row : Close) : Type 0 where
   pub period : row.period ≡ length days + 1
@@ -63,7 +63,7 @@ pub record IsBookRow (row : Stored) : Type 0 where
   pub held : row.held ≤ most_held
   pub amount : row.amount ≤ most_cost
 
--- A row says the rule of identity of a book with so many closes: the first rule, which was never
+-- A row gives the rule of identity of a book with this many closes: the first rule, which was never
 -- adopted; or the second one, which was adopted in a period that has begun.
 abbrev pub SaysRule : ℕ → Stored → Option ℕ → Type 0
 SaysRule closes row None = (row.rule ≡ first_rule) × (row.adopted ≡ never_adopted)
@@ -76,7 +76,7 @@ pub record AreCloses (rows : List Close) (closes : List ℤ) : Type 0 where
   pub days : All IsDay closes
   pub in_order : IsStrictlySortedBy int_cmp closes
 
--- rows are those of a book of these rulings, of which so many are choices, within the office's limits
+-- rows are those of a book of these rulings with this many choices, within the office's limits
 pub record AreRowsOf (row : Stored) (texts : List StoredTariff) (days : List Close) (choices : ℕ)
     (rulings : Rulings) : Type 0 where
   pub book : IsBookRow row
@@ -111,8 +111,8 @@ abbrev pub AreOfNone : Tables → Type 0
 AreOfNone tables =
     (naming : Naming) (book : Book) → IsFromCalls naming book → tables ≢ tables_of naming book
 
--- Where the tables of books are looked at, the summary is theirs; no fault is that there are none,
--- and it is one of the store only where calls made no such tables.
+-- If the tables of books are looked at, the summary is theirs; no fault says that there are none,
+-- and one is of the store only if calls made no such tables.
 abbrev pub IsRecalled : Tables → Result Summary LedgerFault → Type 0
 IsRecalled tables (Ok summary) = Recalls summary tables
 IsRecalled tables (Err fault) = IsStoreFault fault × (fault ≡ Store → AreOfNone tables)
@@ -123,19 +123,19 @@ pub record CanBeListed (tables : Tables) : Type 0 where
   pub closes : RowsFit CloseFits (map closed_columns (entries tables.closes))
   pub choices : last_number tables.choices < 2 ^ 32
 
--- the texts of the tariffs are such of characters, as any text that a call is given
+-- the texts of the tariffs consist of characters, like any text that is given to a call
 abbrev pub HasTexts : Book → Type 0
 HasTexts book =
     All (λ (tariff : Tariffed). (text : List ℕ) → tariff.text ≡ Some text → IsUtf8 text)
     book.rulings.tariffs
 
--- why books are not opened: memory was wanting, or the disk failed or refused meanwhile
+-- why books are not opened: memory ran out, or the disk failed or refused meanwhile
 abbrev pub IsOpenCause : State → State → LedgerFault → Type 0
 IsOpenCause old new fault =
     (fault ≡ Memory) ⊎ ((fault ≡ Store) × MoreFaults old.faults new.faults)
 
--- Why a list fails, other than that there is no such period: where a ledger wrote what is kept and
--- was not to be reopened, and the disk is clean behind the call, for such a cause alone.
+-- Why a list fails, other than that there is no such period: if a ledger wrote what is stored and
+-- was not to be reopened, and the disk is clean after the call, only for such a cause.
 abbrev pub FailsAsItsOwn : {V : Type 0} → Result V LedgerFault → Shelf → Shelf → Type 0
 FailsAsItsOwn result old new =
     IfErr result (λ fault. fault ≢ NoSuchPeriod → HasCleanDisk new.state
@@ -148,7 +148,7 @@ ReadsItsOwn result old new =
     → IsFromCalls naming book → HasTexts book → Keeping old.view (tables_of naming book)
     → IsOpenCause old new fault)
 
--- Books are looked for in a store, where nothing is committed.
+-- Books are looked for in a store, and nothing is committed.
 pub record Reads (result : Result Summary LedgerFault) (old new : State) : Type 0 where
   pub survives : Survives old new (λ trees. ⊥)
   pub read : HasCleanDisk new

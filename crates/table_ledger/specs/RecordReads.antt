@@ -1,4 +1,4 @@
--- Records that can be read of their rows.
+-- Records that can be read from their rows.
 use Rattle.std.specs.Prelude.{◌≡◌, ℕ, List, Some, length}
 use Rattle.std.specs.FinMap.{get}
 use Rattle.book_model.specs.Words.{Naming}

@@ -8,24 +8,24 @@ use Rattle.book_core.specs.Repricing.{if_room}
 use Rattle.kept_tables.specs.TableChanges.{amount_under}
 use Rattle.kept_tables.specs.Tables.{RecordRow, Tables}
 
--- what a row's record costs by a tariff, where it is dated on the first day or later
+-- what a row's record costs by a tariff, if it is dated on the first day or later
 abbrev pub price_under : Terms → RecordRow → Option Priced
 price_under terms row =
     if int_lt row.priced.day terms.effective then None
     else Some (price_by terms (record_with row.data_bytes))
 
--- that is a price that can be
+-- that is a price within the limits
 abbrev pub CanCost : Terms → RecordRow → Type 0
 CanCost terms row =
     int_lt row.priced.day terms.effective ≡ false
     → IsPriced (price_by terms (record_with row.data_bytes))
 
--- what all records cost together then, where the books hold as much; and each of them can cost so
+-- what all records then cost together, if the books can hold as much; and each of them can cost so
 pub record CostUnder (terms : Terms) (tables : Tables) (found : Option ℕ) : Type 0 where
   pub cost : found ≡ if_room (sum_by (amount_under terms) (values tables.records))
   pub can : IsSome found → (name : List ℕ) (row : RecordRow)
       → get tables.records name ≡ Some row → CanCost terms row
 
--- the book counts so many records
+-- the book counts this many records
 abbrev pub Counts : ℕ → Tables → Type 0
 Counts held tables = tables.book.held ≡ held

@@ -1,4 +1,4 @@
--- What is seen of a ledger in trees.
+-- What can be seen of a ledger in trees.
 use Rattle.std.specs.Prelude.{◌≡◌, Bool, false}
 use Rattle.sqlite_trees.specs.Tree.{Trees}
 use Rattle.sqlite_trees.specs.View.{View, IsClean}
@@ -12,8 +12,8 @@ use Rattle.table_ledger.specs.Ready.{IsReady, KeepBooks}
 use Rattle.table_ledger.specs.declared.ledger.TableLedger.{TableLedger}
 use Rattle.table_ledger.specs.declared.summary.Summary.{Summary}
 
--- what a ledger in trees has on its shelf: how it names records, what its store shows, that it is to
--- be reopened, and what it remembers of its book
+-- what a ledger in trees has on its shelf: how it names records, what its store shows, whether it
+-- is to be reopened, and what it remembers of its book
 pub record Shelf : Type 1 where
   pub naming : Naming
   pub state : State
@@ -30,22 +30,22 @@ shelf_of ghosts name_of ledger = record {
   summary = ledger.summary;
 }
 
--- the book that trees tell
+-- the book that trees determine
 abbrev pub told_by : Trees → Book
 told_by trees = book_in (tables_in trees)
 
--- a book that the next open may find, of the trees that a stop may leave
+-- a book that the next open may find, from the trees that a stop may leave
 abbrev pub LeftIn : (Trees → Type 0) → Book → Type 0
 LeftIn may_leave book = (trees : Trees) × may_leave trees × (book ≡ told_by trees)
 
--- A ledger wrote what is kept there: whatever a stop may leave are books that calls made; and the
+-- A ledger wrote what is stored there: whatever a stop may leave are books that calls made; and the
 -- ledger is ready, unless it is to be reopened.
 pub record AreBooks (naming : Naming) (view : View) (may_leave : Trees → Type 0)
     (must_reopen : Bool) (summary : Summary) : Type 0 where
   pub left : IsClean view → (trees : Trees) → may_leave trees → KeepBooks naming trees
   pub ready : must_reopen ≡ false → IsClean view → IsReady naming summary view
 
--- what is seen of such a ledger
+-- what can be seen of such a ledger
 abbrev pub seen_of : Naming → View → (Trees → Type 0) → Bool → Summary → Seen
 seen_of naming view may_leave must_reopen summary = record {
   book = told_by view.trees;

@@ -18,7 +18,7 @@ ruled_in summary = record no_rulings {
   adopted = summary.adopted;
 }
 
--- what is answered to a tariff by some rulings, where the books hold what the records cost under it
+-- what is answered to a tariff by some rulings, if the books can hold the records' costs under it
 abbrev pub terms_ruled : Rulings → List ℕ → Terms → Result Ruled LedgerFault
 terms_ruled rulings text terms =
     if list_any (has_text text) rulings.tariffs then Ok Already

@@ -1,4 +1,4 @@
--- The tables that trees tell, whatever they hold.
+-- The tables that trees determine, whatever they hold.
 use Rattle.std.specs.Prelude.{ℕ, ℤ, pos, negsuc, Bool, List, [], ◌∷◌, map, ◌==◌, not, Option, Some}
 use Rattle.std.specs.Prelude.{None}
 use Rattle.std.specs.FinMap.{from_entries}
@@ -15,7 +15,7 @@ abbrev pub number_of : Value → ℤ
 number_of (Int n) = n
 number_of value = pos 0
 
--- the number in a column, where it is none below 0
+-- the number in a column, unless it is below 0
 abbrev pub count_of : ℤ → ℕ
 count_of (pos n) = n
 count_of (negsuc n) = 0
@@ -81,7 +81,7 @@ abbrev pub choice_in : Row → ℕ × ChoiceRow
 choice_in row =
     (count_in row 0, record { name = bytes (column row 1); period = count_in row 2 })
 
--- the row of the book, by the first of its tree
+-- the row of the book, by the first row of its tree
 abbrev pub book_row_in : List Row → BookRow
 book_row_in [] = record { rule = 0; adopted = 0; held = 0; amount = 0 }
 book_row_in (row ∷ rows) = record {

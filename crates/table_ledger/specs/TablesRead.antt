@@ -1,4 +1,4 @@
--- Trees that hold tables tell them.
+-- Trees that hold tables determine them.
 use Rattle.std.proofs.Common.{◌≡◌, ◌∙◌, ap, refl, sym, Bool, true, false, ℤ, ℕ, List, [], ◌∷◌, not}
 use Rattle.std.proofs.Common.{Option, Some, None, map}
 use Rattle.std.specs.Prelude.{◌==◌}
@@ -49,19 +49,19 @@ record_back entry = λ i. (
 line_back : (line : (ℕ × List ℕ) × Bool) → line_in (line_columns line) ≡ line
 line_back line = λ i. (line.0, mark_back line.1 i)
 
--- what is read back of each of a list is the list
+-- what is read back of each element of a list is the list
 all_back : {X : Type 0} (columns : X → Row) (read : Row → X) → ((x : X) → read (columns x) ≡ x)
     → (xs : List X) → map read (map columns xs) ≡ xs
 all_back columns read back [] = refl
 all_back columns read back (x ∷ xs) = λ i. back x i ∷ all_back columns read back xs i
 
--- a map is that of its entries
+-- a map is made from its entries
 of_entries : {K V : Type 0} {R : K → K → Ordering} → IsTotalOrder R → IsAntisymmetric R
     → (m : FinMap R V) → from_entries (entries m) ≡ m
 of_entries total exact m = same_map total exact (from_entries (entries m)) m (λ q.
     get-from_entries total (entries m) q ∙ sym (get-entries m q))
 
--- a charge row at a place, whatever place it says
+-- a charge row at a place, whatever place it says,
 at_place : ℕ × RowKey → ChargeRow → ChargeRow
 at_place key row = record row { day = key.1.day; centre = key.1.centre; shift = key.1.shift }
 
@@ -87,7 +87,7 @@ find_placed q (e ∷ es) =
       | Greater ↦ λ is. rw is (find_placed q es)
     ] refl
 
--- a row at its own place stays as it is
+-- a row at its own place stays as it is,
 stays : (q : ℕ × RowKey) (row : ChargeRow) → place_of row ≡ q.1 → at_place q row ≡ row
 unfolding at_place
 stays q row placed = λ i. record row {
@@ -102,7 +102,7 @@ found_placed days q None placed is = ap (option_map (at_place q)) is ∙ sym is
 found_placed days q (Some row) placed is =
     ap (option_map (at_place q)) is ∙ ap Some (stays q row (placed q row is)) ∙ sym is
 
--- rows that stand under their own places are read back
+-- rows that are stored under their own places are read back,
 days_back : (days : DayTable) → ArePlaced days
     → from_entries (map day_in (map day_columns (entries days))) ≡ days
 days_back days placed =

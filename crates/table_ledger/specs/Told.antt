@@ -1,4 +1,4 @@
--- A ledger that is ready tells its book, and so does what a crash leaves of it.
+-- A ledger that is ready determines its book, and so does what a crash leaves of it.
 use Rattle.std.proofs.Common.{◌≡◌, ◌∙◌, Bool, IsTrue, sym, ap}
 use Rattle.sqlite_trees.specs.Tree.{Trees}
 use Rattle.sqlite_trees.specs.View.{View, IsClean}
@@ -13,24 +13,24 @@ use Rattle.table_ledger.specs.Shelf.{told_by, AreBooks, seen_of}
 use Rattle.table_ledger.specs.TablesRead.{tables_read}
 use Rattle.table_ledger.specs.declared.summary.Summary.{Summary}
 
--- trees that hold a book tell it
+-- trees that hold a book determine it
 pub told_kept : {naming : Naming} {book : Book} {trees : Trees} → IsKeptIn naming book trees
     → told_by trees ≡ book
 told_kept {naming} {book} {trees} kept =
     ap book_in (tables_read trees (tables_of naming book) kept.holds)
     ∙ book_follows naming book (calls_read naming book kept.calls)
 
--- what a ledger that is ready shows tells its book
+-- what a ledger that is ready shows determines its book
 pub told_ready : {naming : Naming} {summary : Summary} {view : View} {book : Book}
     → IsReadyAt naming summary view book → told_by view.trees ≡ book
 told_ready ready = told_kept ready.kept
 
--- while it is open, a crash leaves the last commit alone
+-- while it is open, a crash leaves only the last commit,
 abbrev pub LeavesTheLast : View → (Trees → Type 0) → Type 0
 LeavesTheLast view may_leave =
     (trees : Trees) → IsTrue view.is_open → may_leave trees → trees ≡ view.committed
 
--- so what a crash leaves of a ledger that is ready tells its book
+-- so what a crash leaves of a ledger that is ready determines its book
 pub told_left : {naming : Naming} {summary : Summary} {book : Book} (view : View)
     (may_leave : Trees → Type 0) → LeavesTheLast view may_leave
     → IsReadyAt naming summary view book → (trees : Trees) → may_leave trees
@@ -38,7 +38,7 @@ pub told_left : {naming : Naming} {summary : Summary} {book : Book} (view : View
 told_left view may_leave last ready trees left =
     ap told_by (last trees ready.rest.is_open left ∙ sym ready.rest.settled) ∙ told_ready ready
 
--- an open ledger has its own book alone to leave
+-- an open ledger can leave only its own book
 pub settled_on : (naming : Naming) (view : View) (may_leave : Trees → Type 0) (must_reopen : Bool)
     (summary : Summary) → LeavesTheLast view may_leave → IsClean view
     → AreBooks naming view may_leave must_reopen summary

@@ -10,7 +10,7 @@ pub record TotalsFit (totals : Totals) : Type 0 where
   pub blocks : totals.blocks < 2 ^ 64
   pub amount : totals.amount < 2 ^ 64
 
--- and each with a row more
+-- and each with one more row
 pub record FitsMore (totals : Totals) (row : ChargeRow) : Type 0 where
   pub count : totals.count + row.count < 2 ^ 64
   pub cpu : totals.cpu + row.cpu < 2 ^ 64

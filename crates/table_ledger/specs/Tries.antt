@@ -34,7 +34,7 @@ pub record Answered {V A : Type 0} (view : V → A) (naming : Naming) (summary :
     pub makes : Makes view outcome answer events
     pub ready : IsReadyAt naming summary new (after_all events book)
 
--- the store refused: its last commit stands, and the ledger remembers the same book
+-- the store refused: its last commit stays, and the ledger remembers the same book
 pub record IsRefused (summary : Summary) (old new : View) (book : Book) : Type 0 where
   pub stands : Stands old new
   pub remembers : Remembers summary book
@@ -55,7 +55,7 @@ pub record Tries {V A : Type 0} (view : V → A) (naming : Naming) (was is : Sum
   pub found : HasCleanDisk new → (book : Book) → IsReadyAt naming was old.view book
       → Found view naming is old.view new.view (outcome book) book tried
 
--- A list that is tried: its own refusal is that there is no such period; and where the ledger is
+-- A list that is tried: its own refusal is that there is no such period; and if the ledger is
 -- ready and the store refuses, there is a cause in the store.
 abbrev pub TriesItsOwn : {V : Type 0} → Naming → Summary → State → State
     → Result (Result V LedgerFault) StoreError → Type 0
@@ -70,7 +70,7 @@ pub record IsBack (old new : View) : Type 0 where
   pub was_open : IsTrue old.is_open
   pub committed : new.committed ≡ old.committed
 
--- what becomes of a call that was tried: its answer; or want of memory, where the store still serves
+-- what becomes of a call that was tried: its answer; or out of memory, if the store still serves
 -- and its last commit is seen again; or a fault of the store
 abbrev pub Ends : {V : Type 0} → Result V LedgerFault → Bool → Bool → Type 0 → Type 0
     → Result (Result V LedgerFault) StoreError → Type 0

@@ -1,11 +1,11 @@
--- Texts that are no tariff.
+-- Texts that are not tariffs.
 use Rattle.std.specs.Prelude.{◌≡◌, ◌⊎◌, ℕ, List, Err}
 use Rattle.book_model.specs.Words.{terms_in}
 use Rattle.tariff_rules.specs.declared.fault.TariffFault.{TariffFault}
 use Rattle.book_model.specs.declared.fault.LedgerFault.{LedgerFault}
 use Rattle.book_model.specs.declared.fault.LedgerFault.TheVariants.{Memory, TariffRefused}
 
--- memory was wanting for it, or the text says no terms, for this cause
+-- memory ran out for it, or the text says no terms, for this cause
 abbrev pub IsUnread : List ℕ → LedgerFault → Type 0
 IsUnread text fault =
     (fault ≡ Memory)

@@ -1,4 +1,4 @@
-//! Records that are handed in.
+//! Records that are submitted.
 
 ghost use Rattle.std.specs.Prelude.{◌≡◌, Ok, Err, false, if◌then◌else◌};
 ghost use Rattle.std.specs.Option.{option_map_or};
@@ -22,7 +22,7 @@ use std::alloc::Global;
 use tariff_rules::Priced;
 use tree_tables::{NewRecord, StoredRecord, Sums, TreeTables};
 
-/// What is answered to a record whose name one has that is held.
+/// What is answered to a record whose name is that of a held one.
 fn known_or_clash(stored: &StoredRecord, bytes: &[u8]) -> Result<Accepted, LedgerFault>
     requires { IsUsageRecord bytes.now }
     ensures { result ≡ (if same_bytes stored.now.data_bytes.items (data_of bytes.now)
@@ -36,8 +36,8 @@ fn known_or_clash(stored: &StoredRecord, bytes: &[u8]) -> Result<Accepted, Ledge
     }
 }
 
-/// Whose work a record measures, by the rule in force, where this is so by the first and by the
-/// second.
+/// Whose work a record measures by the rule in force, given the identities by the first and by the
+/// second rule.
 fn in_force<'a>(adopted: Option<u16>, first: &'a [u8; 24], second: &'a [u8; 32]) -> &'a [u8]
     ensures { result.now ≡ option_map_or (λ period. second.now) adopted first.now }
 {
@@ -88,7 +88,7 @@ fn keep_new<S: Store>(
     keep_entry(tables, &entry)
 }
 
-/// Answers a record, and keeps it where it is new, a tariff is in force on its day, and there is
+/// Answers a record, and keeps it if it is new, a tariff is in force on its day, and there is
 /// room for it.
 pub(crate) fn try_accept<S: Store, N: Naming>(
     tables: &mut TreeTables<S>,

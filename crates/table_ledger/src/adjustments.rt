@@ -20,10 +20,10 @@ use sqlite_trees::store::Store;
 use std::alloc::Global;
 use tree_tables::{StoredLine, TreeTables, usage_bytes};
 
-/// The first number that 64 bits with a sign do not hold.
+/// The first number that signed 64-bit integers do not hold.
 const SIGNED_END: u64 = 1 << 63;
 
-/// A line that is stored, where a record has its name.
+/// A line that is stored, if a record has its name.
 fn read_line<S: Store>(
     tables: &mut TreeTables<S>,
     alloc: Global,
@@ -48,7 +48,7 @@ fn read_line<S: Store>(
     }))
 }
 
-/// Lines that are stored, each where a record has its name.
+/// Lines that are stored, each if a record has its name.
 fn read_lines<S: Store>(
     tables: &mut TreeTables<S>,
     alloc: Global,
@@ -69,14 +69,14 @@ fn read_lines<S: Store>(
     Ok(lines)
 }
 
-/// The name of the line stands before the next one's.
+/// The name of the line comes before the next one's.
 fn is_before(line: &Line, next: &Line) -> bool
     ensures { result ≡ is_lt (by_bytes line.now.name next.now.name) }
 {
     line.name.cmp(&next.name).is_lt()
 }
 
-/// No two of the lines are of one record: their names rise.
+/// No two of the lines are for one record: their names rise.
 fn are_apart(lines: &[Line]) -> bool
     ensures apart { IsTrue result → IsDistinct same_bytes (map (λ line. line.name) lines.now) }
     ensures refused { result ≡ false → ¬ NamesRise lines.now }
@@ -91,7 +91,7 @@ fn are_apart(lines: &[Line]) -> bool
     true
 }
 
-/// What the lines amount to, where 64 bits hold it.
+/// What the lines amount to, if 64 bits hold it.
 fn total(lines: &[Line]) -> Option<u64>
     ensures total { IfSome result (λ total. total ≡ sum_by (λ line. line.priced.amount) lines.now) }
     ensures full { result ≡ None → 2 ^ 64 ≤ sum_by (λ line. line.priced.amount) lines.now }
@@ -111,7 +111,7 @@ fn is_dated(line: &Line) -> bool
     is_day(line.priced.day)
 }
 
-/// The lines are dated on days, and a signed number of 64 bits holds their total.
+/// The lines are dated on days, and a signed 64-bit integer holds their total.
 fn can_show(lines: &[Line]) -> bool
     ensures shown { IsTrue result → AreLines lines.now }
     ensures refused { result ≡ false → ¬ AreLines lines.now }
@@ -122,7 +122,7 @@ fn can_show(lines: &[Line]) -> bool
     total < SIGNED_END && lines.iter().all(|line| is_dated(line))
 }
 
-/// The lines in order, where they can be shown.
+/// The lines in order, if they can be shown.
 fn sorted(lines: Vec<Line>) -> Option<Vec<Line>>
     ensures sorted { IfSome result (λ sorted. sorted.items ≡ members (set_of by_line lines.items)) }
     ensures shown { IfSome result (λ sorted. AreLines sorted.items) }

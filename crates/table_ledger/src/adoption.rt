@@ -23,13 +23,13 @@ use sqlite_trees::store::Store;
 use std::alloc::Global;
 use tree_tables::{StoredRecord, TreeTables};
 
-/// The second rule, as the row of the book says it.
+/// The second rule, as the row of the book gives it.
 const SECOND_RULE: u64 = 2;
 
 /// The most records that are walked over: more than any tree of a sound store has.
 const MOST_STEPS: u64 = 1 << 32;
 
-/// A record is to be charged: it is alone in its identity, or the one that was chosen last.
+/// A record is to be charged: it is alone in its identity, or is the one that was chosen last.
 fn is_due<S: Store>(
     tables: &mut TreeTables<S>,
     alloc: Global,
@@ -47,7 +47,7 @@ fn is_due<S: Store>(
     Ok(sharing.len() == 1)
 }
 
-/// A record that is not charged is charged where it is to be.
+/// Charges a record that is not charged, if it is to be.
 fn settle_record<S: Store>(
     tables: &mut TreeTables<S>,
     alloc: Global,
@@ -70,7 +70,7 @@ fn settle_record<S: Store>(
     charge(tables, period, &stored.name, &effects)
 }
 
-/// Each record that is not charged is charged where it is to be.
+/// Charges each record that is not charged and is to be.
 fn settle_all<S: Store>(
     tables: &mut TreeTables<S>,
     alloc: Global,
@@ -95,7 +95,7 @@ fn settle_all<S: Store>(
     Err(StoreError::Corrupt)
 }
 
-/// Each record that is not charged is charged where it is to be, by the choices.
+/// Charges each record that is not charged and is to be, by the choices.
 fn charge_due<S: Store>(
     tables: &mut TreeTables<S>,
     alloc: Global,
@@ -140,7 +140,7 @@ fn keep_adoption<S: Store>(
     tables.commit()
 }
 
-/// Answers a rule of identity, and adopts it where it is the second and the first is in force.
+/// Answers a rule of identity, and adopts it if it is the second and the first is in force.
 pub(crate) fn try_adopt<S: Store>(
     tables: &mut TreeTables<S>,
     alloc: Global,

@@ -26,7 +26,7 @@ impl Totals {
     ghost use Rattle.std.specs.Prelude.{◌≡◌, ◌+◌, IfSome, None};
     ghost use Rattle.table_ledger.specs.TotalsFit.{FitsMore, TotalsFit};
 
-    /// The sums with a row more, where 64 bits hold them.
+    /// The sums with one more row, if 64 bits hold them.
     fn with(&self, row: &ChargeRow) -> Option<Totals>
         ensures count { IfSome result (λ more. more.count ≡ self.now.count + row.now.count) }
         ensures cpu { IfSome result (λ more. more.cpu ≡ self.now.cpu + row.now.cpu) }

@@ -33,7 +33,7 @@ pub(crate) struct Choice {
     pub(crate) effects: ChoiceEffects,
 }
 
-/// What the choice of a record changes, by the record of its identity that is charged until now.
+/// What the choice of a record changes, by the record of its identity that was charged until now.
 fn look_for_choice<S: Store>(
     tables: &mut TreeTables<S>,
     alloc: Global,
@@ -53,7 +53,7 @@ fn look_for_choice<S: Store>(
     Ok(plan_choice(through, current, &member_of(stored)))
 }
 
-/// Writes what a record changes in the open period that is charged, or charged no more.
+/// Writes what changes in the open period when a record becomes charged, or is no longer charged.
 fn write_change<S: Store>(
     tables: &mut TreeTables<S>,
     period: u16,
@@ -67,7 +67,7 @@ fn write_change<S: Store>(
     write_mark(tables, &effects.unmark)
 }
 
-/// The record that was charged until now, if one was, is charged no more.
+/// The record that was charged until now, if there was one, is no longer charged.
 fn withdraw<S: Store>(
     tables: &mut TreeTables<S>,
     period: u16,
@@ -83,7 +83,7 @@ fn withdraw<S: Store>(
     }
 }
 
-/// A record that is held is charged.
+/// A record that is held becomes charged.
 pub(crate) fn charge<S: Store>(
     tables: &mut TreeTables<S>,
     period: u16,
@@ -119,7 +119,7 @@ fn keep_choice<S: Store>(tables: &mut TreeTables<S>, choice: &Choice) -> Result<
     tables.commit()
 }
 
-/// Answers the choice of a record by its name, and keeps it where the record is one of two or more
+/// Answers the choice of a record by its name, and keeps it if the record is one of two or more
 /// of its identity and is not the one that is chosen now.
 pub(crate) fn try_choose<S: Store>(
     tables: &mut TreeTables<S>,

@@ -33,7 +33,7 @@ impl Chosen {
         }
     }
 
-    /// A record is the last of its identity from now on.
+    /// Makes a record the last chosen of its identity.
     fn put(&mut self, identity: Vec<u8>, name: [u8; 32]) -> Result<(), AllocError>
         ensures { OnOk result ((other : List ℕ) → name_of self.new other
             ≡ if same_bytes other identity.items then Some name else name_of self.old other) }
@@ -42,7 +42,7 @@ impl Chosen {
         Ok(())
     }
 
-    /// Whether a record was chosen last of its identity.
+    /// Whether a record was the last chosen of its identity.
     pub(crate) fn is_last(&self, identity: &[u8], name: &[u8; 32]) -> bool
         ensures { result ≡ is_last self.now identity.now name.now }
     {
@@ -53,7 +53,7 @@ impl Chosen {
     }
 }
 
-/// The record of one choice more is the last of its identity, if there is one of its name.
+/// The record of one more choice is the last of its identity, if there is one of its name.
 fn join<S: Store>(
     tables: &mut TreeTables<S>,
     alloc: Global,
@@ -71,7 +71,7 @@ fn join<S: Store>(
     Ok(())
 }
 
-/// Of some choices, the last of each identity.
+/// From some choices, the last of each identity.
 fn last_of<S: Store>(
     tables: &mut TreeTables<S>,
     alloc: Global,
@@ -88,7 +88,7 @@ fn last_of<S: Store>(
     Ok(chosen)
 }
 
-/// The records that were chosen last. What is kept of them grows with the choices, and not with the
+/// The records that were chosen last. The memory for them grows with the choices, and not with the
 /// records.
 pub(crate) fn look_for_chosen<S: Store>(
     tables: &mut TreeTables<S>,

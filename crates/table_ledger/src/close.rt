@@ -38,7 +38,7 @@ fn keep_close<S: Store>(tables: &mut TreeTables<S>, close: &Close) -> Result<(),
     tables.commit()
 }
 
-/// Answers a close, and closes the open period where it is this one and the day is later than the
+/// Answers a close, and closes the open period if it is this one and the day is later than the
 /// last close.
 pub(crate) fn try_close<S: Store>(
     tables: &mut TreeTables<S>,
@@ -54,7 +54,7 @@ pub(crate) fn try_close<S: Store>(
     if !is_done(&answer) {
         return Ok(answer);
     }
-    // The memory is taken first: want of it then leaves the books as they were.
+    // The memory is taken first: if there is too little, the books stay as they were.
     summary.closes.push(close.through)?;
     if let Err(error) = keep_close(tables, close) {
         summary.closes.pop();

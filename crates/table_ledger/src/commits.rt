@@ -75,7 +75,7 @@ pub(crate) fn write_line<S: Store>(
     }
 }
 
-/// Takes the mark from a record that is charged no more.
+/// Takes the mark from a record that is no longer charged.
 pub(crate) fn write_mark<S: Store>(
     tables: &mut TreeTables<S>,
     unmark: &Option<[u8; 32]>,

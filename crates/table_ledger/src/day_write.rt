@@ -22,13 +22,13 @@ use tree_tables::{DayPlace, TreeTables};
 #[derive(Clone, Copy, Debug)]
 pub(crate) enum DayWrite {
     Leave,
-    /// A row at its place, in place of one that was there.
+    /// A row at its place, replacing one that was there.
     Put(ChargeRow),
     /// No row at a place any more.
     Drop(RowKey),
 }
 
-/// The first number that 64 bits with a sign do not hold.
+/// The first number that signed 64-bit integers do not hold.
 const SIGNED_END: u64 = 1 << 63;
 
 /// Where a price is charged.
@@ -67,7 +67,7 @@ fn first_row(priced: &Priced) -> ChargeRow
     }
 }
 
-/// The row with one more price, where 64 bits hold its sums.
+/// The row with one more price, if 64 bits hold its sums.
 fn with_price(row: &ChargeRow, priced: &Priced) -> Option<ChargeRow>
     ensures { IfSome result (λ more. more ≡ changed.with_price row.now priced.now) }
 {
@@ -97,7 +97,7 @@ fn less_price(row: &ChargeRow, priced: &Priced) -> ChargeRow
     }
 }
 
-/// The row is written, where its numbers can be stored.
+/// The row is written, if its numbers can be stored.
 fn fitting(row: ChargeRow) -> Option<DayWrite>
     ensures same { IfSome result (λ write. write ≡ Put row) }
     ensures fits { IfSome result WriteFits }
@@ -109,7 +109,7 @@ fn fitting(row: ChargeRow) -> Option<DayWrite>
     }
 }
 
-/// A price joins the row of its place, if there is one, where the row can be stored then.
+/// A price joins the row of its place, if there is one, provided that the row can be stored.
 fn added(found: Option<ChargeRow>, priced: &Priced) -> Option<DayWrite>
     ensures added { IfSome result (IsAdded found priced.now) }
     ensures fits { IfSome result WriteFits }
@@ -144,7 +144,7 @@ fn turned(found: Option<ChargeRow>, old: &Priced, new: &Priced) -> Option<DayWri
     }
 }
 
-/// The row of a place, where it stands there.
+/// The row of a place, if there is one.
 fn find_row<S: Store>(
     tables: &mut TreeTables<S>,
     period: u16,
@@ -163,7 +163,7 @@ fn find_row<S: Store>(
     Ok(found)
 }
 
-/// Where a row stands.
+/// Where a row is stored.
 fn key_at(row: &ChargeRow) -> RowKey
     ensures { result ≡ place_of row.now }
 {
@@ -192,7 +192,7 @@ pub(crate) fn look_for_day<S: Store>(
     write.ok_or(StoreError::Corrupt)
 }
 
-/// What one price in the place of another writes, where both are charged in one row.
+/// What replacing one price by another writes, if both are charged in one row.
 pub(crate) fn look_for_turn<S: Store>(
     tables: &mut TreeTables<S>,
     period: u16,

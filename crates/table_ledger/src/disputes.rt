@@ -1,4 +1,4 @@
-//! Identities that two or more records have, none of which was chosen.
+//! Identities that two or more records have, and for which none was chosen.
 
 ghost use Rattle.std.specs.Prelude.{◌≡◌, All, IfErr, IfOk, IsTrue, false, filter, map};
 ghost use Rattle.tree_tables.specs.States.{state};
@@ -75,7 +75,7 @@ fn alone(alloc: Global, stored: &StoredRecord) -> Result<Dispute, StoreError>
     Ok(Dispute { identity, members })
 }
 
-/// A record joins the last dispute where that has its identity; else it begins one.
+/// A record joins the last dispute if that has its identity; else it begins one.
 fn join(alloc: Global, found: &mut Vec<Dispute>, stored: &StoredRecord) -> Result<(), StoreError>
     ensures joined { IfOk result (λ joined. map dispute_shown found.new.items
         ≡ join_last (map dispute_shown found.old.items) (stored_entry stored.now)) }
@@ -100,7 +100,7 @@ fn join(alloc: Global, found: &mut Vec<Dispute>, stored: &StoredRecord) -> Resul
 }
 
 /// Records that are not charged and in order, in groups: neighbours of one identity are one dispute.
-/// Where another of the identity is charged, that was chosen, and they are left out.
+/// If another of the identity is charged, that one was chosen, and they are left out.
 fn grouped<S: Store>(
     tables: &mut TreeTables<S>,
     alloc: Global,
@@ -124,7 +124,7 @@ fn grouped<S: Store>(
     Ok(found)
 }
 
-/// The identities of two or more records, none of which was chosen, by their bytes, each with its
+/// The identities of two or more records for which none was chosen, by their bytes, each with its
 /// records by name.
 pub(crate) fn try_disputes<S: Store>(
     tables: &mut TreeTables<S>,

@@ -1,4 +1,4 @@
-//! What a new record changes beside its own row, by the records that share its identity.
+//! What a new record changes besides its own row, by the records that share its identity.
 
 ghost use Rattle.std.specs.Prelude.{◌≡◌, IfOk, map};
 ghost use Rattle.tree_tables.specs.States.{state};
@@ -27,11 +27,11 @@ pub(crate) fn member_of(stored: &StoredRecord) -> Member
     }
 }
 
-/// What a record that is alone in its identity counts where it was chosen: no new record changes
-/// that it is charged.
+/// How much a record that is alone in its identity counts if it was chosen: no new record changes
+/// whether it is charged.
 const CHOSEN_MEMBERS: u64 = 2;
 
-/// The view of records that share an identity, two at most.
+/// The view of records that share an identity, at most two of them.
 fn look_for_view<S: Store>(
     tables: &mut TreeTables<S>,
     through: Option<i32>,

@@ -19,11 +19,11 @@ use sqlite_trees::store::Store;
 use std::alloc::Global;
 use tree_tables::{Close, TreeTables};
 
-/// Books that are kept in the trees of a store.
+/// Books that are stored in the trees of a store.
 #[derive(Drop)]
 pub struct TableLedger<S: Store, N: Naming + Drop> {
     tables: TreeTables<S>,
-    /// The store failed: the books are to be opened again.
+    /// The store failed: the books have to be opened again.
     must_reopen: bool,
     naming: N,
     summary: Summary,
@@ -97,7 +97,7 @@ impl<S: Store, N: Naming + Drop> Ledger for TableLedger<S, N> {
             (seen_in S.Store N.name_of self.new) result (charges_outcome period) }
         ensures shown { IfOk result (λ rows. AreRows rows.items) }
 
-        // What fails of books that calls made is the store's own.
+        // What fails in books that calls made is the store's own.
         ensures own { FailsAsItsOwn result (shelf_of S.Store N.name_of self.old)
             (shelf_of S.Store N.name_of self.new) }
     {

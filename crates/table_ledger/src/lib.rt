@@ -1,5 +1,5 @@
 //! A ledger that keeps its books in the sorted trees of a store: each call is at most one commit, and
-//! what a stop leaves is the book before the call or the one behind it.
+//! what a stop leaves is the book before the call or the one after it.
 #![tactic(auto)]
 
 mod accept;

@@ -33,7 +33,7 @@ const SECOND_RULE: u64 = 2;
 /// The period of adoption where no rule was adopted.
 const NEVER_ADOPTED: u64 = 0;
 
-/// The tariff of a row, where its text is one and says the row's day.
+/// The tariff of a row, if its text is one and gives the row's day.
 fn tariff_at(alloc: Global, row: &StoredTariff) -> Result<AcceptedTariff, LedgerFault>
     ensures says { IfOk result (λ tariff. SaysTariff row.now tariff) }
     ensures day { IfOk result (λ tariff. tariff.terms.effective ≡ row.now.day) }
@@ -53,7 +53,7 @@ fn tariff_at(alloc: Global, row: &StoredTariff) -> Result<AcceptedTariff, Ledger
     Ok(AcceptedTariff { text, tariff })
 }
 
-/// The tariffs of rows, where each begins later than those before it.
+/// The tariffs of rows, if each begins later than those before it.
 fn tariffs_of(alloc: Global, rows: &[StoredTariff]) -> Result<Vec<AcceptedTariff>, LedgerFault>
     ensures say { IfOk result (λ tariffs. AllZip SaysTariff rows.now tariffs.items) }
     ensures rising { IfOk result (λ tariffs. are_rising tariffs.items ≡ true) }
@@ -80,7 +80,7 @@ fn last_of(days: &[i32]) -> Option<i32>
     days.last().copied()
 }
 
-/// The row is that of the next close behind those through some days.
+/// The row is that of the next close after those through some days.
 fn is_next(days: &[i32], row: &Close) -> bool
     ensures next { result ≡ true → IsNextClose days.now row.now }
     ensures other { result ≡ false → ¬ IsNextClose days.now row.now }
@@ -91,7 +91,7 @@ fn is_next(days: &[i32], row: &Close) -> bool
         && row.through <= LAST_DAY
 }
 
-/// The day of the next close: of the period behind the last, through a later day.
+/// The day of the next close: of the period after the last, through a later day.
 fn next_day(days: &[i32], row: &Close) -> Result<i32, LedgerFault>
     ensures has { IfOk result (λ day. HasDay row.now day) }
     ensures next { IfOk result (λ day. IsNextClose days.now row.now) }
@@ -105,7 +105,7 @@ fn next_day(days: &[i32], row: &Close) -> Result<i32, LedgerFault>
     }
 }
 
-/// The days of closes, where their periods follow one another, and so do they.
+/// The days of closes, if their periods follow one another, and the days do too.
 fn days_of(alloc: Global, rows: &[Close]) -> Result<Vec<i32>, LedgerFault>
     ensures have { IfOk result (λ days. AllZip HasDay rows.now days.items) }
     ensures kinds { IfErr result IsStoreFault }
@@ -120,7 +120,7 @@ fn days_of(alloc: Global, rows: &[Close]) -> Result<Vec<i32>, LedgerFault>
     Ok(days)
 }
 
-/// The period of adoption that a row says, where it is under one of the two rules: the first was
+/// The period of adoption that a row gives, if it is under one of the two rules: the first was
 /// never adopted, and the second in a period that has begun.
 fn adopted_by(row: &StoredBook, closes: usize) -> Option<Option<u16>>
     requires { closes < last_period }
@@ -146,7 +146,7 @@ fn is_kept(row: &StoredBook) -> bool
     row.held <= MAX_HELD as u64 && row.amount <= MAX_COST
 }
 
-/// There are fewer closes than there may be periods, and no more choices than there may be.
+/// There are fewer closes than possible periods, and no more choices than the most possible.
 fn are_few(closes: &[i32], choices: u32) -> bool
     ensures few { result ≡ true → length closes.now < last_period }
     ensures chosen { result ≡ true → choices ≤ most_choices }
@@ -156,7 +156,7 @@ fn are_few(closes: &[i32], choices: u32) -> bool
     closes.len() < LAST_PERIOD as usize && choices as usize <= MAX_CHOICES
 }
 
-/// The summary of the rows, where they are those of a book; the last of its choices has this number.
+/// The summary of the rows, if they are those of a book; the last of its choices has this number.
 fn summary_of(
     alloc: Global,
     row: &StoredBook,
@@ -207,7 +207,7 @@ fn look_for_summary<S: Store>(
     Ok(summary_of(alloc, &row, &tariffs, &closes, choices))
 }
 
-/// Reads the summary of the book that a store keeps, if it keeps one.
+/// Reads the summary of the book that a store holds, if it holds one.
 pub(crate) fn read_summary<S: Store>(
     alloc: Global,
     tables: &mut TreeTables<S>,

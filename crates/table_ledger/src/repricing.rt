@@ -1,4 +1,4 @@
-//! Records that a tariff is for, whose prices it changes: one at a time, in walks by name.
+//! Records that a tariff is for, and their new prices: one at a time, in walks by name.
 
 ghost use Rattle.std.specs.Prelude.{◌≡◌, ◌≤◌, IfOk, IfSome, Some};
 ghost use Rattle.book_core.specs.declared.effect_table.DayChange.TheVariants.{Add, Take};
@@ -24,7 +24,7 @@ use tree_tables::{StoredRecord, TreeTables, usage_bytes};
 /// The most records that are walked over: more than any tree of a sound store has.
 const MOST_STEPS: u64 = 1 << 32;
 
-/// What a record costs by a tariff, where it is dated on the first day or later.
+/// What a record costs by a tariff, if it is dated on the first day or later.
 fn new_price(
     alloc: Global,
     tariff: &Tariff,
@@ -41,7 +41,7 @@ fn new_price(
     Ok(Some(price(tariff, &Type30::of_usage(&bytes))))
 }
 
-/// What a record costs under a tariff, whether or not that is for it.
+/// What a record costs under a tariff, whether or not the tariff is for it.
 fn amount_under(alloc: Global, tariff: &Tariff, stored: &StoredRecord) -> Result<u64, StoreError>
     ensures amount { IfOk result (λ amount.
         amount ≡ change.amount_under tariff.now (stored_entry stored.now).1) }
@@ -53,7 +53,7 @@ fn amount_under(alloc: Global, tariff: &Tariff, stored: &StoredRecord) -> Result
     }
 }
 
-/// What all records cost together under a tariff, where the books hold as much.
+/// What all records cost together under a tariff, if the books can hold as much.
 pub(crate) fn cost_under<S: Store>(
     tables: &mut TreeTables<S>,
     alloc: Global,
@@ -70,7 +70,7 @@ pub(crate) fn cost_under<S: Store>(
             return Ok(Some(cost));
         };
         let amount = amount_under(alloc, tariff, &stored)?;
-        // It is over at the first excess: 64 bits need not hold what all of them cost.
+        // It ends at the first excess: 64 bits need not hold what all of them cost.
         let Some(more) = cost.checked_add(amount) else {
             return Ok(None);
         };
@@ -84,8 +84,8 @@ pub(crate) fn cost_under<S: Store>(
     Err(StoreError::Corrupt)
 }
 
-/// A price takes the place of another in the charge rows of a period: that leaves its row, and this
-/// joins its own. One row for both is read and written once.
+/// A price replaces another in the charge rows of a period: the old one leaves its row, and the new
+/// one joins its own. If both have one row, that is read and written once.
 fn change_price<S: Store>(
     tables: &mut TreeTables<S>,
     period: u16,
@@ -104,7 +104,7 @@ fn change_price<S: Store>(
     change_day(tables, period, &Some(DayChange::Add(*new)))
 }
 
-/// A record costs something else; where it is charged, so do the charge rows of the open period.
+/// Changes the price of a record; if it is charged, the charge rows of the open period too.
 fn set_price<S: Store>(
     tables: &mut TreeTables<S>,
     period: u16,
@@ -122,7 +122,7 @@ fn set_price<S: Store>(
     change_price(tables, period, &stored.priced, priced)
 }
 
-/// A record that a tariff is for costs what that says.
+/// Sets the price of a record that a tariff is for to what the tariff says.
 fn reprice<S: Store>(
     tables: &mut TreeTables<S>,
     alloc: Global,
@@ -139,7 +139,7 @@ fn reprice<S: Store>(
     }
 }
 
-/// Each record that a tariff is for costs what that says.
+/// Sets the price of each record that a tariff is for to what the tariff says.
 pub(crate) fn reprice_all<S: Store>(
     tables: &mut TreeTables<S>,
     alloc: Global,

@@ -10,8 +10,8 @@ use sqlite_trees::error::StoreError;
 use sqlite_trees::store::Store;
 use tree_tables::TreeTables;
 
-/// Takes back what was written, and answers the fault that an error of the store is: want of memory,
-/// where the store still serves; else one of the store.
+/// Rolls back what was written, and answers the fault that an error of the store is: out of memory,
+/// if the store still serves; else one of the store.
 pub(crate) fn fault_of<S: Store>(tables: &mut TreeTables<S>, error: StoreError) -> LedgerFault
     ensures kind { (result ≡ LedgerFault.Memory) ⊎ (result ≡ LedgerFault.Store) }
     ensures told { result ≡ LedgerFault.Memory → error ≡ StoreError.OutOfMemory }
@@ -33,7 +33,7 @@ pub(crate) fn fault_of<S: Store>(tables: &mut TreeTables<S>, error: StoreError) 
     }
 }
 
-/// Answers a call that was tried. From a fault of the store on the books are to be reopened.
+/// Answers a call that was tried. After a fault of the store the books have to be reopened.
 pub(crate) fn settle<S: Store, V: Drop>(
     tables: &mut TreeTables<S>,
     must_reopen: &mut bool,

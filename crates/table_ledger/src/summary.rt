@@ -73,7 +73,7 @@ impl Summary {
         self.closes.len() as u16 + 1
     }
 
-    /// A period of this number is there, closed or open.
+    /// There is a period of this number, closed or open.
     pub(crate) fn has_period(&self, number: u16) -> bool
         ensures { result ≡ is_period number (ruled_in self.now) }
     {
@@ -87,7 +87,7 @@ impl Summary {
         are_before(&self.tariffs, tariff) && is_after(self.last_close(), tariff.effective())
     }
 
-    /// What is answered to a tariff, where the books hold what the records cost under it.
+    /// What is answered to a tariff, if the books can hold what the records cost under it.
     pub(crate) fn tariff_answer(&self, text: &str, tariff: &Tariff) -> Result<Ruled, LedgerFault>
         ensures { result ≡ terms_ruled (ruled_in self.now) text.now tariff.now }
     {

@@ -1,4 +1,4 @@
-//! Tariffs that are handed in.
+//! Tariffs that are submitted.
 
 ghost use Rattle.std.specs.Prelude.{◌≡◌, ◌<◌, ◌^◌, IfErr, IfOk, Ok};
 ghost use Rattle.tree_tables.specs.States.{state};
@@ -73,8 +73,8 @@ fn tariff_of(alloc: Global, text: &str) -> Result<Tariff, LedgerFault>
     }
 }
 
-/// Answers a tariff file, and puts the tariff in force where it is later than all that was ruled and
-/// the books hold what the records cost under it.
+/// Answers a tariff file, and puts the tariff in force if it is later than all that was ruled and
+/// the books can hold what the records cost under it.
 pub(crate) fn try_tariff<S: Store>(
     tables: &mut TreeTables<S>,
     summary: &mut Summary,
@@ -95,7 +95,7 @@ pub(crate) fn try_tariff<S: Store>(
     let Some(amount) = cost_under(tables, alloc, &tariff)? else {
         return Ok(Err(LedgerFault::Full));
     };
-    // The memory is taken first: want of it then leaves the books as they were.
+    // The memory is taken first: if there is too little, the books stay as they were.
     let own = Some(String::from_str(alloc, text)?);
     summary.tariffs.reserve(1)?;
     let sums = Sums {

@@ -140,7 +140,7 @@ module _ (naming : Naming) (book : Book) (whole : IsReadable naming book) (bytes
             ] refl
       ] refl
 
--- the law of it
+-- the law
 pub accept_follows : AcceptFollows
 accept_follows = record {
   answer = λ naming book bytes whole usage. answered naming book whole bytes usage.framed;
@@ -168,7 +168,7 @@ one_told : (through : Option ℤ) (one : NamedRow) (named : Bool)
 one_told through one true = refl
 one_told through one false = refl
 
--- only of one row it hangs on that
+-- only the view of one row depends on that
 pub view_is_told : ViewIsTold
 view_is_told through choices [] = refl
 view_is_told through choices (one ∷ []) = one_told through one (is_named choices one.0)

@@ -1,5 +1,5 @@
 -- The tables under the second rule of identity are made of those before it, and their row of the
--- book tells the rule.
+-- book determines the rule.
 use Rattle.std.proofs.Common.{ℕ, ap, Option}
 use Rattle.std.specs.Prelude.{if◌then◌else◌, is_some, unwrap_or}
 use Rattle.book_model.specs.Words.{first_rule, second_rule}
@@ -19,7 +19,7 @@ rule_since adopted = if is_some adopted then second_rule else first_rule
 abbrev since : Option ℕ → ℕ
 since adopted = unwrap_or adopted never_adopted
 
--- the law of it
+-- the law
 pub adoptions_follow : AdoptionsFollow
 adoptions_follow = record {
   done = λ naming book whole done. adoption_follows naming book whole.sound whole.usage done;

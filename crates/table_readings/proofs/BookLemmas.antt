@@ -21,11 +21,11 @@ use Rattle.table_readings.proofs.RulingsReading.{adopted_back, tariffs_back, clo
 use Rattle.table_readings.proofs.SetReading.{before_back}
 
 module _ (closes : List ℤ) (charged : ℕ → Records) where
-  -- the period after so many closes
+  -- the period after this many closes
   abbrev link : ℕ → Period
   link k = period_by (close_after k closes) (charged k) (charged (suc k))
 
-  -- there are so many periods
+  -- there are this many periods
   chained-length : (n : ℕ) → length (chained n closes charged) ≡ n
   chained-length zero = refl
   chained-length (suc n) =
@@ -65,7 +65,7 @@ module _ (naming : Naming) (book : Book) (whole : IsReadable naming book) where
   abbrev charged : ℕ → Records
   charged = whole.past.charged
 
-  -- the period after so many closes is one of the book
+  -- the period after this many closes is one of the book,
   its_place : (k : ℕ) → k < length days
       → slice_get (all_periods book) k ≡ Some (link days charged k)
   its_place k within =
@@ -75,7 +75,7 @@ module _ (naming : Naming) (book : Book) (whole : IsReadable naming book) where
       ∙ ap (λ periods. slice_get periods k) whole.past.past
       ∙ chained-at days charged (length days) k within
 
-  -- it is read back
+  -- and it is read back
   period_back : (k : ℕ) → k < length days
       → period_in (suc k) (close_after k (values tables.closes)) (charged (suc k)) tables
       ≡ link days charged k
@@ -89,7 +89,7 @@ module _ (naming : Naming) (book : Book) (whole : IsReadable naming book) where
             taken_back naming book whole.sound whole.lines k (link days charged k) there i;
       }
 
-  -- so are the first periods, from what the last of them charged
+  -- so are the first periods, from what the last of them charged,
   past_back : (k : ℕ) → k ≤ length days
       → past_in k (charged k) tables ≡ chained k days charged
   past_back zero came = refl
@@ -121,11 +121,11 @@ module _ (naming : Naming) (book : Book) (whole : IsReadable naming book) where
       ∙ ap (λ charged. past_in (length days) charged tables) whole.past.posted
       ∙ past_back (length days) (omega arith) ∙ sym whole.past.past)
 
--- the law of it
+-- the law
 pub book_follows : BookFollows
 book_follows naming book whole = read_back naming book whole
 
--- so the tables tell the book
+-- so the tables determine the book
 pub tables_tell : TablesTell
 tables_tell naming one other whole too same =
     sym (book_follows naming one whole) ∙ ap book_in same ∙ book_follows naming other too

@@ -65,7 +65,7 @@ close_made naming book number day made on done =
       left = ap (close day) made.left;
     }
 
--- a record that is chosen: it is the one of its own name
+-- a record that is chosen: the one that has its own name
 choose_made : (naming : Naming) (book : Book) (name bytes : List ℕ) → IsFromCalls naming book
     → choose_answer naming book name ≡ Ok Done
     → record_named naming book.held name ≡ Some bytes → IsFromCalls naming (choose bytes book)
@@ -99,7 +99,7 @@ adopt_made naming book made done = record {
   left = ap adopt made.left;
 }
 
--- the law of it
+-- the law
 pub calls_stay : CallsStay
 calls_stay = record {
   start = λ naming. record { history = []; answered = tt; handed_in = tt; left = refl };

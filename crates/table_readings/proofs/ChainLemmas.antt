@@ -1,4 +1,4 @@
--- The closed periods of a history hang together by what its closes charged.
+-- The closed periods of a history are linked by what its closes charged.
 use Rattle.std.proofs.Common.{◌≡◌, ℕ, zero, suc, List, [], ◌∷◌, ◌++◌, length, refl, sym, ap, ◌∙◌}
 use Rattle.std.specs.Prelude.{Option, ℤ}
 use Rattle.book_model.specs.Words.{is_dated_after, Event, book_of, charged_in, closes, day_of_close}

@@ -67,13 +67,13 @@ by_tests lone chosen full =
     if lone then Err NotDisputed else if chosen then Ok Already else if full then Err Full
     else Ok Done
 
--- it is one where the record with a rival is chosen where it is charged
+-- it is one if the record with a rival is chosen when it is charged
 same_tests : (lone chosen charged full : Bool) → (lone ≡ false → charged ≡ chosen)
     → by_tests lone chosen full ≡ by_tests lone charged full
 same_tests true chosen charged full same = refl
 same_tests false chosen charged full same = ap (λ c. by_tests false c full) (sym (same refl))
 
--- the first two rows of an identity tell that one is alone
+-- the first two rows of an identity show whether one is alone
 lone_in_two : (rows : List NamedRow) → (length rows == 1) ≡ (length (take 2 rows) == 1)
 lone_in_two [] = refl
 lone_in_two (one ∷ []) = refl
@@ -82,7 +82,7 @@ lone_in_two (one ∷ other ∷ rows) = two_or_more (length rows)
     two_or_more : (n : ℕ) → (suc (suc n) == 1) ≡ false
     two_or_more n = grind (arith, nat_tests)
 
--- of one row at most the first one is the only one
+-- if there is at most one row, the first one is the only one
 first_only : (rows : List NamedRow) → length rows ≤ 1 → slice_get rows 0 ≡ only_of rows
 first_only [] few = refl
 first_only (one ∷ []) few = refl
@@ -102,7 +102,7 @@ module _ (naming : Naming) (book : Book) (whole : IsReadable naming book) where
     abbrev has_name : List ℕ → Bool
     has_name bytes = same_bytes (name_of naming bytes) name
 
-    -- where no record of the name is held, the name has no row
+    -- if no record of the name is held, the name has no row
     no_row : record_named naming book.held name ≡ None → get tables.records name ≡ None
     no_row unfound =
         let none = found_none has_name (members book.held) unfound in
@@ -142,7 +142,7 @@ module _ (naming : Naming) (book : Book) (whole : IsReadable naming book) where
                 ∙ found_row naming book whole.sound whole.lines.framed bytes cost.0 there cost.1,
           )
 
-      -- where it has a rival, it is charged where it is chosen
+      -- if it has a rival, it is charged if it is chosen
       chosen_charged : is_unrivalled book.rulings book.held bytes ≡ false
           → has charged bytes ≡ is_chosen book.rulings bytes
       chosen_charged rivalled =
@@ -154,7 +154,7 @@ module _ (naming : Naming) (book : Book) (whole : IsReadable naming book) where
           alike true = refl
           alike false = refl
 
-      -- so the choice is answered by the row
+      -- so the choice is answered by the row,
       by_row : chosen_answer book (Some bytes) ≡ choose_row tables (get tables.records name)
       by_row =
           let lone : Bool = is_unrivalled book.rulings book.held bytes in
@@ -165,7 +165,7 @@ module _ (naming : Naming) (book : Book) (whole : IsReadable naming book) where
           (has charged bytes) (full (sym (choices_count naming book) i)))
           ∙ ap (choose_row tables) (sym its_row.1)
 
-      -- and where it is Done, the tables are those before it with the choice of the row
+      -- and if it is Done, the tables are those before it with the choice of the row
       chosen_tables : (row : RecordRow) → choose_answer naming book name ≡ Ok Done
           → get tables.records name ≡ Some row
           → tables_of naming (choose bytes book) ≡ choice_put name row tables
@@ -205,7 +205,7 @@ module _ (naming : Naming) (book : Book) (whole : IsReadable naming book) where
           | Some bytes ↦ λ found. by_row bytes found
         ] refl
 
-  -- of two records of one identity not both are charged
+  -- of two records of one identity, at most one is charged
   one_charged : (a b : List ℕ) → has charged a ≡ true → has charged b ≡ true
       → share_identity book.rulings a b ≡ true → is a b ≡ false → ⊥
   one_charged a b of_a of_b shared differ =
@@ -247,7 +247,7 @@ module _ (naming : Naming) (book : Book) (whole : IsReadable naming book) where
         ∙ count_given naming book whole.sound charged id (filter both (members book.held))
         (passing_held naming book whole.sound both)
 
-    -- so there is one at most
+    -- so there is at most one
     few_by : (ks : List (List ℕ)) → filter both (members book.held) ≡ ks → length marked ≤ 1
     few_by [] listed = let count = marked_count ∙ ap length listed in omega arith
     few_by (k ∷ []) listed = let count = marked_count ∙ ap length listed in omega arith
@@ -276,7 +276,7 @@ module _ (naming : Naming) (book : Book) (whole : IsReadable naming book) where
     few_marked : length marked ≤ 1
     few_marked = few_by (filter both (members book.held)) refl
 
--- the law of it
+-- the law
 pub choices_follow : ChoicesFollow
 choices_follow = record {
   answer = λ naming book name whole. answered naming book whole name;

@@ -18,7 +18,7 @@ use Rattle.kept_tables.proofs.TableParts.{what_is}
 use Rattle.kept_tables.proofs.ViewLemmas.{choices_rise}
 use Rattle.table_readings.specs.BookIn.{choice_read, record_of}
 
--- the rows of the choices stand in their table in this order
+-- the rows of the choices are stored in their table in this order
 pub choices_kept : (naming : Naming) (choices : List Choice)
     → entries (from_entries {R = nat_cmp} (choice_entries naming 1 choices))
     ≡ choice_entries naming 1 choices
@@ -44,7 +44,7 @@ choices_count naming book =
     (choices_kept naming book.rulings.choices)
     ∙ rows_count naming 1 book.rulings.choices
 
--- the last number is that of the choices before them and their own, where there is one
+-- the last number is the count of the choices before them and of themselves, if there are any
 last_number : (naming : Naming) (n : ℕ) (was : Option ℕ) (choices : List Choice)
     → unwrap_or was 0 ≡ n
     → unwrap_or (last_or was
@@ -54,7 +54,7 @@ last_number naming n was [] is = is ∙ omega arith
 last_number naming n was (choice ∷ choices) is =
     last_number naming (suc n) (Some (suc n)) choices refl ∙ omega arith
 
--- so the number of the last choice is how many there are
+-- so the number of the last choice is their count
 pub choices_numbered : (naming : Naming) (book : Book)
     → unwrap_or (last_or None (keys (tables_of naming book).choices)) 0
     ≡ length (values (tables_of naming book).choices)

@@ -1,4 +1,4 @@
--- Days that rise, with a later one behind.
+-- Days that rise, with a later one after them.
 use Rattle.std.proofs.Common.{◌≡◌, List, [], ◌∷◌, ◌++◌, sym, Some, None, arith}
 use Rattle.std.specs.Prelude.{ℤ, ◌<ℤ◌, MatchOption}
 use Rattle.std.specs.Cmp.{int_cmp_is, int_ranked}
@@ -8,7 +8,7 @@ use Rattle.std.specs.Ordering.{int_cmp}
 use Rattle.std.specs.declared.cmp.Ordering.TheVariants.{Less}
 use Rattle.std.proofs.lemmas.Int.{ints}
 
--- a day is later than another where it compares so
+-- a day is later than another if it compares so
 earlier : (one other : ℤ) → int_cmp one other ≡ Less → one <ℤ other
 earlier one other less = int_ranked one other Less (sym less)
 
@@ -22,7 +22,7 @@ first_earlier first (next ∷ days) day rising later =
     let own = earlier first next rising.0.0 in
     grind (arith, ints)
 
--- and then it may stand behind them
+-- and then it may come after them
 pub rise_behind : (days : List ℤ) (day : ℤ) → IsStrictlySortedBy int_cmp days
     → MatchOption (last_or None days) (Unit {0}) (λ last. last <ℤ day)
     → IsStrictlySortedBy int_cmp (days ++ day ∷ [])

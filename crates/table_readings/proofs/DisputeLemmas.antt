@@ -55,7 +55,7 @@ module _ (naming : Naming) (book : Book) (whole : IsReadable naming book) where
       let first = first_entry naming book whole.sound k ks held in
       subst (λ rows. 0 < length rows) (sym first.2) (omega arith)
 
-  -- rows of one identity in front of other disputes are one
+  -- rows of one identity before other disputes are one dispute
   rows_grouped : (id : List ℕ) (rows : List NamedRow) (others : List Disputed) → 0 < length rows
       → AllByRecursion (λ (row : NamedRow). row.1.identity ≡ id) rows → StartsOther id others
       → join_all rows others ≡ of_rows id rows ∷ others
@@ -75,7 +75,7 @@ module _ (naming : Naming) (book : Book) (whole : IsReadable naming book) where
       first_of (is_shared naming book.rulings book.held id) (not (is_settled book.rulings id))
       in_dispute
 
-  -- the rows of an identity in front of other disputes are its dispute
+  -- the rows of an identity before other disputes are its dispute
   block_grouped : (id : List ℕ) (others : List Disputed)
       → is_shared naming book.rulings book.held id ≡ true → StartsOther id others
       → join_all (rows_of_records (works_of id)) others ≡ dispute id ∷ others
@@ -91,7 +91,7 @@ module _ (naming : Naming) (book : Book) (whole : IsReadable naming book) where
       (some_row (works_of id) (works_held id) some) own other
       ∙ (λ i. record { identity = id; members = shown i } ∷ others)
 
-  -- so are those of several identities
+  -- so are those of several identities,
   flat_grouped : (ids : List (List ℕ)) → IsStrictlySortedBy by_bytes ids
       → AllByRecursion (λ id. is_in_dispute naming book.rulings book.held id ≡ true) ids
       → grouped (rows_of_records (flat naming book.rulings book.held ids)) ≡ map dispute ids
@@ -105,7 +105,7 @@ module _ (naming : Naming) (book : Book) (whole : IsReadable naming book) where
       ∙ block_grouped id (map dispute ids) (two_or_more id open_all.0)
       (starts_other id ids rising.0)
 
-  -- and the disputes are read of the rows
+  -- and the disputes are read from the rows
   pub disputes_are : disputes_read (tables_of naming book)
       ≡ disputes_in naming book.rulings book.held
   disputes_are =
@@ -115,7 +115,7 @@ module _ (naming : Naming) (book : Book) (whole : IsReadable naming book) where
       (all_passing (is_in_dispute naming book.rulings book.held)
       (identities book.rulings book.held))
 
--- the law of it
+-- the law
 pub disputes_follow : DisputesFollow
 disputes_follow = record {
   disputes = λ naming book whole.

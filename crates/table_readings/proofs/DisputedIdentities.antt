@@ -1,4 +1,4 @@
--- The identities in dispute: those of records that are held and of which nothing is charged.
+-- The identities in dispute: those of held records of which none is charged.
 use Rattle.std.proofs.Common.{◌≡◌, ℕ, ◌+◌, List, map, length, refl, sym, ap, ◌∙◌}
 use Rattle.std.proofs.Common.{subst, true, false, Bool, not, ◌&&◌, arith}
 use Rattle.std.specs.Prelude.{filter, count_by, nat_le, nat_lt}
@@ -44,27 +44,27 @@ module _ (naming : Naming) (rulings : Rulings) (held : Records) where
   abbrev charged : Records
   charged = charged_now rulings held
 
-  -- nothing of a record's identity is
+  -- nothing of a record's identity is charged
   abbrev pub unsettled : List ℕ → Bool
   unsettled bytes = not (list_any (share_identity rulings bytes) (members charged))
 
-  -- the records of which this is so
+  -- the records for which this holds
   abbrev pub works : List (List ℕ)
   works = filter unsettled (members held)
 
-  -- a record that is held is of an identity in dispute where nothing of it is charged
+  -- the identity of a held record is in dispute if nothing of it is charged
   abbrev pub AreUncharged : Type 0
   AreUncharged = (q : List ℕ) → has held q ≡ true
       → (not (is_unrivalled rulings held q) && not (is_settled rulings (identity q))) ≡ unsettled q
 
-  -- some of the records that are held are apart by their bytes
+  -- some of the records that are held differ in their bytes,
   some_distinct : (p : List ℕ → Bool) → IsDistinct is (filter p (members held))
   some_distinct p =
       IsDistinct-from_sorted by_bytes (filter p (members held))
       (IsStrictlySortedBy-filter by_bytes p (members held)
       (members_rise nat_list_cmp_total held))
 
-  -- so they are by name
+  -- so they differ in their names,
   named_distinct : (p : List ℕ → Bool)
       → IsDistinct (eq_by_cmp (by_name naming)) (filter p (members held))
   named_distinct p =
@@ -73,14 +73,14 @@ module _ (naming : Naming) (rulings : Rulings) (held : Records) where
       subst (λ same. IsDistinct same (filter p (members held))) (λ i a b. sym (ties a b) i)
       (some_distinct p)
 
-  -- and by identity, then name
+  -- and in identity and name together
   pub works_distinct : IsDistinct (eq_by_cmp (by_work naming rulings held)) works
   works_distinct =
       subst (λ same. IsDistinct same works)
       (λ i a b. sym (work_ties naming rulings held a b) i)
       (some_distinct unsettled)
 
-  -- a record has others of its identity where it conflicts with one
+  -- other records share a record's identity if it conflicts with one
   shared_where : (q : List ℕ) → has held q ≡ true
       → is_shared (identity q) ≡ list_any (conflict rulings q) (members held)
   shared_where q there =
@@ -96,7 +96,7 @@ module _ (naming : Naming) (rulings : Rulings) (held : Records) where
       one_more : (n : ℕ) → nat_le 2 (1 + n) ≡ nat_lt 0 n
       one_more n = grind (arith, nat_tests)
 
-  -- who is among the identities in dispute
+  -- which identities are in dispute
   in_disputed : (k : List ℕ) → list_any (same_bytes k) disputed
       ≡ (is_in_dispute naming rulings held k
       && list_any (same_bytes k) (map identity (members held)))
@@ -108,7 +108,7 @@ module _ (naming : Naming) (rulings : Rulings) (held : Records) where
       ∙ ap (λ b. test k && b) (has-texts (map identity (members held)) k)
 
   module _ (uncharged : AreUncharged) where
-    -- a record that is held has its identity in dispute where nothing of it is charged
+    -- a held record's identity is in dispute if nothing of it is charged
     disputed_where : (q : List ℕ) → has held q ≡ true
         → list_any (same_bytes (identity q)) disputed ≡ unsettled q
     disputed_where q there =
@@ -143,7 +143,7 @@ module _ (naming : Naming) (rulings : Rulings) (held : Records) where
         under false true false same = refl
         under false false false same = refl
 
-  -- the identities in dispute rise
+  -- the identities in dispute rise,
   pub disputed_rises : IsStrictlySortedBy by_bytes disputed
   disputed_rises =
       IsStrictlySortedBy-filter by_bytes (is_in_dispute naming rulings held)

@@ -37,13 +37,13 @@ module _ (naming : Naming) (rulings : Rulings) (held : Records) where
   pub by_work_total : IsTotalOrder by_work
   by_work_total = then_total (on_total identity nat_list_cmp_total) (by_name_total naming)
 
-  -- and tells records apart
+  -- and distinguishes records,
   pub by_work_exact : fin.IsAntisymmetric by_work
   by_work_exact one other tied =
       by_name_exact naming one other
       (both_equal (by_bytes (identity one) (identity other)) (by_name naming one other) tied)
 
-  -- so records tie in it where they are one
+  -- so records tie in it only if they are equal
   pub work_ties : (one other : List ℕ) → eq_by_cmp by_work one other ≡ is one other
   work_ties = same_ties by_work_total by_work_exact nat_list_cmp_total exact_bytes
 
@@ -51,7 +51,7 @@ module _ (naming : Naming) (rulings : Rulings) (held : Records) where
   abbrev pub block : List ℕ → List (List ℕ)
   block id = records_of naming rulings held id
 
-  -- who they are
+  -- which records they are
   pub in_block : (id q : List ℕ) → list_any (is q) (block id)
       ≡ (same_bytes (identity q) id && has held q)
   in_block id q =
@@ -71,7 +71,7 @@ module _ (naming : Naming) (rulings : Rulings) (held : Records) where
   flat [] = []
   flat (id ∷ ids) = block id ++ flat ids
 
-  -- who they are
+  -- which records they are
   pub in_flat : (ids : List (List ℕ)) (q : List ℕ) → list_any (is q) (flat ids)
       ≡ (list_any (same_bytes (identity q)) ids && has held q)
   in_flat [] q = refl
@@ -117,7 +117,7 @@ module _ (naming : Naming) (rulings : Rulings) (held : Records) where
       (λ y its. ap (by_bytes id) its ∙ less.0) (block other) (block_own other))
       (below_flat id ids less.1)
 
-  -- the records of identities that rise rise
+  -- the records of rising identities rise
   pub flat_rises : (ids : List (List ℕ)) → IsStrictlySortedBy by_bytes ids
       → IsStrictlySortedBy by_work (flat ids)
   unfolding IsStrictlySortedBy

@@ -64,11 +64,11 @@ module _ (naming : Naming) (book : Book) (sound : IsSound naming book) where
   others_listed k ks held other among =
       held other (ap (λ b. is other k || b) among ∙ or-true (is other k))
 
-  -- the entries of records that are listed: each has one
+  -- the entries of records that are listed: one for each
   abbrev pub listed_entries : List (List ℕ) → List NamedRow
   listed_entries ks = filter_map (entry naming book sound) ks
 
-  -- the entry of the first, in front of those of the others
+  -- the entry of the first, before those of the others
   pub first_entry : (k : List ℕ) (ks : List (List ℕ)) → AreListed (k ∷ ks)
       → (priced : Priced) × (price_in book.rulings k ≡ Some priced)
       × (listed_entries (k ∷ ks) ≡ entry_at naming book sound k priced ∷ listed_entries ks)
@@ -81,7 +81,7 @@ module _ (naming : Naming) (book : Book) (sound : IsSound naming book) where
             (listed_entries ks)) cost.1,
       )
 
-  -- what follows of the entries of records
+  -- what follows from the entries of records
   pub each_entry : (P : NamedRow → Type 0) (Q : List ℕ → Type 0)
       → ((bytes : List ℕ) (priced : Priced) → has book.held bytes ≡ true
       → price_in book.rulings bytes ≡ Some priced → Q bytes
@@ -156,7 +156,7 @@ module _ (naming : Naming) (book : Book) (sound : IsSound naming book) where
       within true b there = there refl
       within false b there = refl
 
-  -- a row of a record's identity is charged where a charged record shares it
+  -- a row of a record's identity is charged if a charged record shares it
   settled_rows : (bytes : List ℕ)
       → list_any (λ row. row.1.charged)
       (rows_with (identity_by book.rulings bytes) (tables_of naming book).records)
@@ -176,7 +176,7 @@ module _ (naming : Naming) (book : Book) (sound : IsSound naming book) where
       ∙ sym (list_any-filter share (has charged) (members book.held))
       ∙ ap (list_any share) charged_among
 
-  -- so a row is in dispute where nothing of its record's identity is charged
+  -- so a row is in dispute if nothing of its record's identity is charged
   disputed_row : (bytes : List ℕ) (priced : Priced)
       → (is_unsettled (tables_of naming book).records (entry_at naming book sound bytes priced)
       && not (has charged bytes))
@@ -256,7 +256,7 @@ module _ (naming : Naming) (book : Book) (sound : IsSound naming book) where
       completion = completion_of (sym (framed bytes there).is i);
     })
 
-    -- so do all
+    -- so do all of them
     pub all_shown : (ks : List (List ℕ)) → AreListed ks
         → map variant_read (listed_entries ks)
         ≡ filter_map (variant_of naming book.rulings) ks

@@ -1,4 +1,4 @@
--- What is found in a table has what each of its rows has.
+-- What is found in a table has the properties that all of its rows have.
 use Rattle.std.proofs.Common.{◌≡◌, ℕ, zero, suc, ◌+◌, List, [], ◌∷◌, map, refl, sym, ap, ◌∙◌, subst}
 use Rattle.std.proofs.Common.{true, false, Bool, cond, ◌||◌, Option, Some, None, arith}
 use Rattle.std.specs.Prelude.{filter, find as find_first, slice_get}
@@ -90,7 +90,7 @@ found_passes p (first ∷ xs) x found =
       | false ↦ λ fails found. found_passes p xs x found
     ] refl found
 
--- where none is found, none passes
+-- if none is found, none passes
 pub found_none : {X : Type 0} (p : X → Bool) (xs : List X) → find_first p xs ≡ None
     → list_any p xs ≡ false
 found_none p [] none = refl
@@ -104,7 +104,7 @@ found_none {X} p (first ∷ xs) none =
     something : (x : X) → Some x ≡ None → (true ≡ false)
     something x none = cc
 
--- so the record of a name has it
+-- so the record of a name has that name
 pub named_so : (naming : Naming) (held : Records) (name bytes : List ℕ)
     → record_named naming held name ≡ Some bytes → name_of naming bytes ≡ name
 named_so naming held name bytes found =

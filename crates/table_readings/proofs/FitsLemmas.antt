@@ -165,14 +165,14 @@ module _ (naming : Naming) (book : Book) (whole : IsReadable naming book) where
       let some = some_within naming book whole f period.counted held in
       omega arith
 
-  -- so its sums fit
+  -- so its sums fit,
   here_fits : (period : Period) (key : RowKey) → AreAmong period.counted book.held
       → FitSigned (charged_at (costs naming book whole period.counted) key)
   here_fits period key held =
       within_fits naming book whole (charged_at (costs naming book whole period.counted) key)
       (λ f. here_within f period key held)
 
-  -- and something that is charged at a place tells of the place what each price tells
+  -- and any price that is charged at a place determines the place
   here_priced : (period : Period) (key : RowKey) (one : Priced) (rest : List Priced)
       → AreAmong period.counted book.held
       → charged_at (costs naming book whole period.counted) key ≡ one ∷ rest

@@ -1,4 +1,4 @@
--- Rows in groups: a row more behind them, and rows of one identity in front of others.
+-- Rows in groups: one more row after them, and rows of one identity before others.
 use Rattle.std.proofs.Common.{◌≡◌, ℕ, List, [], ◌∷◌, ◌++◌, map, refl, sym, ap, ◌∙◌, true, false}
 use Rattle.std.proofs.Common.{Bool}
 use Rattle.std.specs.Prelude.{if◌then◌else◌}
@@ -28,21 +28,21 @@ two_rows first last =
       | false ↦ λ differ. refl
     ] refl
 
--- a row in front of disputes, by whether it has the identity of the first
+-- a row before disputes, by whether it has the identity of the first
 abbrev in_front : NamedRow → Bool → Disputed → List Disputed → List Disputed
 in_front row same first others =
     if same
     then record first { members = variant_read row ∷ first.members } ∷ others
     else of_one row ∷ first ∷ others
 
--- a row behind a dispute, by whether it has its identity
+-- a row after a dispute, by whether it has its identity
 abbrev behind_one : NamedRow → Bool → Disputed → List Disputed
 behind_one row same last =
     if same
     then record last { members = last.members ++ variant_read row ∷ [] } ∷ []
     else last ∷ of_one row ∷ []
 
--- a row in front of a dispute and a row behind it, by these tests
+-- a row before a dispute and a row after it, by these tests
 around_one : (first last : NamedRow) (one : Disputed) (before after : Bool)
     → same_bytes first.1.identity one.identity ≡ before
     → same_bytes one.identity last.1.identity ≡ after
@@ -69,7 +69,7 @@ around_one first last one before false own its =
         (sym its)
     by_front false = ap (λ b. of_one first ∷ behind_one last b one) (sym its)
 
--- a row in front and a row behind may be joined in either order
+-- a row before and a row after may be joined in either order
 both_ends : (first : NamedRow) (disputes : List Disputed) (last : NamedRow)
     → join_first first (join_last disputes last) ≡ join_last (join_first first disputes) last
 both_ends first [] last = two_rows first last
@@ -81,19 +81,19 @@ both_ends first (one ∷ next ∷ others) last =
     in_front first b one (join_last (next ∷ others) last)
     ≡ join_last (in_front first b one (next ∷ others)) last) [ true ↦ refl | false ↦ refl ]
 
--- a row more behind others joins the last group, or makes one
+-- a row after others joins the last group, or starts one
 pub grouped-push : (rows : List NamedRow) (row : NamedRow)
     → grouped (rows ++ row ∷ []) ≡ join_last (grouped rows) row
 grouped-push [] row = refl
 grouped-push (first ∷ rows) row =
     ap (join_first first) (grouped-push rows row) ∙ both_ends first (grouped rows) row
 
--- rows in front of disputes
+-- rows before disputes
 abbrev pub join_all : List NamedRow → List Disputed → List Disputed
 join_all [] disputes = disputes
 join_all (row ∷ rows) disputes = join_first row (join_all rows disputes)
 
--- rows in front of other rows
+-- rows before other rows
 pub grouped-append : (rows others : List NamedRow)
     → grouped (rows ++ others) ≡ join_all rows (grouped others)
 grouped-append [] others = refl
@@ -108,7 +108,7 @@ StartsOther identity (first ∷ others) = same_bytes identity first.identity ≡
 abbrev pub of_rows : List ℕ → List NamedRow → Disputed
 of_rows identity rows = record { identity = identity; members = map variant_read rows }
 
--- a row in front of disputes that begin with another identity is a dispute of its own
+-- a row before disputes that begin with another identity is a dispute of its own
 alone_first : (identity : List ℕ) (row : NamedRow) (disputes : List Disputed)
     → row.1.identity ≡ identity → StartsOther identity disputes
     → join_first row disputes ≡ of_rows identity (row ∷ []) ∷ disputes
@@ -118,7 +118,7 @@ alone_first identity row (first ∷ others) own other =
     ap (λ b. in_front row b first others) (ap (λ k. same_bytes k first.identity) own ∙ other)
     ∙ (λ i. record { identity = own i; members = variant_read row ∷ [] } ∷ first ∷ others)
 
--- rows of one identity in front of disputes that begin with another are one dispute
+-- rows of one identity before disputes that begin with another are one dispute
 pub one_group : (identity : List ℕ) (row : NamedRow) (rows : List NamedRow)
     (disputes : List Disputed)
     → AllByRecursion (λ (row : NamedRow). row.1.identity ≡ identity) (row ∷ rows)

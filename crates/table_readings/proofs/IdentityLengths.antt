@@ -13,17 +13,17 @@ use Rattle.smf_type30.proofs.SectionLemmas.{fits_there}
 use Rattle.smf_type30.proofs.UsageFacts.{usage_identified, usage_identification}
 use Rattle.book_model.specs.Words.{Rulings, identity_by}
 
--- a part that lies inside has its length
+-- a part that is within bounds has its length
 part_length : (bytes : List ℕ) (at n : ℕ) → at + n ≤ length bytes
     → length (take n (drop at bytes)) ≡ n
 part_length bytes at n inside = simp (length-take, length-drop) (omega arith)
 
--- the first identity and the part behind it
+-- the first identity and the part after it
 both_long : (first behind : List ℕ) → length first ≡ identity_length → length behind ≡ 8
     → length (first ++ behind) ≡ identity2_length
 both_long first behind one other = simp length-append (omega arith)
 
--- by the second rule the time and date of the initiation are behind the first identity
+-- by the second rule the time and date of the initiation come after the first identity
 pub identity2-long : (bytes : List ℕ) → IsUsage bytes
     → length (identity2_of bytes) ≡ identity2_length
 unfolding identity2_of

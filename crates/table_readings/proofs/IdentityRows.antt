@@ -50,7 +50,7 @@ module _ (naming : Naming) (book : Book) (sound : IsSound naming book) where
         ∙ count_given naming book sound (charged_of book) id its_records
         (passing_held (having book.rulings book.held id))
 
-  -- so a record has the only row of its identity where it has no rival
+  -- so a record has the only row of its identity if it has no rival
   pub lone_where : (q : List ℕ) → has book.held q ≡ true
       → (length (its_rows (identity_by book.rulings q)) == 1)
       ≡ is_unrivalled book.rulings book.held q

@@ -1,4 +1,4 @@
--- Read in this order: texts, lists in order, what is found in a table, and sets that are made of
+-- Read in this order: texts, lists in order, what is found in a table, and sets that are made from
 -- lists; records that have rivals; books that calls made, what their calls passed, and that they
 -- can be read back; the rulings, the records, the choices and the lines that are read, and the
 -- book; the rows of an identity; the answers to records, choices and other rulings, and the lists

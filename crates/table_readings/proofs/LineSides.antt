@@ -1,4 +1,4 @@
--- What a period adds and takes back is read of its lines.
+-- What a period adds and reverses is read from its lines.
 use Rattle.std.proofs.Common.{◌≡◌, ℕ, suc, List, [], ◌∷◌, ◌++◌, map, refl, sym, ap, ◌∙◌, true}
 use Rattle.std.proofs.Common.{false, ◌+◌, Bool, cond, not, Option, Some, append-nil, arith}
 use Rattle.std.specs.Prelude.{filter, slice_get}
@@ -36,7 +36,7 @@ module _ (naming : Naming) (keeps : Bool → Bool) (plus : Bool) where
   abbrev line : List ℕ → List ℕ × Bool
   line bytes = (name_of naming bytes, plus)
 
-  -- a side is kept whole where its sign is kept
+  -- a side is kept whole if its sign is kept,
   side_kept : keeps plus ≡ true → (ks : List (List ℕ))
       → filter (λ row. keeps row.1) (map line ks) ≡ map line ks
   side_kept keep [] = refl
@@ -45,7 +45,7 @@ module _ (naming : Naming) (keeps : Bool → Bool) (plus : Bool) where
       let others : List (List ℕ × Bool) = filter (λ row. keeps row.1) (map line ks) in
       ap (λ b. cond b (line k ∷ others) others) keep ∙ ap (λ es. line k ∷ es) rest
 
-  -- and else dropped
+  -- and otherwise dropped
   side_dropped : keeps plus ≡ false → (ks : List (List ℕ))
       → filter (λ row. keeps row.1) (map line ks) ≡ []
   side_dropped drop [] = refl
@@ -107,7 +107,7 @@ module _ (naming : Naming) (book : Book) (sound : IsSound naming book) (lines : 
       abbrev rows : List (List ℕ × Bool)
       rows = line_entries naming period
 
-      -- what is named by those that are kept, where they are one side of the period
+      -- the records of the kept lines, if these are one side of the period
       side_read : (keeps : Bool → Bool) (plus : Bool) (some : Records)
           → filter (λ row. keeps row.1) rows ≡ signed_names naming plus some
           → AreAmong some book.held
@@ -137,7 +137,7 @@ module _ (naming : Naming) (book : Book) (sound : IsSound naming book) (lines : 
           ∙ ap (set_of by_bytes) (side_back plus some among)
           ∙ set_of-members some
 
-      -- what the period speaks of is held
+      -- the records of the period are held
       speaks : AreHeld book.held period
       speaks =
           one_of (AreHeld book.held) (all_periods book) k period (all_held naming book sound) there
@@ -147,6 +147,6 @@ module _ (naming : Naming) (book : Book) (sound : IsSound naming book) (lines : 
       added_back =
           side_read (λ b. b) true period.added (plus_lines naming period) speaks.added
 
-      -- what it takes back
+      -- what it reverses
       pub taken_back : taken_in (suc k) (tables_of naming book) ≡ period.taken
       taken_back = side_read not false period.taken (minus_lines naming period) speaks.taken

@@ -56,13 +56,13 @@ module _ (book : Book) (closed : length book.past ≡ length book.rulings.closes
       let behind : length book.past ≤ number - 1 = grind (arith, nat_tests) in
       period_is false false some other ∙ slice_get_past book.past (number - 1) behind
 
-  -- so a period that there is by its number is one of the book
+  -- so a period that exists by its number is one of the book
   pub period_there : is_period number book.rulings ≡ true
       → (period : Period) × (period_of book number ≡ Some period)
   period_there is =
       by_tests (number == 0) (number == open_number book) refl refl is
 
-  -- what is answered of a period
+  -- what is answered for a period
   answered : {A : Type 0} (f : Period → A) (found : A)
       → ((period : Period) → period_of book number ≡ Some period → found ≡ f period)
       → ok_or (option_map f (period_of book number)) NoSuchPeriod
@@ -81,7 +81,7 @@ module _ (book : Book) (closed : length book.past ≡ length book.rulings.closes
             (by_no_tests (number == 0) (number == open_number book) refl refl is_not)
       ] refl
 
--- the law of it
+-- the law
 pub lists_follow : ListsFollow
 lists_follow = record {
   charges = λ naming book number whole.

@@ -11,7 +11,7 @@ use Rattle.std.proofs.Math.Bool.{or-true}
 use Rattle.book_model.proofs.RecordSets.{is, is_itself}
 
 module _ {X : Type 0} (P : X → Type 0) where
-  -- what holds of the elements of two lists holds of both together
+  -- what holds of the elements of each of two lists holds of those of both together
   pub all_joined : (xs ys : List X) → AllByRecursion P xs → AllByRecursion P ys
       → AllByRecursion P (xs ++ ys)
   all_joined [] ys one other = other
@@ -51,7 +51,7 @@ all_texts P (k ∷ ks) each = (
       (λ other among. each other (ap (λ b. is other k || b) among ∙ or-true (is other k))),
 )
 
--- two lists in order are in order together where each of the first is below each of the second
+-- two lists in order are in order together if each of the first is below each of the second
 pub rise_together : {X : Type 0} (R : X → X → Ordering) (xs ys : List X)
     → IsStrictlySortedBy R xs → IsStrictlySortedBy R ys
     → AllByRecursion (λ x. AllByRecursion (λ y. R x y ≡ Less) ys) xs
@@ -63,13 +63,13 @@ rise_together {X} R (x ∷ xs) ys one other below = (
   rise_together R xs ys one.1 other below.1,
 )
 
--- of two answers in turn that are Equal, the second is
+-- of two answers in turn that give Equal, the second is Equal
 pub both_equal : (r s : Ordering) → ordering_then r s ≡ Equal → s ≡ Equal
 both_equal Less s tied = cc
 both_equal Equal s tied = tied
 both_equal Greater s tied = cc
 
--- of three in turn that are Less, the first two are, where the third does not decide
+-- of three in turn that give Less, the first two do, if the third does not decide
 pub first_two : (r s t : Ordering) → ordering_then r (ordering_then s t) ≡ Less
     → (s ≡ Equal → t ≡ Less → ⊥) → ordering_then r s ≡ Less
 first_two Less s t less undecided = refl

@@ -1,4 +1,4 @@
--- The tests that a call passed whose answer is an event.
+-- The tests that a call passed if its answer is an event.
 use Rattle.std.proofs.Common.{◌≡◌, ℕ, ◌+◌, refl, true, false, true≢false, Bool, ◌||◌, Ok, Err}
 use Rattle.std.proofs.Common.{Result, arith}
 use Rattle.std.specs.Prelude.{◌≤◌, nat_le, nat_lt, if◌then◌else◌}
@@ -15,7 +15,7 @@ use Rattle.book_model.proofs.CallLemmas.{close_by}
 abbrev by_room : Bool → Result Accepted LedgerFault
 by_room full = if full then Err Full else Ok Kept
 
--- the tests that a record passed which is kept: it is new, and there is room for it
+-- the tests that a record passed if it is kept: it is new, and there is room for it
 pub kept_tests : (known clash full : Bool)
     → (if known then Ok Known else if clash then Err DigestClash else by_room full) ≡ Ok Kept
     → (known ≡ false) × (full ≡ false)
@@ -24,7 +24,7 @@ kept_tests false true full kept = cc
 kept_tests false false true kept = cc
 kept_tests false false false kept = (refl, refl)
 
--- where there is room, one more is within the limits
+-- if there is room, one more is within the limits
 pub has_room : (held cost : ℕ) → (nat_le most_held held || nat_lt most_cost cost) ≡ false
     → (held + 1 ≤ most_held) × (cost ≤ most_cost)
 has_room held cost room =
@@ -46,7 +46,7 @@ has_room held cost room =
     second_fails true b fails = absurd (true≢false fails)
     second_fails false b fails = fails
 
--- the tests that a choice passed which is Done: the record has a rival, and there is room for it
+-- the tests that a choice passed if it is Done: the record has a rival, and there is room for it
 pub choice_tests : (lone chosen full : Bool)
     → (if lone then Err NotDisputed else if chosen then Ok Already else if full then Err Full
     else Ok Done) ≡ Ok Done
@@ -56,7 +56,7 @@ choice_tests false true full done = cc
 choice_tests false false true done = cc
 choice_tests false false false done = (refl, refl)
 
--- the test that a close passed which is Done: another period may follow
+-- the test that a close passed if it is Done: another period may follow
 pub room_behind : (number_open : ℕ) (closed is_open early full : Bool)
     → close_by number_open closed is_open early full ≡ Ok Done → full ≡ false
 room_behind number_open true is_open early full done = cc

@@ -30,7 +30,7 @@ part_within f p xs =
     one true n = omega arith
     one false n = omega arith
 
--- no more are given than there are
+-- no more are given than there are elements
 given_few : {X Y : Type 0} (h : X → Option Y) (xs : List X)
     → length (filter_map h xs) ≤ length xs
 given_few {X} {Y} h xs =
@@ -57,7 +57,7 @@ module _ (naming : Naming) (book : Book) (whole : IsReadable naming book) where
   abbrev pub costs : Records → List Priced
   costs some = prices book.rulings some
 
-  -- each price is one that can be
+  -- each price is within the limits
   pub all_priced : (some : Records) → AreAmong some book.held → All IsPriced (costs some)
   all_priced some among =
       each (members some) (λ bytes there. among bytes (fin.contains_key-keys some bytes ∙ there))
@@ -109,7 +109,7 @@ module _ (naming : Naming) (book : Book) (whole : IsReadable naming book) where
       both true b there = there refl
       both false b there = refl
 
-  -- so prices fit whose sums are no more than those of all that is held
+  -- so prices fit if their sums are no greater than those of all that is held
   pub within_fits : (some : List Priced)
       → ((f : Priced → ℕ) → sum_by f some ≤ sum_by f (costs book.held)) → FitSigned some
   within_fits some within =

@@ -44,7 +44,7 @@ use Rattle.table_readings.proofs.ChainLemmas.{chain_of}
 use Rattle.table_readings.proofs.CloseOrder.{rise_behind}
 use Rattle.table_readings.proofs.PassedTests.{choice_tests, has_room, kept_tests, room_behind}
 
--- What each event keeps of a book that can be read back, beside its soundness.
+-- What each event preserves of a book that can be read back, besides its soundness.
 record IsGrown (book : Book) : Type 0 where
   lines : HasLines book
   usage : (bytes : List ℕ) → has book.held bytes ≡ true → IsUsageRecord bytes
@@ -61,7 +61,7 @@ record IsGrown (book : Book) : Type 0 where
 no_records : length (members new_book.held) ≡ 0
 no_records = ap length (members-empty by_bytes)
 
--- so they hold nothing that costs
+-- so they hold nothing with a cost
 no_cost : total_of new_book.rulings new_book.held ≡ 0
 no_cost =
     ap (λ ks. sum_by (λ (one : Priced). one.amount) (filter_map (price_in new_book.rulings) ks))
@@ -87,13 +87,13 @@ start_grown = record {
   };
 }
 
--- a period that has begun has begun in all books after
+-- a period that has begun has begun in all later books,
 still_begun : {book : Book} (after : Book) (period : ℕ) → open_number book ≤ open_number after
     → IsBegun book period → IsBegun after period
 still_begun {book} after period later was =
     let begun = was.begun in record { numbered = was.numbered; begun = omega arith }
 
--- so do the periods of choices
+-- and so have the periods of choices
 still_timely : {book : Book} (after : Book) (choices : List Choice)
     → open_number book ≤ open_number after
     → All (IsTimely book) choices → All (IsTimely after) choices
@@ -237,7 +237,7 @@ module _ (naming : Naming) (book : Book) (sound : IsSound naming book) (grown : 
         };
       }
 
-  -- the second rule of identity that is adopted: in a period before, or in the open one
+  -- the second rule of identity that is adopted: in an earlier period, or in the open one
   adopt_grown : IsGrown (adopt book)
   adopt_grown = record {
     lines = lines_stay.adopt book grown.lines;
@@ -311,7 +311,7 @@ readable_after naming history answered handed =
       limits = grown.limits;
     }
 
--- the law of it
+-- the law
 pub calls_read : CallsRead
 calls_read naming book made =
     subst (IsReadable naming) (sym made.left)

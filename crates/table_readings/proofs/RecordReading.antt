@@ -49,7 +49,7 @@ module _ (naming : Naming) (book : Book) (sound : IsSound naming book) where
   abbrev pub all_entries : List (List ℕ × RecordRow)
   all_entries = record_entries naming book.rulings book.held (charged_of book) book.posted
 
-  -- each stands under a name of its own
+  -- each is stored under a name of its own
   pub all_apart : Apart by_bytes all_entries
   all_apart =
       entries_apart naming book sound (charged_of book) (members book.held)
@@ -61,7 +61,7 @@ module _ (naming : Naming) (book : Book) (sound : IsSound naming book) where
       → IsPermutation (filter p (entries (tables_of naming book).records)) (filter p all_entries)
   rows_permuted p = filter-from_entries nat_list_cmp_total exact_bytes p all_entries all_apart
 
-  -- all rows of the table are all entries
+  -- all rows of the table are all the entries
   pub all_permuted : IsPermutation (entries (tables_of naming book).records) all_entries
   all_permuted =
       subst (λ xs. IsPermutation xs all_entries)
@@ -69,7 +69,7 @@ module _ (naming : Naming) (book : Book) (sound : IsSound naming book) where
       (subst (IsPermutation (filter (λ e. true) (entries (tables_of naming book).records)))
       (filter-all all_entries) (rows_permuted (λ e. true)))
 
-  -- one of the entries of some records passes a test where one of the records does
+  -- one of the entries of some records passes a test if one of the records does
   pub any_entry : (p : List ℕ × RecordRow → Bool) (q : List ℕ → Bool)
       → ((bytes : List ℕ) (priced : Priced) → price_in book.rulings bytes ≡ Some priced
       → p (entry_at bytes priced) ≡ q bytes)
@@ -87,7 +87,7 @@ module _ (naming : Naming) (book : Book) (sound : IsSound naming book) where
       ap (λ price. list_any p (cons_option (its price) (filter_map entry ks))) cost.1
       ∙ (λ i. agree k cost.0 cost.1 i || rest i)
 
-  -- so it is with all rows and all records
+  -- the same holds for all rows and all records
   pub any_row : (p : List ℕ × RecordRow → Bool) (q : List ℕ → Bool)
       → ((bytes : List ℕ) (priced : Priced) → price_in book.rulings bytes ≡ Some priced
       → p (entry_at bytes priced) ≡ q bytes)
@@ -97,7 +97,7 @@ module _ (naming : Naming) (book : Book) (sound : IsSound naming book) where
       ∙ any_entry p q agree (members book.held)
       (λ bytes among. fin.contains_key-keys book.held bytes ∙ among)
 
-  -- a test of an entry, where it is a test of the record
+  -- a test of an entry, if it is a test of the record
   pub entries-where : (p : List ℕ × RecordRow → Bool) (q : List ℕ → Bool)
       → ((bytes : List ℕ) (priced : Priced) → price_in book.rulings bytes ≡ Some priced
       → p (entry_at bytes priced) ≡ q bytes)
@@ -116,7 +116,7 @@ module _ (naming : Naming) (book : Book) (sound : IsSound naming book) where
           ap p (sym own) ∙ agree bytes priced some
 
   module _ (framed : AreFramed book.held) where
-    -- the records of entries are those that they were made of
+    -- the records of entries are those that they were made from
     records_of : (ks : List (List ℕ))
         → ((bytes : List ℕ) → list_any (is bytes) ks ≡ true → has book.held bytes ≡ true)
         → map (λ (e : List ℕ × RecordRow). record_of e.1) (filter_map entry ks) ≡ ks

@@ -1,4 +1,4 @@
--- Records that share their identity: how many there are, and that one which has no rival is alone.
+-- Records that share their identity: how many there are, and that one with no rival is alone.
 use Rattle.std.proofs.Common.{◌≡◌, ℕ, ◌+◌, List, sym, ap, ◌∙◌, true}
 use Rattle.std.proofs.Common.{Bool, cond, not, ◌&&◌, arith}
 use Rattle.std.specs.Prelude.{count_by, nat_lt, ◌==◌}
@@ -14,7 +14,7 @@ use Rattle.book_model.proofs.SetLemmas.{members_rise}
 use Rattle.book_model.proofs.SumsAlike.{list_any-count_by}
 use Rattle.table_readings.proofs.Texts.{same_is, same_text}
 
--- one and so many more are one where there are no more
+-- one and this many more are one if there are no more
 none_more : (n : ℕ) → ((1 + n) == 1) ≡ not (nat_lt 0 n)
 none_more n = grind (arith, nat_tests)
 
@@ -49,7 +49,7 @@ module _ (rulings : Rulings) (held : Records) where
       && nat_list_eq_equiv.symm (identity x) (identity q) i) all in
       omega arith
 
-  -- so it is alone in its identity where it has no rival
+  -- so it is alone in its identity if it has no rival
   pub alone_where : (q : List ℕ) → has held q ≡ true
       → (count_by (having (identity q)) (members held) == 1) ≡ is_unrivalled rulings held q
   alone_where q there =

@@ -1,4 +1,4 @@
--- Rows in their order, and those of them that pass a test.
+-- Rows in their order, and those among them that pass a test.
 use Rattle.std.proofs.Common.{◌≡◌, List, [], ◌∷◌, refl, sym, ap, subst, true, false, Bool, cond}
 use Rattle.std.proofs.Common.{◌&&◌, ◌||◌, Option, Some, None}
 use Rattle.std.specs.Prelude.{filter}
@@ -15,7 +15,7 @@ use Rattle.book_model.proofs.PermutedSets.{apart_from_distinct, distinct_permute
 use Rattle.book_model.proofs.PermutedSets.{sorted_members}
 use Rattle.table_readings.specs.DisputesRead.{NamedRow, by_identity}
 
--- one of those that pass a test passes another where one passes both
+-- one of those that pass a test passes another if one passes both
 pub list_any-filter : {X : Type 0} (p q : X → Bool) (xs : List X)
     → list_any p (filter q xs) ≡ list_any (λ x. q x && p x) xs
 list_any-filter p q [] = refl
@@ -27,7 +27,7 @@ list_any-filter p q (x ∷ xs) =
       | false ↦ rest
     ]
 
--- a filter as what a partial function gives
+-- a filter as the results of a partial function
 filter-given : {X : Type 0} (p : X → Bool) (xs : List X)
     → filter_map (λ x. cond (p x) (Some x) None) xs ≡ filter p xs
 filter-given p [] = refl
@@ -45,7 +45,7 @@ by_identity_total =
     then_total (on_total (λ (row : NamedRow). row.1.identity) nat_list_cmp_total)
     (on_total (λ (row : NamedRow). row.0) nat_list_cmp_total)
 
--- rows in that order are the ordered rows of any list that has the same ones
+-- rows in that order are the ordered rows of any list that has the same rows,
 pub rows_in_order : (rows all : List NamedRow) → IsPermutation rows all
     → IsStrictlySortedBy by_identity rows → rows ≡ members (set_of by_identity all)
 rows_in_order rows all same rising =

@@ -60,7 +60,7 @@ module _ (naming : Naming) (book : Book) (sound : IsSound naming book) where
       ] refl
 
   module _ (number : ℕ) (day : ℤ) (done : close_answer book number day ≡ Ok Done) where
-    -- a record that was posted is dated no later than the close
+    -- a record that was posted is dated on or before the day of the close
     posted_early : (bytes : List ℕ) (priced : Priced) → price_in book.rulings bytes ≡ Some priced
         → has book.posted bytes ≡ true → int_lt day priced.day ≡ false
     posted_early bytes priced price there =
@@ -70,7 +70,7 @@ module _ (naming : Naming) (book : Book) (sound : IsSound naming book) where
         ∙ sym (dated-after (last_close book.rulings) bytes)
         ∙ sound.dated bytes there)
 
-    -- a row is the same after either change, where it was posted early
+    -- a row is the same after either change, if it was posted early
     one_row : (row : RecordRow) (late charged posted : Bool) → (posted ≡ true → late ≡ false)
         → (if not late && ((charged && not posted) || (posted && not charged))
         then record row { charged = charged; posted = charged }
@@ -136,7 +136,7 @@ module _ (naming : Naming) (book : Book) (whole : IsReadable naming book) (text 
         (list_any (is_effective terms.effective) book.rulings.tariffs)
         (is_later terms.effective book.rulings) (is_too_dear ruled book.held) done
 
-    -- what the tariff says of a record that it is for is a price that can be
+    -- what a record that the tariff is for costs under it is within the limits
     late_priced : (bytes : List ℕ) → has book.held bytes ≡ true
         → int_lt (day_of bytes) terms.effective ≡ false → IsPriced (price_by terms bytes)
     late_priced bytes there late =
@@ -148,7 +148,7 @@ module _ (naming : Naming) (book : Book) (whole : IsReadable naming book) (text 
         (ap (λ day. int_lt day terms.effective) (day-price book.rulings bytes cost.0 cost.1)
         ∙ late))
 
-    -- so it is with all records
+    -- the same holds for all records
     tariff_priced : ArePriced ruled book.held
     tariff_priced bytes priced there price =
         elim (int_lt (day_of bytes) terms.effective) as

@@ -61,7 +61,7 @@ one_read tariff texted =
     ∙ ap (tariff_saying texted.text) texted.said
     ∙ (λ i. Some (record { text = sym texted.is i; terms = tariff.terms }))
 
--- so are all of them
+-- so are all of them,
 all_read : (tariffs : List Tariffed) → All IsTexted tariffs
     → filter_map tariff_read (tariff_entries tariffs) ≡ tariffs
 all_read [] texted = refl
@@ -70,21 +70,21 @@ all_read (tariff ∷ tariffs) texted =
     let rest = all_read tariffs (All-tail IsTexted tariff tariffs texted) in
     λ i. cons_option (first i) (rest i)
 
--- the rows of rising tariffs stand in their table in this order
+-- the rows of rising tariffs are stored in their table in this order,
 pub tariffs_kept : (tariffs : List Tariffed) → are_rising tariffs ≡ true
     → entries (from_entries {R = int_cmp} (tariff_entries tariffs)) ≡ tariff_entries tariffs
 tariffs_kept tariffs rising =
     entries-sorted int_cmp_total int_cmp-IsAntisymmetric (tariff_entries tariffs)
     (tariffs_rise tariffs rising)
 
--- and from their table
+-- and are read back from their table
 pub tariffs_back : (tariffs : List Tariffed) → are_rising tariffs ≡ true → All IsTexted tariffs
     → filter_map tariff_read (entries (from_entries {R = int_cmp} (tariff_entries tariffs)))
     ≡ tariffs
 tariffs_back tariffs rising texted =
     ap (filter_map tariff_read) (tariffs_kept tariffs rising) ∙ all_read tariffs texted
 
--- so do those of closes
+-- so are those of closes
 pub closes_kept : (closes : List ℤ)
     → entries (from_entries {R = nat_cmp} (close_entries 1 closes)) ≡ close_entries 1 closes
 closes_kept closes =

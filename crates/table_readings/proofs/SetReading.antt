@@ -1,4 +1,4 @@
--- Sets of records that are made of lists in any order.
+-- Sets of records that are made from lists in any order.
 use Rattle.std.proofs.Common.{◌≡◌, ℕ, List, ◌++◌, refl, sym, ap, ◌∙◌, true, false, true≢false, Bool}
 use Rattle.std.proofs.Common.{not, ◌&&◌, ◌||◌, Option}
 use Rattle.std.specs.Prelude.{filter, Contains, ℤ}
@@ -17,11 +17,11 @@ use Rattle.book_model.proofs.SetLemmas.{fails_too, has-set_of, members-those, se
 use Rattle.book_model.proofs.SumsAlike.{SumsAlike, filter_map-alike}
 use Rattle.table_readings.specs.BookIn.{joined, charged_before}
 
--- lists that are the same but for their order sum up alike
+-- lists that are equal but for their order have equal sums
 pub permuted-alike : {X : Type 0} (xs ys : List X) → IsPermutation xs ys → SumsAlike xs ys
 permuted-alike xs ys same = record { sums = λ f. sym (sum_by-IsPermutation f xs ys same) }
 
--- what is given for them makes one set
+-- the results for such lists make one set
 pub set-permuted : {X : Type 0} (give : X → Option (List ℕ)) (xs ys : List X)
     → IsPermutation xs ys
     → set_of by_bytes (filter_map give xs) ≡ set_of by_bytes (filter_map give ys)
@@ -29,19 +29,19 @@ set-permuted give xs ys same =
     set_of-alike nat_list_cmp_total exact_bytes
     (filter_map-alike give (permuted-alike xs ys same))
 
--- a set is that of its members
+-- a set is made from its members
 pub set_of-members : (s : Records) → set_of by_bytes (members s) ≡ s
 set_of-members s = same_records (set_of by_bytes (members s)) s (λ q.
     has-set_of nat_list_cmp_total (members s) q ∙ sym (fin.contains_key-keys s q))
 
--- so is the set of those that pass a test
+-- and the set of those that pass a test from the members that do
 pub set_of-filter : (p : List ℕ → Bool) (s : Records)
     → set_of by_bytes (filter p (members s)) ≡ those p s
 set_of-filter p s =
     ap (set_of by_bytes) (sym (members-those nat_list_cmp_total exact_bytes p s))
     ∙ set_of-members (those p s)
 
--- a record of a set that passes a test, where one does
+-- a record of a set that passes a test, if one does
 pub one_passes : (p : List ℕ → Bool) (s : Records) → list_any p (members s) ≡ true
     → (bytes : List ℕ) × (has s bytes ≡ true) × (p bytes ≡ true)
 one_passes p s some =
@@ -63,14 +63,14 @@ some_passes p s bytes there passes =
           ∙ fails_too nat_list_cmp_total exact_bytes p s bytes none there))
     ] refl
 
--- who is among those members of a set that pass a test
+-- what is among those members of a set that pass a test
 pub among-filter : (p : List ℕ → Bool) (s : Records) (q : List ℕ)
     → list_any (is q) (filter p (members s)) ≡ (p q && has s q)
 among-filter p s q =
     ap (list_any (is q)) (sym (members-those nat_list_cmp_total exact_bytes p s))
     ∙ sym (fin.contains_key-keys (those p s) q) ∙ has_those p s q
 
--- who is in one of two sets
+-- what is in one of two sets
 has_joined : (one other : Records) (q : List ℕ)
     → has (joined one other) q ≡ (has one q || has other q)
 has_joined one other q =
@@ -78,7 +78,7 @@ has_joined one other q =
     ∙ list_any-append (is q) (members one) (members other)
     ∙ (λ i. sym (fin.contains_key-keys one q) i || sym (fin.contains_key-keys other q) i)
 
--- what was charged before a period is read back of what it was made of
+-- what was charged before a period is read back from what it was made of
 pub before_back : (last : Option ℤ) (before now : Records) → AreDatedBy last before
     → charged_before (period_by last before now) now ≡ before
 before_back last before now dated =

@@ -22,7 +22,7 @@ use Rattle.table_readings.proofs.ListOrder.{all_passing, all_so}
 use Rattle.table_readings.proofs.ShownLemmas.{rows_show, lines_show}
 
 module _ (naming : Naming) (book : Book) (whole : IsReadable naming book) where
-  -- an identity that records have has the length that its parts need by the rule in force
+  -- an identity that records have has the length that its parts need by the rule in force,
   long_identity : (id : List ℕ) (ks : List (List ℕ)) → AreListed naming book whole.sound ks
       → AllByRecursion (λ bytes. identity_by book.rulings bytes ≡ id) ks → 0 < length ks
       → (length id ≡ identity_length) ⊎ (length id ≡ identity2_length)
@@ -32,7 +32,7 @@ module _ (naming : Naming) (book : Book) (whole : IsReadable naming book) where
       (identity_by-long book.rulings k
       (whole.usage k (first_listed naming book whole.sound k ks held)).usage)
 
-  -- so the dispute of one that two or more have can be shown
+  -- so the dispute of one that two or more have can be shown,
   dispute_shows : (id : List ℕ) → is_shared naming book.rulings book.held id ≡ true
       → IsDispute (dispute_at naming book.rulings book.held id)
   dispute_shows id two =
@@ -53,7 +53,7 @@ module _ (naming : Naming) (book : Book) (whole : IsReadable naming book) where
             (All-from_recursion (λ (row : NamedRow). IsDay row.1.priced.day) rows dated));
       }
 
-  -- and so can all
+  -- and so can all of them
   disputes_show : AreDisputes (disputes_read (tables_of naming book))
   disputes_show =
       let ids : List (List ℕ) = disputed naming book.rulings book.held in
@@ -66,7 +66,7 @@ module _ (naming : Naming) (book : Book) (whole : IsReadable naming book) where
       (λ id in_dispute. dispute_shows id (two_or_more naming book whole id in_dispute)) ids
       (all_passing test (identities book.rulings book.held)))))
 
--- the law of it
+-- the law
 pub lists_show : ListsShow
 lists_show = record {
   rows = λ naming book number whole is. rows_show naming book whole number is;

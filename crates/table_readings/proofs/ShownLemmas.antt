@@ -33,7 +33,7 @@ use Rattle.table_readings.proofs.ListLemmas.{period_there}
 use Rattle.table_readings.proofs.PriceSums.{costs, all_priced, some_within, within_fits}
 
 module _ {K : Type 0} {R : K → K → Ordering} (o : IsTotalOrder R) where
-  -- what holds of a list and of one element more holds where that is put in its place
+  -- what holds of a list and of one more element holds after that element is put in its place
   put_all : (P : K → Type 0) (xs : List K) (k : K) → AllByRecursion P xs → P k
       → AllByRecursion P (insert_key R xs k)
   put_all P [] k all one = (one, tt)
@@ -53,7 +53,7 @@ module _ {K : Type 0} {R : K → K → Ordering} (o : IsTotalOrder R) where
       subst (AllByRecursion P) (sym (members-with o (set_of R ks) k))
       (put_all P (members (set_of R ks)) k (set_all P ks all.1) all.0)
 
-  -- one element more adds no more than itself
+  -- one more element adds no more than itself
   put_sum : (f : K → ℕ) (xs : List K) (k : K) → sum_by f (insert_key R xs k) ≤ f k + sum_by f xs
   put_sum f [] k = let one = sum_by-cons f k [] in omega arith
   put_sum f (x ∷ xs) k =
@@ -68,7 +68,7 @@ module _ {K : Type 0} {R : K → K → Ordering} (o : IsTotalOrder R) where
         | Greater ↦ omega arith
       ]
 
-  -- so the members of a set come to no more than its list
+  -- so the members of a set add up to no more than its list
   set_sum : (f : K → ℕ) (ks : List K) → sum_by f (members (set_of R ks)) ≤ sum_by f ks
   set_sum f [] =
       let none = ap (sum_by f) (members-empty R) in

@@ -17,11 +17,11 @@ use Rattle.kept_tables.specs.Tables.{BookRow, ChoiceTable, RecordRow, Tables}
 use Rattle.kept_tables.specs.Views.{is_named, lone_members, member_at, only_of, only_row}
 use Rattle.kept_tables.specs.Views.{rows_count, view_in}
 
--- by the row of the book, no record of this price can be held too
+-- by the row of the book, no further record of this price can be held
 abbrev pub has_no_room : BookRow → ℕ → Bool
 has_no_room book amount = nat_le most_held book.held || nat_lt most_cost (book.amount + amount)
 
--- the answer to a record of a name that has no row, by its price
+-- the answer to a record whose name has no row, by its price
 abbrev pub new_answer : BookRow → Option Priced → Result Accepted LedgerFault
 new_answer book None = Ok Unpriced
 new_answer book (Some priced) = if has_no_room book priced.amount then Err Full else Ok Kept
@@ -39,13 +39,13 @@ accept_read naming rulings tables bytes =
     row_answer tables.book (get tables.records (name_of naming bytes)) bytes
     (price_in rulings bytes)
 
--- the tables with a record that is kept at a price, in their own words
+-- the tables with a record that is kept at a price, in the readings' own words
 abbrev pub keep_read : Naming → Rulings → List ℕ → Priced → Tables → Tables
 keep_read naming rulings bytes priced tables =
     put_new naming rulings (open_by rulings) bytes priced
     (effects_of (view_in tables (identity_by rulings bytes)) (name_of naming bytes) priced) tables
 
--- The view by some rows of an identity: the first two are enough. Of all of them it is the view in
+-- The view by some rows of an identity: the first two are enough. By all of them it is the view in
 -- the tables.
 abbrev pub view_with : Option ℤ → ChoiceTable → List (List ℕ × RecordRow) → View
 view_with through choices rows = record {
@@ -59,8 +59,8 @@ abbrev pub is_one_named : ChoiceTable → List (List ℕ × RecordRow) → Bool
 is_one_named choices rows =
     option_map_or {T = List ℕ × RecordRow} (λ one. is_named choices one.0) (only_of rows) false
 
--- The view, once it is known whether there is one row alone that some choice names: that stands for
--- two.
+-- The view, once it is known whether there is one row alone that some choice names: such a row
+-- counts as two.
 abbrev pub view_told : Option ℤ → Bool → List (List ℕ × RecordRow) → View
 view_told through named rows = record {
   through = through;

@@ -1,4 +1,4 @@
--- The laws of answers: of a book that can be read back, each is what its tables say.
+-- The laws of answers: for a book that can be read back, each is what its tables say.
 use Rattle.std.specs.Prelude.{◌≡◌, ℕ, ◌≤◌, ◌==◌, false, filter, length, List, Some, None, Ok, ℤ}
 use Rattle.std.specs.Prelude.{int_lt, slice_get, take, unwrap_or, Option}
 use Rattle.std.specs.FinMap.{get, keys}
@@ -28,7 +28,7 @@ use Rattle.table_readings.specs.Readable.{IsReadable}
 use Rattle.table_readings.specs.RulingsRead.{choice_put, choices_made, choose_read, is_lone}
 use Rattle.table_readings.specs.RulingsRead.{terms_read, post_changed}
 
--- A record that is handed in is answered by the rows of its name and of the book; and where it is
+-- A record that is submitted is answered by the rows of its name and of the book; and if it is
 -- kept, the tables after it are made of those before it.
 pub record AcceptFollows : Type 0 where
   pub answer :
@@ -44,7 +44,7 @@ pub record AcceptFollows : Type 0 where
       → tables_of naming (keep bytes book)
       ≡ keep_read naming book.rulings bytes priced (tables_of naming book)
 
--- the effects of a record hang on no more than two rows of its identity
+-- the effects of a record depend on at most two rows of its identity
 abbrev pub TwoAreEnough : Type 0
 TwoAreEnough =
     (through : Option ℤ) (choices : ChoiceTable) (rows : List (List ℕ × RecordRow))
@@ -52,14 +52,14 @@ TwoAreEnough =
     → effects_of (view_with through choices (take 2 rows)) name priced
     ≡ effects_of (view_with through choices rows) name priced
 
--- only where an identity has one row, the view hangs on whether a choice names it
+-- the view depends on whether a choice names it only if an identity has just one row
 abbrev pub ViewIsTold : Type 0
 ViewIsTold =
     (through : Option ℤ) (choices : ChoiceTable) (rows : List (List ℕ × RecordRow))
     → view_told through (is_one_named choices rows) rows ≡ view_with through choices rows
 
--- A tariff is answered by the rulings and by what the records' rows will cost; and where the rows
--- that are dated on its first day or later have prices that can be, so have all records.
+-- A tariff is answered by the rulings and by what the records' rows will cost; and if the rows
+-- that are dated on its first day or later have prices within the limits, so have all records.
 pub record TermsFollow : Type 0 where
   pub answer :
       (naming : Naming) (book : Book) (text : List ℕ) (terms : Terms) → IsReadable naming book
@@ -79,7 +79,7 @@ pub record TermsFollow : Type 0 where
       → ArePriced (with_tariff (Some text) terms book.rulings) book.held
 
 -- The tables after a close are made of those before it; and to post records is to update the rows
--- that are dated by its day and whose marks differ.
+-- that are dated on or before its day and whose marks differ.
 pub record ClosingFollows : Type 0 where
   pub done :
       (naming : Naming) (book : Book) (number : ℕ) (day : ℤ) → IsReadable naming book
@@ -92,9 +92,9 @@ pub record ClosingFollows : Type 0 where
       ≡ updated (post day) (tables_of naming book).records
 
 -- A choice is answered by the row of its name, by the rows of that identity, and by the number of
--- choices; and where it is Done, the tables after it are made of those before it. The first two
--- rows of an identity tell whether a row is alone; the number of the last choice is how many there
--- are; and of each identity one row is charged at most, so the first such row is the current one.
+-- choices; and if it is Done, the tables after it are made of those before it. The first two
+-- rows of an identity show whether a row is alone; the number of the last choice is their count;
+-- and of each identity at most one row is charged, so the first such row is the current one.
 pub record ChoicesFollow : Type 0 where
   pub answer :
       (naming : Naming) (book : Book) (name : List ℕ) → IsReadable naming book
@@ -126,7 +126,7 @@ pub record ChoicesFollow : Type 0 where
 
 -- The tables under the second rule of identity are made of those before it, by a walk that gives
 -- each row its new identity, of that rule's length, and by one that charges. The row of the book
--- tells the rule, and under the second one the period of its adoption.
+-- determines the rule, and under the second one the period of its adoption.
 pub record AdoptionsFollow : Type 0 where
   pub done :
       (naming : Naming) (book : Book) → IsReadable naming book
@@ -149,7 +149,7 @@ pub record AdoptionsFollow : Type 0 where
       (naming : Naming) (book : Book)
       → adopted_read (tables_of naming book).book ≡ book.rulings.adopted
 
--- 64 bits with a sign hold the numbers of the tables
+-- signed 64-bit integers hold the numbers of the tables
 abbrev pub NumbersFit : Type 0
 NumbersFit =
     (naming : Naming) (book : Book) → IsReadable naming book → TablesFit (tables_of naming book)

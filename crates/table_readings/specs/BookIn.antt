@@ -1,4 +1,4 @@
--- The book that tables tell, without the naming of its records.
+-- The book that tables determine, but for the naming of its records.
 use Rattle.std.specs.Prelude.{ℕ, zero, suc, ◌==◌, Bool, true, not, if◌then◌else◌, List, [], ◌∷◌}
 use Rattle.std.specs.Prelude.{◌++◌, map, filter, length, Option, Some, None, Result, Ok, Err, ℤ}
 use Rattle.std.specs.Prelude.{slice_get}
@@ -13,26 +13,26 @@ use Rattle.kept_tables.specs.Numbered.{rows_under}
 use Rattle.kept_tables.specs.Tables.{BookRow, ChoiceRow, RecordRow, RecordTable}
 use Rattle.kept_tables.specs.Tables.{Tables}
 
--- a tariff of this text, where it says terms
+-- a tariff of this text, if it says terms
 abbrev pub tariff_saying : List ℕ → Result Terms TariffFault → Option Tariffed
 tariff_saying text (Ok terms) = Some (record { text = Some text; terms = terms })
 tariff_saying text (Err fault) = None
 
--- a row of the tariffs, where it has a text that says terms
+-- a row of the tariffs, if it has a text that says terms
 abbrev pub tariff_read : ℤ × Option (List ℕ) → Option Tariffed
 tariff_read row = option_and_then (λ text. tariff_saying text (terms_in text)) row.1
 
--- the record of a row: its data behind their descriptor
+-- the record of a row: its data after their descriptor
 abbrev pub record_of : RecordRow → List ℕ
 record_of row = record_with row.data_bytes
 
--- a row of the choices, where its name has a record
+-- a row of the choices, if its name has a record
 abbrev pub choice_read : RecordTable → ChoiceRow → Option Choice
 choice_read records row =
     option_map (λ found. record { chosen = record_of found; period = row.period })
     (get records row.name)
 
--- the period that was open when the second rule of identity was adopted, where that is in force
+-- the period that was open when the second rule of identity was adopted, if that is in force
 abbrev pub adopted_read : BookRow → Option ℕ
 adopted_read row = if row.rule == second_rule then Some row.adopted else None
 
@@ -55,7 +55,7 @@ abbrev pub named_by : RecordTable → List ((ℕ × List ℕ) × Bool) → Recor
 named_by records lines =
     set_of by_bytes (filter_map (λ line. option_map record_of (get records line.0.1)) lines)
 
--- the records that a period adds, by its plus lines, and those that it takes back, by the others
+-- the records that a period adds, by its plus lines, and those that it reverses, by the others
 abbrev pub added_in : ℕ → Tables → Records
 added_in number tables =
     named_by tables.records (filter (λ line. line.1) (rows_under number tables.lines))
@@ -64,7 +64,7 @@ abbrev pub taken_in : ℕ → Tables → Records
 taken_in number tables =
     named_by tables.records (filter (λ line. not line.1) (rows_under number tables.lines))
 
--- the day of the close after so many periods, if there was one
+-- the day of the close after this many periods, if there was one
 abbrev pub close_after : ℕ → List ℤ → Option ℤ
 close_after zero closes = None
 close_after (suc k) closes = slice_get closes k
@@ -86,7 +86,7 @@ period_in number last charged tables = record {
   taken = taken_in number tables;
 }
 
--- so many periods, of which the last ended with these records charged
+-- this many periods, the last of which ended with these records charged
 abbrev pub past_in : ℕ → Records → Tables → List Period
 past_in zero charged tables = []
 past_in (suc k) charged tables =

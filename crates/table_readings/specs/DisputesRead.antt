@@ -33,7 +33,7 @@ variant_read row = record {
 abbrev pub of_one : NamedRow → Disputed
 of_one row = record { identity = row.1.identity; members = variant_read row ∷ [] }
 
--- a row in front of disputes: it joins the first where that has its identity
+-- a row before disputes: it joins the first if that has its identity
 abbrev pub join_first : NamedRow → List Disputed → List Disputed
 join_first row [] = of_one row ∷ []
 join_first row (first ∷ others) =
@@ -46,7 +46,7 @@ abbrev pub grouped : List NamedRow → List Disputed
 grouped [] = []
 grouped (row ∷ rows) = join_first row (grouped rows)
 
--- a row behind disputes: it joins the last where that has its identity
+-- a row after disputes: it joins the last if that has its identity
 abbrev pub join_last : List Disputed → NamedRow → List Disputed
 join_last [] row = of_one row ∷ []
 join_last (last ∷ []) row =
@@ -64,7 +64,7 @@ abbrev pub is_unsettled : RecordTable → NamedRow → Bool
 is_unsettled records row =
     not (list_any (λ other. other.1.charged) (rows_with row.1.identity records))
 
--- the rows in dispute: those that are not charged, without those of an identity that was settled
+-- the rows in dispute: those that are not charged, except those of an identity that was settled
 abbrev pub disputed_among : RecordTable → List NamedRow
 disputed_among records = filter (is_unsettled records) (uncharged_among records)
 

@@ -1,4 +1,4 @@
--- Tables whose numbers 64 bits with a sign hold, and whose days and periods are such.
+-- Tables whose numbers fit signed 64-bit integers, and whose days and periods are valid.
 use Rattle.std.specs.Prelude.{◌≡◌, ℕ, ◌≤◌, ◌<◌, ◌^◌, Bool, IsSome, length, List, Option, Some}
 use Rattle.std.specs.Prelude.{ℤ}
 use Rattle.std.specs.FinMap.{get, values}
@@ -10,11 +10,11 @@ use Rattle.kept_tables.specs.Tables.{ChoiceRow, RecordRow, RecordTable, Tables}
 use Rattle.kept_tables.specs.TablesOf.{place_of}
 use Rattle.table_readings.specs.BookIn.{record_of}
 
--- numbers that are smaller than this fit in 64 bits with a sign
+-- smaller numbers than this fit signed 64-bit integers
 abbrev pub signed_end : ℕ
 signed_end = 2 ^ 63
 
--- a period that there may be
+-- a possible period
 pub record IsPeriod (number : ℕ) : Type 0 where
   pub numbered : 0 < number
   pub early : number ≤ last_period

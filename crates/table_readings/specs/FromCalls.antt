@@ -6,25 +6,25 @@ use Rattle.book_model.specs.Words.{SecondRuleAdopted, book_after, rulings, Namin
 use Rattle.book_model.specs.Words.{Records, Rulings, has, price_in, with_tariff}
 use Rattle.tariff_rules.specs.declared.priced.Priced.{Priced}
 
--- A record that a call hands in: it measures work, and its price is one that can be.
+-- A record that a call submits: it measures work, and its price is within the limits.
 pub record IsHandedIn (rulings : Rulings) (bytes : List ℕ) : Type 0 where
   pub usage : IsUsageRecord bytes
   pub priced : (priced : Priced) → price_in rulings bytes ≡ Some priced → IsPriced priced
 
--- A tariff that a call hands in: its text says its terms, from a day on.
+-- A tariff that a call submits: its text says its terms, from a day on.
 pub record IsReadFrom (text : List ℕ) (terms : Terms) : Type 0 where
   pub said : terms_in text ≡ Ok terms
   pub day : IsDay terms.effective
 
--- what records that are held cost by some rulings are prices that can be
+-- what held records cost by some rulings is within the limits of a price
 abbrev pub ArePriced : Rulings → Records → Type 0
 ArePriced rulings held =
     (bytes : List ℕ) (priced : Priced) → has held bytes ≡ true
     → price_in rulings bytes ≡ Some priced → IsPriced priced
 
--- Each event is one of what calls hand in: no tariff comes without its text, nor makes a price that
--- can't be of a record that is held; and periods are closed through days. Of the choice of a record
--- and of the adoption of a rule nothing more is asked than that they were answered so.
+-- Each event is one that calls submit: no tariff comes without its text, nor makes the price of a
+-- held record exceed its limits; and periods are closed through days. For the choice of a record
+-- and for the adoption of a rule nothing more is required than that they were answered so.
 abbrev pub AreHandedIn : List Event → Type 0
 AreHandedIn [] = Unit {0}
 AreHandedIn (RecordKept bytes ∷ older) = IsHandedIn (rulings older) bytes × AreHandedIn older

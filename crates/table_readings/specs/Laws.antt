@@ -11,7 +11,7 @@ use Rattle.table_readings.specs.BookIn.{book_in}
 use Rattle.table_readings.specs.FromCalls.{ArePriced, IsFromCalls, IsHandedIn, IsReadFrom}
 use Rattle.table_readings.specs.Readable.{IsReadable}
 
--- New books are made by calls, by none; and each call that is an event leaves such books.
+-- New books are made by calls, namely none; and each call that is an event leaves such books.
 pub record CallsStay : Type 0 where
   pub start : (naming : Naming) → IsFromCalls naming new_book
   pub keep :
@@ -46,7 +46,7 @@ BookFollows =
     (naming : Naming) (book : Book) → IsReadable naming book
     → book_in (tables_of naming book) ≡ book
 
--- so books that calls made and that have the same tables are one
+-- so books that calls made and that have the same tables are equal
 abbrev pub TablesTell : Type 0
 TablesTell =
     (naming : Naming) (one other : Book) → IsReadable naming one → IsReadable naming other

@@ -1,6 +1,6 @@
--- Read in this order: the book that tables tell; books that calls made, and what reading them back
--- rests on; the answers to a record and to a ruling, the lists of a period and the disputes, by the
--- tables; the numbers that fit; and the laws, those of lists at the end.
+-- Read in this order: the book that tables determine; books that calls made, and what reading them
+-- back rests on; the answers to a record and to a ruling, the lists of a period and the disputes,
+-- by the tables; the numbers that fit; and the laws, with those of lists at the end.
 pub mod BookIn
 pub mod FromCalls
 pub mod Readable

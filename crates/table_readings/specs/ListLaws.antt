@@ -1,4 +1,4 @@
--- The laws of lists: what is answered of a period and of disputes is what the tables say, and can
+-- The laws of lists: what is answered for a period and for disputes is what the tables say, and can
 -- be shown.
 use Rattle.std.specs.Prelude.{◌≡◌, ℕ, filter, List, [], ◌∷◌, ◌++◌, Ok, true}
 use Rattle.std.specs.FinMap.{values}
@@ -27,10 +27,10 @@ pub record ListsFollow : Type 0 where
       (naming : Naming) (book : Book) → IsReadable naming book
       → periods_outcome book ≡ reading (Ok (values (tables_of naming book).closes))
 
--- The disputes are the rows of identities of which no row is charged, in groups; rows that are in
--- order are these where they are the same ones; so the rows that are not charged, in order, are
--- these without those of an identity that was settled; and a row behind others joins the last group
--- or makes one.
+-- The disputes are the rows of identities that have no charged row, in groups; rows that are in
+-- order are these if they are the same rows; so the rows that are not charged, in order, are
+-- these without those of an identity that was settled; and a row after others joins the last group
+-- or starts one.
 pub record DisputesFollow : Type 0 where
   pub disputes :
       (naming : Naming) (book : Book) → IsReadable naming book
@@ -49,7 +49,7 @@ pub record DisputesFollow : Type 0 where
   pub push : (rows : List NamedRow) (row : NamedRow)
       → grouped (rows ++ row ∷ []) ≡ join_last (grouped rows) row
 
--- The charge rows and the adjustment lines of a period that there is, and the disputes, are lists
+-- The charge rows and the adjustment lines of a period that exists, and the disputes, are lists
 -- that reports can print.
 pub record ListsShow : Type 0 where
   pub rows :

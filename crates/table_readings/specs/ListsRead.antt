@@ -9,11 +9,11 @@ use Rattle.book_model.specs.Words.{Rulings, open_by}
 use Rattle.kept_tables.specs.Reading.{rows_read, lines_read}
 use Rattle.kept_tables.specs.Tables.{Tables}
 
--- there is a period of this number: the open one, or one before it
+-- there is a period of this number: the open one, or an earlier one
 abbrev pub is_period : ℕ → Rulings → Bool
 is_period number rulings = not (number == 0) && nat_le number (open_by rulings)
 
--- a list of a period that there is
+-- a list for a period that exists
 abbrev pub of_period : {A : Type 0} → ℕ → Rulings → A → Result A LedgerFault
 of_period number rulings found = if is_period number rulings then Ok found else Err NoSuchPeriod
 

@@ -18,14 +18,14 @@ pub record IsTexted (tariff : Tariffed) : Type 0 where
   pub said : terms_in text ≡ Ok tariff.terms
   pub day : IsDay tariff.terms.effective
 
--- so many periods, each made of what was charged before it and at its end
+-- this many periods, each made of what was charged before it and at its end
 abbrev pub chained : ℕ → List ℤ → (ℕ → Records) → List Period
 chained zero closes charged = []
 chained (suc k) closes charged =
     chained k closes charged
     ++ period_by (close_after k closes) (charged k) (charged (suc k)) ∷ []
 
--- What the closes charged, the first number being that of no close: the closed periods were made
+-- What the closes charged, where the first number is that of no close: the closed periods were made
 -- of it, and none of it is dated after its close.
 pub record IsChain (book : Book) : Type 0 where
   pub charged : ℕ → Records
@@ -34,7 +34,7 @@ pub record IsChain (book : Book) : Type 0 where
   pub dated : (k : ℕ) → k ≤ length book.rulings.closes
       → AreDatedBy (close_after k book.rulings.closes) (charged k)
 
--- the number is that of a period which has begun: of the open one, or of one before it
+-- the number is that of a period which has begun: the open one, or an earlier one
 pub record IsBegun (book : Book) (period : ℕ) : Type 0 where
   pub numbered : 0 < period
   pub begun : period ≤ open_number book
@@ -50,10 +50,10 @@ pub record IsWithinLimits (book : Book) : Type 0 where
   pub closes : length book.rulings.closes < last_period
   pub choices : length book.rulings.choices ≤ most_choices
 
--- The book is sound and its lines can be read; the records measure work and have prices that can
--- be; the tariffs are known by their texts and in order; the closes are days and in order; choices
--- were made, and the second rule of identity was adopted, if it was, in periods that have begun;
--- the closed periods hang together; and the book is within the limits.
+-- The book is sound and its lines can be read; the records measure work and their prices are within
+-- the limits; the tariffs are known by their texts and in order; the closes are days and in order;
+-- choices were made, and the second rule of identity was adopted, if it was, in periods that have
+-- begun; the closed periods are linked; and the book is within the limits.
 pub record IsReadable (naming : Naming) (book : Book) : Type 0 where
   pub sound : IsSound naming book
   pub lines : HasLines book

@@ -17,7 +17,7 @@ use Rattle.kept_tables.specs.TableChanges.{amount_under, put_choice}
 use Rattle.kept_tables.specs.Tables.{RecordRow, RecordTable, Tables}
 use Rattle.kept_tables.specs.Views.{current_in, member_at, rows_with}
 
--- the records of the rows cost more under a tariff than the books hold
+-- the records of the rows cost more under a tariff than the books can hold
 abbrev pub cost_too_much : Terms → RecordTable → Bool
 cost_too_much terms records =
     nat_lt most_cost (sum_by (amount_under terms) (values records))
@@ -39,7 +39,7 @@ is_lone records row = length (rows_with row.identity records) == 1
 abbrev pub choices_made : Tables → ℕ
 choices_made tables = length (values tables.choices)
 
--- The answer to the choice of a row, if there is one: of two or more rows of one identity the one
+-- The answer to the choice of a row, if there is one: of two or more rows of one identity, the one
 -- that is charged is the choice now.
 abbrev pub choose_row : Tables → Option RecordRow → Result Ruled LedgerFault
 choose_row tables None = Err NoSuchRecord
@@ -53,7 +53,7 @@ choose_row tables (Some row) =
 abbrev pub choose_read : Tables → List ℕ → Result Ruled LedgerFault
 choose_read tables name = choose_row tables (get tables.records name)
 
--- the tables with the choice of a row under its name, in their own words
+-- the tables with the choice of a row under its name, in the readings' own words
 abbrev pub choice_put : List ℕ → RecordRow → Tables → Tables
 choice_put name row tables =
     put_choice (choices_made tables + 1) (length (values tables.closes) + 1) name
@@ -64,7 +64,7 @@ choice_put name row tables =
 abbrev pub has_changed : RecordRow → Bool
 has_changed row = (row.charged && not row.posted) || (row.posted && not row.charged)
 
--- the row is dated no later than the day, and its marks differ
+-- the row is dated on or before the day, and its marks differ
 abbrev pub is_to_post : ℤ → RecordRow → Bool
 is_to_post day row = not (int_lt day row.priced.day) && has_changed row
 

@@ -1,5 +1,5 @@
-//! Laws of what is read back from kept tables, which hold over their definitions alone. Each stands
-//! on a function that does nothing.
+//! Laws of what is read back from kept tables, which hold of their definitions alone. Each is the
+//! contract of a function that does nothing.
 
 ghost use Rattle.table_readings.specs.AnswerLaws.{AcceptFollows, AdoptionsFollow, ChoicesFollow};
 ghost use Rattle.table_readings.specs.AnswerLaws.{ClosingFollows, NumbersFit, TermsFollow};
@@ -22,24 +22,24 @@ pub fn book_follows()
     ensures { BookFollows }
 {}
 
-/// Books that can be read back and have the same tables are one.
+/// Books that can be read back and have the same tables are equal.
 pub fn tables_tell()
     ensures { TablesTell }
 {}
 
-/// A record that is handed in is answered by the rows of its name and of the book; and where it is
+/// A record that is submitted is answered by the rows of its name and of the book; and if it is
 /// kept, the tables after it are made of those before it.
 pub fn accept_follows()
     ensures { AcceptFollows }
 {}
 
-/// Only where an identity has one row, what a ledger looks at for a new record hangs on whether a
-/// choice names it.
+/// What a ledger looks at for a new record depends on whether a choice names it only if an identity
+/// has just one row.
 pub fn view_is_told()
     ensures { ViewIsTold }
 {}
 
-/// The effects of a record hang on no more than two rows of its identity.
+/// The effects of a record depend on at most two rows of its identity.
 pub fn two_are_enough()
     ensures { TwoAreEnough }
 {}
@@ -50,19 +50,19 @@ pub fn terms_follow()
 {}
 
 /// A choice is answered by the row of its name, by the rows of that identity, and by the number of
-/// choices; and where it is done, the tables after it are made of those before it.
+/// choices; and if it is done, the tables after it are made of those before it.
 pub fn choices_follow()
     ensures { ChoicesFollow }
 {}
 
 /// The tables under the second rule of identity are made of those before it, and their row of the
-/// book tells the rule.
+/// book determines the rule.
 pub fn adoptions_follow()
     ensures { AdoptionsFollow }
 {}
 
 /// The tables after a close are made of those before it; and to post records is to update the rows
-/// that are dated by its day and whose marks differ.
+/// that are dated on or before its day and whose marks differ.
 pub fn closing_follows()
     ensures { ClosingFollows }
 {}
@@ -73,13 +73,13 @@ pub fn lists_follow()
     ensures { ListsFollow }
 {}
 
-/// The disputes are the rows of identities of which no row is charged, by identity, then name, in
+/// The disputes are the rows of identities that have no charged row, by identity, then name, in
 /// groups.
 pub fn disputes_follow()
     ensures { DisputesFollow }
 {}
 
-/// 64 bits with a sign hold the numbers of the tables.
+/// Signed 64-bit integers hold the numbers of the tables.
 pub fn numbers_fit()
     ensures { NumbersFit }
 {}

@@ -51,7 +51,7 @@ pub entry_fails : {A : Type 0} (read : Data → Result A TariffFault) (values : 
 entry_fails read values i d found fault within is =
     rw (from_entry-step read values i d within, is) refl
 
--- behind the last entry all is found
+-- after the last entry all is found
 pub all_found : {A : Type 0} (read : Data → Result A TariffFault) (values : List Value) (i : ℕ)
     (found : List A)
     → drop i values ≡ [] → behind found (from_entry read values i) ≡ Ok found

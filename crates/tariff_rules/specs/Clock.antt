@@ -14,7 +14,7 @@ minutes_per_hour = 60
 abbrev pub minutes_per_day : ℕ
 minutes_per_day = 1440
 
--- two digits, a colon, whose code is 58, and two digits
+-- two digits, a colon (code 58), and two digits
 abbrev pub is_clock_text : List ℕ → Bool
 is_clock_text text =
     length text == clock_length

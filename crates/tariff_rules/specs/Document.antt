@@ -20,7 +20,7 @@ abbrev pub ◌>>=◌ : {A B : Type 0}
 Ok value >>= next = next value
 Err fault >>= next = Err fault
 
--- the answer is the one that is wanted, unless memory runs out
+-- the answer is the expected one, unless memory runs out
 abbrev pub Answers : {A : Type 0} → Result A TariffFault → Result A TariffFault → Type 0
 Answers result wanted =
     MatchResult result

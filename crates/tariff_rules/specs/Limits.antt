@@ -1,4 +1,4 @@
--- The office's limits of what a tariff may say. The code has each of these numbers again, as a
+-- The office's limits on what a tariff may say. The code has each of these numbers again, as a
 -- constant.
 use Rattle.std.specs.Prelude.{ℕ}
 
@@ -30,11 +30,11 @@ days_per_week = 7
 abbrev pub last_account : ℕ
 last_account = 255
 
--- the most characters of what an accounting field has to begin with
+-- the most characters of the text that an accounting field has to begin with
 abbrev pub most_account_prefix : ℕ
 most_account_prefix = 16
 
--- the most characters of what a job's name has to begin with, which are those of the name
+-- the most characters of the text that a job's name has to begin with, which are those of the name
 -- (SA38-0667, type 30, identification section)
 abbrev pub most_job_prefix : ℕ
 most_job_prefix = 8

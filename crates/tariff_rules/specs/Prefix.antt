@@ -3,7 +3,7 @@ use Rattle.std.specs.Prelude.{ℕ, ◌==◌, ◌&&◌, not, Bool, nat_le, if◌t
 use Rattle.std.specs.Prelude.{List, length, Option, Some, None}
 use Rattle.smf_text.specs.Encoding.{is_in_page, page_bytes}
 
--- one to so many characters of code page 037, which has the 95 printable ones of ASCII
+-- one or more characters of code page 037 (the 95 printable ones of ASCII), up to a limit
 abbrev pub is_prefix_text : ℕ → List ℕ → Bool
 is_prefix_text most text = not (length text == 0) && nat_le (length text) most && is_in_page text
 

@@ -82,12 +82,12 @@ centre_of rules bytes = centre_by (find (applies_to bytes) rules)
 abbrev pub rates_for : Terms → ℕ → RatesOf
 rates_for terms subtype = if subtype == step_end then terms.step else terms.job
 
--- The price's formula counts in parts, so that all is added before anything is rounded: so many
+-- The price's formula counts in parts, so that all is added before anything is rounded: this many
 -- parts make a ten-thousandth of the money unit
 abbrev pub whole_parts : ℕ
 whole_parts = 100_000
 
--- half of these, from which on the amount is rounded upwards
+-- half of these: an amount is rounded up from there on
 abbrev pub half_parts : ℕ
 half_parts = 50_000
 
@@ -100,7 +100,7 @@ abbrev pub record_parts : ℕ
 record_parts = 1000
 
 -- what a record costs at one percent, in parts, by its CPU time in hundredths of a second and its
--- blocks, of which each has one part by the rate of 1,000
+-- blocks, each of which has one part by the rate of 1,000
 abbrev pub parts_of : RatesOf → ℕ → ℕ → ℕ
 parts_of rates cpu excp =
     hundredth_parts * cpu * rates.cpu + excp * rates.excp + record_parts * rates.record_fee

@@ -21,7 +21,7 @@ weekday_in value = whole_in 1 days_per_week value
 abbrev pub is_weekday : Data → Bool
 is_weekday value = is_some (weekday_in value)
 
--- one to seven of them, of which some may be the same
+-- one to seven of them, some of which may be the same
 abbrev pub are_weekdays : List Data → Bool
 are_weekdays entries =
     not (length entries == 0) && nat_le (length entries) days_per_week
@@ -43,7 +43,7 @@ minute_at table key = do
   text ← text_at table key
   ok_or (minute_of_text text) (Range key)
 
--- the first minute behind the shift, which is behind its first minute
+-- the first minute after the shift, which is later than its first minute
 unfoldable pub to_at : Members → ℕ → Result ℕ TariffFault
 to_at table from = do
   to ← minute_at table key.To

@@ -29,20 +29,20 @@ pub record IsShift (shift : Shift) : Type 0 where
   pub percent : shift.percent ≤ most_percent
 
 -- when a shift is worked: its weekdays, Monday 1 to Sunday 7, its first minute of the day,
--- and the first behind it
+-- and the first after it
 pub record ShiftRule : Type 0 where
   pub shift : Shift
   pub days : List ℕ
   pub from : ℕ
   pub to : ℕ
 
--- what a centre pays for: the records whose field begins with the prefix, in bytes of code page 037
+-- what a centre pays for: the records with a field that begins with the prefix, in code page 037
 pub record CentreRule : Type 0 where
   pub centre : List ℕ
   pub field : Field
   pub prefix : List ℕ
 
--- a tariff: its first day, the rates of steps and of jobs, and its rules, of which the first
+-- a tariff: its first day, the rates of steps and of jobs, and its rules, the first of which
 -- that applies decides
 pub record Terms : Type 0 where
   pub effective : ℤ

@@ -32,8 +32,8 @@ impl Field {
     }
 }
 
-/// What a centre pays for: the records whose field begins with the prefix, in bytes of code page
-/// 037.
+/// What a centre pays for: the records with a field that begins with the prefix, in bytes of code
+/// page 037.
 #[derive(Debug, Drop)]
 pub(crate) struct CentreRule {
     centre: Name,

@@ -12,7 +12,7 @@ use thiserror::Error;
 #[derive(Clone, Copy, Debug, PartialEq, Eq, Error)]
 pub enum TariffFault {
     /// The text is no TOML document.
-    #[error("the tariff is no TOML document")]
+    #[error("the tariff is not a TOML document")]
     Syntax,
     /// A key is not there that has to be.
     #[error("the tariff has no key {0}")]
@@ -21,10 +21,10 @@ pub enum TariffFault {
     #[error("the tariff's key {0} is out of range")]
     Range(Key),
     /// The name of a shift or a centre is a text, but no name.
-    #[error("the tariff has a name of another form")]
+    #[error("the tariff has a name of the wrong form")]
     Name,
     /// Two shifts of one name have different percents, or one named `BASE` has another than 100.
-    #[error("the tariff gives one shift two percents")]
+    #[error("the tariff gives two percents for one shift")]
     ShiftConflict,
     /// The text is too long, or has too many shifts or centres.
     #[error("the tariff is too large")]

@@ -5,7 +5,7 @@ ghost use Rattle.tariff_rules.specs.Faults.{key_text};
 
 use std::fmt;
 
-/// A key of a tariff file, in the order in which the keys are read.
+/// A key of a tariff file, in the order in which the file's keys are read.
 #[derive(Clone, Copy, Debug, PartialEq, Eq)]
 pub enum Key {
     /// The tariff's first day.
@@ -32,7 +32,7 @@ pub enum Key {
     Days,
     /// A shift's first minute.
     From,
-    /// The first minute behind a shift.
+    /// The first minute after a shift.
     To,
     /// A shift's percent.
     Percent,

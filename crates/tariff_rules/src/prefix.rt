@@ -6,7 +6,7 @@ ghost use Rattle.tariff_rules.specs.Prefix as spec;
 use smf_text::encode;
 use std::alloc::{AllocError, Global};
 
-/// The bytes of the text in code page 037, if it is one to so many characters of the page.
+/// The bytes of the text in code page 037, if it is one or more of its characters, up to a limit.
 pub(crate) fn prefix_of(
     alloc: Global,
     text: &str,

@@ -15,7 +15,7 @@ pub const MAX_RATE: u64 = 100_000_000;
 /// The parts of a ten-thousandth of the money unit, in which the price's formula counts.
 const WHOLE_PARTS: u128 = 100_000;
 
-/// Half of these, from which on an amount is rounded upwards.
+/// Half of these: an amount is rounded up from there on.
 const HALF_PARTS: u128 = 50_000;
 
 /// The parts that a hundredth of a second has, at one percent, by the rate of a CPU second.

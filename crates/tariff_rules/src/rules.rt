@@ -34,7 +34,7 @@ fn read_each<R: Rule>(alloc: Global, entries: &[Value]) -> Result<Vec<R>, Tariff
     Ok(rules)
 }
 
-/// The rules at a key, of which there may be none.
+/// The rules at a key; there may be none.
 #[tactic(auto, unfolding(crate::specs::Document::rules_at), using(crate::proofs::EntryLemmas::entry_lemmas))]
 pub(crate) fn rules_at<R: Rule>(
     alloc: Global,

@@ -44,7 +44,7 @@ impl Shift {
 }
 
 /// When a shift is worked: its weekdays, Monday 1 to Sunday 7, its first minute of the day, and the
-/// first behind it.
+/// first after it.
 #[derive(Debug, Drop)]
 pub(crate) struct ShiftRule {
     shift: Shift,

@@ -34,7 +34,7 @@ failed_after old mid new cursors e is failed =
 pub more_since : (one two three : ℕ) → one ≤ two → MoreFaults two three → MoreFaults one three
 more_since one two three less more = search rules
 
--- what failed behind looks has a cause of the store as it was before them
+-- what failed after looks has a cause of the store as it was before them
 pub caused_after : (old mid : View) (one two three : ℕ) (e : StoreError)
     → mid ≡ record old { cursors = mid.cursors } → one ≤ two
     → HasCause mid (MoreFaults two three) ⊥ e → HasCause old (MoreFaults one three) ⊥ e
@@ -46,7 +46,7 @@ caused_after old mid one two three Broken same less cause =
     subst IsTrue (ap (λ (v : View). v.is_broken) same) cause
 caused_after old mid one two three Unstorable same less cause = cause
 
--- want of memory is a cause
+-- a lack of memory is a cause
 pub caused_by_memory : (old : View) (fault : Type 0) (e : StoreError) → e ≡ OutOfMemory
     → HasCause old fault ⊥ e
 caused_by_memory old fault e is = subst (HasCause old fault ⊥) (sym is) tt

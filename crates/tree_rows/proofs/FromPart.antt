@@ -37,7 +37,7 @@ module _ {K V : Type 0} {R : K → K → Ordering} (layout : Layout K V R) (part
       → is_lt (R q k) ≡ false)
   Says es row false = (q : K) (w : V) → find R q es ≡ Some w → is_lt (rank q) ≡ true
 
-  -- what is found is the first, or is found behind it
+  -- what is found is the first, or is found after it
   first_or : (q : K) (w : V) (e : K × V) (es : List (K × V)) → find R q (e ∷ es) ≡ Some w
       → (q ≡ e.0) ⊎ (find R q es ≡ Some w)
   first_or q w e es found =
@@ -68,7 +68,7 @@ module _ {K V : Type 0} {R : K → K → Ordering} (layout : Layout K V R) (part
     | inr behind ↦ says q w behind
   ]
 
-  -- no entry comes before the front
+  -- no entry comes before the first
   none_before : (e : K × V) (es : List (K × V)) → T (is_sorted R (e ∷ es)) → (q : K) (w : V)
       → find R q (e ∷ es) ≡ Some w → is_lt (R q e.0) ≡ false
   none_before e es up q w found =

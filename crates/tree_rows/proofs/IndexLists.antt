@@ -88,7 +88,7 @@ module _ {K V Q : Type 0} {R : K → K → Ordering} {P : Q → Q → Ordering} 
         All-from_recursion (IsKeyOf key name m) (keys_of there)
         (all_found P index.index_total (IsKeyOf key name m) there (index_names index m))
 
-    -- the key of an entry at the front of sorted entries is not one of the later ones
+    -- the key of an entry at the head of sorted entries is not one of the later ones
     new_at_front : (e : K × V) (es : List (K × V)) → T (is_sorted R (e ∷ es))
         → find P (key e) (map (indexed_by key) es) ≡ None
     new_at_front e es sorted =
@@ -116,7 +116,7 @@ module _ {K V Q : Type 0} {R : K → K → Ordering} {P : Q → Q → Ordering} 
         (IsPermutation-cons (key e) (keys_of (entries later)) (map key es)
         (keys_permute es (second _ _ sorted))))
 
-    -- the index keys that pass a test are those that are made of the entries whose keys pass it
+    -- the index keys that pass a test are those that are made of the entries with keys that pass it
     pub index_permutes : (t : Q → Bool) (m : FinMap R V)
         → IsPermutation (filter t (map (λ e. e.0) (entries (index_of {P = P} key m))))
         (map key (filter (λ e. t (key e)) (entries m)))
@@ -132,7 +132,7 @@ module _ {K V Q : Type 0} {R : K → K → Ordering} {P : Q → Q → Ordering} 
     alike : (t : Q → Bool) (q x : Q) → P q x ≡ Equal → t x ≡ t q
     alike t q x is = ap t (sym (index.index_exact q x is))
 
-    -- Where the entries that pass stand in the order of the index, those of the index that pass
+    -- Where the entries that pass are in the order of the index, those of the index that pass
     -- are theirs, in this order.
     pub index_in_order : (t : Q → Bool) (m : FinMap R V)
         → T (is_sorted P (map (indexed_by key) (filter (λ e. t (key e)) (entries m))))

@@ -21,7 +21,7 @@ second_equal Equal b e = e
 second_equal Greater b e = absurd (cc)
 
 module _ {A B : Type 0} {R : A → A → Ordering} {S : B → B → Ordering} where
-  -- pairs whose parts have total orders have one
+  -- pairs with parts that have total orders have one
   pub parts_total : IsTotalOrder R → IsTotalOrder S → IsTotalOrder (by_parts R S)
   parts_total first second = then_total (on_total (λ (p : A × B). p.0) first)
       (on_total (λ (p : A × B). p.1) second)

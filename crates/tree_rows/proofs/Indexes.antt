@@ -23,7 +23,7 @@ one_stays : {A : Type 0} (b : Bool) (x y : Option A) → (b ≡ true → y ≡ x
 one_stays true x y one = sym (one refl)
 one_stays false x y one = refl
 
--- of what is there only where a test is passed, nothing is left where that is taken
+-- of what is there only where a test is passed, nothing is left once that is removed
 none_left : {A : Type 0} (b : Bool) (x : A) → cond b None (cond b (Some x) None) ≡ None
 none_left true x = refl
 none_left false x = refl
@@ -66,7 +66,7 @@ module _ {K V Q : Type 0} {R : K → K → Ordering} {P : Q → Q → Ordering} 
               ∙ rest
         ] refl
 
-    -- the index has a key where the map has an entry of which it is made
+    -- the index has a key where the map has an entry that it is made of
     pub indexed : (m : FinMap R V) (q : Q)
         → get (index_of {P = P} key m) q ≡ index_answer P key (name q) q (get m (name q))
     unfolding index_of
@@ -125,7 +125,7 @@ module _ {K V Q : Type 0} {R : K → K → Ordering} {P : Q → Q → Ordering} 
         ∙ ap (λ a. cond (eq_by_cmp P q (key (k, v))) (Some tt)
         (cond (eq_by_cmp R (name q) k) None a)) (sym (indexed m q))
 
-    -- an entry whose key is new has a new index key, and it joins the others
+    -- an entry with a new key has a new index key, and it joins the others
     pub index_new : (m : FinMap R V) (k : K) (v : V) → get m k ≡ None
         → (get (index_of {P = P} key m) (key (k, v)) ≡ None)
         × (index_of {P = P} key (insert m k v) ≡ insert (index_of key m) (key (k, v)) tt)
@@ -189,7 +189,7 @@ module _ {K V Q : Type 0} {R : K → K → Ordering} {P : Q → Q → Ordering} 
         ∙ ap (λ x. insert (remove (index_of key m) (key (k, v))) x tt) same
         ∙ put_back (index_of key m) (key (k, v)) (index_has m k v some)
 
-    -- an answer of the index comes of a value of the map
+    -- an answer of the index comes from a value of the map
     answered : (k : K) (q : Q) (had : Option V) → index_answer P key k q had ≡ Some tt
         → (v : V) × (had ≡ Some v) × (key (k, v) ≡ q)
     answered k q None some = absurd (not_none tt (sym some))

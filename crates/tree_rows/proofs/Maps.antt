@@ -33,7 +33,7 @@ then_assoc Less b c = refl
 then_assoc Equal b c = refl
 then_assoc Greater b c = refl
 
--- two rows whose keys have as many columns compare by their keys first
+-- two rows with keys of as many columns compare by their keys first
 pub entry_of : (a p b q : Row) → length a ≡ length b
     → entry_cmp plain (a ++ p) (b ++ q) ≡ ordering_then (row_cmp a b) (entry_cmp plain p q)
 unfolding first_key
@@ -69,15 +69,15 @@ find_below R o k x (e ∷ es) is below =
     ap (λ r. cond (is_eq r) (Some e.1) (find R k es)) (o.trans k x e.0 is (less _
     (first _ _ below))) ∙ find_below R o k x es is (second _ _ below)
 
--- a list with a front is not empty
+-- a list with a head is not empty
 pub none_there : {A : Type 0} (x : A) (xs : List A) → x ∷ xs ≡ [] → ⊥
 none_there x xs e = absurd (cc)
 
--- one list has one front
+-- one list has one head
 pub head_is : (x y : Row) (xs ys : List Row) → x ∷ xs ≡ y ∷ ys → x ≡ y
 head_is x y xs ys e = cc
 
--- what is read at the front of rows that are there
+-- what is read at the head of rows that are there
 pub begins_with : (x : Row) (xs : List Row) (row : Row) (there : Bool) → IsFirst (x ∷ xs) row there
     → (there ≡ true) × (row ≡ x)
 begins_with x xs row true first = (refl, sym (head_is x row xs first.0 first.1))
@@ -103,7 +103,7 @@ module _ {K V : Type 0} {R : K → K → Ordering} (layout : Layout K V R) where
   pub turned : (k : K) (e : K × V) (o : Ordering) → R k e.0 ≡ o → R e.0 k ≡ ordering_reverse o
   turned k e o is = layout.total.antisymm e.0 k ∙ ap ordering_reverse is
 
-  -- a row whose key is new goes where the map puts its entry
+  -- a row with a new key goes where the map puts its entry
   insert_new : (k : K) (v : V) (es : List (K × V)) → find R k es ≡ None
       → insert_entry plain (row_of layout (k, v)) (map (row_of layout) es)
       ≡ map (row_of layout) (put R k v es)
@@ -140,7 +140,7 @@ module _ {K V : Type 0} {R : K → K → Ordering} (layout : Layout K V R) where
   Says es k row true = (v : V) × (find R k es ≡ Some v) × (row ≡ row_of layout (k, v))
   Says es k row false = find R k es ≡ None
 
-  -- what is answered of the entries behind the first holds of all, where the first has another key
+  -- what is answered of the entries after the first holds of all, where the first has another key
   says_later : (e : K × V) (es : List (K × V)) (k : K) (row : Row) (hit : Bool)
       → find R k (e ∷ es) ≡ find R k es → Says es k row hit → Says (e ∷ es) k row hit
   unfolding Says

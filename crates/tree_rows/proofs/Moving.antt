@@ -48,7 +48,7 @@ module _ {K V : Type 0} {R : K → K → Ordering} (total : IsTotalOrder R)
   same_answer None (Some w) to from = from w refl
   same_answer (Some v) b to from = sym (to v refl)
 
-  -- an entry behind the first is found where no two have one key
+  -- an entry after the first is found where no two have one key
   pub find_later : (k : K) (w : V) (e : K × V) (es : List (K × V)) → T (is_sorted R (e ∷ es))
       → find R k es ≡ Some w → find R k (e ∷ es) ≡ Some w
   find_later k w e es up there =
@@ -119,7 +119,7 @@ module _ {K V : Type 0} {R : K → K → Ordering} (total : IsTotalOrder R)
       (λ tie. tied total (change k) (change x) (ap change (tells_apart exact k x tie))))
       ∙ there
 
-  -- nothing is found under a key to which none is changed
+  -- nothing is found under a key that none is changed to
   pub get_moved_none : (change : K → K) (m : FinMap R V) (q : K)
       → ((k : K) → contains_key m k ≡ true → change k ≡ q → ⊥) → get (moved change m) q ≡ None
   get_moved_none change m q none =
@@ -272,7 +272,7 @@ module _ {K V : Type 0} {R : K → K → Ordering} (total : IsTotalOrder R)
         ]
       ]
 
-  -- the row stands already where the change puts it, and is passed
+  -- the row is already where the change puts it, and is passed
   pub moved_kept : (change : K → K) (at : Option K) (m : FinMap R V) (k : K) (v : V)
       (more : List (K × V)) → above at m ≡ (k, v) ∷ more → change k ≡ k → MovedTo change at m
       → MovedTo change (Some k) m

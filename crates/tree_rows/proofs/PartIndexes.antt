@@ -1,4 +1,4 @@
--- An index by a part of each value and then by name: those with a given part stand there by name.
+-- An index by a part of each value and then by name: those with a given part are there by name.
 use Rattle.std.proofs.Common.{◌≡◌, List, [], ◌∷◌, map, Bool, true, false, cond, ℕ}
 use Rattle.std.proofs.Common.{refl, sym, ap, subst, ◌∙◌}
 use Rattle.std.specs.Prelude.{filter, T}

@@ -60,10 +60,10 @@ module _ {K V : Type 0} {R : K → K → Ordering} (total : IsTotalOrder R)
       same_entries R total exact (above (Some k) m) es (above_sorted total exact (Some k) m) up
       (λ q. find_come total exact (Some k) m q ∙ sym (same q))
 
-  -- a walk that has come to the entry (k, v), with more behind it
+  -- a walk that has come to the entry (k, v), with more after it
   module _ (at : Option K) (m : FinMap R V) (k : K) (v : V) (more : List (K × V))
       (is : above at m ≡ (k, v) ∷ more) where
-    -- the entry and those behind it are in the order of their keys
+    -- the entry and those after it are in the order of their keys
     rising : T (is_sorted R ((k, v) ∷ more))
     rising = subst (λ es. T (is_sorted R es)) is (above_sorted total exact at m)
 
@@ -80,7 +80,7 @@ module _ {K V : Type 0} {R : K → K → Ordering} (total : IsTotalOrder R)
     still None q at_k o = refl
     still (Some x) q at_k o = ap is_lt (total.trans x k q (is_less (R x k) at_k) o)
 
-    -- what is found behind it: what the map has above its key
+    -- what is found after it: what the map has above its key
     find_next : (q : K) → find R q more ≡ cond (is_lt (R k q)) (get m q) None
     find_next q =
         elim (R k q) as (λ o. R k q ≡ o → find R q more ≡ cond (is_lt o) (get m q) None) [
@@ -97,7 +97,7 @@ module _ {K V : Type 0} {R : K → K → Ordering} (total : IsTotalOrder R)
               (first _ _ rising)
         ] refl
 
-    -- where it is passed as it stands, those behind it are still to come
+    -- where it is passed unchanged, those after it are still to come
     pub above_next : above (Some k) m ≡ more
     above_next = above_is k m more (second _ _ rising) find_next
 
@@ -175,12 +175,12 @@ module _ {K V : Type 0} {R : K → K → Ordering} (total : IsTotalOrder R)
 
     module _ (at : Option K) (m : FinMap R V) (k : K) (v : V) (more : List (K × V))
         (is : above at m ≡ (k, v) ∷ more) where
-      -- the steps that were left, as those behind the entry and its own
+      -- the steps that were left, as those after the entry and its own
       left_now : steps_left moves at m
           ≡ length ((k, v) ∷ more) + length (moving ((k, v) ∷ more))
       left_now = ap (λ es. length es + length (moving es)) is
 
-      -- a step that leaves its row as it stands is one less to do
+      -- a step that leaves its row unchanged is one less to do
       pub steps_kept : steps_left moves (Some k) m < steps_left moves at m
       steps_kept =
           let then : steps_left moves (Some k) m ≡ length more + length (moving more) =

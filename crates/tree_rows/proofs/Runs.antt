@@ -1,4 +1,4 @@
--- The rows of a map that begin with a part of a key are those of the entries whose keys begin so.
+-- The rows of a map that begin with a part of a key are those of the entries with keys that do.
 use Rattle.std.proofs.Common.{◌≡◌, ℕ, List, [], ◌∷◌, ◌++◌, map, Bool, true, false, cond, pos, ◌==◌}
 use Rattle.std.proofs.Common.{◌&&◌, Some, length, refl, reverse, sym, ap, subst, ◌∙◌}
 use Rattle.std.proofs.Common.{append_assoc, arith}
@@ -106,7 +106,7 @@ module _ {K V : Type 0} {R : K → K → Ordering} (layout : Layout K V R) where
         (row_of layout e ∷ take_while (has_part part) (map (row_of layout) es)) [])
         (ap is_eq (at e ∙ is))
 
-    -- behind a key that is above the part, none begins so
+    -- after a key that is above the part, none begins so
     none_behind : (k : K) (es : List (K × V)) → rank k ≡ Greater → T (below_all R k es)
         → filter begins es ≡ []
     none_behind k [] is below = refl
@@ -114,7 +114,7 @@ module _ {K V : Type 0} {R : K → K → Ordering} (layout : Layout K V R) where
         kept e es Greater (rises k e.0 (less (R k e.0) (first _ _ below)) is)
         ∙ none_behind k es is (second _ _ below)
 
-    -- behind a key that is not below the part, those that begin so come first
+    -- after a key that is not below the part, those that begin so come first
     front : (k : K) (es : List (K × V)) → (rank k ≡ Less → ⊥) → T (below_all R k es)
         → T (is_sorted R es)
         → take_while (has_part part) (map (row_of layout) es)
@@ -134,7 +134,7 @@ module _ {K V : Type 0} {R : K → K → Ordering} (layout : Layout K V R) where
               ∙ none_behind e.0 es is (first _ _ sorted)))
         ] refl
 
-    -- the rows from the front of entries
+    -- the rows from the first of entries
     from_first : (e : K × V) (es : List (K × V)) (o : Ordering) → rank e.0 ≡ o
         → run_of part (map (row_of layout) (e ∷ es))
         ≡ cond (is_lt o) (run_of part (map (row_of layout) es))
@@ -176,7 +176,7 @@ module _ {K V : Type 0} {R : K → K → Ordering} (layout : Layout K V R) where
         not_less : (k : K) → rank k ≡ Equal → rank k ≡ Less → ⊥
         not_less k is below = absurd (cc)
 
-    -- the rows of a map that begin with the part are those of the entries whose keys do
+    -- the rows of a map that begin with the part are those of the entries with keys that do
     pub run_is : (m : FinMap R V) → run_of part (rows_of layout m)
         ≡ map (row_of layout) (filter (λ (e : K × V). is_eq (rank e.0)) (entries m))
     run_is m = runs (entries m) (entries_sorted m)
@@ -204,7 +204,7 @@ module _ {A : Type 0} {C : A → A → Ordering} (total : IsTotalOrder C) where
         | Greater ↦ λ o below. absurd (cc)
       ] refl below
 
--- Keys have a first part, by which they are compared first, and it stands in their first column.
+-- Keys have a first part, by which they are compared first, and it is in their first column.
 module _ {K V A : Type 0} {R : K → K → Ordering} {C : A → A → Ordering} (total : IsTotalOrder C)
     (layout : Layout K V R) (head : K → A) (value : A → Value) (rest : K → Row)
     (more : K → K → Ordering)
@@ -219,14 +219,14 @@ module _ {K V A : Type 0} {R : K → K → Ordering} {C : A → A → Ordering} 
       ap (λ (key : Row). prefix_cmp plain (key ++ layout.rest e.1) (value a ∷ [])) (is e.0)
       ∙ then-Equal (value_cmp (value (head e.0)) (value a)) ∙ by_value (head e.0) a
 
-  -- the rows that begin with a first part are those of the entries whose keys have it
+  -- the rows that begin with a first part are those of the entries with keys that have it
   pub run_by_first : (a : A) (m : FinMap R V) → run_of (value a ∷ []) (rows_of layout m)
       ≡ map (row_of layout) (filter (λ (e : K × V). is_eq (C (head e.0) a)) (entries m))
   run_by_first a = run_is layout (value a ∷ []) (λ k. C (head k) a) (at_first a)
       (λ k l below. falls_then total (head k) (head l) a (more k l) (sym (by_head k l) ∙ below))
       (λ k l below. rises_then total (head k) (head l) a (more k l) (sym (by_head k l) ∙ below))
 
--- Keys have a front, by which they are compared first, and it stands in their first columns.
+-- Keys have a prefix, by which they are compared first, and it is in their first columns.
 module _ {K V A : Type 0} {R : K → K → Ordering} {C : A → A → Ordering} (total : IsTotalOrder C)
     (layout : Layout K V R) (head : K → A) (front : A → Row) (rest : K → Row)
     (more : K → K → Ordering)
@@ -245,7 +245,7 @@ module _ {K V A : Type 0} {R : K → K → Ordering} {C : A → A → Ordering} 
       (alike (head e.0) a)
       ∙ by_front (head e.0) a
 
-  -- the rows that begin with a front are those of the entries whose keys have it
+  -- the rows that begin with a prefix are those of the entries with keys that have it
   pub run_by_front : (a : A) (m : FinMap R V) → run_of (front a) (rows_of layout m)
       ≡ map (row_of layout) (filter (λ (e : K × V). is_eq (C (head e.0) a)) (entries m))
   run_by_front a = run_is layout (front a) (λ k. C (head k) a) (at_front a)
@@ -284,7 +284,7 @@ numbers_compare a b = value_cmp-Int (pos a) (pos b) ∙ same
     same = grind (arith, nat_tests)
 
 -- Of keys that are a number and more, the rows that begin with the number are those of the
--- entries whose keys have it.
+-- entries with keys that have it.
 pub run_numbered : {M V : Type 0} (S : M → M → Ordering)
     (layout : Layout (ℕ × M) V
     (λ one other. ordering_then (nat_cmp one.0 other.0) (S one.1 other.1)))
@@ -301,7 +301,7 @@ run_numbered {M} {V} S layout rest is n m =
     (λ e. e.0.0 == n) (λ e. unsigned_tied e.0.0 n) (entries m))
 
 -- Of keys that are a name and more, the rows that begin with the name are those of the entries
--- whose keys have it.
+-- with keys that have it.
 pub run_named : {M V : Type 0} (S : M → M → Ordering)
     (layout : Layout (List ℕ × M) V
     (λ one other. ordering_then (slice_cmp nat_cmp one.0 other.0) (S one.1 other.1)))

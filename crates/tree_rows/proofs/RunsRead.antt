@@ -15,7 +15,7 @@ use Rattle.sqlite_value.specs.Order.{Row}
 use Rattle.tree_rows.specs.Runs.{has_part, run_of}
 use Rattle.tree_rows.specs.declared.listing.TheConstants.{LIST}
 
--- where the values are fewer than were wanted, they are those of all rows
+-- where the values are fewer than were asked for, they are those of all rows
 pub all_read : {A : Type 0} (says : Row → A → Type 0) (rows : List Row) (all : List A) (most : ℕ)
     → AllZip says (take most rows) all → length all < most → AllZip says rows all
 all_read says rows all most read few =
@@ -36,7 +36,7 @@ no_more says rows all most read =
     omega (arith, AllZip-long says (take most rows) all read, length-take most rows)
 
 module _ {A : Type 0} (says : Row → A → Type 0) (part : Row) (rows : List Row) where
-  -- the values so far are those of the run's front, and the cursor has the rest of the run
+  -- the values so far are those of the start of the run, and the cursor has the rest of the run
   pub record HasRead (now : View) (all : List A) : Type 0 where
     pub done : List Row
     pub left : List Row
@@ -93,7 +93,7 @@ module _ {A : Type 0} (says : Row → A → Type 0) (part : Row) (rows : List Ro
       ∙ ap (λ b. cond b (row ∷ take_while (has_part part) it.0) []) begins) rest in
       here.0
 
-  -- as many values as are wanted are read
+  -- as many values as are asked for are read
   pub ends_full : (now : View) (all : List A) (most : ℕ) → HasRead now all → most ≤ length all
       → length all ≤ most → AllZip says (take most (run_of part rows)) all
   ends_full now all most so_far full few =

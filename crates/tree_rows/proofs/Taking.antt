@@ -29,12 +29,12 @@ twice : {A : Type 0} (b : Bool) (x y z : A) → cond b x (cond b y z) ≡ cond b
 twice true x y z = refl
 twice false x y z = refl
 
--- what stands under a free key and is not kept is nothing
+-- what is under a free key and is not kept is nothing
 none_twice : {A : Type 0} (b : Bool) (found : Option A) → found ≡ None → cond b None found ≡ None
 none_twice true found is = refl
 none_twice false found is = is
 
--- a key is not found behind itself
+-- a key is not found after itself
 pub find_above : {K V : Type 0} (R : K → K → Ordering) (k : K) (es : List (K × V))
     → T (below_all R k es) → find R k es ≡ None
 find_above R k [] below = refl
@@ -76,7 +76,7 @@ module _ {K V : Type 0} {R : K → K → Ordering} (layout : Layout K V R) where
       remove_entry plain (row_of layout (k, v)) (map (row_of layout) es)
       ≡ map (row_of layout) (filter (other_key k) es)
 
-  -- an entry at the front that stays
+  -- a first entry that stays
   stays_first : (k : K) (v : V) (e : K × V) (es : List (K × V)) → stays k v e ≡ true
       → other_key k e ≡ true → Takes k v es → Takes k v (e ∷ es)
   unfolding stays
@@ -88,7 +88,7 @@ module _ {K V : Type 0} {R : K → K → Ordering} (layout : Layout K V R) where
       ∙ sym (ap (λ b. map (row_of layout) (cond b (e ∷ filter (other_key k) es)
       (filter (other_key k) es))) key)
 
-  -- an entry at the front that goes
+  -- a first entry that goes
   goes_first : (k : K) (v : V) (e : K × V) (es : List (K × V)) → stays k v e ≡ false
       → other_key k e ≡ false → Takes k v es → Takes k v (e ∷ es)
   unfolding stays

@@ -15,7 +15,7 @@ use Rattle.tree_rows.proofs.Taking.{some_is}
 
 module _ {K V : Type 0} {R : K → K → Ordering} (total : IsTotalOrder R)
     (exact : IsAntisymmetric R) where
-  -- what is found of entries whose values are changed
+  -- what is found of entries with changed values
   find_updated : (change : V → V) (q : K) (es : List (K × V))
       → find R q (map {B = K × V} (λ (e : K × V). (e.0, change e.1)) es)
       ≡ option_map change (find R q es)
@@ -93,7 +93,7 @@ module _ {K V : Type 0} {R : K → K → Ordering} (total : IsTotalOrder R)
   pub done_start : (change : V → V) (m : FinMap R V) → DoneTo change None m
   done_start change m k v there behind = absurd (true≢false behind)
 
-  -- the value stands already as the change leaves it, and is passed
+  -- the value is already as the change leaves it, and is passed
   pub done_kept : (change : V → V) (at : Option K) (m : FinMap R V) (k : K) (v : V)
       (more : List (K × V)) → above at m ≡ (k, v) ∷ more → change v ≡ v → DoneTo change at m
       → DoneTo change (Some k) m

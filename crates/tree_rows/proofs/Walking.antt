@@ -1,4 +1,4 @@
--- A walk over the rows of a map by key: the rows behind a key are those of the entries above it.
+-- A walk over the rows of a map by key: the rows after a key are those of the entries above it.
 use Rattle.std.proofs.Common.{◌≡◌, List, [], ◌∷◌, map, Bool, false, cond}
 use Rattle.std.proofs.Common.{refl, sym, ap, subst, ◌∙◌}
 use Rattle.std.specs.Prelude.{filter, T}
@@ -40,7 +40,7 @@ module _ {K V : Type 0} {R : K → K → Ordering} (layout : Layout K V R) where
       past_key (layout.key k) (from_key plain (layout.key k) (map (row_of layout) es))
       ≡ map (row_of layout) (filter (is_above k) es)
 
-  -- the rows from the front of entries whose key is not below
+  -- the rows from the first of entries with keys that are not below
   stops : (k : K) (e : K × V) (es : List (K × V)) (o : Ordering)
       → prefix_cmp plain (row_of layout e) (layout.key k) ≡ o → is_lt o ≡ false
       → past_key (layout.key k) (from_key plain (layout.key k) (map (row_of layout) (e ∷ es)))
@@ -74,7 +74,7 @@ module _ {K V : Type 0} {R : K → K → Ordering} (layout : Layout K V R) where
             (filter (is_above k) es)) (ap is_lt is)))
       ] refl
 
-  -- the rows behind a key are those of the entries with a key above it, in the order of the keys
+  -- the rows after a key are those of the entries with a key above it, in the order of the keys
   pub walked : (m : FinMap R V) (k : K)
       → past_key (layout.key k) (from_key plain (layout.key k) (rows_of layout m))
       ≡ map (row_of layout) (filter (is_above k) (entries m))

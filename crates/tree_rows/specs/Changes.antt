@@ -48,8 +48,8 @@ abbrev pub MovedTo :
 MovedTo {K} {V} {R} change at m =
     (k : K) (v : V) → get m k ≡ Some v → is_above R at k ≡ false → change k ≡ k
 
--- the most steps that are left in a walk that moves the rows whose keys pass a test: one for each
--- entry that is still to come, and one more where it is moved, for it may come again
+-- the most steps that are left in a walk that moves the rows with keys that pass a test: one for
+-- each entry that is still to come, and one more where it is moved, for it may come again
 abbrev pub steps_left :
     {K V : Type 0} {R : K → K → Ordering} → (K → Bool) → Option K → FinMap R V → ℕ
 steps_left {K} {V} moves at m =

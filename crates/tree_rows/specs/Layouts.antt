@@ -1,4 +1,4 @@
--- How the entries of a map stand in the rows of a sorted tree.
+-- How the entries of a map are kept in the rows of a sorted tree.
 use Rattle.std.specs.Prelude.{◌≡◌, List, ◌++◌, length, map, Bool, true, false, Some, None}
 use Rattle.std.specs.Cmp.{IsTotalOrder}
 use Rattle.std.specs.FinMap.{FinMap, entries, get, IsAntisymmetric}

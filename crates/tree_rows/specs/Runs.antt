@@ -9,6 +9,6 @@ use Rattle.sqlite_value.specs.Order.{Row}
 abbrev pub has_part : Row → Row → Bool
 has_part part row = is_eq (prefix_cmp plain row part)
 
--- the rows that begin with these columns, as they stand one after the other in a sorted tree
+-- the rows that begin with these columns, one after the other as in a sorted tree
 abbrev pub run_of : Row → List Row → List Row
 run_of part rows = take_while (has_part part) (from_key plain part rows)

@@ -104,7 +104,7 @@ pub fn list_run<S: Store, T: ReadRow + Drop>(
     ensures quiet { IsQuiet S.Store.view S.Store.faults S.Store.recovers S.Store.is_shielded
         store.old store.new }
 {
-    // One more is asked for, to tell whether there are more.
+    // One more is asked for, to find out whether there are more.
     let all = list_first(store, tree, part, row, alloc, MOST_ROWS + 1)?;
     if all.len() > MOST_ROWS {
         return Err(StoreError::Corrupt);

@@ -77,7 +77,7 @@ pub fn find_row<S: Store>(
     Ok(there && has_key(row, key))
 }
 
-/// Writes the first row that is behind those of the key over `row`, or answers that there is none:
+/// Writes the first row after those of the key over `row`, or answers that there is none:
 /// a step of a walk by key, where no two rows have one key. Nothing is written to the store; an
 /// error is the store's own.
 pub fn first_after<S: Store>(

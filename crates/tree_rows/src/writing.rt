@@ -29,9 +29,9 @@ pub fn add_row<S: Store>(store: &mut S, tree: u32, row: &Row) -> Result<(), Stor
     Ok(())
 }
 
-/// Takes a row, and puts another in its place. A row is its own key in its tree, so one that gets
-/// other values is taken first. Nothing is committed; an error is the store's own, and the row may
-/// be gone then until the transaction is taken back.
+/// Removes a row, and puts another in its place. A row is its own key in its tree, so one that
+/// gets other values is removed first. Nothing is committed; an error is the store's own, and the
+/// row may be gone then until the transaction is rolled back.
 pub fn change_row<S: Store>(
     store: &mut S,
     tree: u32,
@@ -55,9 +55,9 @@ pub fn change_row<S: Store>(
     Ok(())
 }
 
-/// Puts a row in the place of the one that has its key, or beside the others where none has; `found`
-/// is where the one of before is read to. Nothing is committed; an error is the store's own, and the
-/// row of before may be gone then until the transaction is taken back.
+/// Puts a row in the place of the one that has its key, or beside the others where none has. The
+/// old one is read into `found`. Nothing is committed; an error is the store's own, and the old
+/// row may be gone then until the transaction is rolled back.
 pub fn put_row<S: Store>(
     store: &mut S,
     tree: u32,

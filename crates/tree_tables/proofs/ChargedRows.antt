@@ -44,7 +44,7 @@ use Rattle.tree_tables.proofs.Looking.{Quiet, looks_found}
 use Rattle.tree_tables.proofs.RecordIndexes.{mark_named}
 use Rattle.tree_tables.proofs.RecordLists.{mark_rows}
 
--- a key of the tree of marks, and its front: the mark and the identity
+-- a key of the tree of marks, and its prefix: the mark and the identity
 abbrev Key : Type 0
 Key = ℕ × (List ℕ × List ℕ)
 
@@ -57,27 +57,27 @@ front_of key = (key.0, key.1.0)
 abbrev front_columns : Front → Row
 front_columns front = Int (pos front.0) ∷ Blob front.1 ∷ []
 
--- fronts are ordered by the mark, then by the identity
+-- prefixes are ordered by the mark, then by the identity
 abbrev by_front : Front → Front → Ordering
 by_front = by_parts nat_cmp by_bytes
 
 by_front_total : IsTotalOrder by_front
 by_front_total = parts_total nat_cmp_total nat_list_cmp_total
 
--- keys compare by their fronts, then by the names
+-- keys compare by their prefixes, then by the names
 fronts_first : (k l : Key) → by_mark k l
     ≡ ordering_then (by_front (front_of k) (front_of l)) (by_bytes k.1.1 l.1.1)
 fronts_first k l = then_assoc (nat_cmp k.0 l.0) (by_bytes k.1.0 l.1.0) (by_bytes k.1.1 l.1.1)
 
--- and fronts as their columns do
+-- and prefixes as their columns do
 fronts_compare : (a b : Front) → row_cmp (front_columns a) (front_columns b) ≡ by_front a b
 fronts_compare a b =
     ap₂ ordering_then (value_cmp-Int (pos a.0) (pos b.0) ∙ numbers a.0 b.0)
     (then-Equal _ ∙ value_cmp-Blob a.1 b.1)
 
--- Records with one front stand in the tree of marks as they stand by their names.
+-- Records with one prefix are in the tree of marks in the order of their names.
 module _ (given : Front) where
-  -- the key has the front
+  -- the key has the prefix
   abbrev has_front : Key → Bool
   has_front key = is_eq (by_front (front_of key) given)
 
@@ -85,11 +85,11 @@ module _ (given : Front) where
   only_given key same =
       tells_apart (parts_exact nat_cmp-IsAntisymmetric by_bytes_exact) (front_of key) given same
 
-  -- the keys of those entries that have the front
+  -- the keys of those entries that have the prefix
   abbrev with_front : List Entry → List (Key × Unit {0})
   with_front es = map (indexed_by mark_key) (filter (λ e. has_front (mark_key e)) es)
 
-  -- of two keys with the front the lesser has the lesser name
+  -- of two keys with the prefix the lesser has the lesser name
   below_one : (name : List ℕ) (e : Entry) → front_of (mark_key e) ≡ given
       → T (is_lt (by_bytes name e.0)) → T (is_lt (by_mark (given.0, (given.1, name)) (mark_key e)))
   below_one name e is below =
@@ -98,7 +98,7 @@ module _ (given : Front) where
       ∙ ap (λ o. ordering_then o (by_bytes name e.0))
       (ap (by_front given) is ∙ tied_itself by_front_total given))) below
 
-  -- the front with a name below all others is below all keys with the front
+  -- the prefix with a name below all others is below all keys with the prefix
   below_with_front : (name : List ℕ) (es : List Entry) → T (below_all by_bytes name es)
       → T (below_all by_mark (given.0, (given.1, name)) (with_front es))
   below_with_front name [] below = tt
@@ -113,7 +113,7 @@ module _ (given : Front) where
         | false ↦ λ not_it. rest
       ] refl
 
-  -- so keys with the front, of entries in the order of their names, are in the order of the tree
+  -- so keys with the prefix, of entries in the order of their names, are in the order of the tree
   front_rises : (es : List Entry) → T (is_sorted by_bytes es)
       → T (is_sorted by_mark (with_front es))
   front_rises [] sorted = tt
@@ -130,7 +130,7 @@ module _ (given : Front) where
         | false ↦ λ not_it. rest
       ] refl
 
-  -- the rows that begin with the front are those of the entries that have it
+  -- the rows that begin with the prefix are those of the entries that have it
   front_run : (records : RecordTable) → run_of (front_columns given) (mark_rows records)
       ≡ map mark_columns (with_front (entries records))
   front_run records =
@@ -142,7 +142,7 @@ module _ (given : Front) where
 
 -- two tests, one after the other
 module _ {X : Type 0} (p q : X → Bool) where
-  -- what one test keeps of a list, where the other has decided on the front
+  -- what one test keeps of a list, where the other has decided on the prefix
   again : (b c : Bool) (x : X) (both : List X) (rest : List X) → p x ≡ b → both ≡ filter p rest
       → cond (b && c) (x ∷ both) both ≡ filter p (cond c (x ∷ rest) rest)
   again true true x both rest one same =
@@ -321,7 +321,7 @@ mark_found Clean key part row rows (Ok hit) is found = λ clean.
     (finds_run key row rows hit (found clean))
 mark_found Clean key part row rows (Err error) is found = tt
 
--- a look at the marks that has found one, of which the name was read
+-- a look at the marks that has found one and read its name
 pub name_looked : {S : Type 0} (ghosts : Ghosts S) (old new : S) (identity name : List ℕ)
     (row : Row) → Quiet ghosts old new
     → (IsClean (ghosts.view new) → IsUnchanged (ghosts.view old) (ghosts.view new))

@@ -74,11 +74,11 @@ last_made : {X Y : Type 0} (f : X → Y) (was : Option X) (xs : List X)
 last_made f was [] = refl
 last_made f was (x ∷ xs) = last_made f (Some x) xs
 
--- a number as it stands in a column
+-- a number as it is in a column
 abbrev in_column : ℕ → Value
 in_column n = Int (pos n)
 
--- numbers are told apart by their columns
+-- numbers are kept apart by their columns
 same_number : (m n : ℕ) → Int (pos m) ≡ Int (pos n) → m ≡ n
 same_number m n same = cc
 
@@ -149,7 +149,7 @@ numbers_end naming n [] was is = is ∙ omega arith
 numbers_end naming n (choice ∷ choices) was is =
     numbers_end naming (suc n) choices (Some (suc n)) refl ∙ omega arith
 
--- So where the choices stand under their numbers from 1 on, the last number is how many they are.
+-- So where the choices are under their numbers from 1 on, the last number is how many they are.
 pub last_is_count : (naming : Naming) (choices : List Choice)
     → last_number (from_entries (choice_entries naming 1 choices)) ≡ length choices
 last_is_count naming choices =

@@ -75,7 +75,7 @@ any_named test (e ∷ es) =
       | false ↦ any_named test es
     ]
 
--- Choices of one name stand in the tree of names as they stand by their numbers.
+-- Choices of one name are in the tree of names in the order of their numbers.
 module _ (name : List ℕ) where
   -- the key has the name
   abbrev has_name : Key → Bool
@@ -147,7 +147,7 @@ module _ (name : List ℕ) where
       same_bytes-by_cmp
       ∙ any_named (λ one. eq_by_cmp by_bytes one name) (entries choices)
 
-  -- So a look-up of the name in the tree tells whether a choice names the record.
+  -- So a look-up of the name in the tree shows whether a choice names the record.
   pub named_found : (tables : Tables) {rows : List Row} {key row : Row} (hit : Bool)
       → rows ≡ name_rows tables.choices → key ≡ Blob name ∷ [] → Finds key rows row hit
       → IsNamed name tables hit
@@ -160,14 +160,14 @@ module _ (name : List ℕ) where
       ∙ made_has choice_name_columns (keys_with (entries tables.choices))
       ∙ made_has (indexed_by choice_name_key) es ∙ sym (named_has tables.choices)
 
--- numbers and names are told by their columns
+-- numbers and names are known by their columns
 same_number : (m n : ℕ) → Int (pos m) ≡ Int (pos n) → n ≡ m
 same_number m n e = cc
 
 same_name : (one other : List ℕ) → Blob one ≡ Blob other → other ≡ one
 same_name one other e = cc
 
--- a choice that a row says is that of which it is the row
+-- a choice that a row says is the one that the row is made of
 choice_said : (choice : Entry) (stored : StoredChoice) → SaysChoice (choice_columns choice) stored
     → choice_of stored ≡ choice
 choice_said choice stored says =

@@ -39,7 +39,7 @@ use Rattle.tree_tables.proofs.RowsRead.{all_entries, told_of_all}
 abbrev by_spot : ℕ × RowKey → ℕ × RowKey → Ordering
 by_spot = by_period by_key
 
--- a row that stands at its own place leaves the others at theirs
+-- a row at its own place leaves the others at theirs
 pub placed_put : (days : DayTable) (key : ℕ × RowKey) (row : ChargeRow) → place_of row ≡ key.1
     → ArePlaced days → ArePlaced (insert days key row)
 placed_put days key row own placed other found there =
@@ -87,7 +87,7 @@ day_dropped period place drops key_is = record {
       (rows_dropped day_layout tables.days (period, place) drops holds.days key_is);
 }
 
--- numbers and texts are told apart by their columns
+-- numbers and texts are kept apart by their columns
 same_int : (one other : ℤ) → Int one ≡ Int other → one ≡ other
 same_int one other same = cc
 
@@ -97,7 +97,7 @@ same_count one other same = cc
 same_text : (one other : List ℕ) → Text one ≡ Text other → one ≡ other
 same_text one other same = cc
 
--- what is read of the row of a charge row that stands at its place is the charge row
+-- what is read of the row of a charge row at its place is the charge row
 pub day_said : (charge : ChargeRow) (entry : (ℕ × RowKey) × ChargeRow) (columns : Row)
     → place_of entry.1 ≡ entry.0.1 → columns ≡ day_columns entry → SaysDay columns charge
     → charge ≡ entry.1

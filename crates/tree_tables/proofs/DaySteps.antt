@@ -1,5 +1,5 @@
 -- A price that joins the charge rows of a period puts one row, and a price that leaves them puts or
--- drops one, where each row stands under its own place.
+-- drops one, where each row is under its own place.
 use Rattle.std.proofs.Common.{◌≡◌, ◌∙◌, ℕ, [], true, false, cond, Option, Some, None}
 use Rattle.std.proofs.Common.{refl, sym, ap}
 use Rattle.std.specs.Prelude.{◌==◌, unwrap_or}
@@ -15,7 +15,7 @@ use Rattle.kept_tables.specs.TablesOf.{place_of}
 use Rattle.tree_tables.specs.Holds.{ArePlaced}
 
 module _ (period : ℕ) (priced : Priced) (tables : Tables) (placed : ArePlaced tables.days) where
-  -- what stands at the place of the price
+  -- what is at the place of the price
   abbrev there : Option ChargeRow
   there = get tables.days (period, key_of priced)
 
@@ -23,7 +23,7 @@ module _ (period : ℕ) (priced : Priced) (tables : Tables) (placed : ArePlaced 
   abbrev here : Option ChargeRow → ChargeRow
   here found = unwrap_or found (row_at [] (key_of priced))
 
-  -- it stands under its own place
+  -- it is under its own place
   here_placed : (found : Option ChargeRow) → there ≡ found
       → place_of (here found) ≡ key_of priced
   here_placed None is = refl

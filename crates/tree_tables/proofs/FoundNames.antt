@@ -130,7 +130,7 @@ keys_named key name records (q ∷ qs) each =
     ∙ (λ i. here.2 i ∷ keys_named key name records qs each.1 i)
 
 module _ {K V : Type 0} {R : K → K → Ordering} (total : IsTotalOrder R) where
-  -- entries that are found behind one that is below them are found among all
+  -- entries that are found after one that is below them are found among all
   found_behind : (e : K × V) (es xs : List (K × V)) → T (below_all R e.0 xs)
       → AllByRecursion (λ x. find R x.0 es ≡ Some x.1) xs
       → AllByRecursion (λ x. find R x.0 (e ∷ es) ≡ Some x.1) xs

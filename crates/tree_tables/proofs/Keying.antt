@@ -57,7 +57,7 @@ abbrev bytes_in : Value → List ℕ
 bytes_in (Blob bytes) = bytes
 bytes_in value = []
 
--- the first entry behind a walk's key is the first that is still to come
+-- the first entry after a walk's key is the first that is still to come
 next_entry : (last : Option (List ℕ × List ℕ)) (m : RecordTable) (key : Row) (rows : List Row)
     (row : Row) (there : Bool) → key ≡ entry_key last
     → rows ≡ map identity_columns (entries (identities m))
@@ -80,7 +80,7 @@ but_records {old} {new} keyed others same other not_rows not_identities not_mark
     ∙ same other not_identities not_marks
     ∙ sym (ap (λ b. cond b (map record_columns (entries keyed)) (old other)) is_other)
 
--- A walk has come to a key, and looks at the first entry behind it.
+-- A walk has come to a key, and looks at the first entry after it.
 module _ (tables : Tables) {old : Trees} {key : Row} (so_far : IsKeying tables old key) where
   -- where there is none, all records are found by what their rows say
   keying_ends : (row : Row) → IsFirst (rows_behind key (old 6)) row false → Holds old tables
@@ -242,7 +242,7 @@ module _ (tables : Tables) {old : Trees} {key : Row} (so_far : IsKeying tables o
                 ∙ found) refl;
           }
 
--- A step of the walk: what was read behind its key, and what was found of the record.
+-- A step of the walk: what was read after its key, and what was found of the record.
 module _ (old mid : View) (key entry : Row) (looked : IsUnchanged old mid) where
   same_trees : mid.trees ≡ old.trees
   same_trees = ap (λ (v : View). v.trees) looked

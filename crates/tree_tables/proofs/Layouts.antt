@@ -1,4 +1,4 @@
--- Each table as a map whose entries stand in the rows of its tree.
+-- Each table as a map with its entries in the rows of its tree.
 use Rattle.std.proofs.Common.{◌≡◌, ℕ, ℤ, pos, List, [], ◌∷◌, Bool, Option, refl, ap₂, ◌∙◌}
 use Rattle.std.proofs.Common.{arith}
 use Rattle.std.proofs.lemmas.Bool.Decides.{nat_tests}
@@ -117,7 +117,7 @@ by_chosen_total = parts_total nat_list_cmp_total nat_cmp_total
 pub by_chosen_exact : IsAntisymmetric by_chosen
 by_chosen_exact = parts_exact by_bytes_exact nat_cmp-IsAntisymmetric
 
--- the names of chosen records with the numbers of the choices, which stand in keys alone
+-- the names of chosen records with the numbers of the choices, which are in keys alone
 abbrev pub choice_name_layout : Layout (List ℕ × ℕ) (Unit {0}) by_chosen
 choice_name_layout = record {
   key = λ place. Blob place.0 ∷ Int (pos place.1) ∷ [];
@@ -129,7 +129,7 @@ choice_name_layout = record {
       (then-Equal _ ∙ value_cmp-Int (pos k.1) (pos l.1) ∙ numbers k.1 l.1);
 }
 
--- identities with the names that have them, which stand in keys alone
+-- identities with the names that have them, which are in keys alone
 abbrev pub identity_layout : Layout (List ℕ × List ℕ) (Unit {0}) by_both
 identity_layout = record {
   key = λ pair. Blob pair.0 ∷ Blob pair.1 ∷ [];

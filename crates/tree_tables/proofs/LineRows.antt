@@ -46,7 +46,7 @@ line_dropped period name drops key_is = record {
       (rows_dropped line_layout tables.lines (period, name) drops holds.lines key_is);
 }
 
--- marks are told apart by their numbers
+-- marks are kept apart by their numbers
 same_flag : (one other : Bool) → Int (pos (flag one)) ≡ Int (pos (flag other)) → one ≡ other
 same_flag true true same = refl
 same_flag true false same = absurd (let e = same in cc)

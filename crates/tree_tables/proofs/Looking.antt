@@ -17,7 +17,7 @@ use Rattle.tree_tables.specs.Holds.{Holds}
 use Rattle.tree_tables.specs.States.{HasCleanDisk, State, Survives, state}
 use Rattle.tree_tables.specs.Steps.{Changes, Does, IsCaused, Looks}
 
--- a tree that is rewritten behind a look is rewritten
+-- a tree that is rewritten after a look is rewritten
 pub rewrites_behind : {old mid new : View} {tree : ℕ} {rows : List Row} → IsUnchanged old mid
     → Rewrites mid new tree rows → Rewrites old new tree rows
 rewrites_behind {old} {mid} {new} {tree} {rows} same rewrites =
@@ -31,7 +31,7 @@ rewrites_behind {old} {mid} {new} {tree} {rows} same rewrites =
       only = done.only;
     }
 
--- what stands behind a look stood before it
+-- what is there after a look was there before it
 pub kept_behind : {old mid new : View} → IsUnchanged old mid → KeepsCommitted mid new
     → KeepsCommitted old new
 kept_behind {old} {mid} {new} same kept =
@@ -50,7 +50,7 @@ kept_behind {old} {mid} {new} same kept =
       marks = kept.marks;
     }
 
--- or behind a step
+-- or after a step
 pub kept_after : {old mid new : View} → OnlyWrites old mid → KeepsCommitted mid new
     → KeepsCommitted old new
 kept_after {old} {mid} {new} only kept =
@@ -76,7 +76,7 @@ pub any_err : {A : Type 0} {Said : StoreError → Type 0} (result : Result A Sto
 any_err (Ok answer) said = tt
 any_err (Err error) said = said error
 
--- want of memory is a cause
+-- a lack of memory is a cause
 pub caused_memory : (old new : State) (error : StoreError) → error ≡ OutOfMemory
     → IsCaused old new error
 caused_memory old new error is =
@@ -137,13 +137,13 @@ pub same_both : (old : View) {mid new : View} → IsUnchanged old mid → IsUnch
 same_both old {new = new} one two =
     two ∙ ap (λ (v : View). record v { cursors = new.cursors }) one
 
--- the tables that a store holds are held behind a look
+-- the tables that a store holds are held after a look
 pub held_behind : (old : View) {new : View} {tables : Tables} → IsUnchanged old new
     → Holds old.trees tables → Holds new.trees tables
 held_behind old {tables = tables} same holds =
     subst (λ (trees : Trees). Holds trees tables) (sym (ap (λ (v : View). v.trees) same)) holds
 
--- the disk was clean before a call, if it is behind it
+-- the disk was clean before a call, if it is after it
 pub was_clean : {old new : State} → Survives old new (λ trees. ⊥) → HasCleanDisk new
     → HasCleanDisk old
 was_clean call clean =
@@ -174,7 +174,7 @@ survives_both one two = record {
   ];
 }
 
--- what fails behind a look has a cause of the store as it was before it
+-- what fails after a look has a cause of the store as it was before it
 pub fails_behind : {A : Type 0} {old mid new : State} {Answers : Tables → A → Type 0} {answer : A}
     {When : Tables → Type 0} (error : StoreError) → Looks (Ok answer) old mid Answers
     → Survives mid new (λ trees. ⊥)
@@ -189,7 +189,7 @@ fails_behind {old = old} {mid = mid} {new = new} error looks survives cause clea
     looks.survives.counts
     (cause clean tables (held_behind old.view seen.same holds) (seen.known tables holds) when)
 
--- a look behind another, which says more by what the other has answered
+-- a look after another, which says more by what the other has answered
 pub looks_behind : {A B : Type 0} {First : Tables → A → Type 0} {Second Both : Tables → B → Type 0}
     {first : A} {old mid new : State} (result : Result B StoreError)
     → Looks (Ok first) old mid First → Looks result mid new Second
@@ -239,7 +239,7 @@ module _ {S : Type 0} (ghosts : Ghosts S) where
   abbrev pub Quiet : S → S → Type 0
   Quiet = IsQuiet ghosts.view ghosts.faults ghosts.recovers ghosts.is_shielded
 
-  -- the disk was clean before a call, if it is behind it
+  -- the disk was clean before a call, if it is after it
   pub clean_before : {old new : S} → Quiet old new → IsClean (ghosts.view new)
       → IsClean (ghosts.view old)
   clean_before call clean =
@@ -276,7 +276,7 @@ module _ {S : Type 0} (ghosts : Ghosts S) where
     outcomes = λ trees left. one.outcomes trees (two.outcomes trees left);
   }
 
-  -- a call that only moves cursors, behind others
+  -- a call that only moves cursors, after others
   pub unchanged_on : (old : S) {mid new : S}
       → (IsClean (ghosts.view mid) → IsUnchanged (ghosts.view old) (ghosts.view mid))
       → Quiet mid new
@@ -321,7 +321,7 @@ module _ {S : Type 0} (ghosts : Ghosts S) where
       → Does result (state ghosts old) (state ghosts new) When change
   does_so result call kept done = record { survives = survives call; done = done; refused = kept }
 
-  -- a step that rewrites one tree, behind a look
+  -- a step that rewrites one tree, after a look
   pub does_behind : {T : Type 0} {When : Tables → Type 0} {change : Tables → Tables}
       {old mid new : S} {tree : ℕ} {rows : List Row} (result : Result T StoreError)
       → Quiet old mid → (IsClean (ghosts.view mid) → IsUnchanged (ghosts.view old) (ghosts.view mid))
@@ -367,7 +367,7 @@ module _ {S : Type 0} (ghosts : Ghosts S) where
     refused = kept;
   }
 
-  -- a look whose rows are read into an answer, or are refused
+  -- a look that has its rows read into an answer, or that is refused
   pub looks_read : {A : Type 0} {Made : A → Type 0} {Answers : Tables → A → Type 0} {old new : S}
       (result : Result A StoreError) → Quiet old new
       → (IsClean (ghosts.view new) → IsUnchanged (ghosts.view old) (ghosts.view new))
@@ -401,7 +401,7 @@ module _ {S : Type 0} (ghosts : Ghosts S) where
     refused = kept;
   }
 
-  -- a step that rewrites one tree, behind other steps
+  -- a step that rewrites one tree, after other steps
   pub does_after : {T : Type 0} {When : Tables → Type 0} {change : Tables → Tables}
       {old mid new : S} {tree : ℕ} {rows : List Row} (result : Result T StoreError)
       → Quiet old mid → (IsClean (ghosts.view mid) → OnlyWrites (ghosts.view old) (ghosts.view mid))

@@ -125,7 +125,7 @@ module _ (n : ℕ) (day : ℤ) where
       (sym (ap (λ o. is_lt (ordering_then o (int_cmp k.1.day (day +ℤ pos 1))))
       (tied_number k.0 n here)) ∙ high))
 
-  -- before a row of another period that is not below them stand those that go
+  -- before a row of another period that is not below them come those that go
   goes_before : (k q : ℕ × RowKey) → is_lt (rank k) ≡ false → (k.0 == n) ≡ false
       → goes q ≡ true → is_lt (by_period by_key q k) ≡ true
   goes_before k q high other is =

@@ -27,7 +27,7 @@ use Rattle.tree_tables.specs.Stored.{IsAsRead, priced_entry, stored_entry}
 use Rattle.tree_tables.specs.Walks.{place_key, rows_behind}
 use Rattle.tree_tables.specs.declared.stored_record.StoredRecord.{StoredRecord}
 
--- The first row behind the key of a name that a walk has come to.
+-- The first row after the key of a name that a walk has come to.
 module _ (tables : Tables) (last : Option (List ℕ)) {rows : List Row} {key : Row} (row : Row)
     (held : rows ≡ map record_columns (entries tables.records)) (key_is : key ≡ place_key last)
   where
@@ -54,7 +54,7 @@ module _ (tables : Tables) (last : Option (List ℕ)) {rows : List Row} {key : R
         (first_there record_layout.total record_layout.exact last tables.records it.0 it.1 it.2
         it.3))
 
--- The row of a record that stands as it was read makes room for one with another price; its
+-- The row of a record that is as it was read makes room for one with another price; its
 -- identity and its mark stay.
 pub record_priced : {old new : View} (tables : Tables) (stored : StoredRecord) (priced : Priced)
     {before made : Row}

@@ -143,7 +143,7 @@ by_one_mark one other none other_none =
     (by_identity one other))
     ∙ ap (λ o. ordering_then o (by_identity one other)) (tied_itself nat_cmp_total 0)
 
--- so the entries of such keys stand in the order by identity
+-- so the entries of such keys are in the order by identity
 below_too : (one : Entry) (es : List Entry) → has_none (mark_key one) ≡ true
     → AllByRecursion (λ q. has_none q ≡ true) (map mark_key es)
     → AllByRecursion (λ q. by_mark (mark_key one) q ≡ Less) (map mark_key es)
@@ -212,7 +212,7 @@ module _ (records : RecordTable) where
   found_keys : map mark_key (flat_map (at_name records) (map name_in keys)) ≡ keys
   found_keys = keys_named mark_key name_in records keys keys_each
 
-  -- which stand in the order of the keys
+  -- which are in the order of the keys
   found_rise : IsStrictlySortedBy by_identity (flat_map (at_name records) (map name_in keys))
   found_rise =
       let found = flat_map (at_name records) (map name_in keys) in

@@ -93,7 +93,7 @@ record_added {old} {one} {two} {new} {tables} name row first second third made_i
 abbrev marked : Bool → RecordRow → RecordRow
 marked mark row = record row { charged = mark }
 
--- Behind a look the row of a record makes room for the one with this mark, and its mark for the
+-- After a look the row of a record makes room for the one with this mark, and its mark for the
 -- other; its identity stays.
 pub record_marked : (old : View) {look mid new : View} (tables : Tables) (name : List ℕ)
     (mark : Bool) (row : RecordRow) {before made from to : Row} → IsUnchanged old look

@@ -101,7 +101,7 @@ with_indexed holds rows same now same_identities same_marks =
     held_by_same (found_rows rows (found_by_own holds) same now) (sym same_identities)
     (sym same_marks)
 
--- the first row behind a walk's key is that of the first entry that is still to come
+-- the first row after a walk's key is that of the first entry that is still to come
 pub finds_next : (last : Option (List ℕ)) (m : RecordTable) (key : Row) (rows : List Row) (row : Row)
     (there : Bool) → key ≡ place_key last → rows ≡ rows_of record_layout m
     → IsFirst (rows_behind key rows) row there → FindsAbove record_layout last m row there
@@ -140,7 +140,7 @@ renewing_starts change trees tables key empty holds = record {
 module _ (change : RecordRow → RecordRow)
     (again : (row : RecordRow) → change (change row) ≡ change row)
   where
-    -- A row at which a walk has come, behind its key.
+    -- A row that a walk has come to, after its key.
     module _ (tables : Tables) {old : Trees} {key : Row} (row : Row)
         (so_far : IsRenewing change tables old key)
       where
@@ -157,7 +157,7 @@ module _ (change : RecordRow → RecordRow)
             subst (λ rows. HoldsFoundBy old (record tables { records = rows }) tables.records)
             (sym all ∙ so_far.whole) so_far.holds
 
-        -- where it stands as it is changed already, it is passed
+        -- where it is already as it is changed, it is passed
         renewing_passes : (next made : Row) → IsFirst (rows_behind key (old 3)) row true
             → next ≡ column row 0 ∷ [] → RenewsRow change row made false
             → IsRenewing change tables old next
@@ -204,7 +204,7 @@ module _ (change : RecordRow → RecordRow)
                   so_far.records it.0 it.1 it.2 it.3 so_far.done;
             }
 
-    -- A step of the walk: what was read behind its key.
+    -- A step of the walk: what was read after its key.
     module _ (old mid : View) (key row : Row) (looked : IsUnchanged old mid) where
       same_trees : mid.trees ≡ old.trees
       same_trees = ap (λ (v : View). v.trees) looked
@@ -274,7 +274,7 @@ posted_mark day name row =
     mark_key (name, cond b row (record row { posted = row.charged }))
     ≡ mark_key (name, row)) [ true ↦ refl | false ↦ refl ]
 
--- an index of rows whose keys stay where they are changed is that of the changed rows
+-- an index of rows with keys that stay where they are changed is that of the changed rows
 module _ {K V Q : Type 0} {R : K → K → Ordering} {P : Q → Q → Ordering} {key : K × V → Q}
     {name : Q → K} (index : IsIndexKey R P key name) (change : V → V)
     (stays : (k : K) (v : V) → key (k, change v) ≡ key (k, v))

@@ -22,8 +22,8 @@ module _ {T E Y : Type 0} (columns : E → Row) (Says : Row → T → Type 0) (t
     (tells : (one : T) (entry : E) (row : Row) → Good entry → row ≡ columns entry → Says row one
     → told one ≡ of entry)
   where
-    -- Where what is read of the row of a good entry tells of it, what is read of all rows of good
-    -- entries tells of all of them.
+    -- Where what is read of the row of a good entry determines it, what is read of all rows of good
+    -- entries determines all of them.
     pub told_of_all : (rows : List Row) (all : List T) (list : List E)
         → AllByRecursion Good list → AllZip Says rows all → rows ≡ map columns list
         → map told all ≡ map of list

@@ -21,7 +21,7 @@ abbrev SaysTariff : Row → StoredTariff → Type 0
 SaysTariff row tariff =
     (column row 0 ≡ Int tariff.day) × (column row 1 ≡ Text (string_bytes tariff.body))
 
--- a number and a text are told by their values
+-- a number and a text are known by their values
 same_day : (m n : ℤ) → Int m ≡ Int n → n ≡ m
 same_day m n e = cc
 
@@ -32,7 +32,7 @@ same_text : (found : Option (List ℕ)) (text : List ℕ) → text_of found ≡ 
 same_text None text e = cc
 same_text (Some found) text e = cc
 
--- a tariff that a row says is that of which it is the row
+-- a tariff that a row says is the one that the row is made of
 tariff_said : (tariff : ℤ × Option (List ℕ)) (stored : StoredTariff)
     → SaysTariff (tariff_columns tariff) stored → tariff_of stored ≡ tariff
 tariff_said tariff stored says = λ i. (

@@ -66,7 +66,7 @@ module _ {K V : Type 0} {R : K → K → Ordering} (total : IsTotalOrder R)
           (sym (find_come total exact at m k) ∙ ap (find R k) is
           ∙ find_front total exact k v more)
 
-      -- and so was each that is behind it
+      -- and so was each that is after it
       behind : (at : Option K) (q : K) → is_above R at k ≡ true → R k q ≡ Less
           → is_above R at q ≡ true
       behind None q first more = refl
@@ -113,7 +113,7 @@ module _ {K V : Type 0} {R : K → K → Ordering} (total : IsTotalOrder R)
       ap (map (λ (e : K × V). e.0)) (entries-insert total m k w)
       ∙ keys_put k v w (entries m) (entries_sorted m) (sym (get-entries m k) ∙ there)
 
--- keys that pass a test are those of the entries whose keys pass it
+-- keys that pass a test are those of the entries with keys that pass it
 keys_passing : {K V : Type 0} (p : K → Bool) (es : List (K × V))
     → map (λ (e : K × V). e.0) (filter (λ (e : K × V). p e.0) es)
     ≡ filter p (map (λ (e : K × V). e.0) es)
@@ -144,13 +144,13 @@ module _ (last : Option (List ℕ)) (tables : Tables) (stored : StoredRecord)
       × (above last tables.records ≡ stored_entry stored ∷ more)
   front = starts_with (above last tables.records) (stored_entry stored) found
 
-  -- the others come behind it
+  -- the others come after it
   rest : above (Some stored.name) tables.records ≡ front.0
   rest =
       above_next record_layout.total record_layout.exact last tables.records stored.name
       (stored_entry stored).1 front.0 front.1
 
-  -- it stands in the tables
+  -- it is in the tables
   pub next_stands : IsAsRead stored tables
   next_stands =
       first_there record_layout.total record_layout.exact last tables.records stored.name
@@ -208,7 +208,7 @@ abbrev pub KeepsNames : (List ℕ → Tables → Tables) → Type 0
 KeepsNames step =
     (name : List ℕ) (tables : Tables) → keys (step name tables).records ≡ keys tables.records
 
--- so the same names are left behind it
+-- so the same names are left after it
 names_stay : (last : Option (List ℕ)) (one other : Tables)
     → keys one.records ≡ keys other.records → names_left last one ≡ names_left last other
 names_stay None one other same = same
@@ -218,7 +218,7 @@ names_stay (Some name) one other same =
     ∙ sym (keys_passing (λ k. is_lt (by_bytes name k)) (entries other.records))
 
 -- A walk over the records of these tables, in steps by name, has come to a name: the trees hold
--- tables of which the steps that are left make what all steps make of these.
+-- tables with steps left that make what all steps make of these.
 pub record IsWalking (step : List ℕ → Tables → Tables) (tables : Tables) (trees : Trees)
     (last : Option (List ℕ)) : Type 0 where
   pub now : Tables

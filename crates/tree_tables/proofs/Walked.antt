@@ -33,7 +33,7 @@ survives_none = record {
   crash = λ clean trees left. inl left;
 }
 
--- what is told of any error is told of one
+-- what is said of any error is said of one
 does_err : {T : Type 0} {When : Tables → Type 0} {change : Tables → Tables} {old new : State}
     (result : Result T StoreError) → IsErr result → Survives old new (λ trees. ⊥)
     → (HasCleanDisk new → KeepsCommitted old.view new.view) → Does result old new When change
@@ -177,7 +177,7 @@ module _ (step : List ℕ → Tables → Tables) where
 -- ---- sums
 
 -- What a walk that sums knows of tables where it has come to a name: what it has so far and the
--- rows that are left make the sum of all rows; and what it tells of each row is so of those that it
+-- rows that are left make the sum of all rows; and what it says of each row is so of those that it
 -- has passed.
 pub record SumsSo (f : RecordRow → ℕ) (Told : RecordRow → Type 0) (last : Option (List ℕ))
     (so_far : ℕ) (tables : Tables) : Type 0 where
@@ -193,7 +193,7 @@ pub record SumsTo (f : RecordRow → ℕ) (Told : RecordRow → Type 0) (old new
   pub known : HasCleanDisk new → (tables : Tables) → Holds old.view.trees tables
       → SumsSo f Told last so_far tables
 
--- all that it will have told of
+-- all that it will have reported
 abbrev pub ToldOfAll : (RecordRow → Type 0) → Tables → Type 0
 ToldOfAll Told tables =
     (name : List ℕ) (row : RecordRow) → get tables.records name ≡ Some row → Told row
@@ -238,7 +238,7 @@ module _ (f : RecordRow → ℕ) (Told : RecordRow → Type 0) where
         looks_err result failed (survives_both sums.survives looks.survives) (λ clean.
         kept_behind (sums.same (was_clean looks.survives clean)) (looks.refused clean))
 
-    -- the next record is found, and told of, and its part joins the sum
+    -- the next record is found and reported, and its part joins the sum
     pub sums_on : {new : State} (stored : StoredRecord) (more : ℕ)
         → Looks (Ok (Some stored)) mid new (FindsNext last)
         → more ≡ so_far + f (stored_entry stored).1 → Told (stored_entry stored).1
@@ -276,7 +276,7 @@ module _ (f : RecordRow → ℕ) (Told : RecordRow → Type 0) where
       refused = λ clean. tt;
     }
 
-    -- none is found: that is the sum, and all are told of
+    -- none is found: that is the sum, and all are reported
     pub sums_all : {A : Type 0} {answer : A} {Answers : Tables → A → Type 0} {new : State}
         → Looks (Ok None) mid new (FindsNext last)
         → ((tables : Tables) → so_far ≡ sum_by f (values tables.records)

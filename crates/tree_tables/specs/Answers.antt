@@ -43,7 +43,7 @@ FindsRecord name tables found =
     option_map stored_entry found
     ≡ option_map (λ (row : RecordRow). (name, row)) (get tables.records name)
 
--- the records of names, each of which has one
+-- the records of names that each have one
 abbrev pub FindsNamed : List FoundName → Tables → List StoredRecord → Type 0
 FindsNamed names tables found =
     AllZip (λ named stored. FindsRecord named.name tables (Some stored)) names found
@@ -53,7 +53,7 @@ abbrev pub FindsSharing : List ℕ → Tables → List StoredRecord → Type 0
 FindsSharing identity tables found =
     map stored_entry found ≡ take 2 (rows_with identity tables.records)
 
--- the record with the least name behind one, or with the least of all, if there is such a record
+-- the record with the least name after one, or with the least of all, if there is such a record
 abbrev pub FindsNext : Option (List ℕ) → Tables → Option StoredRecord → Type 0
 FindsNext last tables found =
     option_map stored_entry found ≡ slice_get (above last tables.records) 0

@@ -14,14 +14,14 @@ use Rattle.kept_tables.specs.Tables.{DayTable, Tables}
 use Rattle.tree_rows.specs.Changes.{MovesApart}
 use Rattle.tree_tables.specs.Holds.{Holds}
 
--- 64 bits with a sign hold the row's sums
+-- the row's sums fit a signed number of 64 bits
 pub record RowFits (row : ChargeRow) : Type 0 where
   pub count : row.count < 2 ^ 63
   pub cpu : row.cpu < 2 ^ 63
   pub blocks : row.blocks < 2 ^ 63
   pub amount : row.amount < 2 ^ 63
 
--- the columns behind the period are those of the charge row
+-- the columns after the period are those of the charge row
 pub record SaysDay (row : Row) (charge : ChargeRow) : Type 0 where
   pub day : column row 1 ≡ Int charge.day
   pub centre : column row 2 ≡ Text charge.centre
@@ -36,8 +36,8 @@ abbrev pub NoneNext : ℕ → Tables → Type 0
 NoneNext period tables =
     (place : RowKey) → contains_key tables.days (suc period, place) ≡ false
 
--- Charge rows of which some went on already: no two go to one place, and where all go that have to
--- go they are what the rows of before are then.
+-- Charge rows, some of which went on already: no two go to one place, and where all go that have
+-- to go they are what the old rows are then.
 pub record GoneOn (period : ℕ) (day : ℤ) (before days : DayTable) : Type 0 where
   pub apart : MovesApart (move_on period day) days
   pub same : moved (move_on period day) days ≡ moved (move_on period day) before

@@ -1,4 +1,4 @@
--- Rows whose columns are those of a value: a row that fits is refused for want of memory alone.
+-- Rows with the columns of a value: a row that fits is refused for a lack of memory alone.
 use Rattle.std.specs.Prelude.{◌≡◌, ◌≤◌, ◌<◌, ◌-◌, ◌^◌, ℕ, ℤ, pos, List, Bool, Some, length, map}
 use Rattle.std.specs.FinMap.{entries, get}
 use Rattle.std.specs.List.{AllByRecursion}

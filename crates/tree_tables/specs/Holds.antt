@@ -1,6 +1,6 @@
--- The trees that hold the tables: one a table, in the order of its key, two more that find records,
--- by their identities and by their marks, and one more that finds choices, by the names of the
--- records that were chosen.
+-- The trees that hold the tables: one for each table, in the order of its key, two more that find
+-- records, by their identities and by their marks, and one more that finds choices, by the names of
+-- the records that were chosen.
 use Rattle.std.specs.Prelude.{◌≡◌, ℕ, List, [], ◌∷◌, map, Some}
 use Rattle.std.specs.FinMap.{FinMap, entries, get}
 use Rattle.std.specs.Ordering.{nat_cmp}
@@ -45,7 +45,7 @@ choice_name_key entry = (entry.1.name, entry.0)
 abbrev pub choice_names : ChoiceTable → FinMap by_chosen (Unit {0})
 choice_names choices = index_of choice_name_key choices
 
--- each charge row stands under its own place
+-- each charge row is under its own place
 abbrev pub ArePlaced : DayTable → Type 0
 ArePlaced days =
     (key : ℕ × RowKey) (row : ChargeRow) → get days key ≡ Some row → place_of row ≡ key.1

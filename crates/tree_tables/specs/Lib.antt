@@ -1,7 +1,7 @@
--- Read in this order: the columns in which rows of the tables stand, and
+-- Read in this order: the columns of the rows of the tables, and
 -- rows that have them, and the data of usage records; the trees that hold the tables;
 -- what a store shows, and what becomes of it; what a look at the tables answers, and what a step
--- does to them; what is asked of charge rows; rows as code hands them over and gets them back; what
+-- does to them; what is asked of charge rows; rows as code passes them on and gets them back; what
 -- each look answers; and walks over all records.
 pub mod Columns
 pub mod Fits

@@ -16,7 +16,7 @@ pub record Sees (old new : View) (Known : Tables → Type 0) : Type 0 where
   pub known : (tables : Tables) → Holds old.trees tables → Known tables
 
 -- A look at the tables: what it answers is said of them, and they are left alone; where the store
--- fails, its last commit stands.
+-- fails, its last commit stays.
 pub record Looks {A : Type 0} (result : Result A StoreError) (old new : State)
     (Answers : Tables → A → Type 0) : Type 0 where
   pub survives : Survives old new (λ trees. ⊥)
@@ -24,27 +24,27 @@ pub record Looks {A : Type 0} (result : Result A StoreError) (old new : State)
       → IfOk result (λ answer. Sees old.view new.view (λ tables. Answers tables answer))
   pub refused : HasCleanDisk new → OnErr result (KeepsCommitted old.view new.view)
 
--- why a look failed: memory was wanting, or the disk failed or refused meanwhile; or the store was
+-- why a look failed: memory ran out, or the disk failed or refused meanwhile; or the store was
 -- broken before
 abbrev pub IsCaused : State → State → StoreError → Type 0
 IsCaused old new = HasCause old.view (MoreFaults old.faults new.faults) ⊥
 
--- of tables of which the premise holds, a look fails for a cause of the store alone
+-- where the premise holds of the tables, a look fails for a cause of the store alone
 abbrev pub FailsByStore : {A : Type 0} → Result A StoreError → State → State → (Tables → Type 0)
     → Type 0
 FailsByStore result old new When =
     IfErr result (λ error. HasCleanDisk new → (tables : Tables) → Holds old.view.trees tables
     → When tables → IsCaused old new error)
 
--- tables of which the premise holds are changed so, and nothing else is
+-- tables that the premise holds of are changed so, and nothing else is
 pub record Changes (old new : View) (When : Tables → Type 0) (change : Tables → Tables) : Type 0
   where
     pub only : OnlyWrites old new
     pub made : (tables : Tables) → Holds old.trees tables → When tables
         → Holds new.trees (change tables)
 
--- A step inside the transaction, of tables of which the premise holds: the change where it
--- succeeds, and no commit; where the store fails, its last commit stands.
+-- A step inside the transaction, where the premise holds of the tables: the change where it
+-- succeeds, and no commit; where the store fails, its last commit stays.
 pub record Does {T : Type 0} (result : Result T StoreError) (old new : State)
     (When : Tables → Type 0) (change : Tables → Tables) : Type 0 where
   pub survives : Survives old new (λ trees. ⊥)
@@ -59,19 +59,19 @@ Always tables = Unit {0}
 pub record HasNoRows (trees : Trees) : Type 0 where
   pub empty : (tree : ℕ) → tree < 10 → trees tree ≡ []
 
--- New books are made where there are no rows; where the store fails, its last commit stands.
+-- New books are made where there are no rows; where the store fails, its last commit stays.
 pub record Makes {T : Type 0} (result : Result T StoreError) (old new : State) : Type 0 where
   pub survives : Survives old new (λ trees. ⊥)
   pub done : HasCleanDisk new → OnOk result (OnlyWrites old.view new.view
       × (HasNoRows old.view.trees → Holds new.view.trees new_tables))
   pub refused : HasCleanDisk new → OnErr result (KeepsCommitted old.view new.view)
 
--- the last commit stands, as long as the store is open
+-- the last commit stays, as long as the store is open
 pub record Stands (old new : View) : Type 0 where
   pub was_open : IsTrue new.is_open → IsTrue old.is_open
   pub committed : IsTrue new.is_open → new.committed ≡ old.committed
 
--- what was written is taken back: the last commit is what is seen again
+-- what was written is rolled back: the last commit is what is seen again
 pub record IsUndone (old new : View) : Type 0 where
   pub stands : Stands old new
   pub undone : IsTrue new.is_open → (new.trees ≡ old.committed) × (new.is_broken ≡ false)

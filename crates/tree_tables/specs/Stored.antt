@@ -1,4 +1,4 @@
--- Rows that code hands over and gets back, as rows of the tables under their keys.
+-- Rows that code passes on and gets back, as rows of the tables under their keys.
 use Rattle.std.specs.Prelude.{◌≡◌, ℕ, ℤ, pos, List, Bool, Option, Some, string_bytes}
 use Rattle.std.specs.FinMap.{get}
 use Rattle.sqlite_value.specs.Order.{Row, column}
@@ -75,7 +75,7 @@ abbrev pub priced_entry : StoredRecord → Priced → List ℕ × RecordRow
 priced_entry stored priced =
     (stored.name, record (stored_entry stored).1 { priced = priced })
 
--- it stands in the tables as it was read
+-- it is in the tables as it was read
 abbrev pub IsAsRead : StoredRecord → Tables → Type 0
 IsAsRead stored tables = get tables.records stored.name ≡ Some (stored_entry stored).1
 
@@ -87,7 +87,7 @@ day_entry period row = ((period, place_of row), row)
 abbrev pub signed_name : StoredLine → List ℕ × Bool
 signed_name line = (line.name, line.plus)
 
--- the columns behind the period are those of the line
+-- the columns after the period are those of the line
 pub record SaysLine (row : Row) (line : StoredLine) : Type 0 where
   pub name : column row 1 ≡ Blob line.name
   pub plus : column row 2 ≡ Int (pos (flag line.plus))

@@ -17,7 +17,7 @@ use Rattle.tree_rows.specs.Rows.{past_key, Rewrites}
 use Rattle.tree_tables.specs.Columns.{record_columns}
 use Rattle.tree_tables.specs.Holds.{Holds}
 
--- the rows behind those of a key, or all where the key has no columns
+-- the rows after those of a key, or all where the key has no columns
 abbrev pub rows_behind : Row → List Row → List Row
 rows_behind [] rows = rows
 rows_behind (value ∷ more) rows = past_key (value ∷ more) (from_key plain (value ∷ more) rows)
@@ -42,13 +42,13 @@ pub record HoldsFoundBy (trees : Trees) (tables : Tables) (keyed : RecordTable) 
   pub records : trees 3 ≡ map record_columns (entries tables.records)
   pub rest : Holds (with_rows_of keyed trees) (record tables { records = keyed })
 
--- a record's row as a change makes it, or that it stands so already
+-- a record's row as a change makes it, or that it is so already
 abbrev pub IsRenewed :
     (RecordRow → RecordRow) → List ℕ × RecordRow → Row → Bool → Type 0
 IsRenewed change entry row true = row ≡ record_columns (entry.0, change entry.1)
 IsRenewed change entry row false = change entry.1 ≡ entry.1
 
--- the same of the record whose row this is
+-- the same of the record that has this row
 abbrev pub RenewsRow : (RecordRow → RecordRow) → Row → Row → Bool → Type 0
 RenewsRow change before row due =
     (entry : List ℕ × RecordRow) → before ≡ record_columns entry → IsRenewed change entry row due
@@ -68,7 +68,7 @@ pub record IsRenewing (change : RecordRow → RecordRow) (tables : Tables) (tree
 abbrev pub renewed : (RecordRow → RecordRow) → Tables → Tables
 renewed change tables = record tables { records = updated change tables.records }
 
--- it goes on, or all are changed
+-- it continues, or all are changed
 abbrev pub Renews : (RecordRow → RecordRow) → Tables → Trees → Row → Bool → Type 0
 Renews change tables trees key true = IsRenewing change tables trees key
 Renews change tables trees key false =
@@ -86,7 +86,7 @@ abbrev pub entry_key : Option (List ℕ × List ℕ) → Row
 entry_key None = []
 entry_key (Some entry) = Blob entry.0 ∷ Blob entry.1 ∷ []
 
--- A walk by the identities that records had, behind which their keys are those that their rows say
+-- A walk by the identities that records had, after which their keys are those that their rows say
 -- by the second rule, has come to a key: the records that it has passed are found so.
 pub record IsKeying (tables : Tables) (trees : Trees) (key : Row) : Type 0 where
   pub last : Option (List ℕ × List ℕ)
@@ -97,7 +97,7 @@ pub record IsKeying (tables : Tables) (trees : Trees) (key : Row) : Type 0 where
   pub done : (name : List ℕ) (row : RecordRow) → get keyed name ≡ Some row
       → is_above by_both last (row.identity, name) ≡ false → by_second_rule row ≡ row
 
--- it goes on, or all are
+-- it continues, or all are
 abbrev pub Keys : Tables → Trees → Row → Bool → Type 0
 Keys tables trees key true = IsKeying tables trees key
 Keys tables trees key false = Holds trees tables

@@ -75,7 +75,7 @@ pub fn mark_at(row: &Row, at: usize) -> Result<bool, StoreError>
     }
 }
 
-/// The bytes in a column, where they stand.
+/// The bytes in a column, left in place.
 pub(crate) fn blob_at<'a>(row: &'a Row, at: usize) -> Result<&'a [u8], StoreError>
     ensures read { IfOk result (λ bytes. column row.now at ≡ Blob bytes.now) }
     ensures taken { IfErr result (λ error. ¬ HasBytes (column row.now at)) }

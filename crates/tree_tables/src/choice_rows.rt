@@ -80,7 +80,7 @@ impl<S: Store> TreeTables<S> {
     ghost use Rattle.tree_tables.specs.States.{state};
     ghost use Rattle.tree_tables.specs.Steps.{Always, Does, FailsByStore, Looks};
 
-    /// A record that was chosen, by its name, and the period that was open then stand under the
+    /// A record that was chosen, by its name, and the period that was open then are kept under the
     /// number of the choice, which is new, and the choice is found by the name. What is under the
     /// number, if anything is, is not looked at.
     pub fn put_choice(&mut self, number: u32, name: &[u8], period: u16) -> Result<(), StoreError>

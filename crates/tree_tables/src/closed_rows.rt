@@ -63,7 +63,7 @@ impl<S: Store> TreeTables<S> {
     ghost use Rattle.tree_tables.specs.Columns.{closed_columns};
     ghost use Rattle.tree_tables.specs.Fits.{CloseFits, RowsFit};
 
-    /// The day of a close stands under its period.
+    /// The day of a close is kept under its period.
     pub fn put_close(&mut self, close: &Close) -> Result<(), StoreError>
         ensures does { Does result (state S.Store self.old.store) (state S.Store self.new.store)
             Always (step.put_close_row close.now.period close.now.through) }

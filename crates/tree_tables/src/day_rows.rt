@@ -33,7 +33,7 @@ pub struct DayRow {
     pub row: ChargeRow,
 }
 
-/// Where a charge row stands: its period, and its day, centre and shift.
+/// Where a charge row is: its period, and its day, centre and shift.
 #[derive(Clone, Copy)]
 pub struct DayPlace {
     pub period: u16,
@@ -174,7 +174,7 @@ impl<S: Store> TreeTables<S> {
         charges(days, alloc)
     }
 
-    /// A charge row stands at its place in the period, in the place of the one that stood there.
+    /// A charge row is put at its place in the period, in the place of the one that was there.
     pub fn put_day(&mut self, day: &DayRow) -> Result<(), StoreError>
         requires fits { RowFits day.now.row }
         ensures does { Does result (state S.Store self.old.store) (state S.Store self.new.store)

@@ -1,6 +1,6 @@
-//! The identities of all records, written anew by the second rule: first into their rows, by name, and
-//! then into the two trees that find them, in the order of these trees. So each page of the three is
-//! written about once, and the log of a large file does not grow with every record.
+//! The identities of all records, written anew by the second rule: first into their rows, by name,
+//! and then into the two trees that find them, in the order of these trees. So each page of the
+//! three is written about once, and the log of a large file does not grow with every record.
 
 ghost use Rattle.std.specs.Prelude.{OnOk, true};
 ghost use Rattle.kept_tables.specs.TableChanges.{by_second_rule};
@@ -45,7 +45,7 @@ impl<S: Store> TreeTables<S> {
     ghost use Rattle.tree_tables.specs.Walks.{KeysNext, KeysRecords, MovesKeys, RenamesRows};
     ghost use Rattle.tree_tables.specs.Walks.{RenewsNext};
 
-    /// Writes its identity by the second rule into the row of the first record behind that of the
+    /// Writes its identity by the second rule into the row of the first record after that of the
     /// key, and makes its name the key; or answers that there is none.
     fn rename_next(&mut self, alloc: Global) -> Result<bool, StoreError>
         ensures renews { IfOk result (λ more. IsClean (S.Store.view self.new.store)
@@ -85,7 +85,7 @@ impl<S: Store> TreeTables<S> {
         Err(StoreError::Corrupt)
     }
 
-    /// Has the record of the first entry behind the key `last` found by the identity that its row
+    /// Has the record of the first entry after the key `last` found by the identity that its row
     /// says, and makes that entry the key; or answers that there is none.
     fn key_next(&mut self, last: &mut Row) -> Result<bool, StoreError>
         ensures keys { IfOk result (λ more. IsClean (S.Store.view self.new.store)

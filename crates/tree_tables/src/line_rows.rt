@@ -19,7 +19,7 @@ use tree_rows::{ReadRow, drop_row, list_run, put_row};
 /// The tree of adjustment lines.
 const LINES: u32 = 5;
 
-/// Where a line stands: its period, and the name of its record.
+/// Where a line is: its period, and the name of its record.
 #[derive(Clone, Copy)]
 pub struct LinePlace<'a> {
     pub period: u16,
@@ -31,7 +31,7 @@ pub struct LinePlace<'a> {
 pub struct StoredLine {
     /// The name of the record.
     pub name: [u8; 32],
-    /// It adds the record, or takes it back.
+    /// It adds the record, or reverses it.
     pub plus: bool,
 }
 
@@ -82,8 +82,8 @@ impl<S: Store> TreeTables<S> {
     ghost use Rattle.tree_tables.specs.Fits.{LinesFit};
     ghost use Rattle.tree_tables.specs.Steps.{Always, Does, FailsByStore, Looks};
 
-    /// A line stands under its period and the name of its record: it adds the record, or takes it
-    /// back.
+    /// A line is kept under its period and the name of its record: it adds the record, or reverses
+    /// it.
     pub fn put_line(&mut self, spot: &LinePlace<'_>, plus: bool) -> Result<(), StoreError>
         ensures does { Does result (state S.Store self.old.store) (state S.Store self.new.store)
             Always (step.put_line_row spot.now.period spot.now.name.now plus) }

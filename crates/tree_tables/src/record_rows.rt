@@ -39,7 +39,7 @@ pub struct NewRecord<'a> {
     /// The name of the record's data.
     pub name: &'a [u8],
     pub identity: &'a [u8],
-    /// The data behind the descriptor.
+    /// The data after the descriptor.
     pub data_bytes: &'a [u8],
     pub priced: Priced,
     /// It is charged now.
@@ -48,7 +48,7 @@ pub struct NewRecord<'a> {
     pub posted: bool,
 }
 
-/// A number joins a row, where 64 bits with a sign hold it.
+/// A number joins a row, where it fits a signed number of 64 bits.
 fn push_number(row: &mut Row, number: u64) -> Result<(), StoreError>
     ensures { OnOk result (row.new ≡ row.old ++ Int (pos number) ∷ []) }
 {
@@ -225,7 +225,7 @@ impl<S: Store> TreeTables<S> {
         add_row(&mut self.store, MARKS, &self.row)
     }
 
-    /// A record, which stands as it was read, costs this from now on. Its identity and its marks
+    /// A record that is as it was read costs this from now on. Its identity and its marks
     /// stay, and with them the rows that find it. The row is not looked for: it is what was read.
     pub fn set_price(&mut self, stored: &StoredRecord, priced: &Priced) -> Result<(), StoreError>
         ensures does { Does result (state S.Store self.old.store) (state S.Store self.new.store)

@@ -32,7 +32,7 @@ const POSTED: usize = 10;
 /// The most rows that are walked over: more than any tree of a sound store has.
 pub(crate) const MOST_STEPS: u64 = 1 << 32;
 
-/// Reads the first row of a tree behind those of the key over `row`, or the very first where the key
+/// Reads the first row of a tree after those of the key over `row`, or the very first where the key
 /// has no columns; or answers that there is none.
 pub(crate) fn first_behind<S: Store>(
     store: &mut S,
@@ -103,7 +103,7 @@ fn posted_row(row: &mut Row, before: &Row) -> Result<(), StoreError>
     Ok(())
 }
 
-/// Makes the row of a record as a close through the day posts it, or answers that it stands so
+/// Makes the row of a record as a close through the day posts it, or answers that it is so
 /// already.
 fn post_row(row: &mut Row, before: &Row, through: i32) -> Result<bool, StoreError>
     ensures { IfOk result (RenewsRow (post_by through) before.now row.new) }
@@ -128,7 +128,7 @@ impl<S: Store> TreeTables<S> {
     ghost use Rattle.tree_tables.specs.Steps.{Always, Does, FailsByStore, Looks};
     ghost use Rattle.tree_tables.specs.Walks.{RenewsNext};
 
-    /// The record with the least name behind one, or with the least of all where there is none: a
+    /// The record with the least name after one, or with the least of all where there is none: a
     /// step of a walk over all records, which holds no more than one of them at a time.
     pub fn find_next(
         &mut self,
@@ -147,7 +147,7 @@ impl<S: Store> TreeTables<S> {
         Ok(Some(read_record(&self.before, alloc)?))
     }
 
-    /// Posts the first record behind that of the key by a day, and makes its name the key; or
+    /// Posts the first record after that of the key by a day, and makes its name the key; or
     /// answers that there is none.
     fn post_next(&mut self, through: i32) -> Result<bool, StoreError>
         ensures renews { IfOk result (λ more. IsClean (S.Store.view self.new.store)
@@ -168,8 +168,8 @@ impl<S: Store> TreeTables<S> {
         Ok(true)
     }
 
-    /// The records that are dated by the day are posted as they are charged. A walk that does not
-    /// end is answered as a damaged file.
+    /// The records that are dated on or before the day are posted as they are charged. A walk that
+    /// does not end is answered as a damaged file.
     pub fn post_records(&mut self, through: i32) -> Result<(), StoreError>
         ensures does { Does result (state S.Store self.old.store) (state S.Store self.new.store)
             Always (step.post_rows through) }

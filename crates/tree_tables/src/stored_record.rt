@@ -20,7 +20,7 @@ pub struct StoredRecord {
     /// The name of the record's data.
     pub name: [u8; 32],
     pub identity: Vec<u8>,
-    /// The data behind the descriptor.
+    /// The data after the descriptor.
     pub data_bytes: Vec<u8>,
     pub priced: Priced,
     /// It is charged now.

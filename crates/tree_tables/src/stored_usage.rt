@@ -10,7 +10,7 @@ use smf_type30::{Class, class};
 use sqlite_trees::error::StoreError;
 use std::alloc::{AllocError, Global};
 
-/// The record with that data, behind the descriptor that their length gives.
+/// The record with that data, after the descriptor that their length gives.
 pub fn record_with(alloc: Global, data_bytes: &[u8]) -> Result<Vec<u8>, AllocError>
     requires { length data_bytes.now ≤ framed.most_data }
     ensures { IfOk result (λ made. made.items ≡ framed.record_with data_bytes.now) }

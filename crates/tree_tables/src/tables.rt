@@ -8,7 +8,7 @@ use sqlite_trees::store::Store;
 use sqlite_value::row::Row;
 use std::alloc::Global;
 
-/// The tables of books in the trees of a store, one a table: 0 the book, 1 tariffs, 2 closes,
+/// The tables of books in the trees of a store, a tree each: 0 the book, 1 tariffs, 2 closes,
 /// 3 records, 4 charge rows, 5 adjustment lines, 8 choices; two more that find records, 6 by
 /// identity and 7 by mark; and 9, which finds choices by the names of their records.
 #[derive(Drop)]
@@ -18,7 +18,7 @@ pub struct TreeTables<S: Store> {
     pub(crate) key: Row,
     /// The row that is written, or that was found.
     pub(crate) row: Row,
-    /// The row that stood under the key before.
+    /// The row that was under the key before.
     pub(crate) before: Row,
     ghost shaped: { IsClean (S.Store.view store) → HasShapes (S.Store.view store) },
 }
@@ -30,7 +30,7 @@ impl<S: Store> TreeTables<S> {
     ghost use Rattle.tree_tables.specs.States.{Survives, state};
     ghost use Rattle.tree_tables.specs.Steps.{IsUndone, MayCommit};
 
-    /// The tables in a store whose trees are there.
+    /// The tables in a store that has their trees.
     pub fn over(alloc: Global, store: S) -> TreeTables<S>
         requires { IsClean (S.Store.view store) → HasShapes (S.Store.view store) }
         ensures { result.store ≡ store }
@@ -51,7 +51,7 @@ impl<S: Store> TreeTables<S> {
         self.store
     }
 
-    /// Commits what was written. A commit that fails takes it back.
+    /// Commits what was written. A commit that fails rolls it back.
     pub fn commit(&mut self) -> Result<(), StoreError>
         ensures committed { OnOk result (IsClean (S.Store.view self.new.store)
             → Commits (S.Store.view self.old.store) (S.Store.view self.new.store)) }
@@ -63,7 +63,7 @@ impl<S: Store> TreeTables<S> {
         self.store.commit()
     }
 
-    /// Takes back what was written since the last commit.
+    /// Rolls back what was written since the last commit.
     pub fn roll_back(&mut self)
         ensures undone { IsClean (S.Store.view self.new.store)
             → IsUndone (S.Store.view self.old.store) (S.Store.view self.new.store) }

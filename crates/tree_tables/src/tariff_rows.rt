@@ -69,7 +69,7 @@ impl<S: Store> TreeTables<S> {
     ghost use Rattle.tree_tables.specs.Columns.{tariff_columns};
     ghost use Rattle.tree_tables.specs.Fits.{RowsFit, TariffFits};
 
-    /// The text of a tariff stands under its first day.
+    /// The text of a tariff is kept under its first day.
     pub fn put_tariff(&mut self, tariff: &TariffText<'_>) -> Result<(), StoreError>
         ensures does { Does result (state S.Store self.old.store) (state S.Store self.new.store)
             Always (step.put_tariff_row tariff.now.day tariff.now.body.now) }

@@ -15,7 +15,7 @@ const CHARGES: u32 = 4;
 pub(crate) enum Change {
     /// A column of the charge rows becomes this number.
     Set { column: usize, number: i64 },
-    /// The rows of a tree are taken away.
+    /// The rows of a tree are removed.
     Empty { tree: u32 },
 }
 

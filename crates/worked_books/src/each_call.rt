@@ -1,4 +1,4 @@
-//! Lines asked of books that refuse their calls for memory, one after the other.
+//! Lines asked of books that refuse their calls for lack of memory, one after another.
 
 use crate::lines::Lines;
 use crate::run::ask_of;
@@ -11,8 +11,8 @@ use std::alloc::AllocError;
 const ENOUGH: u32 = 1_000;
 
 impl Lines {
-    /// Asks a line of books that refuse the call after so many. Answers whether a call was refused;
-    /// nothing where the line can't be read.
+    /// Asks a line of books that refuse the call after a given number. Answers whether a call was
+    /// refused; nothing where the line can't be read.
     fn ask_refused<L: Ledger>(
         &mut self,
         named: &Named,

@@ -3,7 +3,7 @@
 use std::io;
 use std::io::{ErrorKind, Read, Write};
 
-/// Gives its bytes, and ends or fails behind them.
+/// Gives its bytes, and ends or fails after them.
 #[derive(Drop)]
 pub(crate) struct Input<'a> {
     pub(crate) left: &'a [u8],

@@ -6,7 +6,7 @@ use std::alloc::{AllocError, Global};
 /// How what a command left is shown.
 #[derive(Clone, Copy)]
 pub(crate) enum Showing {
-    /// So many bytes of each stream at most, and two dots for more.
+    /// At most this many bytes of each stream, and two dots for more.
     First(usize),
     /// How many lines its output has.
     Lines,
@@ -14,8 +14,8 @@ pub(crate) enum Showing {
     Bytes,
 }
 
-/// Adds so many bytes of a stream at most, a mark before each line. A backslash stands at the end
-/// where no line's end does.
+/// Adds a given number of bytes of a stream at most, a mark before each line. A backslash is at the
+/// end where no line's end is.
 fn push_stream(
     out: &mut Vec<u8>,
     mark: &str,
@@ -40,7 +40,7 @@ fn push_stream(
     Ok(())
 }
 
-/// Adds a number, and what it is.
+/// Adds a number, and what it counts.
 fn push_count(
     alloc: Global,
     out: &mut Vec<u8>,

@@ -14,7 +14,7 @@ pub(crate) struct Lines {
 }
 
 impl Lines {
-    /// As at the begin of a row.
+    /// As at the beginning of a row.
     pub(crate) fn new() -> Lines {
         Lines {
             books: BookLines::new(),
@@ -22,8 +22,8 @@ impl Lines {
         }
     }
 
-    /// Answers a line that is asked of books, by calls or by requests. False where it is none, or
-    /// can't be read.
+    /// Answers a line that is asked of books, by calls or by requests. False where it is not one,
+    /// or can't be read.
     pub(crate) fn ask_once<L: Ledger>(
         &mut self,
         named: &Named,
@@ -37,7 +37,7 @@ impl Lines {
         answer_request(&mut self.requests, named, ledger, ask, out)
     }
 
-    /// The same, or answers `each-call` with such a line behind it.
+    /// The same, or answers `each-call` with such a line after it.
     pub(crate) fn ask<L: Ledger>(
         &mut self,
         named: &Named,

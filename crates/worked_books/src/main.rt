@@ -1,12 +1,12 @@
-//! Worked rows on books. A word that ends with a colon names a section, and each word behind it a
-//! script that lies where the program runs:
+//! Worked rows on books. A word that ends with a colon names a section, and each word after it a
+//! script in the folder where the program runs:
 //!
 //! | Section | Its rows are |
 //! |---|---|
 //! | `memory:` | on books in memory |
-//! | `tables:` | on books in the trees of a store, opened for each line and closed behind it |
+//! | `tables:` | on books in the trees of a store, opened for each line and closed after it |
 //! | `commands:` | sessions of the program's commands, over files |
-//! | `stops:` | as those of `tables:`; it stands apart because disks that stop take the longest |
+//! | `stops:` | as those of `tables:`; it is separate because disks that stop take the longest |
 //!
 //! A row on books begins with
 //!
@@ -17,10 +17,11 @@
 //! | `flat CPU BLOCKS`, `one-name CPU BLOCKS` | the same in memory, under a tariff of two rates |
 //! | `empty` | none, in trees without rows |
 //!
-//! Its lines are those of `book_rows` and `request_rows`. `each-call`, with such a line after it, asks
-//! that line of books that refuse its first call for memory, then its second one, and so on up to
-//! where none is refused; the answers, each with the texts of the books that it changed, are shown as
-//! one where they follow each other and are the same. In tables there are also
+//! Its lines are those of `book_rows` and `request_rows`. `each-call`, with such a line after it,
+//! asks that line of books that refuse its first call for lack of memory, then its second one, and
+//! so on up to where none is refused; the answers, each with the texts of the books that it
+//! changed, are shown as one where they follow each other and are the same. In tables there are
+//! also
 //!
 //! | A line | Is answered with |
 //! |---|---|
@@ -28,15 +29,15 @@
 //! | `identities` | of each record its name and its identity |
 //! | `index NAME` | the rows of a tree that finds others, by its name in the file |
 //! | `set day_sum.COLUMN NUMBER` | how many charge rows were changed behind the books' back |
-//! | `empty TABLE` | how many rows were taken away behind the books' back |
+//! | `empty TABLE` | how many rows were removed behind the books' back |
 //! | `stops log`, `stops database` | what was found when the disk stopped at each call of that file, and lost what was not synced |
 //! | `stops FILE written` | the same, where what was written was not lost |
-//! | `stops FILE torn` | the same, where of a write in hand the first half got there |
+//! | `stops FILE torn` | the same, where the first half of the write in progress got there |
 //! | `stops FILE twice`, `stops FILE twice written` | the same, where the disk stopped again at each call on the way back into the books |
-//! | `refuses memory` | what was found when the store answered each of its calls in turn with want of memory |
+//! | `refuses memory` | what was found when the store answered each of its calls in turn that memory ran out |
 //!
-//! The body of `stops` and of `refuses` is a run of commands. The row goes on with the books behind
-//! it. Each word of an import names one record there.
+//! The body of `stops` and of `refuses` is a run of commands. The row continues with the books
+//! after it. Each word of an import names one record there.
 //!
 //! In a session every word that begins with `@` is a file of this row alone:
 //!
@@ -47,7 +48,7 @@
 //! | `input PARTS..`, `broken-input PARTS..` | nothing: what standard input gives from here on |
 //! | `room SIZE` | nothing: how many bytes standard output takes from here on |
 //! | `chargectl WORDS..` | its output, `!` and each line on standard error, its status if not 0 |
-//! | `first SIZE chargectl WORDS..` | the same, but no more than so many bytes of each |
+//! | `first SIZE chargectl WORDS..` | the same, but no more than a given number of bytes of each |
 //! | `count-lines chargectl WORDS..`, or `count-bytes` | the same, but how many its output has |
 //! | `same FILE FILE`, `missing FILE` | whether they are |
 //! | `files` | the names of the row's files, in order |

@@ -1,4 +1,4 @@
-//! Want of memory at each call of a store.
+//! Memory that runs out at each call of a store.
 
 use crate::refusing::Refusing;
 use crate::run::{Run, told};
@@ -15,10 +15,10 @@ use tree_tables::trees_in_memory;
 /// More calls than any run makes of a store.
 const ENOUGH: u64 = 50_000;
 
-/// The number of want of memory.
+/// The number of the fault of memory.
 const MEMORY: &str = "1";
 
-/// New books in a store that has none, and whether memory was wanting for them at first.
+/// New books in a store that has none, and whether memory ran out for them at first.
 fn create_in<S: Store + Drop>(alloc: Global, trees: Trees<S>) -> Result<(Books<S>, bool), Other> {
     match TableLedger::create(alloc, trees.into_store(), ShaNames) {
         Ok(books) => Ok((books, false)),
@@ -33,14 +33,14 @@ fn create_in<S: Store + Drop>(alloc: Global, trees: Trees<S>) -> Result<(Books<S
 /// How far a run came before a call was refused.
 #[derive(Clone, Copy)]
 struct Refused {
-    /// How many changes were told of.
+    /// How many changes were reported.
     changes: usize,
     /// How many commands were answered.
     commands: usize,
 }
 
-/// Gives books the commands up to one that is answered with want of memory, and answers how far they
-/// came till then; nothing where none was answered so.
+/// Gives books the commands up to one that is answered that memory ran out, and answers how far
+/// they came until then; nothing where none was answered so.
 fn work<L: Ledger>(run: Run<'_>, ledger: &mut L) -> Result<Option<Refused>, Other> {
     let alloc = run.named.alloc();
     let mut changes: usize = 0;
@@ -63,8 +63,8 @@ fn work<L: Ledger>(run: Run<'_>, ledger: &mut L) -> Result<Option<Refused>, Othe
     Ok(None)
 }
 
-/// Makes books in a store that refuses the call behind so many, and works on them up to that call.
-/// Answers the books, and how far they came till then; nothing where no call was refused.
+/// Makes books in a store that refuses the call after a given number, and works on them up to that
+/// call. Answers the books, and how far they came until then; nothing where no call was refused.
 fn begin(run: Run<'_>, calls: u64) -> Result<(Books<Refusing<MemStore>>, Option<Refused>), Other> {
     let alloc = run.named.alloc();
     let Ok(store) = trees_in_memory(alloc) else {
@@ -82,7 +82,7 @@ fn begin(run: Run<'_>, calls: u64) -> Result<(Books<Refusing<MemStore>>, Option<
     Ok((books, refused))
 }
 
-/// Books as a refused call left them are those behind the last change that was told of.
+/// Books as a refused call left them are those after the last change that was reported.
 fn look(
     run: Run<'_>,
     whole: &Unstopped,
@@ -97,7 +97,7 @@ fn look(
     }
 }
 
-/// They serve on: the command that was refused and those behind it bring them to the end.
+/// They still serve: the command that was refused and those after it bring them to the end.
 fn finish(
     run: Run<'_>,
     whole: &Unstopped,
@@ -114,8 +114,8 @@ fn finish(
     }
 }
 
-/// Makes a run on books whose store refuses the call behind so many, twice: what is found is looked at,
-/// and then how it ends. Answers whether the run came to that call.
+/// Makes a run on books whose store refuses the call after a given number, twice: what is found is
+/// checked, and then how it ends. Answers whether the run came to that call.
 fn meet_refusal(run: Run<'_>, whole: &Unstopped, calls: u64) -> Result<bool, Other> {
     let (books, refused) = begin(run, calls)?;
     let Some(refused) = refused else {
@@ -132,8 +132,8 @@ fn meet_refusal(run: Run<'_>, whole: &Unstopped, calls: u64) -> Result<bool, Oth
     Ok(true)
 }
 
-/// Refuses the calls of a run one by one, up to one that the run does not come to. Answers what came
-/// of it: how many changes the run has and how many calls were refused, or the first refusal that
+/// Refuses the calls of a run one by one, up to one that the run does not come to. Answers the
+/// result: how many changes the run has and how many calls were refused, or the first refusal that
 /// leaves what it should not.
 fn swept(run: Run<'_>, whole: &Unstopped) -> Result<String, AllocError> {
     let alloc = run.named.alloc();
@@ -147,8 +147,8 @@ fn swept(run: Run<'_>, whole: &Unstopped) -> Result<String, AllocError> {
     String::from_str(alloc, "EVERY RUN WAS REFUSED")
 }
 
-/// Answers `refuses memory`, with commands, and gives the trees back, whose books got them with no
-/// refusal, with whether the line was read.
+/// Answers `refuses memory`, with commands, and gives back the trees whose books got them without a
+/// refusal, and whether the line was read.
 pub(crate) fn answer_refusals<S: Store + Drop>(
     named: &Named,
     trees: Trees<S>,

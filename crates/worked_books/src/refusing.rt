@@ -1,4 +1,4 @@
-//! A store that answers one of its calls with want of memory.
+//! A store that answers one of its calls that memory ran out.
 
 ghost use Rattle.std.specs.Prelude.{◌≡◌, IfErr};
 
@@ -6,7 +6,8 @@ use sqlite_trees::error::StoreError;
 use sqlite_trees::store::{Direction, Shape, Store};
 use sqlite_value::row::Row;
 
-/// It passes so many calls on, answers the next with want of memory, and passes on all behind that.
+/// It passes a given number of calls on, answers the next that memory ran out, and passes on all
+/// after that.
 #[derive(Drop)]
 pub(crate) struct Refusing<S: Store> {
     inner: S,
@@ -15,7 +16,7 @@ pub(crate) struct Refusing<S: Store> {
 }
 
 impl<S: Store> Refusing<S> {
-    /// A store that refuses the call behind so many.
+    /// A store that refuses the call after a given number.
     pub(crate) fn new(inner: S, calls: u64) -> Refusing<S>
         ensures { result.inner ≡ inner }
     {

@@ -11,19 +11,19 @@ use sqlite_store::FileStore;
 use sqlite_trees::store::Reopen;
 use std::alloc::Global;
 
-/// A store whose files are found again after a crash. What works on one by this trait alone is
-/// proved without a look at what the store is made of.
+/// A store whose files are found again after a crash. What uses only this trait is proved without
+/// looking at what the store is made of.
 pub trait Restart: Reopen + Drop {
     /// Its files.
     type Disks: Drop;
 
     /// New trees of books, in files that hold nothing. Where the disk fails, the files as they are
-    /// found behind a crash.
+    /// found after a crash.
     fn made(alloc: Global, files: Self::Disks) -> Result<Self, Self::Disks>
         ensures shaped { IfOk result (λ store. IsClean (Self.Store.view store)
             → HasShapes (Self.Store.view store)) };
 
-    /// The store, behind the end of the work on it: what its log holds is in its files, unless the
+    /// The store, after the end of the work on it: what its log holds is in its files, unless the
     /// disk stopped meanwhile, which is answered too.
     fn shut(self) -> (Self, bool);
 

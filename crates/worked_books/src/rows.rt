@@ -7,10 +7,10 @@ use std::alloc::{AllocError, Global};
 
 /// Books of a row.
 pub(crate) trait Books: Drop {
-    /// The books with which a row begins, if the words say with which.
+    /// The books with which a row begins, if the words say which.
     fn begun(alloc: Global, words: &[&str]) -> Option<Self>;
 
-    /// Answers a line that is asked of the books. False where it is none, or can't be read.
+    /// Answers a line that is asked of the books. False where it is not one, or can't be read.
     fn answer(
         self,
         lines: &mut Lines,

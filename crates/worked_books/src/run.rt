@@ -8,19 +8,19 @@ use std::alloc::AllocError;
 /// The number of the fault of a store.
 const STORE: &str = "2";
 
-/// That of books that are to be opened again.
+/// That of books that have to be opened again.
 const REOPEN: &str = "3";
 
 /// How far a run came.
 #[derive(Clone, Copy)]
 pub(crate) struct Came {
-    /// How many changes of the books were told of.
+    /// How many changes of the books were reported.
     pub(crate) changes: usize,
     /// How many commands were answered before the first fault.
     pub(crate) commands: usize,
     /// The last answer is a fault.
     pub(crate) stopped: bool,
-    /// The first fault is the store's, each answer behind it says that the books are to be opened
+    /// The first fault is the store's, each answer after it says that the books have to be opened
     /// again, and there are no others.
     pub(crate) is_as_told: bool,
 }
@@ -41,7 +41,7 @@ pub(crate) const NOT_BEGUN: Came = Came {
     is_as_told: true,
 };
 
-/// How many changes a receipt tells of, and the number of the fault that stopped the import.
+/// How many changes a receipt reports, and the number of the fault that stopped the import.
 fn told_by_receipt<'a>(words: &[&'a str]) -> Option<(usize, Option<&'a str>)> {
     let (last, before) = words.split_last()?;
     let (first, counts) = before.split_first()?;
@@ -53,7 +53,7 @@ fn told_by_receipt<'a>(words: &[&'a str]) -> Option<(usize, Option<&'a str>)> {
     }
 }
 
-/// How many changes an answer tells of, and the number of the fault in it, if it is an answer to a
+/// How many changes an answer reports, and the number of the fault in it, if it is an answer to a
 /// command.
 pub(crate) fn told<'a>(words: &[&'a str]) -> Option<(usize, Option<&'a str>)> {
     match *words {
@@ -65,7 +65,7 @@ pub(crate) fn told<'a>(words: &[&'a str]) -> Option<(usize, Option<&'a str>)> {
 }
 
 impl Came {
-    /// How far it came with one answer more.
+    /// How far it came with one more answer.
     fn with(self, answer: &[&str]) -> Came {
         let Some((changes, fault)) = told(answer) else {
             return Came {
@@ -135,7 +135,7 @@ impl Run<'_> {
         Ok(())
     }
 
-    /// Gives books all commands but so many, and answers how far they came.
+    /// Gives books all commands but the first few, and answers how far they came.
     pub(crate) fn give_from<L: Ledger>(
         self,
         ledger: &mut L,

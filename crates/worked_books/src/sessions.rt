@@ -16,7 +16,7 @@ pub(crate) struct Sessions<'a> {
     folder: &'a str,
     /// What standard input gives.
     input: Vec<u8>,
-    /// It fails behind these bytes.
+    /// It fails after these bytes.
     input_fails: bool,
     /// How many bytes standard output takes.
     room: usize,

@@ -54,7 +54,7 @@ fn push_value(alloc: Global, out: &mut Vec<u8>, value: ValueRef<'_>) -> Result<(
     }
 }
 
-/// Adds columns of a row, each with a space behind it.
+/// Adds columns of a row, each with a space after it.
 fn push_columns(
     alloc: Global,
     out: &mut Vec<u8>,
@@ -166,7 +166,7 @@ fn shown<S: Store + Drop>(
     Some(text)
 }
 
-/// The adjustment lines, each with the record that it charges or takes back.
+/// The adjustment lines, each with the record that it charges or reverses.
 fn shown_lines<S: Store + Drop>(alloc: Global, trees: &mut Trees<S>) -> Option<Vec<u8>> {
     let records = trees.rows(alloc, RECORDS)?;
     let mut text = Vec::new(alloc);
@@ -206,7 +206,7 @@ pub(crate) fn shown_table<S: Store + Drop>(
     }
 }
 
-/// All rows of all trees, an empty line behind those of each; none where one can't be read.
+/// All rows of all trees, an empty line after those of each; none where one can't be read.
 pub(crate) fn all_rows<S: Store + Drop>(alloc: Global, trees: &mut Trees<S>) -> Option<Vec<u8>> {
     let mut text = Vec::new(alloc);
     for tree in 0..=CHOICE_NAMES {

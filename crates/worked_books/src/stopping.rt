@@ -1,4 +1,4 @@
-//! A disk that stops at some call of it, and once more behind the crash that follows.
+//! A disk that stops at some call, and once more after the crash that follows.
 
 ghost use Rattle.std.specs.Prelude.{◌≡◌, ◌+◌, ◌-◌, ◌==◌, ◌↔◌, ◌&&◌, not, false, IsErr};
 ghost use Rattle.sqlite_disk.specs.Disk.{CountsFault};
@@ -7,14 +7,14 @@ ghost use Rattle.sqlite_disk.specs.Refusal.{finds_no_room};
 use sqlite_disk::{Crash, Disk, Tally};
 use std::io;
 
-/// What is found behind a crash of what was written and not synced.
+/// What is found, after a crash, of what was written and not synced.
 #[derive(Clone, Copy)]
 pub(crate) enum Found {
     /// Nothing.
     Synced,
     /// All.
     Written,
-    /// All, and of the write in hand its first half.
+    /// All, and the first half of the write in progress.
     Torn,
 }
 
@@ -23,19 +23,19 @@ pub(crate) enum Found {
 pub(crate) struct Stop {
     /// The calls before it stops.
     pub(crate) calls: u64,
-    /// Those behind the crash, before it stops once more.
+    /// Those after the crash, before it stops once more.
     pub(crate) calls_again: u64,
     pub(crate) found: Found,
 }
 
-/// It passes so many calls on, and is then frozen: each call fails and changes nothing, but for a
-/// write that is torn. Behind a crash it passes on as many as are named for that.
+/// It passes a given number of calls on, and is then frozen: each call fails and changes nothing,
+/// except for a write that is torn. After a crash it passes on as many as are named for that.
 #[derive(Drop)]
 pub(crate) struct Stopping<D: Disk> {
     inner: D,
     calls_left: u64,
     calls_again: u64,
-    /// What was written is found behind a crash.
+    /// What was written is found after a crash.
     keeps: bool,
     /// The first call that is not passed on, if it writes, writes the first half.
     tears: bool,

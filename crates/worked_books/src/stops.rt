@@ -31,8 +31,8 @@ struct Sweep {
 }
 
 impl Sweep {
-    /// How many calls further on the next run is stopped. Behind each stop there are many on the way
-    /// back, so that only every seventh is tried then.
+    /// How many calls further on the next run is stopped. After each stop there are many calls on
+    /// the way back, so only every seventh is tried then.
     fn stride(self) -> u64 {
         if self.twice { 7 } else { 1 }
     }
@@ -61,7 +61,7 @@ fn failing(alloc: Global, stopped: Stopped, stop: Stop) -> Files<Stopping<Memory
     }
 }
 
-/// Stops a run behind so many calls, and once more behind so many on the way back.
+/// Stops a run after a given number of calls, and once more after a given number on the way back.
 fn stop_at(
     run: Run<'_>,
     whole: &Unstopped,
@@ -78,8 +78,8 @@ fn stop_at(
     meet_stops::<FileStore<Stopping<Memory>>>(run, whole, files, sweep.twice)
 }
 
-/// Stops a run behind so many calls, and where that is asked once more at each call on the way back.
-/// Adds how often it was stopped, and answers whether it was before its end.
+/// Stops a run after a given number of calls, and where that is asked once more at each call on the
+/// way back. Adds how often it was stopped, and answers whether it was before its end.
 fn stop_behind(
     run: Run<'_>,
     whole: &Unstopped,
@@ -99,9 +99,9 @@ fn stop_behind(
     Err(Other("EVERY WAY BACK WAS STOPPED"))
 }
 
-/// Stops a run at the calls of a file, up to one that meets no stop. Answers what came of it: how
-/// many changes the run has and how often it was stopped, or the first stop that leaves what it
-/// should not.
+/// Stops a run at the calls of a file, up to one that meets no stop. Answers the result: how many
+/// changes the run has and how often it was stopped, or the first stop that leaves what it should
+/// not.
 fn swept(run: Run<'_>, whole: &Unstopped, sweep: Sweep) -> Result<String, AllocError> {
     let alloc = run.named.alloc();
     let mut stops: usize = 0;
@@ -139,8 +139,8 @@ fn sweep_of(words: &[&str]) -> Option<Sweep> {
     })
 }
 
-/// Answers `stops FILE`, with commands, and gives the trees back, whose books got them with no stop,
-/// with whether the line was read.
+/// Answers `stops FILE`, with commands, and gives back the trees whose books got them without a
+/// stop, and whether the line was read.
 pub(crate) fn answer_stops<S: Store + Drop>(
     named: &Named,
     trees: Trees<S>,

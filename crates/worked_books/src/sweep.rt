@@ -71,7 +71,7 @@ fn start<S: Restart>(run: Run<'_>, files: S::Disks) -> Result<(Came, Left<S>), O
     }
 }
 
-/// What is left of books behind the end of the work on them, and whether that was reached with no
+/// What is left of books after the end of the work on them, and whether that was reached without a
 /// stop.
 fn shut<S: Restart>(left: Left<S>) -> (Left<S>, bool) {
     match left {
@@ -126,8 +126,8 @@ fn reopen<S: Restart>(alloc: Global, left: Left<S>) -> Result<(Books<S>, bool), 
     }
 }
 
-/// Gives the books that are left the command in hand once more and those behind it, which brings them
-/// to the end.
+/// Gives the books that are left the command in progress once more and those after it, which brings
+/// them to the end.
 fn finish<S: Restart>(
     run: Run<'_>,
     whole: &Unstopped,
@@ -149,15 +149,15 @@ fn finish<S: Restart>(
 /// Where a disk stopped.
 #[derive(Clone, Copy)]
 pub(crate) struct Met {
-    /// In the commands of the run, or in the closing behind them.
+    /// In the commands of the run, or in the closing after them.
     pub(crate) stopped: bool,
     /// On the way back into the books.
     pub(crate) again: bool,
 }
 
-/// Makes a run on books in files that may fail, and answers where it was stopped, if what is found and
-/// how it ends are as they have to be. Where `twice` says so, that is looked at only behind a second
-/// stop on the way back.
+/// Makes a run on books in files that may fail, and answers where it was stopped, if what is found
+/// and how it ends are as they have to be. Where `twice` says so, that is checked only after a
+/// second stop on the way back.
 pub(crate) fn meet_stops<S: Restart>(
     run: Run<'_>,
     whole: &Unstopped,

@@ -26,7 +26,7 @@ pub(crate) struct TreeBooks {
     names: Names,
 }
 
-/// Answers a line that shows or changes rows. False where it is none.
+/// Answers a line that shows or changes rows. False where it is not one.
 fn answer_by_rows(
     alloc: Global,
     trees: &mut Trees<MemStore>,

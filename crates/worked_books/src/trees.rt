@@ -71,7 +71,7 @@ impl<S: Store + Drop> Trees<S> {
             && change_row(&mut self.store, tree, old, new).is_ok()
     }
 
-    /// Takes a row, or answers that the store can't.
+    /// Removes a row, or answers that the store can't.
     pub(crate) fn take(&mut self, tree: u32, row: &Row) -> bool {
         self.store.shape(tree) == Shape::Index(Order::PLAIN) && self.store.remove(tree, row).is_ok()
     }

@@ -13,7 +13,7 @@ use table_ledger::TableLedger;
 /// Books in the trees of a store.
 pub(crate) type Books<S> = TableLedger<S, ShaNames>;
 
-/// What is not as it has to be.
+/// What is not as it should be.
 #[derive(Clone, Copy)]
 pub(crate) struct Other(pub(crate) &'static str);
 
@@ -23,14 +23,14 @@ impl From<AllocError> for Other {
     }
 }
 
-/// Books as they stand between two changes: all their rows, and all their texts.
+/// Books as they are between two changes: all their rows, and all their texts.
 #[derive(Drop, PartialEq)]
 pub(crate) struct Stage {
     pub(crate) rows: Vec<u8>,
     pub(crate) texts: Vec<u8>,
 }
 
-/// What a run that nothing stops leaves: new books, and those behind each change.
+/// What a run that nothing stops leaves: new books, and those after each change.
 #[derive(Drop)]
 pub(crate) struct Unstopped {
     stages: Vec<Stage>,
@@ -42,15 +42,15 @@ impl Unstopped {
         self.stages.len().saturating_sub(1)
     }
 
-    /// These are the books behind the last change that a run was told of, or behind the one in hand
-    /// where it was stopped.
+    /// These are the books after the last change that was reported to a run, or after the one in
+    /// progress where it was stopped.
     pub(crate) fn is_reached(&self, came: Came, found: &Stage) -> bool {
         let in_hand = if came.stopped { 2 } else { 1 };
         let mut reached = self.stages.iter().skip(came.changes).take(in_hand);
         reached.any(|stage| stage == found)
     }
 
-    /// These are the books behind so many changes.
+    /// These are the books after a given number of changes.
     pub(crate) fn is_behind(&self, changes: usize, found: &Stage) -> bool {
         self.stages.get(changes) == Some(found)
     }
@@ -102,7 +102,7 @@ fn answered<S: Store + Drop>(
     Ok((trees, answers))
 }
 
-/// Adds the books in trees as they stand, and gives the trees back. Books whose rows can't be read
+/// Adds the books in trees as they are, and gives the trees back. Books whose rows can't be read
 /// are not added.
 fn add_stage<S: Store + Drop>(
     run: Run<'_>,
@@ -116,8 +116,8 @@ fn add_stage<S: Store + Drop>(
     Ok(trees)
 }
 
-/// Gives the books in trees the command of a line, each record of an import by a command of its own,
-/// and adds the books behind each change.
+/// Gives the books in trees the command of a line, each record of an import by a command of its
+/// own, and adds the books after each change.
 fn take_line<S: Store + Drop>(
     run: Run<'_>,
     trees: Trees<S>,
@@ -141,7 +141,7 @@ fn take_line<S: Store + Drop>(
     Ok(trees)
 }
 
-/// What a run leaves that nothing stops, and the trees behind it.
+/// What a run that nothing stops leaves, and the trees after it.
 pub(crate) fn run_unstopped<S: Store + Drop>(
     run: Run<'_>,
     trees: Trees<S>,

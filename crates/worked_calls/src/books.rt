@@ -27,8 +27,8 @@ fn rows_are_played_over_books_in_memory(rt: HostRuntime) -> Result<(), Fail> {
     Ok(())
 }
 
-/// Writes a report by the call that has its name, or by the one that is told it, and gives what was
-/// answered and written.
+/// Writes a report by the call that has its name, or by the one that is given it, and answers what
+/// was answered and written.
 fn written<L: Ledger>(
     alloc: Global,
     ledger: &mut L,

@@ -19,7 +19,7 @@ const SPANNED: usize = 176;
 /// How long a record is with the first of these segments after it, which has 64 bytes.
 const TORN: usize = 232;
 
-/// Puts bytes at a place of a dump, as many as there is room for.
+/// Puts bytes at a place in a dump, as many as there is room for.
 fn put(dump: &mut [u8], at: usize, bytes: &[u8]) {
     for (place, byte) in dump.iter_mut().skip(at).zip(bytes) {
         *place = *byte;

@@ -3,7 +3,7 @@
 use std::io;
 use std::io::{Read, Write};
 
-/// Gives its bytes, so many at a read.
+/// Gives its bytes, a given number at each read.
 #[derive(Drop)]
 pub(crate) struct Pieces<'a> {
     pub(crate) left: &'a [u8],

@@ -14,17 +14,17 @@ const HEADER: [u8; LEN] = [
     0x01, 0x24, 0x03, 0x1F, 0xE2, 0xE8, 0xE2, 0xC1,
 ];
 
-/// Gives a dump header so many times, as many bytes at a read as there is room for.
+/// Gives a dump header a given number of times, as many bytes at a read as there is room for.
 #[derive(Drop)]
 pub struct Headers {
-    /// Where in a header the next byte stands.
+    /// Where in a header the next byte is.
     at: usize,
     /// How many bytes are left.
     left: usize,
 }
 
 impl Headers {
-    /// Gives it so many times.
+    /// Gives it a given number of times.
     pub fn of(count: u32) -> Headers {
         Headers {
             at: 0,

@@ -1,6 +1,6 @@
-//! What no script of rows can name: how much memory is in use while long dumps are read, calls that
-//! were refused memory and are made again, and requests over sockets. There is nothing here but
-//! tests.
+//! What no script of rows can express: how much memory is in use while long dumps are read, calls
+//! that were refused memory and are made again, and requests over sockets. There are only tests
+//! here.
 #![tactic(auto)]
 
 #[cfg(test)]

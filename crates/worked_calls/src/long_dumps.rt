@@ -12,13 +12,13 @@ use std::test::Fail;
 use std::{fs, io};
 use tariff_rules::Tariff;
 
-/// So many dump headers have 72 MB.
+/// This many dump headers have 72 MB.
 const MANY: u32 = 4_000_000;
 
-/// By so many KiB at most may a long dump raise the most memory that was ever in use.
+/// A long dump may raise the most memory that was ever in use by at most this many KiB.
 const MOST: u64 = 4_096;
 
-/// The receipt for so many dump headers.
+/// The receipt for a given number of dump headers.
 fn headers(count: u32) -> Receipt {
     Receipt {
         headers: u64::from(count),
@@ -26,7 +26,7 @@ fn headers(count: u32) -> Receipt {
     }
 }
 
-/// Imports so many dump headers into new books, and once more where memory was refused:
+/// Imports a given number of dump headers into new books, and once more where memory was refused:
 /// `bench/refusals` refuses each request in turn, and counts how many there are.
 fn import_headers(rt: &impl Abort, alloc: Global, count: u32) -> Result<(), Fail> {
     let mut ledger = PlainLedger::new(alloc, ShaNames)?;
@@ -63,7 +63,7 @@ fn most_in_use<R: Files + AllocGlobal>(rt: &R) -> Result<u64, Fail> {
     Err(Fail::new("no line tells the most memory"))
 }
 
-/// Asserts that little more memory was in use since a moment than until then.
+/// Asserts that since a moment little more memory was in use than until then.
 fn assert_little_more<R: Files + AllocGlobal + Abort>(rt: &R, before: u64) -> Result<(), Fail> {
     let now = most_in_use(rt)?;
     assert!(rt;
@@ -73,7 +73,7 @@ fn assert_little_more<R: Files + AllocGlobal + Abort>(rt: &R, before: u64) -> Re
     Ok(())
 }
 
-/// Checks so many dump headers, and keeps nothing of the list.
+/// Checks a given number of dump headers, and keeps nothing of the list.
 fn check_headers(rt: &impl Abort, alloc: Global, count: u32) {
     let mut source = Source::new(Headers::of(count));
     let mut sink = Sink::new(io::sink());
@@ -81,7 +81,7 @@ fn check_headers(rt: &impl Abort, alloc: Global, count: u32) {
     assert_eq!(rt; answer, Ok(Stop::End));
 }
 
-/// Tries so many dump headers, and keeps nothing of the texts.
+/// Tries a given number of dump headers, and keeps nothing of the texts.
 fn try_headers(rt: &impl Abort, alloc: Global, count: u32) -> Result<(), Fail> {
     let tariff = Tariff::flat(alloc, 20_000, 500, 0).ok_or("no tariff")?;
     let mut source = Source::new(Headers::of(count));

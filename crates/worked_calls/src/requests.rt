@@ -10,7 +10,7 @@ use std::process::Abort;
 use std::test::Fail;
 use tariff_rules::Tariff;
 
-/// How long a request is that hands in one record, and its head.
+/// How long a request that submits one record is, and its head.
 const REQUEST: usize = 214;
 
 const HEAD: usize = 46;
@@ -23,7 +23,7 @@ const KEPT: &str = "\r\n\r\n\
 const KNOWN: &str = "\r\n\r\n\
     KEPT 0 KNOWN 1 UNPRICED 0 OTHER 0 HEADERS 0 TRAILERS 0 LOST 0 CONTINUED 0 DAMAGED 0 STOP END\n";
 
-/// One record is charged, and once.
+/// One record is charged, once.
 const TOTAL: &str = "\n\
     TOTAL                                               1               12.34               \
     5000               24.9300\n";
@@ -39,7 +39,8 @@ fn served<L: Ledger>(alloc: Global, ledger: &mut L, request: &[u8], size: usize)
     (served, sink.into_inner())
 }
 
-/// The answer to a request is 200, and ends so; where memory was refused, once it is sent again.
+/// The answer to a request is 200, and ends with this; where memory was refused, once it is sent
+/// again.
 fn is_answered<L: Ledger>(
     alloc: Global,
     ledger: &mut L,
@@ -59,7 +60,7 @@ fn is_answered<L: Ledger>(
         && text.ends_with(end.as_bytes())
 }
 
-/// Hands in the sample, whose answer is lost, once more byte by byte, and asks for the statement.
+/// Submits the sample, whose answer is lost, once more byte by byte, and asks for the statement.
 fn post_twice<L: Ledger>(rt: &impl Abort, alloc: Global, ledger: &mut L) {
     let mut post = [0; REQUEST];
     post[..HEAD].copy_from_slice(&POST);

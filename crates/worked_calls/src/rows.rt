@@ -85,7 +85,7 @@ const TWO_VARIANTS: Row = &[TARIFF, SAMPLE, VARIANT, NO_CHARGES, DISPUTE];
 
 const THE_VARIANT_FIRST: Row = &[TARIFF, VARIANT, SAMPLE, NO_CHARGES, DISPUTE];
 
-/// What the sample's books are asked whose variant comes after the close.
+/// What the sample's books are asked where the variant comes after the close.
 pub(crate) const VARIANT_AFTER_CLOSE: Row = &[
     TARIFF,
     SAMPLE,

@@ -95,7 +95,7 @@ fn answer_to<L: Ledger>(
     Some(answer)
 }
 
-/// An import came to the dump's end, and counted so.
+/// An import reached the dump's end, and counted this.
 fn counts(receipt: &Receipt, kept: u64, known: u64, unpriced: u64) -> bool {
     *receipt
         == Receipt {
@@ -106,7 +106,7 @@ fn counts(receipt: &Receipt, kept: u64, known: u64, unpriced: u64) -> bool {
         }
 }
 
-/// This is the answer that is wanted.
+/// This is the expected answer.
 fn is_wanted(answer: &Result<Answer, LedgerFault>, want: Want) -> bool {
     match (answer, want) {
         (Ok(Answer::Ruled(ruled)), Want::Done) => *ruled == Ruled::Done,

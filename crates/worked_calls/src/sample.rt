@@ -51,7 +51,7 @@ pub(crate) enum Record {
 }
 
 impl Record {
-    /// Where the changed field stands, and what it holds.
+    /// Where the changed field is, and what it holds.
     fn change(self) -> (usize, [u8; 4]) {
         match self {
             Record::Sample => (0, [0x00, 0xA8, 0x00, 0x00]),

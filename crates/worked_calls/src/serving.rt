@@ -33,7 +33,7 @@ enum Parting {
 /// A client: what it sends, the record that it sends after that, and what it does then.
 type Client = (&'static str, Option<Record>, Parting);
 
-/// A head that hands in a record.
+/// A head that submits a record.
 const POST: &str = "POST /import HTTP/1.1\r\nContent-Length: 168\r\n\r\n";
 
 /// One client after the other.
@@ -65,7 +65,7 @@ static ALL: [Client; 14] = [
     // The books have no second name.
     (POST, Some(Record::Step2), Parting::Reads),
     ("GET /periods HTTP/1.1\r\n\r\n", None, Parting::Leaves),
-    // It is let go after ten seconds.
+    // It is dropped after ten seconds.
     ("GET", None, Parting::Waits),
     // The books are still those that hold the sample: they were not opened again.
     (POST, Some(Record::Sample), Parting::Reads),
@@ -175,12 +175,12 @@ impl Write for Clients<'_> {
     }
 }
 
-/// A port that nothing has.
+/// A port that nothing has taken.
 fn free_port(rt: &HostRuntime) -> io::Result<u16> {
     Ok(TcpListener::bind(rt, "127.0.0.1:0")?.local_addr()?.port())
 }
 
-/// The words of a command that serves so many connections.
+/// The words of a command that serves a given number of connections.
 fn serve_words(rt: &HostRuntime, port: u16) -> io::Result<Vec<String>> {
     let alloc = rt.alloc();
     let port = format!(in alloc; "{port}")?;

@@ -6,7 +6,7 @@ use office::{Shelf, ShelfFault, Visit};
 use std::alloc::Global;
 use tariff_rules::Tariff;
 
-/// Names all records alike, so that books refuse the second one.
+/// Gives all records the same name, so that books refuse the second one.
 #[derive(Clone, Copy)]
 struct OneName;
 
@@ -22,8 +22,8 @@ impl Naming for OneName {
     }
 }
 
-/// One book, whatever it is called, which is new each time that it is opened, under one tariff. It
-/// holds no more than one record.
+/// One book, whatever it is called, which is new each time it is opened, under one tariff. It holds
+/// no more than one record.
 #[derive(Drop)]
 pub(crate) struct OneBook {
     pub(crate) alloc: Global,

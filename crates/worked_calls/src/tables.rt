@@ -35,7 +35,8 @@ fn reopened(alloc: Global, books: Books) -> Option<Books> {
     }
 }
 
-/// Plays a row in new books, and asks what it asks last once more when they were closed and opened.
+/// Plays a row in new books, and asks its last question once more after they were closed and
+/// opened.
 fn play_anew(rt: &impl Abort, alloc: Global, row: Row) -> Result<(), Fail> {
     let mut books = match made(alloc) {
         Some(books) => books,

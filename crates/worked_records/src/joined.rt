@@ -1,4 +1,4 @@
-//! What a joiner answers that stands over the lines of a row.
+//! What a joiner that lasts over the lines of a row answers.
 
 use crate::answer::Answer;
 use row_scripts::{Answered, LineFault};
@@ -17,7 +17,7 @@ fn push_taken(out: &mut Answer, joiner: &mut Joiner, dump: &[u8]) -> Answered {
     }
 }
 
-/// Adds how long the record is that stands, and whether it is this one.
+/// Adds how long the record at which the joiner stands is, and whether it is this one.
 fn push_record(out: &mut Answer, joiner: &Joiner, wanted: &[u8]) -> Answered {
     let Some(bytes) = joiner.record() else {
         return out.line("NO RECORD");
@@ -34,7 +34,7 @@ fn push_end(out: &mut Answer, joiner: &Joiner) -> Answered {
     }
 }
 
-/// Does what a verb says with a joiner and a dump, and adds what comes of it.
+/// Does what a verb says with a joiner and a dump, and adds the result.
 pub(crate) fn push_joined(
     out: &mut Answer,
     joiner: &mut Joiner,

@@ -1,4 +1,4 @@
-//! What the lines of a row have set so far, and which of them is answered by what.
+//! What the lines of a row have set so far, and how each line is answered.
 
 use crate::answer::Answer;
 use crate::dumps::{push_class, push_header, push_parts, push_work};
@@ -81,7 +81,7 @@ fn push_alone(named: &Named, out: &mut Answer, ask: Ask<'_>) -> Answered {
 }
 
 impl RecordLines {
-    /// As at the begin of a row: dumps are segments, and there is no joiner and no line.
+    /// As at the beginning of a row: dumps are segments, and there is no joiner and no line.
     pub(crate) fn new(alloc: Global) -> RecordLines {
         RecordLines {
             layout: Layout::Rdw,

@@ -8,7 +8,7 @@ use streams::{Sink, Source};
 /// The most reads of one line.
 const MOST_READS: u64 = 1_000;
 
-/// Adds a text where this holds.
+/// Adds a text where a condition holds.
 fn push_where(out: &mut Answer, is_so: bool, text: &str) {
     if is_so {
         out.text(text);
@@ -43,7 +43,7 @@ fn push_read_into(out: &mut Answer, source: &mut Source<&[u8]>, buffer: &mut [u8
     push_marks(out, source)
 }
 
-/// Adds what one read of so many bytes gives.
+/// Adds what one read of this many bytes gives.
 fn push_read(out: &mut Answer, source: &mut Source<&[u8]>, size: &str) -> Answered {
     let mut buffer = bytes_of(out.alloc(), 0, size)?;
     push_read_into(out, source, &mut buffer)

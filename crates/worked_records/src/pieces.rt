@@ -1,4 +1,4 @@
-//! A joiner that gets a dump in pieces: these make no difference.
+//! A joiner that gets a dump in pieces: their sizes make no difference.
 
 use crate::answer::Answer;
 use crate::words::split_words;
@@ -9,7 +9,7 @@ use std::alloc::{AllocError, Global};
 /// More pieces and records than any dump of a script has.
 const ROUNDS: u32 = 200_000;
 
-/// Gives a joiner a piece of so many bytes. What it left of all.
+/// Gives a joiner a piece of this many bytes. Answers what it left.
 fn take_piece<'a>(
     joiner: &mut Joiner,
     bytes: &'a [u8],
@@ -20,7 +20,7 @@ fn take_piece<'a>(
     Ok(&bytes[taken..])
 }
 
-/// Adds the record that stands, and lets it go. False where none stands.
+/// Adds the record at which the joiner stands, and moves past it. False where there is none.
 fn take_record(
     alloc: Global,
     joiner: &mut Joiner,
@@ -34,8 +34,8 @@ fn take_record(
     Ok(true)
 }
 
-/// Adds the records that a joiner makes of a dump that it gets in pieces of so many bytes. The
-/// fault at which it stops, if it does.
+/// Adds the records that a joiner makes of a dump that it gets in pieces of this many bytes.
+/// Answers the fault at which it stops, if it does.
 fn take_records(
     alloc: Global,
     joiner: &mut Joiner,
@@ -56,7 +56,7 @@ fn take_records(
     Ok(None)
 }
 
-/// What a joiner makes of a dump that it gets in pieces of so many bytes.
+/// What a joiner makes of a dump that it gets in pieces of this many bytes.
 fn in_pieces(alloc: Global, layout: Layout, dump: &[u8], size: usize) -> Result<Split, AllocError> {
     let mut joiner = Joiner::new(alloc, layout)?;
     let mut records = Vec::new(alloc);
@@ -83,7 +83,7 @@ pub(crate) fn split_of(named: &Named, layout: Layout, parts: &[&str]) -> Answere
 }
 
 impl Wanted {
-    /// Of the dump of some parts what the dump of others is cut into.
+    /// For the dump of some parts, what the dump of others is cut into.
     fn of(named: &Named, layout: Layout, parts: &[&str], other: &[&str]) -> Answered<Wanted> {
         let whole = split_of(named, layout, other)?;
         let dump = named.read_dump(parts)?;
@@ -94,7 +94,7 @@ impl Wanted {
         })
     }
 
-    /// A joiner makes it of pieces of so many bytes.
+    /// A joiner makes it of pieces of this many bytes.
     fn is_made_in(&self, alloc: Global, size: usize) -> Result<bool, AllocError> {
         let parts = in_pieces(alloc, self.layout, &self.dump, size)?;
         Ok(
@@ -108,7 +108,7 @@ impl Wanted {
 /// Sizes of pieces.
 #[derive(Drop)]
 struct Sizes {
-    /// By which a joiner makes of a dump what is wanted.
+    /// With which a joiner makes of a dump what is expected.
     same: Vec<usize>,
     other: Vec<usize>,
 }
@@ -146,7 +146,7 @@ fn push_sizes(out: &mut Answer, what: &str, sizes: &[usize]) {
     out.text("\n");
 }
 
-/// Adds the sizes of pieces by which a joiner makes what is wanted, and the others.
+/// Adds the sizes of pieces with which a joiner makes what is expected, and the others.
 fn push_made(out: &mut Answer, wanted: &Wanted, words: &str) -> Answered {
     let mut sizes = Sizes {
         same: Vec::new(out.alloc()),
@@ -158,7 +158,7 @@ fn push_made(out: &mut Answer, wanted: &Wanted, words: &str) -> Answered {
     out.end("")
 }
 
-/// Adds the sizes of pieces by which a joiner makes of a dump what `split` makes of it, or of the
+/// Adds the sizes of pieces with which a joiner makes of a dump what `split` makes of it, or of the
 /// dump after a colon, and the others.
 pub(crate) fn push_pieces(
     named: &Named,

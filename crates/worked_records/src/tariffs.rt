@@ -41,7 +41,7 @@ fn changed(named: &Named, words: &[&str]) -> Answered<String> {
     }
 }
 
-/// So many copies of a piece.
+/// A given number of copies of a piece.
 fn copies(alloc: Global, count: &str, piece: &str) -> Answered<String> {
     let count = count.parse::<usize>()?;
     if count > MOST_PIECES {
@@ -51,7 +51,7 @@ fn copies(alloc: Global, count: &str, piece: &str) -> Answered<String> {
     Ok(piece.as_str().repeat(alloc, count)?)
 }
 
-/// Texts that are named, and so many copies of a piece after them.
+/// Texts that are named, and a given number of copies of a piece after them.
 fn repeated(named: &Named, words: &[&str]) -> Answered<String> {
     let [count, piece, names @ ..] = words else {
         return Err(LineFault::Unread);

@@ -41,7 +41,7 @@ pub(crate) fn split_words<'a, 'b>(
     None
 }
 
-/// As many bytes as a word says, each this one.
+/// As many bytes as a word says, each of this value.
 pub(crate) fn bytes_of(alloc: Global, byte: u8, count: &str) -> Answered<Vec<u8>> {
     let count = usize::from(count.parse::<u16>()?);
     Ok(vec![in alloc; byte; count]?)

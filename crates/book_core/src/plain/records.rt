@@ -1,4 +1,4 @@
-//! Records that a plain ledger is handed.
+//! Records that are submitted to a plain ledger.
 
 ghost use Rattle.std.specs.Prelude.{◌≡◌, Ok, Err, if◌then◌else◌};
 ghost use Rattle.book_model.specs.Words.{same_bytes};
@@ -11,7 +11,7 @@ use crate::room::{is_full, name_of};
 use book_model::{Accepted, LedgerFault, Naming};
 use smf_type30::Type30;
 
-/// What is answered to a record whose name one has that is held.
+/// What is answered to a record with a name that one has that is held.
 fn known_or_clash(held: &HeldRecord, bytes: &[u8]) -> Result<Accepted, LedgerFault>
     ensures { result ≡ (if same_bytes (record_of held.now) bytes.now
         then Ok Accepted.Known else Err LedgerFault.DigestClash) }

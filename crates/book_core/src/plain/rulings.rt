@@ -1,4 +1,4 @@
-//! Rulings that a plain ledger is handed: tariffs and closes.
+//! Rulings that are submitted to a plain ledger: tariffs and closes.
 
 ghost use Rattle.std.specs.Prelude.{◌≡◌, [], None};
 ghost use Rattle.book_model.specs.RulingAnswers as spec;
@@ -81,7 +81,7 @@ impl<N: Naming + Drop> PlainLedger<N> {
         Ok(Some(cost))
     }
 
-    /// Keeps a tariff, with its text, and prices the records anew. Want of memory leaves the books
+    /// Keeps a tariff, with its text, and prices the records anew. Lack of memory leaves the books
     /// as they were.
     fn keep_tariff(&mut self, text: &str, tariff: Tariff, total: u64) -> Result<(), AllocError>
         requires done { spec.terms_answer (book_in self.old) text.now tariff ≡ Ok Ruled.Done }
@@ -123,7 +123,7 @@ impl<N: Naming + Drop> PlainLedger<N> {
         Ok(Ruled::Done)
     }
 
-    /// Ends the open period through a day. Want of memory leaves the books as they were.
+    /// Ends the open period through a day. A lack of memory leaves the books as they were.
     fn end_period(&mut self, through: i32) -> Result<(), AllocError>
         requires day { IsDay through }
         requires few { length self.old.closed.items + 1 < last_period }

@@ -58,7 +58,7 @@ impl<S: Store, N: Naming + Drop> TableLedger<S, N> {
     ghost use Rattle.table_ledger.specs.Making.{MayHoldNew};
     ghost use Rattle.table_ledger.specs.Recalled.{IsStoreFault};
 
-    /// New books, in a store whose trees are there and have no rows. Books that are there already are
+    /// New books, in a store that has the trees, without rows. Books that are there already are
     /// not touched.
     pub fn create(alloc: Global, store: S, naming: N) -> Result<TableLedger<S, N>, (LedgerFault, S)>
         requires { IsClean (S.Store.view store) → HasShapes (S.Store.view store) }
@@ -66,7 +66,7 @@ impl<S: Store, N: Naming + Drop> TableLedger<S, N> {
             → IsAtRest (S.Store.view store) → HasNoRows (S.Store.view store).trees
             → IsOpenAt (N.name_of naming) new_book (⟦<TableLedger<S, N> as Ledger>⟧.seen ledger)) }
 
-        // A stop inside leaves what was there, or new books.
+        // A stop within it leaves what was there, or new books.
         ensures crash { IfOk result (λ ledger. Survives (state S.Store store)
             (state S.Store ledger.tables.store) (MayHoldNew (S.Store.view store))) }
         ensures crash_refused { IfErr result (λ refused. Survives (state S.Store store)

@@ -1,4 +1,4 @@
-//! Books that a store keeps are opened, and let go again.
+//! Books that a store holds are opened, and released again.
 
 use super::TableLedger;
 use crate::recall::read_summary;
@@ -21,7 +21,7 @@ impl<S: Store, N: Naming + Drop> TableLedger<S, N> {
     ghost use Rattle.table_ledger.specs.Commits.{Keeping};
     ghost use Rattle.table_ledger.specs.Recalled.{HasTexts, IsOpenCause, IsOpenFault};
 
-    /// The books that a store keeps.
+    /// The books that a store holds.
     pub fn open(alloc: Global, store: S, naming: N) -> Result<TableLedger<S, N>, (LedgerFault, S)>
         requires { IsClean (S.Store.view store) → HasShapes (S.Store.view store) }
         ensures books { IfOk result (λ ledger. HasCleanDisk (state S.Store ledger.tables.store)
@@ -37,13 +37,13 @@ impl<S: Store, N: Naming + Drop> TableLedger<S, N> {
         ensures crash_refused { IfErr result (λ refused. Survives (state S.Store store)
             (state S.Store refused.1) (λ trees. ⊥)) }
 
-        // Where books are kept, it is not answered that there are none.
+        // If there are books, it is not answered that there are none.
         ensures found { IfErr result (λ refused. refused.0 ≡ LedgerFault.NotBooks
             → HasCleanDisk (state S.Store refused.1) → (tables : Tables)
             → ¬ Holds (S.Store.view store).trees tables) }
         ensures refused { IfErr result (λ refused. IsOpenFault refused.0) }
 
-        // What calls made is read again, unless memory is wanting or the disk fails.
+        // What calls made is read again, unless memory runs out or the disk fails.
         ensures own { IfErr result (λ refused. HasCleanDisk (state S.Store refused.1)
             → (book : Book) → IsFromCalls (N.name_of naming) book → HasTexts book
             → Keeping (S.Store.view store) (tables_of (N.name_of naming) book)
@@ -64,7 +64,7 @@ impl<S: Store, N: Naming + Drop> TableLedger<S, N> {
         }
     }
 
-    /// Lets the store go.
+    /// Releases the store.
     pub fn close_store(self) -> S
         ensures same { result ≡ self.tables.store }
         ensures shaped { IsClean (S.Store.view result) → HasShapes (S.Store.view result) }

@@ -81,7 +81,7 @@ fn minute_at(table: &Table, key: Key) -> Result<u32, TariffFault>
     minute_of_text(text.as_bytes()).ok_or(TariffFault::Range(key))
 }
 
-/// The first minute behind the shift, which is behind its first minute.
+/// The first minute after the shift, which is later than its first minute.
 #[tactic(auto, unfolding(crate::specs::ShiftEntry::to_at))]
 fn to_at(table: &Table, from: u32) -> Result<u32, TariffFault>
     ensures { result ≡ spec.to_at (table_view table.now) from }

@@ -71,7 +71,7 @@ impl Tariff {
     }
 
     /// Reads a tariff file, a TOML document. A text with several faults is answered with the first
-    /// in the order of the keys; want of memory may come in place of any answer.
+    /// in the order of the keys; any answer may be `Memory` instead, where memory runs out.
     pub fn parse(alloc: Global, text: &str) -> Result<Tariff, TariffFault>
         ensures ok { IfOk result (λ tariff. terms_in text.now ≡ Ok tariff) }
         ensures refused { IfErr result (λ fault. fault ≢ TariffFault.Memory

@@ -3,7 +3,7 @@ use Rattle.streams.specs.Sources.{reads_of, has_failed, has_ended}
 use Rattle.book_http.specs.Reads.{OneRead, bytes_of, IsReadBy, IsDueForBody}
 use Rattle.book_http.proofs.body.fill.Given as goal
 
--- what was read stands behind what was there, and each read gave a byte at least
+-- what was read follows what was there, and each read gave at least one byte
 abbrev pub invariant-pieces : goal.invariant-pieces
 invariant-pieces g l = record {
   low : l.had ≤ l.filled;

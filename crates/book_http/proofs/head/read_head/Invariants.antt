@@ -4,7 +4,7 @@ use Rattle.streams.specs.Sources.{reads_of, has_failed, has_ended}
 use Rattle.book_http.specs.Reads.{OneRead, bytes_of, IsReadBy, IsDueForHead}
 use Rattle.book_http.proofs.head.read_head.Given as goal
 
--- what was read is no head yet, and each read gave a byte at least
+-- what was read is no head yet, and each read gave at least one byte
 abbrev pub invariant-pieces : goal.invariant-pieces
 invariant-pieces g l = record {
   within : l.filled ≤ length l.buffer;

@@ -5,7 +5,7 @@ use Rattle.book_import.proofs.ComeLemmas.{LeadsOver}
 use Rattle.book_import.proofs.ReachLemmas.{CountsOver}
 use Rattle.book_import.proofs.pieces.import_piece.Given as goal
 
--- each record found was counted, and no more than bytes were seen
+-- each record found was counted, and no more bytes were seen than there are
 abbrev pub invariant-loop-fault : goal.invariant-loop-fault
 invariant-loop-fault g l = record {
   goes : Goes l.fn.joiner l.piece l.rest l.joiner

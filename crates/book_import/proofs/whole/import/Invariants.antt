@@ -8,7 +8,7 @@ use Rattle.book_import.proofs.GoingLemmas.{HasPassed}
 use Rattle.book_import.proofs.JoinLemmas.{LeadsFrom}
 use Rattle.book_import.proofs.whole.import.Given as goal
 
--- As many reads as turns, none of which failed or was the end; their bytes, one or more with each,
+-- As many reads as turns, none of which failed or was the end; their bytes, one or more for each,
 -- and what became of them. Each record among them was counted.
 abbrev pub invariant-loop : goal.invariant-loop
 invariant-loop g l = record {

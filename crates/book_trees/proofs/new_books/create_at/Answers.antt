@@ -8,7 +8,7 @@ use Rattle.book_trees.proofs.new_books.create_at.Goals as goal
 abbrev image : List ℕ → List ℕ → Image
 image log db = record { log = log; db = db }
 
--- what is read of a file whose history is known
+-- what is read from a file whose history is known
 abbrev seen : List ℕ → List ℕ → Bool → List Event → List ℕ
 seen log db is_log history = (replay (cond is_log log db) history).seen
 

@@ -13,7 +13,7 @@ overflow_add-charged c =
     let below = c.requires.amount in
     rw (sum, part) (omega arith)
 
--- and so is what they take back
+-- and so is what they reverse
 pub overflow_add-taken : goal.overflow_add-taken
 overflow_add-taken c =
     let sum = c.loop-line.invariant.taken in

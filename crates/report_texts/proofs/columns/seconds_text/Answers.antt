@@ -3,7 +3,7 @@ use Rattle.report_texts.specs.Columns.{seconds_text}
 use Rattle.report_texts.proofs.ColumnLemmas.{places_written}
 use Rattle.report_texts.proofs.columns.seconds_text.Goals as goal
 
--- the format writes the digits in front of the point, and those behind it with zeros before them
+-- the format writes the digits before the point, and those after it with leading zeros
 pub returns : goal.returns
 unfolding seconds_text
 returns c = grind (arith, places_written)

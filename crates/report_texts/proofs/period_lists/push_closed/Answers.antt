@@ -6,7 +6,7 @@ use Rattle.report_texts.specs.PeriodLists.{closed_lines, period_line}
 use Rattle.report_texts.proofs.PeriodLemmas.{one_more_period}
 use Rattle.report_texts.proofs.period_lists.push_closed.Goals as goal
 
--- one period more is one line more
+-- one more period is one more line
 pub loop-before-preserved : goal.loop-before-preserved
 loop-before-preserved c =
     let closes = c.args.closes.now in

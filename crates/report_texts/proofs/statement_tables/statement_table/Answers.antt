@@ -7,7 +7,7 @@ use Rattle.report_texts.specs.StatementTables.{table_heading, table_line}
 use Rattle.report_texts.specs.Tables.{IsBetweenRows}
 use Rattle.report_texts.proofs.statement_tables.statement_table.Goals as goal
 
--- a row more is written behind those so far
+-- one more row is written after those so far
 pub loop-row-preserved : goal.loop-row-preserved
 loop-row-preserved c =
     let rows : List ChargeRow = c.args.rows.now in

@@ -8,7 +8,7 @@ returns-clause-apart c = λ passed.
     rising_apart c.args.lines.now (λ k any within.
     c.loop-at.invariant.rise k any (omega (arith, within, c.loop-at-test.false)))
 
--- names two of which do not rise do not rise
+-- names do not rise if two of them do not
 pub returns-then-not-is_before-clause-refused : goal.returns-then-not-is_before-clause-refused
 returns-then-not-is_before-clause-refused c = λ refused rise.
     let at = c.loop-at.at in

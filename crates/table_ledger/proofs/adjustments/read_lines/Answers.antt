@@ -61,7 +61,7 @@ returns-clause-looks g c =
     ∙ ap (λ (some : List StoredLine). lines_stored c.args.period tables.records some)
     (take_all c.loop-stored.stored-index c.args.found.now c.loop-stored-test.false))
 
--- why a line was not read, behind the others
+-- why a line was not read, after the others
 pub returns-in_err-line-clause-cause : goal.returns-in_err-line-clause-cause
 returns-in_err-line-clause-cause g c =
     let start = state g.S.Store c.args.tables.now.store in
@@ -73,7 +73,7 @@ returns-in_err-line-clause-cause g c =
     let p = err_from_is_err_and c.from_residual.result c.from_residual.ensures.1 in
     rw (p.1, p.2) cause
 
--- for the list memory alone may be wanting
+-- for the list only memory may run out
 pub returns-in_err-push-clause-cause : goal.returns-in_err-push-clause-cause
 returns-in_err-push-clause-cause g c =
     let p = err_from_is_err_and c.from_residual-in_err-push.result

@@ -16,7 +16,7 @@ records-init g c =
     (state g.S.Store c.args.tables.now.store)
     (still_first chosen)
 
--- the next record is not found, as the store failed
+-- the next record is not found, because the store failed
 pub returns-in_err-stored : goal.returns-in_err-stored
 returns-in_err-stored g c =
     let chosen = c.args.chosen.now in

@@ -4,7 +4,7 @@ use Rattle.table_ledger.proofs.Settling.{IsStill, settle_of}
 use Rattle.table_ledger.proofs.WalksOf.{WalksOf}
 use Rattle.table_ledger.proofs.adoption.settle_all.Given as goal
 
--- of the records up to the last name those are charged that are to be
+-- of the records up to the last name those that are to be charged are charged
 abbrev pub invariant-records : goal.invariant-records
 invariant-records g l =
     WalksOf (IsLast l.fn.chosen) (IsStill l.fn.chosen) (settle_of l.fn.period l.fn.through)

@@ -57,7 +57,7 @@ returns-then-not-is_dated-clause-refused c = λ refused shown.
     (subst (λ (one : ChargeRow). IsDay one.day) (sym c.row-item.is)
     (shown.days at row c.loop-row-test.true))
 
--- nor is one behind which 64 bits do not hold the sums
+-- nor is a row after which 64 bits do not hold the sums
 pub returns-in-None-clause-refused : goal.returns-in-None-clause-refused
 returns-in-None-clause-refused c = λ refused shown.
     let rows = c.args.rows.now in

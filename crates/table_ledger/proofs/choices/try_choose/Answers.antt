@@ -90,7 +90,7 @@ returns-then-stored g c = record {
       (λ is. cc));
 }
 
--- there is no room for a choice more
+-- there is no room for one more choice
 pub returns-then-summary-ge-MAX_CHOICES : goal.returns-then-summary-ge-MAX_CHOICES
 returns-then-summary-ge-MAX_CHOICES g c = record {
   tries =

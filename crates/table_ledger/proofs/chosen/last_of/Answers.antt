@@ -11,7 +11,7 @@ use Rattle.table_ledger.proofs.chosen.last_of.Goals as goal
 abbrev names : List StoredChoice → List (List ℕ)
 names = map (λ (choice : StoredChoice). choice.name)
 
--- one choice more
+-- one more choice
 pub loop-choice-preserved : goal.loop-choice-preserved
 loop-choice-preserved g c =
     let choices = c.args.choices.now in

@@ -22,7 +22,7 @@ use Rattle.table_ledger.proofs.TryLemmas.{saw_found, saw_so, saw_then}
 use Rattle.table_ledger.proofs.disputes.grouped.Goals as goal
 use Rattle.table_ledger.proofs.disputes.grouped.Goals.{then-not-branch+in_ok-join, else-not-branch}
 
--- why it was not told whether another of the identity is charged, behind the rows before
+-- why it is not known whether another of the identity is charged, after the earlier rows
 pub returns-in_err-has_charged-clause-cause : goal.returns-in_err-has_charged-clause-cause
 returns-in_err-has_charged-clause-cause g c =
     let start = state g.S.Store c.args.tables.now.store in
@@ -35,7 +35,7 @@ returns-in_err-has_charged-clause-cause g c =
     let p = err_from_is_err_and c.from_residual.result c.from_residual.ensures.1 in
     rw (p.1, p.2) cause
 
--- one row more is left out, or joins the groups
+-- one more row is left out, or joins the groups
 pub loop-stored-preserved : goal.loop-stored-preserved
 loop-stored-preserved g c =
     let rows = c.args.rows.now in

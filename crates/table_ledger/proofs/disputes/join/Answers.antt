@@ -29,7 +29,7 @@ returns-in_ok-push-5-clause-joined c =
     ∙ joined_other c.args.found.now.items c.pop.new.self.items last c.in_ok-alone-2.field-0
     (stored_entry c.args.stored.now) c.in-Some.ensures.items differ c.in_ok-alone-2.ensures.made
 
--- where the disputes can be shown and the record can, so can they all
+-- if the disputes can be shown and the record can, then all of them can
 pub returns-in_ok-push-3-clause-shown : goal.returns-in_ok-push-3-clause-shown
 returns-in_ok-push-3-clause-shown c = λ shown all.
     joined_show _ _ _ (returns-in_ok-push-3-clause-joined c) shown all

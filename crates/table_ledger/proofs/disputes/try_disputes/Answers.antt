@@ -69,7 +69,7 @@ returns-then-not-can_show-clause-own g c = λ naming wide clean book ready.
     (subst (All Shown) (sym c.deref.ensures.value)
     (own_shown_rows ready wide c.in_ok-rows.rows.items lists)))
 
--- why they were not grouped, behind the look at them
+-- why they were not grouped, after the look at them
 pub returns-in_err-grouped-clause-own : goal.returns-in_err-grouped-clause-own
 returns-in_err-grouped-clause-own g c = λ naming wide.
     let start = state g.S.Store c.args.tables.now.store in

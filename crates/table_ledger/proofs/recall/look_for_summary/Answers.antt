@@ -58,7 +58,7 @@ returns-clause-looks g c =
     c.summary_of.ensures.shows c.summary_of.ensures.kinds c.summary_of.ensures.refused (let e = found in cc)
     (ap (map tariff_of) all_texts ∙ known.0.0.1) (ap (map close_of) all_days ∙ known.0.1) known.1)
 
--- why the tariffs were not listed, behind the look at the row of the book
+-- why the tariffs were not listed, after the look at the row of the book
 pub returns-in_err-tariffs-clause-cause : goal.returns-in_err-tariffs-clause-cause
 returns-in_err-tariffs-clause-cause g c =
     let start = state g.S.Store c.args.tables.now.store in
@@ -71,7 +71,7 @@ returns-in_err-tariffs-clause-cause g c =
     c.from_residual-in_err-tariffs.ensures.1 in
     rw (p.1, p.2) cause
 
--- why the closes were not, behind both
+-- why the closes were not, after both
 pub returns-in_err-closes-clause-cause : goal.returns-in_err-closes-clause-cause
 returns-in_err-closes-clause-cause g c =
     let start = state g.S.Store c.args.tables.now.store in
@@ -83,7 +83,7 @@ returns-in_err-closes-clause-cause g c =
     (λ clean tables holds when. c.in_err-closes.ensures.cause clean tables holds when.closes) in
     search rules
 
--- why the last choice was not, behind all three
+-- why the last choice was not, after all three
 pub returns-in_err-choices-clause-cause : goal.returns-in_err-choices-clause-cause
 returns-in_err-choices-clause-cause g c =
     let start = state g.S.Store c.args.tables.now.store in

@@ -30,7 +30,7 @@ returns-then-not-is_kept-clause-refused c = λ store rulings are.
           ]
     ]
 
--- the row says no rule, as that of a book does
+-- the row gives no rule, as that of a book does
 pub returns-in_default-clause-refused : goal.returns-in_default-clause-refused
 returns-in_default-clause-refused c = λ store rulings are.
     let closes = c.in_ok-closes.closes.items in

@@ -4,7 +4,7 @@ use Rattle.book_model.specs.Words.{are_rising}
 use Rattle.table_ledger.specs.Recalled.{SaysTariff}
 use Rattle.table_ledger.proofs.recall.tariffs_of.Given as goal
 
--- the tariffs so far are those that the rows say, and rise
+-- the tariffs so far are those that the rows give, and they rise
 abbrev pub invariant-loop-row : goal.invariant-loop-row
 invariant-loop-row l = record {
   say : AllZip SaysTariff (take l.row-index l.rows) l.tariffs.items;

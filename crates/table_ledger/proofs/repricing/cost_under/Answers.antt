@@ -15,7 +15,7 @@ records-init g c = record {
   small = omega arith;
 }
 
--- the next record is not found, as the store failed
+-- the next record is not found, because the store failed
 pub returns-in_err-stored : goal.returns-in_err-stored
 returns-in_err-stored g c = record {
   small = search rules;
@@ -36,7 +36,7 @@ returns-in_default g c = record {
       });
 }
 
--- what it costs cannot be told
+-- what it costs cannot be computed
 pub returns-in_err-amount : goal.returns-in_err-amount
 returns-in_err-amount g c =
     let f = amount_under c.args.tariff.now in
@@ -68,7 +68,7 @@ returns-in_default-checked_add g c =
           });
     }
 
--- or more than the books hold
+-- or more than the books can hold
 pub returns-then-more-gt-MAX_COST : goal.returns-then-more-gt-MAX_COST
 returns-then-more-gt-MAX_COST g c =
     let f = amount_under c.args.tariff.now in

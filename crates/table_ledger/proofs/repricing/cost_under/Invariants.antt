@@ -6,7 +6,7 @@ use Rattle.tree_tables.proofs.Walked.{SumsTo}
 use Rattle.table_ledger.specs.Repricing.{CanCost}
 use Rattle.table_ledger.proofs.repricing.cost_under.Given as goal
 
--- what the records up to the last name cost together, which the books hold
+-- what the records up to the last name cost together, which the books can hold
 abbrev pub invariant-records : goal.invariant-records
 invariant-records g l = record {
   sums : SumsTo (amount_under l.fn.tariff) (CanCost l.fn.tariff)

@@ -12,7 +12,7 @@ records-init g c =
     walks_none (reprice_step c.args.period c.args.tariff.now)
     (state g.S.Store c.args.tables.now.store)
 
--- the next record is not found, as the store failed
+-- the next record is not found, because the store failed
 pub returns-in_err-stored : goal.returns-in_err-stored
 returns-in_err-stored g c = record {
   does = walks_blind (reprice_step c.args.period c.args.tariff.now) c.records.invariant

@@ -58,7 +58,7 @@ more : (tariffs : List Tariffed) (terms : Terms) {own text : List ℕ} {items : 
 more tariffs terms is same =
     is ∙ ap (λ own. tariffs ++ record { text = Some own; terms = terms } ∷ []) same
 
--- the books do not hold what the records cost
+-- the books cannot hold what the records cost
 pub returns-in_default : goal.returns-in_default
 returns-in_default g c = record {
   tries =

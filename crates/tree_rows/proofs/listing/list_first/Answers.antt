@@ -9,7 +9,7 @@ use Rattle.tree_rows.proofs.RunsRead.{next_fits, starts, reads_on}
 use Rattle.tree_rows.proofs.RunsRead.{ends_full, ends_with_rows, ends_before}
 use Rattle.tree_rows.proofs.listing.list_first.Goals as goal
 
--- at first nothing is read, and the cursor stands before the run
+-- at first nothing is read, and the cursor is before the run
 pub rows-init : goal.rows-init
 rows-init g c = record {
   live = search rules;
@@ -62,14 +62,14 @@ returns-then-not-branch-clause-found g c clean =
           c.next.new.row c.rows.all.items c.args.most so_far it other c.rows.invariant.few
     ]
 
--- the list has as many values as are wanted
+-- the list has as many values as are asked for
 pub returns-clause-found : goal.returns-clause-found
 returns-clause-found g c clean =
     ends_full g.T.ReadRow.says c.args.part.now _ (g.S.Store.view c.rows.store) c.rows.all.items
     c.args.most (c.rows.invariant.read clean) (omega (arith, c.len.ensures, c.rows-test.false))
     c.rows.invariant.few
 
--- a row of the run that fits is refused for want of memory alone
+-- a row of the run that fits is refused for a lack of memory alone
 pub returns-in_err-one-clause-cause : goal.returns-in_err-one-clause-cause
 returns-in_err-one-clause-cause g c =
     let old = g.S.Store.view c.args.store.now in

@@ -5,7 +5,7 @@ use Rattle.tree_rows.specs.declared.listing.TheConstants.{LIST}
 use Rattle.tree_rows.proofs.RunsRead.{HasRead}
 use Rattle.tree_rows.proofs.listing.list_first.Given as goal
 
--- the front of the run is read, and the cursor has the rest of it
+-- the start of the run is read, and the cursor has the rest of it
 abbrev pub invariant-rows : goal.invariant-rows
 invariant-rows g l =
     let old = g.S.Store.view l.fn.store in
@@ -20,6 +20,6 @@ invariant-rows g l =
           l.fn.store l.store;
     }
 
--- the rows that are still wanted
+-- the rows that are still to be read
 abbrev pub decreases-rows : goal.decreases-rows
 decreases-rows g l = l.most - length l.all.items

@@ -8,7 +8,7 @@ use Rattle.book_core.proofs.NameLemmas.{missing_next, names-more, names-skip}
 use Rattle.book_core.proofs.ending.Ending.charged_names.Goals as goal
 use Rattle.book_core.proofs.ending.Ending.charged_names.Goals.{After-charges}
 
--- the name of a record stands under none before it
+-- the name of a record is that of none before it
 missing : (c : After-charges)
     → under_name c.in-Some.name.now (map deref_pair c.loop-name.yielded) ≡ None
 missing c =

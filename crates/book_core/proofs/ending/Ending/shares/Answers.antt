@@ -10,7 +10,7 @@ use Rattle.book_core.proofs.NameLemmas.{missing_next, shares-more, shares-skip}
 use Rattle.book_core.proofs.ending.Ending.shares.Goals as goal
 use Rattle.book_core.proofs.ending.Ending.shares.Goals.{After-share}
 
--- the name of a record stands under none before it
+-- the name of a record is that of none before it
 missing : (c : After-share)
     → under_name c.in-Some.name.now (map deref_pair c.loop-name.yielded) ≡ None
 missing c =

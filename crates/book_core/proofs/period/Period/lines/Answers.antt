@@ -8,7 +8,7 @@ use Rattle.book_core.specs.Shares.{line_at, share_in}
 use Rattle.book_core.proofs.period.Period.lines.Goals as goal
 use Rattle.book_core.proofs.period.Period.lines.Goals.{After-line}
 
--- the line of one record more stands behind those of the others
+-- the line of one more record comes after those of the others
 more : (c : After-line)
     → filter_map (λ entry. line_at (share_in c.args.self.now c.args.posted.now entry) entry)
     (map deref_pair (c.loop-name.yielded ++ (c.in-Some.name, c.in-Some.kept) ∷ []))

@@ -32,7 +32,7 @@ alone_is g c =
     ∙ ap (is_lone (book_in c.args.self.now).rulings c.args.self.now.held.entries)
     c.identity_by.ensures
 
--- the call where a record stands under the name, by the tests that come
+-- the call where a record has the name, by the tests that come
 found_call : (g : Over) (c : After-is_lone g) (new : Book) (alone chosen full : Bool)
     → c.is_lone.result ≡ alone
     → chosen ≡ is_chosen (book_in c.args.self.now).rulings (record_of c.in-Some.held.now)

@@ -26,7 +26,7 @@ returns-clause-book g c =
     (to_z-of_z w32 c.args.through (day_fits c.args.through c.requires.day))
     c.in_ok-ending.ensures c.in_ok-posted.ensures c.in_ok-shares.ensures refl
 
--- want of memory for the period leaves the books as they were
+-- a lack of memory for the period leaves the books as they were
 pub invariant_of-self : goal.invariant_of-self
 invariant_of-self g c =
     let ledger = c.args.self.now in

@@ -16,7 +16,7 @@ use Rattle.book_core.proofs.RecallLemmas.{one_held, still_held}
 use Rattle.book_core.proofs.NameLemmas.{still_named}
 use Rattle.book_core.proofs.plain.PlainLedger.keep_named.Goals as goal
 
--- a record under whose name one stands is no event
+-- a record with a name that one has is no event
 no_event : (bytes : List ℕ) (same : Bool)
     → accept_event bytes (if same then Ok Known else Err DigestClash) ≡ None
 no_event bytes true = refl

@@ -23,7 +23,7 @@ sort_lines-requires g c =
     (sym (c.deref_mut.ensures.value ∙ c.in_ok-lines.ensures))
     (names_apart ledger.kept ledger.rising share)
 
--- a vector whose items were all written over has what was written
+-- a vector with all its items written over has what was written
 written_over : (count : ℕ) (written items : List Line) → count ≡ length items
     → length written ≡ length items
     → take count (written ++ drop (length written) items) ≡ written

@@ -20,7 +20,7 @@ returns-then-not-branch g c = record {
       (c.in_ok-find_row.ensures.found clean)).0 ∙ c.if-not-branch.true)));
 }
 
--- for a key memory alone may be wanting
+-- for a key only memory may be lacking
 pub returns-in_err-number_key-clause-cause : goal.returns-in_err-number_key-clause-cause
 returns-in_err-number_key-clause-cause g c =
     let start = state g.S.Store c.args.self.now.store in

@@ -30,7 +30,7 @@ returns g c = record {
   cause = tt;
 }
 
--- for a key memory alone may be wanting
+-- for a key only memory may be lacking
 pub returns-in_err-walk_key-clause-cause : goal.returns-in_err-walk_key-clause-cause
 returns-in_err-walk_key-clause-cause g c =
     let start = state g.S.Store c.args.self.now.store in

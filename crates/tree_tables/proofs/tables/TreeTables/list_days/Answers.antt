@@ -23,7 +23,7 @@ returns g c = record {
       (state g.S.Store c.list_run.new.store) error is);
 }
 
--- for a key memory alone may be wanting
+-- for a key only memory may be lacking
 pub returns-in_err-period_key-clause-cause : goal.returns-in_err-period_key-clause-cause
 returns-in_err-period_key-clause-cause g c =
     let start = state g.S.Store c.args.self.now.store in

@@ -34,7 +34,7 @@ returns g c =
           (all_named tables fit key names.items c.in_ok-number_key.ensures.made ends))));
     }
 
--- for a key memory alone may be wanting
+-- for a key only memory may be lacking
 pub returns-in_err-number_key-clause-cause : goal.returns-in_err-number_key-clause-cause
 returns-in_err-number_key-clause-cause g c =
     let start = state g.S.Store c.args.self.now.store in

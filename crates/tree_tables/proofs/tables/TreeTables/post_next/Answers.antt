@@ -31,7 +31,7 @@ returns-in_ok-change_row-clause-renews g c clean =
     (rw c.if-branch.true at c.in_ok-post_row.ensures))
     (c.in_ok-change_row.ensures.done clean)
 
--- it stands as it is posted already
+-- it is already as it is posted
 pub returns-else-branch-clause-renews : goal.returns-else-branch-clause-renews
 returns-else-branch-clause-renews g c clean =
     renews_kept (post_by c.args.through) (post_again c.args.through)

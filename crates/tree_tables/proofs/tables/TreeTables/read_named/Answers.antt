@@ -18,7 +18,7 @@ loop-named-preserved g c =
     c.loop-named.all.items c.push.new.self.items c.in-Some.record c.loop-named-test.true
     c.in_ok-push.ensures.items so_far found)
 
--- why a record was not found, behind the others
+-- why a record was not found, after the others
 pub returns-in_err-record-clause-cause : goal.returns-in_err-record-clause-cause
 returns-in_err-record-clause-cause g c =
     let start = state g.S.Store c.args.self.now.store in
@@ -32,7 +32,7 @@ returns-in_err-record-clause-cause g c =
     (named_fits tables names c.loop-named.named-index _ c.loop-named-test.true all)) in
     search rules
 
--- for the list memory alone may be wanting
+-- for the list only memory may be lacking
 pub returns-in_err-push-clause-cause : goal.returns-in_err-push-clause-cause
 returns-in_err-push-clause-cause g c =
     let p = err_from_is_err_and c.from_residual-in_err-push.result
