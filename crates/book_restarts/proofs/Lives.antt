@@ -6,8 +6,8 @@ use Rattle.book_model.specs.Words.{Naming}
 use Rattle.book_core.specs.Ledgers.{Seen, IsOpenAt, stands_by}
 use Rattle.book_core.specs.Work.{IsWork}
 use Rattle.book_core.proofs.WorkLemmas.{after_all-append}
-use Rattle.run_laws.specs.Calls.{Call, works_of}
-use Rattle.run_laws.proofs.CallLemmas.{calls_are_answered}
+use Rattle.book_laws.specs.Calls.{Call, works_of}
+use Rattle.book_laws.proofs.CallLemmas.{calls_are_answered}
 use Rattle.book_restarts.specs.Laws.{Life, AreLived, MakeAll, StopsFollowHistory, ledger_behind}
 use Rattle.book_restarts.specs.Restarts.{IsRestart}
 

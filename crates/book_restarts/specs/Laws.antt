@@ -3,7 +3,7 @@ use Rattle.std.specs.Prelude.{◌≡◌, false, List, [], ◌∷◌, ◌++◌}
 use Rattle.book_model.specs.Words.{Book, Event, after_all, book_after, IsAnswered, Naming}
 use Rattle.book_core.specs.Ledgers.{Seen, IsOpenAt}
 use Rattle.book_core.specs.Work.{IsWork}
-use Rattle.run_laws.specs.Calls.{Call, works_of}
+use Rattle.book_laws.specs.Calls.{Call, works_of}
 use Rattle.book_restarts.specs.Restarts.{IsRestart}
 
 -- One life of books, from where they were opened to where they were released: the calls; the ledger

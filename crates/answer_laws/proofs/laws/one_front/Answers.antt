@@ -1,5 +1,0 @@
-use Rattle.answer_laws.proofs.ReportLemmas.{one_front}
-use Rattle.answer_laws.proofs.laws.one_front.Goals as goal
-
-pub returns : goal.returns
-returns g c = one_front g.L.Ledger.seen

@@ -1,5 +1,0 @@
-use Rattle.answer_laws.proofs.ImportLemmas.{one_receipt}
-use Rattle.answer_laws.proofs.laws.one_receipt.Goals as goal
-
-pub returns : goal.returns
-returns g c = one_receipt g.L.Ledger.seen

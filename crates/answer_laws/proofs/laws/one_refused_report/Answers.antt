@@ -1,5 +1,0 @@
-use Rattle.answer_laws.proofs.ReportLemmas.{one_refused_report}
-use Rattle.answer_laws.proofs.laws.one_refused_report.Goals as goal
-
-pub returns : goal.returns
-returns g c = one_refused_report g.L.Ledger.seen

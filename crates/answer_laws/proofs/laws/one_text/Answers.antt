@@ -1,5 +1,0 @@
-use Rattle.answer_laws.proofs.ReportLemmas.{one_text}
-use Rattle.answer_laws.proofs.laws.one_text.Goals as goal
-
-pub returns : goal.returns
-returns g c = one_text g.L.Ledger.seen

@@ -1,0 +1,91 @@
+-- Calls on one ledger, one after another: their work, and the events that they make.
+use Rattle.std.proofs.Common.{false, List, [], ◌∷◌, ◌++◌, Result, refl, sym, subst, map}
+use Rattle.book_model.specs.Words.{accept_answer, IsAnswered, Book, new_book, dispute_shown}
+use Rattle.book_model.specs.Words.{book_after, Outcome, accept_outcome, charges_outcome}
+use Rattle.book_model.specs.Words.{adjustments_outcome, disputes_outcome, periods_outcome, Naming}
+use Rattle.book_model.specs.declared.fault.LedgerFault.{LedgerFault}
+use Rattle.book_core.specs.Calls.{Calls, listed}
+use Rattle.book_core.specs.Ledgers.{Seen, IsOpenAt}
+use Rattle.book_core.specs.Work.{NoEvent, IsWork}
+use Rattle.book_core.proofs.FollowLemmas.{MakesAnswered, then_answered, calls_answered}
+use Rattle.book_core.proofs.FollowLemmas.{accept_event-answered}
+use Rattle.book_core.proofs.WorkLemmas.{no_work, work_then, after_all-append}
+use Rattle.book_reports.proofs.ReadingLemmas.{IsReading}
+use Rattle.office.proofs.LawLemmas.{asks_answered}
+use Rattle.office.proofs.LeavingLemmas.{work_leaves}
+use Rattle.office.proofs.RunLemmas.{runs_answered}
+use Rattle.book_laws.specs.CallLaws.{CallsFollowHistory}
+use Rattle.book_laws.specs.Calls.{Call, Request, RunRequests, AcceptRecord, ReadCharges}
+use Rattle.book_laws.specs.Calls.{ReadAdjustments, ReadDisputes, ReadPeriods, Step, AreDone}
+use Rattle.book_laws.specs.Calls.{calls_of, ledger_after, work_of, works_of}
+
+-- what is read makes none
+readings_answered : {V A : Type 0} (naming : Naming) (view : V → A) (outcome : Book → Outcome A)
+    (result : Result V LedgerFault) → IsReading outcome
+    → MakesAnswered naming (Calls view outcome result)
+readings_answered naming view outcome result none =
+    calls_answered naming view outcome result (λ history answered.
+    subst (λ event. IsAnswered naming (listed event ++ history))
+    (sym (none (book_after history))) answered)
+
+-- nor does the absence of calls
+none_answered : (naming : Naming) → MakesAnswered naming NoEvent
+none_answered naming = λ history was events is none answered.
+    subst (λ events. IsAnswered naming (events ++ history)) (sym none.none) answered
+
+-- each call makes only events that the books answered
+call_answered : (naming : Naming) (call : Call) → MakesAnswered naming (work_of naming call)
+call_answered naming (Request asked dump told) = asks_answered naming asked dump told
+call_answered naming (RunRequests requests answers) = runs_answered naming requests answers
+call_answered naming (AcceptRecord bytes answer) =
+    calls_answered naming (λ answer. answer) (accept_outcome naming bytes) answer (λ history.
+    accept_event-answered naming bytes history (accept_answer naming (book_after history) bytes)
+    refl)
+call_answered naming (ReadCharges period answer) =
+    readings_answered naming (λ rows. rows.items) (charges_outcome period) answer (λ book. refl)
+call_answered naming (ReadAdjustments period answer) =
+    readings_answered naming (λ lines. lines.items) (adjustments_outcome naming period) answer
+    (λ book. refl)
+call_answered naming (ReadDisputes answer) =
+    readings_answered naming (λ found. map dispute_shown found.items) (disputes_outcome naming)
+    answer (λ book. refl)
+call_answered naming (ReadPeriods answer) =
+    readings_answered naming (λ days. days.items) periods_outcome answer (λ book. refl)
+
+-- so do all of them
+pub calls_are_answered : (naming : Naming) (calls : List Call)
+    → MakesAnswered naming (works_of naming calls)
+calls_are_answered naming [] = none_answered naming
+calls_are_answered naming (call ∷ later) =
+    then_answered naming (work_of naming call) (works_of naming later) (call_answered naming call)
+    (calls_are_answered naming later)
+
+-- calls that were done are one work
+pub done_is_work : {L : Type 0} (seen : L → Seen) (before : L) (steps : List (Step L))
+    → AreDone seen before steps
+    → IsWork (seen before) (seen (ledger_after before steps))
+    (works_of (seen before).naming (calls_of steps))
+done_is_work seen before [] done = no_work (seen before)
+done_is_work seen before (step ∷ later) done =
+    let last : Seen = seen (ledger_after step.after later) in
+    work_then (seen before) (seen step.after) last (work_of (seen before).naming step.call)
+    (works_of (seen before).naming (calls_of later)) done.0
+    (subst (λ naming. IsWork (seen step.after) last (works_of naming (calls_of later)))
+    done.0.naming (done_is_work seen step.after later done.1))
+
+-- calls on the books of a history leave those of one that goes on with it
+pub calls_follow_history : {L : Type 0} (seen : L → Seen) → CallsFollowHistory seen
+calls_follow_history seen naming start before steps answered opened done still =
+    let after : Seen = seen (ledger_after before steps) in
+    let work : IsWork (seen before) after (works_of naming (calls_of steps)) =
+    subst (λ naming. IsWork (seen before) after (works_of naming (calls_of steps))) opened.naming
+    (done_is_work seen before steps done) in
+    let left = work_leaves opened work still in
+    record {
+      events = left.events;
+      made = left.made;
+      answered = calls_are_answered naming (calls_of steps) start false left.events false left.made
+          answered;
+      left = subst (λ book. IsOpenAt naming book after)
+          (sym (after_all-append left.events start new_book)) left.left;
+    }

@@ -1,0 +1,256 @@
+-- A closed period is read alike from then on.
+use Rattle.std.proofs.Common.{◌≡◌, ℕ, ◌-◌, ◌<◌, List, [], ◌∷◌, ◌++◌, length, refl, sym, ap}
+use Rattle.std.proofs.Common.{◌∙◌, subst, get_or, arith, false, Option, Some, None, Ok}
+use Rattle.std.specs.Prelude.{ℤ, slice_get, if◌then◌else◌}
+use Rattle.std.specs.Option.{ok_or, option_map}
+use Rattle.std.proofs.lemmas.Bool.{ne_eqb}
+use Rattle.std.proofs.lemmas.List.{length-append}
+use Rattle.std.proofs.lemmas.Option.{slice_get-get_or}
+use Rattle.book_model.specs.Words.{Terms, IsAnswered, Book, open_number, open_period, period_of}
+use Rattle.book_model.specs.Words.{charged_through, is_dated_after, Event, RecordKept}
+use Rattle.book_model.specs.Words.{TariffAccepted, PeriodClosed, RecordChosen, SecondRuleAdopted}
+use Rattle.book_model.specs.Words.{keep, close, put_in_force, choose, adopt, book_after, lines_of}
+use Rattle.book_model.specs.Words.{reading, Period, period_by, Naming, terms_answer, rows_for}
+use Rattle.book_model.specs.Words.{Rulings, last_close, IsSound, AreAllDatedBy}
+use Rattle.book_model.specs.declared.answer.Ruled.TheVariants.{Done}
+use Rattle.book_model.specs.declared.fault.LedgerFault.TheVariants.{NoSuchPeriod}
+use Rattle.book_model.proofs.AnsweredLemmas.{sound_after}
+use Rattle.book_model.proofs.ListLemmas.{slice_get-front}
+use Rattle.book_model.proofs.CallLemmas.{settled_prices_stay}
+use Rattle.book_model.proofs.ReadingLemmas.{same_rows, same_lines}
+use Rattle.book_laws.specs.ClosedPeriods.{IsClosed, IsReadAlike}
+use Rattle.book_laws.specs.HistoryLaws.{ClosedStays}
+
+-- a closed period is among those that are past,
+found_past : (number : ℕ) (book : Book) → IsClosed number book
+    → period_of book number ≡ slice_get book.past (number - 1)
+found_past number book closed =
+    let some = closed.is_numbered in
+    let past = closed.is_past in
+    let current : Option Period = Some (open_period book) in
+    let found : Option Period = slice_get book.past (number - 1) in
+    let is_one = ne_eqb number 0 (λ none. omega arith) in
+    let is_not_open = ne_eqb number (open_number book) (λ last. omega arith) in
+    λ i. if is_one i then None else if is_not_open i then current else found
+
+-- so there is one
+past_period : (naming : Naming) (number : ℕ) (book : Book) → IsSound naming book
+    → IsClosed number book
+    → (period : Period) × (slice_get book.past (number - 1) ≡ Some period)
+    × AreAllDatedBy (last_close book.rulings) period
+past_period naming number book sound closed =
+    let some = closed.is_numbered in
+    let past = closed.is_past in
+    let as_many = sound.closed in
+    let within : number - 1 < length book.past = omega arith in
+    let period : Period = get_or book.past (number - 1) (open_period book) in (
+      period,
+      slice_get-get_or book.past (number - 1) (open_period book) within,
+      sound.settled (number - 1) (open_period book) within,
+    )
+
+-- books that have a period alike, and read it alike by their rulings
+alike : (naming : Naming) (number : ℕ) (old new : Book) (period : Period)
+    → slice_get new.rulings.closes (number - 1) ≡ slice_get old.rulings.closes (number - 1)
+    → period_of old number ≡ Some period → period_of new number ≡ Some period
+    → rows_for new.rulings period.counted ≡ rows_for old.rulings period.counted
+    → lines_of naming new.rulings period ≡ lines_of naming old.rulings period
+    → IsReadAlike naming number old new
+alike naming number old new period day was is rows lines = record {
+  day = day;
+  period = is ∙ sym was;
+  rows =
+      let rows_by = λ (rulings : Rulings) (found : Option Period).
+      reading (ok_or (option_map (λ period. rows_for rulings period.counted) found) NoSuchPeriod) in
+      ap (rows_by new.rulings) is
+      ∙ ap (λ rows. reading (ok_or (Some rows) NoSuchPeriod)) rows
+      ∙ sym (ap (rows_by old.rulings) was);
+  lines =
+      let lines_by = λ (rulings : Rulings) (found : Option Period).
+      reading (ok_or (option_map (lines_of naming rulings) found) NoSuchPeriod) in
+      ap (lines_by new.rulings) is
+      ∙ ap (λ lines. reading (ok_or (Some lines) NoSuchPeriod)) lines
+      ∙ sym (ap (lines_by old.rulings) was);
+}
+
+-- a book reads a period as it does itself,
+itself : (naming : Naming) (number : ℕ) (book : Book) → IsReadAlike naming number book book
+itself naming number book = record { day = refl; period = refl; rows = refl; lines = refl }
+
+-- and as a book that reads it as a third one does
+through : (naming : Naming) (number : ℕ) (first next last : Book)
+    → IsReadAlike naming number first next → IsReadAlike naming number next last
+    → IsReadAlike naming number first last
+through naming number first next last early late = record {
+  day = late.day ∙ early.day;
+  period = late.period ∙ early.period;
+  rows = late.rows ∙ early.rows;
+  lines = late.lines ∙ early.lines;
+}
+
+-- one more event, if a sound book has a closed period
+module _ (naming : Naming) (number : ℕ) (old : Book) (sound : IsSound naming old)
+    (closed : IsClosed number old) where
+  -- a record that is kept changes no ruling, so no price
+  after_kept : (bytes : List ℕ) → IsReadAlike naming number old (keep bytes old)
+  after_kept bytes =
+      let new : Book = keep bytes old in
+      let still : IsClosed number new =
+      record { is_numbered = closed.is_numbered; is_past = closed.is_past } in
+      let there = past_period naming number old sound closed in
+      alike naming number old new there.0 refl
+      (found_past number old closed ∙ there.1)
+      (found_past number new still ∙ there.1)
+      refl refl
+
+  -- what is settled costs what it cost before a tariff that is Done
+  after_tariff : (text : List ℕ) (terms : Terms) → terms_answer old text terms ≡ Ok Done
+      → IsReadAlike naming number old (put_in_force (Some text) terms old)
+  after_tariff text terms done =
+      let new : Book = put_in_force (Some text) terms old in
+      let last : Option ℤ = last_close old.rulings in
+      let prices = λ (bytes : List ℕ) (early : is_dated_after last bytes ≡ false).
+      settled_prices_stay old text terms bytes done early in
+      let still : IsClosed number new =
+      record { is_numbered = closed.is_numbered; is_past = closed.is_past } in
+      let there = past_period naming number old sound closed in
+      alike naming number old new there.0 refl
+      (found_past number old closed ∙ there.1)
+      (found_past number new still ∙ there.1)
+      (same_rows new.rulings old.rulings last prices there.0.counted there.2.counted)
+      (same_lines new.rulings old.rulings last prices naming there.0 there.2)
+
+  -- no choice changes a price
+  after_choice : (bytes : List ℕ) → IsReadAlike naming number old (choose bytes old)
+  after_choice bytes =
+      let new : Book = choose bytes old in
+      let still : IsClosed number new =
+      record { is_numbered = closed.is_numbered; is_past = closed.is_past } in
+      let there = past_period naming number old sound closed in
+      alike naming number old new there.0 refl
+      (found_past number old closed ∙ there.1)
+      (found_past number new still ∙ there.1)
+      refl refl
+
+  -- nor does a rule of identity
+  after_rule : IsReadAlike naming number old (adopt old)
+  after_rule =
+      let new : Book = adopt old in
+      let still : IsClosed number new =
+      record { is_numbered = closed.is_numbered; is_past = closed.is_past } in
+      let there = past_period naming number old sound closed in
+      alike naming number old new there.0 refl
+      (found_past number old closed ∙ there.1)
+      (found_past number new still ∙ there.1)
+      refl refl
+
+  -- one more close leaves the closed periods before it,
+  closed_more : (day : ℤ) → IsClosed number (close day old)
+  closed_more day =
+      let past = closed.is_past in
+      let more = length-append old.rulings.closes (day ∷ []) in
+      record { is_numbered = closed.is_numbered; is_past = omega arith }
+
+  -- and a close changes no price
+  after_close : (day : ℤ) → IsReadAlike naming number old (close day old)
+  after_close day =
+      let new : Book = close day old in
+      let some = closed.is_numbered in
+      let past = closed.is_past in
+      let as_many = sound.closed in
+      let there = past_period naming number old sound closed in
+      let ended : Period = period_by (last_close old.rulings) old.posted
+      (charged_through old.rulings day old.held) in
+      let stays : slice_get new.past (number - 1) ≡ slice_get old.past (number - 1) =
+      slice_get-front old.past ended (number - 1) (omega arith) in
+      alike naming number old new there.0
+      (slice_get-front old.rulings.closes day (number - 1) (omega arith))
+      (found_past number old closed ∙ there.1)
+      (found_past number new (closed_more day) ∙ stays ∙ there.1)
+      refl refl
+
+-- A closed period stays closed, and is read alike.
+record Stays (naming : Naming) (number : ℕ) (old new : Book) : Type 0 where
+  closed : IsClosed number new
+  alike : IsReadAlike naming number old new
+
+-- the same holds after any events that calls made
+stays : (naming : Naming) (later earlier : List Event) (number : ℕ)
+    → IsAnswered naming (later ++ earlier) → IsClosed number (book_after earlier)
+    → Stays naming number (book_after earlier) (book_after (later ++ earlier))
+stays naming [] earlier number answered closed = record {
+  closed = closed;
+  alike = itself naming number (book_after earlier);
+}
+stays naming (RecordKept bytes ∷ later) earlier number answered closed =
+    let old : Book = book_after (later ++ earlier) in
+    let before = stays naming later earlier number answered.1 closed in
+    let sound = sound_after naming (later ++ earlier) answered.1 in
+    record {
+      closed = record {
+        is_numbered = before.closed.is_numbered;
+        is_past = before.closed.is_past;
+      };
+      alike = through naming number (book_after earlier) old (keep bytes old) before.alike
+          (after_kept naming number old sound before.closed bytes);
+    }
+stays naming (TariffAccepted (Some text) terms ∷ later) earlier number answered closed =
+    let old : Book = book_after (later ++ earlier) in
+    let before = stays naming later earlier number answered.1 closed in
+    let sound = sound_after naming (later ++ earlier) answered.1 in
+    record {
+      closed = record {
+        is_numbered = before.closed.is_numbered;
+        is_past = before.closed.is_past;
+      };
+      alike = through naming number (book_after earlier) old
+          (put_in_force (Some text) terms old) before.alike
+          (after_tariff naming number old sound before.closed text terms answered.0);
+    }
+stays naming (TariffAccepted None terms ∷ later) earlier number none closed =
+    let none_answered : IsAnswered naming (later ++ earlier) =
+    subst (IsAnswered naming) (sym none) tt in
+    let before = stays naming later earlier number none_answered closed in
+    let of_none = subst (λ history. IsClosed number (book_after history)) none before.closed in
+    let some = of_none.is_numbered in
+    let past = of_none.is_past in
+    absurd (omega arith)
+stays naming (PeriodClosed day ∷ later) earlier number answered closed =
+    let old : Book = book_after (later ++ earlier) in
+    let before = stays naming later earlier number answered.1 closed in
+    let sound = sound_after naming (later ++ earlier) answered.1 in
+    record {
+      closed = closed_more naming number old sound before.closed day;
+      alike = through naming number (book_after earlier) old (close day old) before.alike
+          (after_close naming number old sound before.closed day);
+    }
+stays naming (RecordChosen bytes ∷ later) earlier number answered closed =
+    let old : Book = book_after (later ++ earlier) in
+    let before = stays naming later earlier number answered.1 closed in
+    let sound = sound_after naming (later ++ earlier) answered.1 in
+    record {
+      closed = record {
+        is_numbered = before.closed.is_numbered;
+        is_past = before.closed.is_past;
+      };
+      alike = through naming number (book_after earlier) old (choose bytes old) before.alike
+          (after_choice naming number old sound before.closed bytes);
+    }
+stays naming (SecondRuleAdopted ∷ later) earlier number answered closed =
+    let old : Book = book_after (later ++ earlier) in
+    let before = stays naming later earlier number answered.1 closed in
+    let sound = sound_after naming (later ++ earlier) answered.1 in
+    record {
+      closed = record {
+        is_numbered = before.closed.is_numbered;
+        is_past = before.closed.is_past;
+      };
+      alike = through naming number (book_after earlier) old (adopt old) before.alike
+          (after_rule naming number old sound before.closed);
+    }
+
+-- the law
+pub closed_stays : ClosedStays
+closed_stays naming later earlier number answered closed =
+    let all = stays naming later earlier number answered closed in
+    all.alike

@@ -1,0 +1,23 @@
+-- Whole histories: what their periods give and take; net counts, and days; wrong definitions that
+-- they refuse; sums over rows and over a period's sets; the amounts of periods; the lines that are
+-- read; and closed periods. Runs, from these; calls one after another, and what they leave; the
+-- lists of all periods; and the lines of a statement. Single answers: to calls, reports, imports,
+-- and lists of requests.
+pub mod PeriodLemmas
+pub mod NetLemmas
+pub mod WrongPeriodLemmas
+pub mod DatedLemmas
+pub mod RowSums
+pub mod SetSums
+pub mod AmountLemmas
+pub mod LineLemmas
+pub mod ReadLemmas
+pub mod ClosedLemmas
+pub mod RunLemmas
+pub mod CallLemmas
+pub mod ListLemmas
+pub mod WidthLemmas
+pub mod AnswerLemmas
+pub mod ReportLemmas
+pub mod ImportLemmas
+pub mod RunAnswerLemmas

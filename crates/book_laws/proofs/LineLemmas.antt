@@ -1,0 +1,241 @@
+-- The lines that are read: one for each record that is added or reversed.
+use Rattle.std.proofs.Common.{◌≡◌, ℕ, List, [], ◌∷◌, ◌++◌, refl, sym, ap, ◌∙◌, true, false}
+use Rattle.std.proofs.Common.{true≢false, Bool, cond, not, ◌||◌, Option, Some, None, arith}
+use Rattle.std.specs.Prelude.{filter, sum_by}
+use Rattle.std.specs.FinMap as map
+use Rattle.std.specs.List.{list_any, filter_map, cons_option, AllByRecursion}
+use Rattle.std.specs.List.Sorted.{IsPermutation}
+use Rattle.std.specs.Option.{option_map_or}
+use Rattle.std.specs.Ordering.{int_cmp, eq_by_cmp, is_eq, ordering_then}
+use Rattle.std.specs.declared.cmp.Ordering.{Ordering}
+use Rattle.std.specs.declared.cmp.Ordering.TheVariants.{Less, Equal, Greater}
+use Rattle.std.proofs.Math.Bool.{or-true}
+use Rattle.std.proofs.lemmas.Cmp.{nat_list_cmp_total}
+use Rattle.std.proofs.lemmas.List.Elements.{filter-append}
+use Rattle.std.proofs.lemmas.List.Folds.{list_any-append}
+use Rattle.std.proofs.lemmas.List.Sorted.{sum_by-IsPermutation}
+use Rattle.std.proofs.lemmas.List.Sums.{sum_by-append}
+use Rattle.std.proofs.lemmas.Map.Keys.{IsDistinct-from_sorted}
+use Rattle.std.proofs.lemmas.Map.Lookups.{exact_bytes}
+use Rattle.tariff_rules.specs.declared.priced.Priced.{Priced}
+use Rattle.book_model.specs.declared.line.Line.{Line}
+use Rattle.book_model.specs.Words.{plus_first, by_line, lines_for, lines_of, Period, Records}
+use Rattle.book_model.specs.Words.{Naming, name_of, by_bytes, Rulings, price_in, members, has}
+use Rattle.book_model.specs.Words.{total_of}
+use Rattle.book_model.proofs.SetChanges.{none_among}
+use Rattle.book_model.proofs.SetLemmas.{members_rise}
+use Rattle.book_model.proofs.PermutedSets.{Apart, apart_from_distinct, members_permuted}
+use Rattle.book_model.proofs.LineOrder.{by_line_total, name_ties, line_by, line_of}
+use Rattle.book_model.proofs.SumsAlike.{sum_by-filter, sum_by-filter_map}
+use Rattle.book_model.proofs.RecordSets.{is, is_itself}
+use Rattle.book_laws.specs.PeriodAmounts.{plus_of, minus_of}
+use Rattle.book_laws.specs.PeriodLines.{both_lines}
+
+-- one result of a partial function passes a test
+any-given : {X Y : Type 0} (p : Y → Bool) (give : X → Option Y) (xs : List X)
+    → list_any p (filter_map give xs) ≡ list_any (λ x. option_map_or p (give x) false) xs
+any-given p give [] = refl
+any-given p give (x ∷ xs) =
+    let rest = any-given p give xs in
+    elim (give x) as (λ given. list_any p (cons_option given (filter_map give xs))
+    ≡ (option_map_or p given false || list_any (λ x. option_map_or p (give x) false) xs)) [
+      | None ↦ rest
+      | Some y ↦ ap (λ b. p y || b) rest
+    ]
+
+-- the results of a partial function for distinct records are distinct, if it distinguishes them
+given-apart : {Y : Type 0} (e : Y → Y → Bool) (give : List ℕ → Option Y) (ks : List (List ℕ))
+    → ((a b : List ℕ) → list_any (is a) ks ≡ true → list_any (is b) ks ≡ true
+    → (y z : Y) → give a ≡ Some y → give b ≡ Some z → e y z ≡ true → a ≡ b)
+    → Apart is ks → Apart e (filter_map give ks)
+given-apart e give [] tells apart = tt
+given-apart {Y} e give (k ∷ ks) tells apart =
+    let later : (other : List ℕ) → list_any (is other) ks ≡ true
+    → list_any (is other) (k ∷ ks) ≡ true =
+    λ other among. ap (λ b. is other k || b) among ∙ or-true (is other k) in
+    let first : list_any (is k) (k ∷ ks) ≡ true = ap (λ b. b || list_any (is k) ks) (is_itself k) in
+    let rest =
+    given-apart e give ks (λ a b one two. tells a b (later a one) (later b two)) apart.1 in
+    elim (give k) as (λ given. give k ≡ given → Apart e (cons_option given (filter_map give ks))) [
+      | None ↦ λ none. rest
+      | Some y ↦ λ some. (
+        any-given (e y) give ks
+            ∙ none_among (λ other. option_map_or (e y) (give other) false) ks (λ other among.
+            elim (give other) as (λ given. give other ≡ given → option_map_or (e y) given false
+            ≡ false) [
+              | None ↦ λ none. refl
+              | Some z ↦ λ too. elim (e y z) as (λ b. e y z ≡ b → b ≡ false) [
+                | true ↦ λ tied.
+                    let same = tells k other first (later other among) y z some too tied in
+                    absurd (true≢false
+                    (sym among ∙ ap (λ k. list_any (is k) ks) (sym same) ∙ apart.0))
+                | false ↦ λ differ. refl
+              ] refl
+            ] refl),
+        rest,
+      )
+    ] refl
+
+-- lines with signs that do not tie do not tie
+signs_differ : (a b c : Ordering) → c ≡ Less → is_eq (ordering_then a (ordering_then b c)) ≡ false
+signs_differ Less b c less = refl
+signs_differ Greater b c less = refl
+signs_differ Equal Less c less = refl
+signs_differ Equal Equal c less = ap is_eq less
+signs_differ Equal Greater c less = refl
+
+-- lines of one sign
+abbrev Signed : Bool → List Line → Type 0
+Signed plus lines = AllByRecursion (λ line. line.plus ≡ plus) lines
+
+-- a plus line ties with no minus line
+not_among : (line : Line) (lines : List Line) → line.plus ≡ true → Signed false lines
+    → list_any (eq_by_cmp by_line line) lines ≡ false
+not_among line [] plus minus = refl
+not_among line (other ∷ lines) plus minus =
+    let apart = signs_differ (int_cmp line.priced.day other.priced.day)
+    (by_bytes line.name other.name) (plus_first line.plus other.plus)
+    (λ i. plus_first (plus i) (minus.0 i)) in
+    let rest = not_among line lines plus minus.1 in
+    λ i. apart i || rest i
+
+-- so if the plus lines are distinct and the minus lines are, all lines are distinct
+both_apart : (xs ys : List Line) → Apart (eq_by_cmp by_line) xs → Apart (eq_by_cmp by_line) ys
+    → Signed true xs → Signed false ys → Apart (eq_by_cmp by_line) (xs ++ ys)
+both_apart [] ys first second plus minus = second
+both_apart (x ∷ xs) ys first second plus minus =
+    let other = not_among x ys plus.0 minus in (
+      list_any-append (eq_by_cmp by_line x) xs ys ∙ (λ i. first.0 i || other i),
+      both_apart xs ys first.1 second plus.1 minus,
+    )
+
+-- to choose those of a sign among lines of one sign
+chosen : (p : Line → Bool) (lines : List Line) → AllByRecursion (λ line. p line ≡ true) lines
+    → filter p lines ≡ lines
+chosen p [] all = refl
+chosen p (line ∷ lines) all = λ i. cond (all.0 i) (line ∷ chosen p lines all.1 i)
+    (chosen p lines all.1 i)
+
+none_chosen : (p : Line → Bool) (lines : List Line) → AllByRecursion (λ line. p line ≡ false) lines
+    → filter p lines ≡ []
+none_chosen p [] all = refl
+none_chosen p (line ∷ lines) all = λ i. cond (all.0 i) (line ∷ none_chosen p lines all.1 i)
+    (none_chosen p lines all.1 i)
+
+module _ (naming : Naming) (rulings : Rulings) where
+  -- it has its record's name
+  its_name : (plus : Bool) (bytes : List ℕ) (price : Option Priced) (line : Line)
+      → line_by naming rulings plus bytes price ≡ Some line → line.name ≡ name_of naming bytes
+  its_name plus bytes None line is = cc
+  its_name plus bytes (Some priced) line is =
+      sym (ap (λ found. option_map_or (λ line. line.name) found (name_of naming bytes)) is)
+
+  -- lines of one sign, each of another record, are distinct
+  lines_apart : (plus : Bool) (records : Records)
+      → ((a b : List ℕ) → has records a ≡ true → has records b ≡ true
+      → name_of naming a ≡ name_of naming b → a ≡ b)
+      → Apart (eq_by_cmp by_line) (lines_for naming rulings plus records)
+  lines_apart plus records named =
+      let ks : List (List ℕ) = members records in
+      let give : List ℕ → Option Line = line_of naming rulings plus in
+      given-apart (eq_by_cmp by_line) give ks (λ a b one two y z of_a of_b tied.
+      named a b (map.contains_key-keys records a ∙ one) (map.contains_key-keys records b ∙ two)
+      (sym (its_name plus a (price_in rulings a) y of_a)
+      ∙ exact_bytes y.name z.name
+      (name_ties (int_cmp y.priced.day z.priced.day) (by_bytes y.name z.name)
+      (plus_first y.plus z.plus) tied)
+      ∙ its_name plus b (price_in rulings b) z of_b))
+      (apart_from_distinct is ks
+      (IsDistinct-from_sorted by_bytes ks (members_rise nat_list_cmp_total records)))
+
+  -- lines have the sign that they are read with
+  signed : (P : Bool → Type 0) (plus : Bool) → P plus → (ks : List (List ℕ))
+      → AllByRecursion (λ line. P line.plus) (filter_map (line_of naming rulings plus) ks)
+  signed P plus holds [] = tt
+  signed P plus holds (k ∷ ks) =
+      let rest = signed P plus holds ks in
+      let others : List Line = filter_map (line_of naming rulings plus) ks in
+      elim (price_in rulings k)
+      as (λ price. AllByRecursion (λ line. P line.plus)
+      (cons_option (line_by naming rulings plus k price) others)) [
+        | None ↦ rest
+        | Some priced ↦ (holds, rest)
+      ]
+
+  -- they amount to what the records cost
+  lines_cost : (plus : Bool) (records : Records)
+      → sum_by (λ line. line.priced.amount) (lines_for naming rulings plus records)
+      ≡ total_of rulings records
+  lines_cost plus records =
+      let same : (bytes : List ℕ)
+      → option_map_or (λ line. line.priced.amount) (line_of naming rulings plus bytes) 0
+      ≡ option_map_or (λ priced. priced.amount) (price_in rulings bytes) 0 =
+      λ bytes.
+      elim (price_in rulings bytes)
+      as (λ price.
+      option_map_or (λ line. line.priced.amount) (line_by naming rulings plus bytes price) 0
+      ≡ option_map_or (λ priced. priced.amount) price 0) [
+        | None ↦ refl
+        | Some priced ↦ refl
+      ] in
+      sum_by-filter_map (λ line. line.priced.amount) (line_of naming rulings plus) (members records)
+      ∙ (λ i. sum_by (λ bytes. same bytes i) (members records))
+      ∙ sym (sum_by-filter_map (λ priced. priced.amount) (price_in rulings) (members records))
+
+  module _ (period : Period)
+      (added_named : (a b : List ℕ) → has period.added a ≡ true → has period.added b ≡ true
+      → name_of naming a ≡ name_of naming b → a ≡ b)
+      (taken_named : (a b : List ℕ) → has period.taken a ≡ true → has period.taken b ≡ true
+      → name_of naming a ≡ name_of naming b → a ≡ b) where
+    -- each line is read once
+    pub read_once : IsPermutation (lines_of naming rulings period)
+        (both_lines naming rulings period)
+    read_once =
+        members_permuted by_line by_line_total (both_lines naming rulings period)
+        (both_apart (lines_for naming rulings true period.added)
+        (lines_for naming rulings false period.taken)
+        (lines_apart true period.added added_named) (lines_apart false period.taken taken_named)
+        (signed (λ plus. plus ≡ true) true refl (members period.added))
+        (signed (λ plus. plus ≡ false) false refl (members period.taken)))
+
+    -- those that pass a test amount to the same as those of the list that pass it
+    read_amount : (p : Line → Bool)
+        → sum_by (λ line. line.priced.amount) (filter p (lines_of naming rulings period))
+        ≡ sum_by (λ line. line.priced.amount) (filter p (both_lines naming rulings period))
+    read_amount p =
+        let counted : Line → ℕ = λ line. cond (p line) line.priced.amount 0 in
+        sum_by-filter (λ line. line.priced.amount) p (lines_of naming rulings period)
+        ∙ sym (sum_by-IsPermutation counted (lines_of naming rulings period)
+        (both_lines naming rulings period) read_once)
+        ∙ sym (sum_by-filter (λ line. line.priced.amount) p (both_lines naming rulings period))
+
+    -- the plus lines amount to what the added records cost
+    pub plus_cost : plus_of (lines_of naming rulings period) ≡ total_of rulings period.added
+    plus_cost =
+        let xs : List Line = lines_for naming rulings true period.added in
+        let ys : List Line = lines_for naming rulings false period.taken in
+        let all =
+        chosen (λ line. line.plus) xs
+        (signed (λ plus. plus ≡ true) true refl (members period.added)) in
+        let none = none_chosen (λ line. line.plus) ys
+        (signed (λ plus. plus ≡ false) false refl (members period.taken)) in
+        let both = sum_by-append (λ (line : Line). line.priced.amount) xs [] in
+        let cost = lines_cost true period.added in
+        read_amount (λ line. line.plus)
+        ∙ ap (sum_by (λ line. line.priced.amount))
+        (filter-append (λ line. line.plus) xs ys ∙ (λ i. all i ++ none i))
+        ∙ omega arith
+
+    -- the minus lines amount to what the reversed records cost
+    pub minus_cost : minus_of (lines_of naming rulings period) ≡ total_of rulings period.taken
+    minus_cost =
+        let xs : List Line = lines_for naming rulings true period.added in
+        let ys : List Line = lines_for naming rulings false period.taken in
+        let none = none_chosen (λ line. not line.plus) xs
+        (signed (λ plus. not plus ≡ false) true refl (members period.added)) in
+        let all = chosen (λ line. not line.plus) ys
+        (signed (λ plus. not plus ≡ true) false refl (members period.taken)) in
+        read_amount (λ line. not line.plus)
+        ∙ ap (sum_by (λ line. line.priced.amount))
+        (filter-append (λ line. not line.plus) xs ys ∙ (λ i. none i ++ all i))
+        ∙ lines_cost false period.taken

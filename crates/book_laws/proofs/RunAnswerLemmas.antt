@@ -1,0 +1,151 @@
+-- Lists of requests on an open ledger.
+use Rattle.std.proofs.Common.{◌≡◌, ◌∙◌, ℕ, Bool, true, false, List, [], ◌∷◌, Result, Ok, Err, refl}
+use Rattle.std.proofs.Common.{sym, ap, subst, map}
+use Rattle.std.specs.Prelude.{All, string_bytes}
+use Rattle.std.proofs.lemmas.List.Elements.{All-head, All-tail}
+use Rattle.book_model.specs.declared.fault.LedgerFault.{LedgerFault}
+use Rattle.book_model.specs.Words.{front, Book, Event, after_all, Naming, Outcome, tariff_outcome}
+use Rattle.book_model.specs.Words.{close_outcome, choose_outcome, adopt_outcome}
+use Rattle.book_core.specs.Calls.{Calls}
+use Rattle.book_core.specs.Ledgers.{Seen, IsOpenAt}
+use Rattle.book_core.specs.Work.{IsWork}
+use Rattle.book_core.proofs.WorkLemmas.{after_all-append}
+use Rattle.book_import.specs.declared.receipt.Receipt.{Receipt}
+use Rattle.book_import.specs.declared.receipt.Stop.{Stop}
+use Rattle.book_import.specs.Dumps.{stop_behind}
+use Rattle.book_import.specs.Imports.{Handles, whole, out_of_memory, store_failed}
+use Rattle.office.specs.declared.request.Asked.{Asked}
+use Rattle.office.specs.declared.request.Asked.TheVariants.{Tariff, Close, Choose, Adopt, Import}
+use Rattle.office.specs.declared.request.Asked.TheVariants.{ImportBytes, Report}
+use Rattle.office.specs.declared.request.Answer.{Answer}
+use Rattle.office.specs.Does.{Done, does, is_hindered}
+use Rattle.book_reports.specs.BookTexts.{report_outcome}
+use Rattle.office.specs.Requests.{Dump, Told, Ruling, Count, Text, Receives, Asks, telling}
+use Rattle.office.specs.Requests.{told_by}
+use Rattle.office.specs.Runs.{AsksAlone, Runs, dump_here}
+use Rattle.office.proofs.LawLemmas.{asks_done}
+use Rattle.office.proofs.LeavingLemmas.{work_leaves}
+use Rattle.book_laws.specs.RunAnswers.{told_to, book_behind, OneRun}
+
+-- books that are open after a call were open before it
+call_opened : (outcome : Book → Outcome Told) (told : Result Told LedgerFault) (was : Bool)
+    (before : Book) (events : List Event) (is : Bool)
+    → Calls (λ told. told) outcome told was before events is → is ≡ false → was ≡ false
+call_opened outcome told true before events is called is_open =
+    let shut = called.reopens.store in cc
+call_opened outcome told false before events is called is_open = refl
+
+-- so were they before an import
+import_opened : (naming : Naming) (stop : Stop) (records : List (List ℕ)) (receipt : Receipt)
+    (was : Bool) (before : Book) (events : List Event) (is : Bool)
+    → Handles naming stop records receipt was before events is → is ≡ false → was ≡ false
+import_opened naming stop records receipt was before events is (whole same told) is_open =
+    sym same ∙ is_open
+import_opened naming stop records receipt was before events is (out_of_memory count same told)
+    is_open =
+    sym same ∙ is_open
+import_opened naming stop records receipt was before events is
+    (store_failed count kept open_before reopen within either stopped so made) is_open = open_before
+
+receipt_opened : (naming : Naming) (dump : Dump) (told : Result Told LedgerFault) (was : Bool)
+    (before : Book) (events : List Event) (is : Bool)
+    → Receives naming dump told was before events is → is ≡ false → was ≡ false
+receipt_opened naming dump (Ok (Count receipt)) was before events is made is_open =
+    let found = front dump.layout dump.bytes in
+    import_opened naming (stop_behind dump.cut found) found.records receipt was before events is
+    made is_open
+receipt_opened naming dump (Ok (Ruling ruled)) was before events is never is_open = absurd never
+receipt_opened naming dump (Ok (Text text)) was before events is never is_open = absurd never
+receipt_opened naming dump (Err fault) was before events is never is_open = absurd never
+
+asked_opened : (naming : Naming) (asked : Asked) (dump : Dump) (told : Result Told LedgerFault)
+    (was : Bool) (before : Book) (events : List Event) (is : Bool)
+    → Asks naming asked dump told was before events is → is ≡ false → was ≡ false
+asked_opened naming (Tariff text) dump told was before events is made is_open =
+    call_opened (telling Ruling (tariff_outcome (string_bytes text))) told was before events is made
+    is_open
+asked_opened naming (Close period through) dump told was before events is made is_open =
+    call_opened (telling Ruling (close_outcome period through)) told was before events is made
+    is_open
+asked_opened naming (Choose name) dump told was before events is made is_open =
+    call_opened (telling Ruling (choose_outcome naming name)) told was before events is made is_open
+asked_opened naming (Adopt rule) dump told was before events is made is_open =
+    call_opened (telling Ruling (adopt_outcome rule)) told was before events is made is_open
+asked_opened naming (Import layout) dump told was before events is made is_open =
+    receipt_opened naming dump told was before events is made is_open
+asked_opened naming (ImportBytes layout bytes) dump told was before events is made is_open =
+    receipt_opened naming dump told was before events is made is_open
+asked_opened naming (Report report) dump told was before events is made is_open =
+    call_opened (telling Text (report_outcome naming report)) told was before events is made is_open
+
+-- and before one request after another
+run_opened : (naming : Naming) (requests : List Asked) (answers : List (Result Answer LedgerFault))
+    (was : Bool) (before : Book) (events : List Event) (is : Bool)
+    → Runs naming requests answers was before events is → is ≡ false → was ≡ false
+run_opened naming [] [] was before events is none is_open = sym none.same ∙ is_open
+run_opened naming [] (answer ∷ answers) was before events is never is_open = absurd never
+run_opened naming (asked ∷ requests) [] was before events is never is_open = absurd never
+run_opened naming (asked ∷ requests) (answer ∷ answers) was before events is made is_open =
+    asked_opened naming asked (dump_here asked) (told_by answer) was before made.early made.between
+    made.first
+    (run_opened naming requests answers made.between (after_all made.early before) made.late is
+    made.next is_open)
+
+-- requests on open books were answered so, and left this book
+record AreAs (naming : Naming) (requests : List Asked)
+    (answers : List (Result Answer LedgerFault)) (before : Book) (events : List Event) : Type 0
+  where
+    told : map told_by answers ≡ told_to naming requests before
+    book : after_all events before ≡ book_behind naming requests before
+
+requests_are : (naming : Naming) (requests : List Asked)
+    (answers : List (Result Answer LedgerFault)) (was : Bool) (before : Book) (events : List Event)
+    (is : Bool) → Runs naming requests answers was before events is → was ≡ false → is ≡ false
+    → All (λ answer. is_hindered (told_by answer) ≡ false) answers
+    → AreAs naming requests answers before events
+requests_are naming [] [] was before events is none shut is_open free =
+    record { told = refl; book = ap (λ events. after_all events before) none.none }
+requests_are naming [] (answer ∷ answers) was before events is never shut is_open free =
+    absurd never
+requests_are naming (asked ∷ requests) [] was before events is never shut is_open free =
+    absurd never
+requests_are naming (asked ∷ requests) (answer ∷ answers) was before events is made shut is_open
+    free =
+    let between : made.between ≡ false =
+    run_opened naming requests answers made.between (after_all made.early before) made.late is
+    made.next is_open in
+    let first = asks_done naming asked (dump_here asked) (told_by answer) before made.early
+    (subst (λ was. AsksAlone naming asked answer was before made.early false) shut
+    (subst (λ is. AsksAlone naming asked answer was before made.early is) between made.first))
+    (All-head Free answer answers free) in
+    let next = requests_are naming requests answers made.between (after_all made.early before)
+    made.late is made.next between is_open (All-tail Free answer answers free) in
+    let book : after_all made.early before ≡ after_all (does naming asked (dump_here asked)
+    before).events before =
+    ap (λ (done : Done). after_all done.events before) (sym first) in
+    record {
+      told = (λ i. (sym first i).told ∷ next.told i)
+          ∙ ap (λ book. (does naming asked (dump_here asked) before).told
+          ∷ told_to naming requests book) book;
+      book = ap (λ events. after_all events before) made.all
+          ∙ after_all-append made.late made.early before
+          ∙ next.book
+          ∙ ap (book_behind naming requests) book;
+    }
+  where
+    Free : Result Answer LedgerFault → Type 0
+    Free answer = is_hindered (told_by answer) ≡ false
+
+-- the law
+pub one_run : {L : Type 0} (seen : L → Seen) → OneRun seen
+one_run seen naming start old new requests answers come =
+    let work : IsWork (seen old) (seen new) (Runs naming requests answers) =
+    subst (λ naming. IsWork (seen old) (seen new) (Runs naming requests answers)) come.opened.naming
+    come.work in
+    let gone = work_leaves come.opened work come.still in
+    let all = requests_are naming requests answers false start gone.events false gone.made refl refl
+    come.free in
+    record {
+      told = all.told;
+      left = subst (λ book. IsOpenAt naming book (seen new)) all.book gone.left;
+    }

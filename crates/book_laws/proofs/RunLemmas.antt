@@ -1,0 +1,116 @@
+-- The laws of runs, from those of the histories that runs make.
+use Rattle.std.proofs.Common.{◌≡◌, ◌∙◌, ℕ, List, refl, sym, ap, subst}
+use Rattle.std.specs.Prelude.{Some, pos, ℤ}
+use Rattle.std.specs.Option.{option_map}
+use Rattle.std.specs.Result.{result_ok}
+use Rattle.book_model.specs.declared.row.ChargeRow.{ChargeRow}
+use Rattle.book_model.specs.Words.{IsAnswered, Book, new_book, is_undisputed, Event, book_after}
+use Rattle.book_model.specs.Words.{Outcome, Naming}
+use Rattle.book_model.proofs.OrderLemmas.{order_is_free}
+use Rattle.book_model.proofs.RecordSets.{has_those}
+use Rattle.book_model.proofs.StepLemmas.{books_follow_history}
+use Rattle.book_laws.specs.ClosedPeriods.{IsReadAlike}
+use Rattle.book_laws.specs.HistoryLaws.{IsBalanced}
+use Rattle.book_laws.specs.NetCounts.{one_if}
+use Rattle.book_laws.proofs.ClosedLemmas.{closed_stays}
+use Rattle.book_laws.proofs.NetLemmas.{charged_once}
+use Rattle.book_laws.proofs.ReadLemmas.{conserved}
+use Rattle.book_core.proofs.WorkLemmas.{after_all-append}
+use Rattle.book_reports.specs.BookTexts.{open_statement, dispute_text}
+use Rattle.report_texts.specs.Statements.{statement_text}
+use Rattle.office.proofs.RunLemmas.{runs_answered}
+use Rattle.book_laws.specs.RunLaws.{RunsMakeHistory, RunsFollowHistory, ChargesOnce, RunsChargeOnce}
+use Rattle.book_laws.specs.RunLaws.{RunsConserve, RunOrderIsFree, ClosedStatementsStay}
+use Rattle.book_laws.specs.RunLaws.{OpenStatementIsFirst}
+use Rattle.book_laws.specs.Runs.{Run, IsRunAfter, book_left, history_with}
+use Rattle.book_laws.specs.Statements.{statement_of, TellAlike}
+
+-- the book that a run leaves is that of the history with it
+left_after : (history : List Event) (run : Run)
+    → book_left history run ≡ book_after (history_with history run)
+left_after history run = sym (after_all-append run.events history new_book)
+
+-- calls made the history that goes on with a run
+next_answered : (naming : Naming) (history : List Event) (run : Run)
+    → IsRunAfter naming history run → IsAnswered naming (history_with history run)
+next_answered naming history run after =
+    runs_answered naming run.requests run.answers history after.was run.events after.is after.runs
+    after.answered
+
+-- the law
+pub runs_make_history : RunsMakeHistory
+runs_make_history = record {
+  new = λ naming was is run runs. record { answered = tt; was = was; is = is; runs = runs };
+  flat = λ naming terms was is run runs.
+      record { answered = refl; was = was; is = is; runs = runs };
+  next = next_answered;
+}
+
+-- the law of the history as a whole
+pub runs_follow_history : RunsFollowHistory
+runs_follow_history naming history run after =
+    left_after history run ∙ books_follow_history (history_with history run)
+
+-- what is charged now is held and undisputed
+charges_once : (history : List Event) → ChargesOnce (book_after history)
+charges_once history bytes =
+    let book : Book = book_after history in
+    charged_once history bytes
+    ∙ ap (λ charged. pos (one_if charged))
+    (has_those (is_undisputed book.rulings book.held) book.held bytes)
+
+-- the law of the net count
+pub runs_charge_once : RunsChargeOnce
+runs_charge_once naming history run after =
+    subst ChargesOnce (sym (left_after history run)) (charges_once (history_with history run))
+
+-- the law of the amounts
+pub runs_conserve : RunsConserve
+runs_conserve naming history run after =
+    subst (IsBalanced naming) (sym (left_after history run))
+    (conserved naming (history_with history run) (next_answered naming history run after))
+
+-- equal books have equal texts
+tell_alike : (one other : Book) → one ≡ other → TellAlike one other
+tell_alike one other same = record {
+  book = same;
+  statements = λ number. ap (λ book. statement_of book number) same;
+  disputes = ap dispute_text same;
+}
+
+-- the law of cuts and order
+pub run_order_is_free : RunOrderIsFree
+run_order_is_free naming before_one before_other one other after_one after_other ruled between =
+    tell_alike (book_left before_one one) (book_left before_other other)
+    (left_after before_one one
+    ∙ order_is_free new_book (history_with before_one one) (history_with before_other other) ruled
+    between
+    ∙ sym (left_after before_other other))
+
+-- periods that are read alike have one statement
+same_statement : (naming : Naming) (number : ℕ) (old new : Book)
+    → IsReadAlike naming number old new → statement_of new number ≡ statement_of old number
+same_statement naming number old new alike =
+    let rows = ap (λ (outcome : Outcome (List ChargeRow)). result_ok outcome.answer) alike.rows in
+    λ i. option_map (statement_text number (alike.day i)) (rows i)
+
+-- the law of closed statements
+pub closed_statements_stay : ClosedStatementsStay
+closed_statements_stay naming history run number after closed =
+    let old : Book = book_after history in
+    let read = closed_stays naming run.events history number
+    (next_answered naming history run after) closed in
+    let alike : IsReadAlike naming number old (book_left history run) =
+    subst (IsReadAlike naming number old) (sym (left_after history run)) read in
+    record {
+      read = alike;
+      statement = same_statement naming number old (book_left history run) alike;
+    }
+
+-- the law of the open statement
+pub open_statement_is_first : OpenStatementIsFirst
+open_statement_is_first book never =
+    let closed_by : List ℤ → Book = λ days.
+    record book { rulings = record book.rulings { closes = days } } in
+    subst (λ days. statement_of (closed_by days) 1 ≡ Some (open_statement (closed_by days)))
+    (sym never) refl

@@ -1,0 +1,23 @@
+-- Read in this order. Whole histories: how often periods charge a record; what their rows and lines
+-- amount to; the lines of a period, each once; what is read of a closed period; the laws; and wrong
+-- definitions of a period, which the laws refuse. Runs: what a run is, and on which books; the
+-- statement of a period; and the laws. Then calls one after another and what they leave, the lists
+-- of all periods, and how wide the lines of a statement are. Single answers: to calls, reports,
+-- imports, and lists of requests.
+pub mod NetCounts
+pub mod PeriodAmounts
+pub mod PeriodLines
+pub mod ClosedPeriods
+pub mod HistoryLaws
+pub mod WrongPeriods
+pub mod Runs
+pub mod Statements
+pub mod RunLaws
+pub mod Calls
+pub mod CallLaws
+pub mod ListLaws
+pub mod StatementWidths
+pub mod AnswerLaws
+pub mod ReportLaws
+pub mod ImportLaws
+pub mod RunAnswers

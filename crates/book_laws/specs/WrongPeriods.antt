@@ -1,0 +1,64 @@
+-- Other definitions of a period, which are wrong: with each of them the law of the net count is
+-- false.
+use Rattle.std.specs.Prelude.{◌≡◌, ℕ, List, [], ◌∷◌, ◌++◌, Option, ℤ, pos}
+use Rattle.book_model.specs.Words.{Period, period_by, Book, charged_now, charged_through, Event}
+use Rattle.book_model.specs.Words.{RecordKept, TariffAccepted, PeriodClosed, RecordChosen}
+use Rattle.book_model.specs.Words.{SecondRuleAdopted, book_after, Records, by_bytes, last_close}
+use Rattle.book_model.specs.Words.{set_of, has, without}
+use Rattle.book_laws.specs.NetCounts.{net_count, one_if}
+
+-- how a period is made: from the close before it, what that close charged, and what is charged at
+-- its end
+abbrev pub Making : Type 0
+Making = Option ℤ → Records → Records → Period
+
+-- the closed periods of a history, made so
+abbrev pub past_by : Making → List Event → List Period
+past_by make [] = []
+past_by make (RecordKept bytes ∷ older) = past_by make older
+past_by make (TariffAccepted text terms ∷ older) = past_by make older
+past_by make (RecordChosen bytes ∷ older) = past_by make older
+past_by make (SecondRuleAdopted ∷ older) = past_by make older
+past_by make (PeriodClosed day ∷ older) =
+    let book : Book = book_after older in
+    past_by make older
+    ++ make (last_close book.rulings) book.posted (charged_through book.rulings day book.held) ∷ []
+
+-- all its periods, the open one last
+abbrev pub all_by : Making → List Event → List Period
+all_by make history =
+    let book : Book = book_after history in
+    past_by make history
+    ++ make (last_close book.rulings) book.posted (charged_now book.rulings book.held) ∷ []
+
+-- the law of the net count, for periods that are made so
+abbrev pub ChargedOnceBy : Making → Type 0
+ChargedOnceBy make =
+    (history : List Event) (bytes : List ℕ)
+    → net_count (all_by make history) bytes
+    ≡ pos (one_if (has (charged_now (book_after history).rulings (book_after history).held) bytes))
+
+-- as the books make it
+abbrev pub as_defined : Making
+as_defined = period_by
+
+-- nothing is reversed
+abbrev pub no_minus : Making
+no_minus last before charged =
+    record (period_by last before charged) { taken = set_of by_bytes [] }
+
+-- the rows count early records too
+abbrev pub counts_early : Making
+counts_early last before charged = record (period_by last before charged) { counted = charged }
+
+-- late records are added too
+abbrev pub adds_late : Making
+adds_late last before charged =
+    record (period_by last before charged) { added = without charged before }
+
+-- The law is true of periods as the books make them, and false of the others.
+pub record WrongOnesFail : Type 0 where
+  pub right : ChargedOnceBy as_defined
+  pub minus : ChargedOnceBy no_minus → ⊥
+  pub counted : ChargedOnceBy counts_early → ⊥
+  pub added : ChargedOnceBy adds_late → ⊥

@@ -1,0 +1,54 @@
+//! Laws of single calls, which hold of the definitions alone. Each is the contract of a function
+//! that does nothing.
+
+ghost use Rattle.book_laws.specs.AnswerLaws.{OneAnswer, OneBook, OneRefusal, RefusalChangesNothing};
+ghost use Rattle.book_laws.specs.ImportLaws.{OneReceipt};
+ghost use Rattle.book_laws.specs.ReportLaws.{OneFront, OneRefusedReport, OneText};
+ghost use Rattle.book_laws.specs.RunAnswers.{OneRun};
+
+use book_core::Ledger;
+
+/// A value that an open ledger answers is the one that the definitions give.
+pub fn one_answer<L: Ledger, V, A>()
+    ensures { OneAnswer V A L.seen }
+{}
+
+/// So is a refusal, but for a lack of memory and a fault of the store.
+pub fn one_refusal<L: Ledger, V, A>()
+    ensures { OneRefusal V A L.seen }
+{}
+
+/// If a value was answered, the book is the one after the definitions' event, if there is one.
+pub fn one_book<L: Ledger, V, A>()
+    ensures { OneBook V A L.seen }
+{}
+
+/// A refusal leaves the ledger open with the book that it had, but for a fault of the store.
+pub fn refusal_changes_nothing<L: Ledger, V, A>()
+    ensures { RefusalChangesNothing V A L.seen }
+{}
+
+/// A report that was written whole is the definitions' text of the book.
+pub fn one_text<L: Ledger>()
+    ensures { OneText L.seen }
+{}
+
+/// What was written before a write failed is a prefix of that text, and not the whole.
+pub fn one_front<L: Ledger>()
+    ensures { OneFront L.seen }
+{}
+
+/// A refusal of the books that a report gives is the definitions' one, and nothing was written.
+pub fn one_refused_report<L: Ledger>()
+    ensures { OneRefusedReport L.seen }
+{}
+
+/// The receipt of an import is the definitions' one, and so is the book after it.
+pub fn one_receipt<L: Ledger>()
+    ensures { OneReceipt L.seen }
+{}
+
+/// The answers to a list of requests are the definitions' ones, and so is the book after them.
+pub fn one_run<L: Ledger>()
+    ensures { OneRun L.seen }
+{}

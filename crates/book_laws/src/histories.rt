@@ -1,0 +1,55 @@
+//! Laws of whole histories, which hold of the definitions alone. Each is the contract of a function
+//! that does nothing.
+
+ghost use Rattle.book_laws.specs.HistoryLaws.{ChargedOnce, ClosedStays, Conserved, ConservedInSets};
+ghost use Rattle.book_laws.specs.HistoryLaws.{DatedRight, LinesOnce, NamedOnce, PostedOnce};
+ghost use Rattle.book_laws.specs.WrongPeriods.{WrongOnesFail};
+
+/// Over all periods a record that is charged now is charged once net, and any other nets to
+/// nothing.
+pub fn charged_once()
+    ensures { ChargedOnce }
+{}
+
+/// Over the closed periods a record is charged once net if the last close charged it.
+pub fn posted_once()
+    ensures { PostedOnce }
+{}
+
+/// The rows and plus lines of all periods, less their minus lines, amount to what the records cost
+/// that are charged now.
+pub fn conserved()
+    ensures { Conserved }
+{}
+
+/// The same for the periods' sets of records: for every history, and at the prices of any rulings.
+pub fn conserved_in_sets()
+    ensures { ConservedInSets }
+{}
+
+/// What a period counts is dated after the close before it, and what it adds is not.
+pub fn dated_right()
+    ensures { DatedRight }
+{}
+
+/// In no period is a record in two of the three sets.
+pub fn named_once()
+    ensures { NamedOnce }
+{}
+
+/// Each record that a period adds or reverses has one line.
+pub fn lines_once()
+    ensures { LinesOnce }
+{}
+
+/// What is closed never changes: whatever comes after a period is closed, the period is read as it
+/// was.
+pub fn closed_stays()
+    ensures { ClosedStays }
+{}
+
+/// The law of the net count is false for periods that reverse nothing, count early records or add
+/// late ones.
+pub fn wrong_ones_fail()
+    ensures { WrongOnesFail }
+{}

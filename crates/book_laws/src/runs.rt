@@ -1,0 +1,69 @@
+//! Laws of runs, which hold of the definitions alone. Each is the contract of a function that does
+//! nothing.
+
+ghost use Rattle.book_laws.specs.ListLaws.{ListsConserve};
+ghost use Rattle.book_laws.specs.CallLaws.{CallsFollowHistory};
+ghost use Rattle.book_laws.specs.RunLaws.{ClosedStatementsStay, OpenStatementIsFirst};
+ghost use Rattle.book_laws.specs.RunLaws.{RunOrderIsFree, RunsChargeOnce, RunsConserve};
+ghost use Rattle.book_laws.specs.RunLaws.{RunsFollowHistory, RunsMakeHistory};
+ghost use Rattle.book_laws.specs.StatementWidths.{StatementsAreEven};
+
+use book_core::Ledger;
+
+/// A run on new books, also under one tariff, comes after a history that calls made; and with the
+/// run it is such a history again.
+pub fn runs_make_history()
+    ensures { RunsMakeHistory }
+{}
+
+/// The book that a run leaves is the one that its history defines, looked at as a whole.
+pub fn runs_follow_history()
+    ensures { RunsFollowHistory }
+{}
+
+/// After any run each record that is held and undisputed is charged once net over all periods, and
+/// any other nets to nothing.
+pub fn runs_charge_once()
+    ensures { RunsChargeOnce }
+{}
+
+/// After any run all rows and plus lines, less all minus lines, add up to what the records cost
+/// that are charged now.
+pub fn runs_conserve()
+    ensures { RunsConserve }
+{}
+
+/// However records are cut into dumps, requests and runs, repeated or reordered between two
+/// rulings: the books are the same, and so are their statements and their list of disputes.
+pub fn run_order_is_free()
+    ensures { RunOrderIsFree }
+{}
+
+/// A closed statement never changes, whatever requests are run after the close.
+pub fn closed_statements_stay()
+    ensures { ClosedStatementsStay }
+{}
+
+/// The statement that these laws speak of is the one that is written, for books that were never
+/// closed.
+pub fn open_statement_is_first()
+    ensures { OpenStatementIsFirst }
+{}
+
+/// Whatever calls are made on the books of a history, one after another: if the ledger is still
+/// open, it is at the books of the history that goes on with what they made.
+pub fn calls_follow_history<L: Ledger>()
+    ensures { CallsFollowHistory L.seen }
+{}
+
+/// The charge rows and plus lines that a ledger answers for all its periods, less the minus lines,
+/// amount to what the records cost that are charged by the history.
+pub fn lists_conserve<L: Ledger>()
+    ensures { ListsConserve L.seen }
+{}
+
+/// Each line of a statement but the first has 114 characters, for any period of books that calls
+/// made: within the office's limits no number is wider than its column.
+pub fn statements_are_even()
+    ensures { StatementsAreEven }
+{}
