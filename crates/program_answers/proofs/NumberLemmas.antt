@@ -69,7 +69,7 @@ frame_texts frame.Truncated = refl
 
 frame_number_found : (fault : FrameFault)
     → number_at frame_table (frame_meaning fault) ≡ frame_number fault
-unfolding number_at
+unfolding number_at frame_meaning
 frame_number_found frame.SegmentLength = refl
 frame_number_found frame.BlockLength = refl
 frame_number_found frame.ExtendedBlock = refl
@@ -89,7 +89,7 @@ ledger_table = map (λ fault. (ledger_meaning fault, ledger_advice fault))
 
 ledger_texts : (fault : LedgerFault)
     → texts_at ledger_table (ledger_number fault) ≡ (ledger_meaning fault, ledger_advice fault)
-unfolding texts_at
+unfolding texts_at ledger_meaning ledger_advice
 ledger_texts ledger.Memory = refl
 ledger_texts ledger.Store = refl
 ledger_texts ledger.Reopen = refl
@@ -109,7 +109,7 @@ ledger_texts ledger.NotBooks = refl
 
 ledger_number_found : (fault : LedgerFault)
     → number_at ledger_table (ledger_meaning fault) ≡ ledger_number fault
-unfolding number_at
+unfolding number_at ledger_meaning
 ledger_number_found ledger.Memory = refl
 ledger_number_found ledger.Store = refl
 ledger_number_found ledger.Reopen = refl
@@ -135,7 +135,7 @@ tariff_table = map (λ fault. (tariff_meaning fault, tariff_advice fault))
 
 tariff_texts : (fault : TariffFault)
     → texts_at tariff_table (tariff_number fault) ≡ (tariff_meaning fault, tariff_advice fault)
-unfolding texts_at
+unfolding texts_at tariff_meaning tariff_advice
 tariff_texts tariff.Syntax = refl
 tariff_texts (tariff.Missing carried) = refl
 tariff_texts (tariff.Range carried) = refl
@@ -146,7 +146,7 @@ tariff_texts tariff.Memory = refl
 
 tariff_number_found : (fault : TariffFault)
     → number_at tariff_table (tariff_meaning fault) ≡ tariff_number fault
-unfolding number_at
+unfolding number_at tariff_meaning
 tariff_number_found tariff.Syntax = refl
 tariff_number_found (tariff.Missing carried) = refl
 tariff_number_found (tariff.Range carried) = refl
@@ -176,7 +176,7 @@ damage_texts damage.Accounting = refl
 
 damage_number_found : (fault : Damage)
     → number_at damage_table (damage_meaning fault) ≡ damage_number fault
-unfolding number_at
+unfolding number_at damage_meaning
 damage_number_found damage.Short = refl
 damage_number_found damage.Date = refl
 damage_number_found damage.Time = refl

@@ -10,7 +10,7 @@ use Rattle.book_model.specs.declared.fault.LedgerFault.{LedgerFault}
 use Rattle.book_model.specs.declared.fault.LedgerFault.TheVariants as ledger
 
 -- what a fault of a dump means
-abbrev pub frame_meaning : FrameFault → List ℕ
+unfoldable pub frame_meaning : FrameFault → List ℕ
 frame_meaning frame.SegmentLength =
     codes "A segment's descriptor gives a length below 4 bytes: what was taken for a "
     ++ codes "segment is not one."
@@ -31,7 +31,7 @@ frame_meaning frame.Truncated =
     codes "The dump ends inside a descriptor, a segment or a block."
 
 -- what to do about a fault of a dump
-abbrev pub frame_advice : FrameFault → List ℕ
+unfoldable pub frame_advice : FrameFault → List ℕ
 frame_advice frame.SegmentLength =
     codes "Is it the right layout (--layout)? If so, the dump is damaged there; records "
     ++ codes "before it were read."
@@ -55,7 +55,7 @@ frame_advice frame.Truncated =
     codes "It was cut off: copy it again; records already held are not counted twice."
 
 -- what a refusal of the books means
-abbrev pub ledger_meaning : LedgerFault → List ℕ
+unfoldable pub ledger_meaning : LedgerFault → List ℕ
 ledger_meaning ledger.Memory =
     codes "There was not enough memory for this step. What was answered before it still "
     ++ codes "holds."
@@ -94,7 +94,7 @@ ledger_meaning ledger.NotBooks =
     codes "The file holds no books."
 
 -- what to do about a refusal of the books
-abbrev pub ledger_advice : LedgerFault → List ℕ
+unfoldable pub ledger_advice : LedgerFault → List ℕ
 ledger_advice ledger.Memory =
     codes "Run the command again with more memory; nothing is counted twice."
 ledger_advice ledger.Store =
@@ -131,7 +131,7 @@ ledger_advice ledger.NotBooks =
     codes "Name another file, or make new books with init."
 
 -- what a fault of a tariff file means
-abbrev pub tariff_meaning : TariffFault → List ℕ
+unfoldable pub tariff_meaning : TariffFault → List ℕ
 tariff_meaning tariff.Syntax =
     codes "The text is not a TOML document in UTF-8."
 tariff_meaning (tariff.Missing key) =
@@ -151,7 +151,7 @@ tariff_meaning tariff.Memory =
     codes "There was not enough memory to read the tariff."
 
 -- what to do about a fault of a tariff file
-abbrev pub tariff_advice : TariffFault → List ℕ
+unfoldable pub tariff_advice : TariffFault → List ℕ
 tariff_advice tariff.Syntax =
     codes "Look for a missing quote or bracket, or a key that appears twice."
 tariff_advice (tariff.Missing key) =
@@ -168,7 +168,7 @@ tariff_advice tariff.Memory =
     codes "Run the command again with more memory."
 
 -- what a damage of a record means
-abbrev pub damage_meaning : Damage → List ℕ
+unfoldable pub damage_meaning : Damage → List ℕ
 damage_meaning damage.Short =
     codes "The record is shorter than its header, or is of type 30 and shorter than its "
     ++ codes "triplets."
@@ -190,5 +190,5 @@ damage_meaning damage.Accounting =
     codes "The accounting fields do not lie inside the record."
 
 -- what to do about a damage of a record, whichever it is
-abbrev pub not_charged : List ℕ
+unfoldable pub not_charged : List ℕ
 not_charged = codes "It is not charged; ask whoever writes the dumps."

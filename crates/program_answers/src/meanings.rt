@@ -9,6 +9,7 @@ use smf_type30::Damage;
 use tariff_rules::TariffFault;
 
 /// What a fault of a dump means.
+#[tactic(auto, unfolding(crate::specs::Meanings::frame_meaning))]
 pub(crate) fn frame_meaning(fault: FrameFault) -> &'static str
     ensures { result.now ≡ spec.frame_meaning fault }
 {
@@ -31,6 +32,7 @@ pub(crate) fn frame_meaning(fault: FrameFault) -> &'static str
 }
 
 /// What to do about a fault of a dump.
+#[tactic(auto, unfolding(crate::specs::Meanings::frame_advice))]
 pub(crate) fn frame_advice(fault: FrameFault) -> &'static str
     ensures { result.now ≡ spec.frame_advice fault }
 {
@@ -60,6 +62,7 @@ pub(crate) fn frame_advice(fault: FrameFault) -> &'static str
 }
 
 /// What a refusal of the books means.
+#[tactic(auto, unfolding(crate::specs::Meanings::ledger_meaning))]
 pub(crate) fn ledger_meaning(fault: LedgerFault) -> &'static str
     ensures { result.now ≡ spec.ledger_meaning fault }
 {
@@ -96,6 +99,7 @@ pub(crate) fn ledger_meaning(fault: LedgerFault) -> &'static str
 }
 
 /// What to do about a refusal of the books.
+#[tactic(auto, unfolding(crate::specs::Meanings::ledger_advice))]
 pub(crate) fn ledger_advice(fault: LedgerFault) -> &'static str
     ensures { result.now ≡ spec.ledger_advice fault }
 {
@@ -126,6 +130,7 @@ pub(crate) fn ledger_advice(fault: LedgerFault) -> &'static str
 }
 
 /// What a fault of a tariff file means.
+#[tactic(auto, unfolding(crate::specs::Meanings::tariff_meaning))]
 pub(crate) fn tariff_meaning(fault: TariffFault) -> &'static str
     ensures { result.now ≡ spec.tariff_meaning fault }
 {
@@ -148,6 +153,7 @@ pub(crate) fn tariff_meaning(fault: TariffFault) -> &'static str
 }
 
 /// What to do about a fault of a tariff file.
+#[tactic(auto, unfolding(crate::specs::Meanings::tariff_advice))]
 pub(crate) fn tariff_advice(fault: TariffFault) -> &'static str
     ensures { result.now ≡ spec.tariff_advice fault }
 {
@@ -163,6 +169,7 @@ pub(crate) fn tariff_advice(fault: TariffFault) -> &'static str
 }
 
 /// What a damage of a record means.
+#[tactic(auto, unfolding(crate::specs::Meanings::damage_meaning))]
 pub(crate) fn damage_meaning(damage: Damage) -> &'static str
     ensures { result.now ≡ spec.damage_meaning damage }
 {
@@ -186,6 +193,7 @@ pub(crate) fn damage_meaning(damage: Damage) -> &'static str
 }
 
 /// What to do about a damage of a record, whichever it is.
+#[tactic(auto, unfolding(crate::specs::Meanings::not_charged))]
 pub(crate) fn damage_advice() -> &'static str
     ensures { result.now ≡ spec.not_charged }
 {

@@ -10,7 +10,7 @@ use book_import::Stop;
 use book_reports::ReportFault;
 use std::io;
 use std::io::{ErrorKind, Write};
-use tariff_rules::TariffFault;
+use tariff_rules::{Key, TariffFault};
 
 /// The name by which the program speaks of itself.
 pub const PROGRAM: &str = "chargectl";
@@ -26,24 +26,47 @@ fn ledger_status(fault: LedgerFault) -> Status
     }
 }
 
+/// One line: a word behind the program's name.
+fn say_word<E: Write>(errors: &mut E, word: &str) {
+    let _ = writeln!(errors, "{PROGRAM}: {word}");
+}
+
+/// One line: what is wrong with the words.
+fn say_error<E: Write>(errors: &mut E, what: &str) {
+    let _ = writeln!(errors, "error: {what}");
+}
+
+/// One line: a number behind the word for what it is the number of.
+fn say_number<E: Write>(errors: &mut E, word: &str, number: u8) {
+    let _ = writeln!(errors, "{PROGRAM}: {word} {number}");
+}
+
 /// One line: a tariff's fault with its number, and the key that is wrong.
-fn say_tariff<E: Write>(errors: &mut E, fault: TariffFault) -> io::Result<()> {
+fn say_key<E: Write>(errors: &mut E, number: u8, key: Key) {
+    let _ = writeln!(errors, "{PROGRAM}: tariff {number} {key}");
+}
+
+/// One line: a ledger's fault with its number, and the period that is open.
+fn say_open<E: Write>(errors: &mut E, number: u8, open: u16) {
+    let _ = writeln!(errors, "{PROGRAM}: ledger {number} {open}");
+}
+
+/// One line: a tariff's fault with its number, and the key that is wrong.
+fn say_tariff<E: Write>(errors: &mut E, fault: TariffFault) {
     let number = fault.number();
     match fault {
-        TariffFault::Missing(key) | TariffFault::Range(key) => {
-            writeln!(errors, "{PROGRAM}: tariff {number} {key}")
-        }
-        _ => writeln!(errors, "{PROGRAM}: tariff {number}"),
+        TariffFault::Missing(key) | TariffFault::Range(key) => say_key(errors, number, key),
+        _ => say_number(errors, "tariff", number),
     }
 }
 
 /// One line: a ledger's fault with its number, and what it carries.
-fn say_ledger<E: Write>(errors: &mut E, fault: LedgerFault) -> io::Result<()> {
+fn say_ledger<E: Write>(errors: &mut E, fault: LedgerFault) {
     let number = fault.number();
     match fault {
         LedgerFault::TariffRefused(fault) => say_tariff(errors, fault),
-        LedgerFault::WrongPeriod(open) => writeln!(errors, "{PROGRAM}: ledger {number} {open}"),
-        _ => writeln!(errors, "{PROGRAM}: ledger {number}"),
+        LedgerFault::WrongPeriod(open) => say_open(errors, number, open),
+        _ => say_number(errors, "ledger", number),
     }
 }
 
@@ -52,7 +75,7 @@ fn say_ledger<E: Write>(errors: &mut E, fault: LedgerFault) -> io::Result<()> {
 pub fn io_failed<E: Write>(errors: &mut E) -> Status
     ensures { result ≡ Status.Io }
 {
-    let _ = writeln!(errors, "{PROGRAM}: io");
+    say_word(errors, "io");
     Status::Io
 }
 
@@ -68,7 +91,7 @@ pub fn words_failed<E: Write>(errors: &mut E, error: &io::Error) -> Status {
     if error.kind() == ErrorKind::OutOfMemory {
         return out_of_memory(errors);
     }
-    let _ = writeln!(errors, "error: a word is not UTF-8");
+    say_error(errors, "a word is not UTF-8");
     Status::Usage
 }
 
@@ -76,7 +99,7 @@ pub fn words_failed<E: Write>(errors: &mut E, error: &io::Error) -> Status {
 pub fn no_such_number<E: Write>(errors: &mut E) -> Status
     ensures { result ≡ Status.Usage }
 {
-    let _ = writeln!(errors, "error: nothing has this number");
+    say_error(errors, "nothing has this number");
     Status::Usage
 }
 
@@ -84,7 +107,7 @@ pub fn no_such_number<E: Write>(errors: &mut E) -> Status
 pub fn said<E: Write>(errors: &mut E, word: &str) -> Status
     ensures { result ≡ Status.Refused }
 {
-    let _ = writeln!(errors, "{PROGRAM}: {word}");
+    say_word(errors, word);
     Status::Refused
 }
 
@@ -92,7 +115,7 @@ pub fn said<E: Write>(errors: &mut E, word: &str) -> Status
 pub fn books_unsound<E: Write>(errors: &mut E) -> Status
     ensures { result ≡ Status.Store }
 {
-    let _ = writeln!(errors, "{PROGRAM}: unsound");
+    say_word(errors, "unsound");
     Status::Store
 }
 
@@ -100,7 +123,7 @@ pub fn books_unsound<E: Write>(errors: &mut E) -> Status
 pub fn books_busy<E: Write>(errors: &mut E) -> Status
     ensures { result ≡ Status.Store }
 {
-    let _ = writeln!(errors, "{PROGRAM}: busy");
+    say_word(errors, "busy");
     Status::Store
 }
 
@@ -108,7 +131,7 @@ pub fn books_busy<E: Write>(errors: &mut E) -> Status
 pub fn ledger_refused<E: Write>(errors: &mut E, fault: LedgerFault) -> Status
     ensures { result ≡ spec.ledger_status fault }
 {
-    let _ = say_ledger(errors, fault);
+    say_ledger(errors, fault);
     ledger_status(fault)
 }
 
@@ -130,8 +153,7 @@ pub fn stopped<E: Write>(errors: &mut E, stop: Stop) -> Status
     match stop {
         Stop::End => Status::Done,
         Stop::Frame(fault) => {
-            let number = fault.number();
-            let _ = writeln!(errors, "{PROGRAM}: frame {number}");
+            say_number(errors, "frame", fault.number());
             Status::Refused
         }
         Stop::Read | Stop::ReadLimit => io_failed(errors),

@@ -3,3 +3,5 @@ pub mod ColumnLemmas
 pub mod PeriodLemmas
 pub mod TableLemmas
 pub mod AmountLemmas
+pub mod SumLemmas
+pub mod PartLemmas

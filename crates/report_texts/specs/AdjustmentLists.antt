@@ -33,24 +33,29 @@ unfoldable pub place_columns : List ℕ → List ℕ → List ℕ → List ℕ �
 place_columns word day centre shift = left 5 word ++ codes " " ++ key_columns day centre shift
 
 -- the column of a signed amount
-abbrev pub signed_column : ℕ → ℕ → List ℕ
+unfoldable pub signed_column : ℕ → ℕ → List ℕ
 signed_column charged taken = right 21 (signed_text charged taken)
 
 -- the record's name and job, and the end of the line
-abbrev pub record_columns : Line → List ℕ
+unfoldable pub record_columns : Line → List ℕ
 record_columns line =
     codes " " ++ encode_lower line.name ++ codes " " ++ show_text line.job ++ line_end
 
--- the line of a record: what it does, and where; its amount; and which record it is
-abbrev pub adjustment_line : Line → List ℕ
-adjustment_line line =
+-- these columns of a line
+unfoldable pub line_place : Line → List ℕ
+line_place line =
     place_columns (word_of line.plus)
     (day_text_of line.priced.day) line.priced.centre line.priced.shift
+
+-- the line of a record: what it does, and where; its amount; and which record it is
+unfoldable pub adjustment_line : Line → List ℕ
+adjustment_line line =
+    line_place line
     ++ signed_column (charged_by line) (taken_by line)
     ++ record_columns line
 
 -- the line below the others
-abbrev pub sum_line : List Line → List ℕ
+unfoldable pub sum_line : List Line → List ℕ
 sum_line lines =
     place_columns (codes "TOTAL") [] [] []
     ++ signed_column (sum_by charged_by lines) (sum_by taken_by lines) ++ line_end

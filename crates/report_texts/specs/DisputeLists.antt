@@ -12,11 +12,14 @@ use Rattle.report_texts.specs.Columns.{line_end, right, amount_text}
 unfoldable pub job_text : List ℕ → List ℕ
 job_text identity = show_text (part identity 0 4) ++ codes " " ++ show_text (part identity 4 8)
 
+-- a word, and a time and a date of 4 bytes each
+unfoldable pub moment_text : List ℕ → List ℕ → List ℕ → List ℕ
+moment_text word time date = word ++ encode_upper time ++ codes " " ++ encode_upper date
+
 -- when a reader took in the job: time and date, the next 4 bytes each
 unfoldable pub reader_text : List ℕ → List ℕ
 reader_text identity =
-    codes " READER " ++ encode_upper (part identity 12 4)
-    ++ codes " " ++ encode_upper (part identity 16 4)
+    moment_text (codes " READER ") (part identity 12 4) (part identity 16 4)
 
 -- the subtype of the records and the number of the step, the last 2 bytes each
 unfoldable pub step_text : List ℕ → List ℕ
@@ -27,8 +30,7 @@ step_text identity =
 -- by the second rule also when the work was initiated: time and date, 4 bytes each
 unfoldable pub start_text : List ℕ → List ℕ
 start_text identity =
-    codes " START " ++ encode_upper (part identity 24 4)
-    ++ codes " " ++ encode_upper (part identity 28 4)
+    moment_text (codes " START ") (part identity 24 4) (part identity 28 4)
 
 -- the line of an identity, by its length of the first or of the second rule
 unfoldable pub identity_line : List ℕ → List ℕ
@@ -37,27 +39,27 @@ identity_line identity =
     ++ (if length identity == identity2_length then start_text identity else []) ++ line_end
 
 -- completion code and termination indicator, 2 bytes each, where the record has them
-abbrev pub completion_text : Option (List ℕ) → List ℕ
+unfoldable pub completion_text : Option (List ℕ) → List ℕ
 completion_text None = codes "----"
 completion_text (Some bytes) =
     encode_upper (part bytes 0 2) ++ codes "/" ++ encode_upper (part bytes 2 2)
 
 -- which record it is, its day and its price
-abbrev pub price_columns : Variant → List ℕ
+unfoldable pub price_columns : Variant → List ℕ
 price_columns member =
     encode_lower member.name
     ++ codes " " ++ day_text_of member.priced.day
     ++ codes " " ++ right 21 (amount_text member.priced.amount)
 
 -- how its work ended, under which job id, and in which program
-abbrev pub work_columns : Variant → List ℕ
+unfoldable pub work_columns : Variant → List ℕ
 work_columns member =
     completion_text member.completion
     ++ codes " " ++ show_text member.job_id
     ++ codes " " ++ show_text member.program
 
 -- the line of a record
-abbrev pub member_line : Variant → List ℕ
+unfoldable pub member_line : Variant → List ℕ
 member_line member =
     codes "  " ++ price_columns member ++ codes " " ++ work_columns member ++ line_end
 

@@ -5,7 +5,7 @@ use Rattle.report_texts.specs.Columns.{line_end}
 use Rattle.report_texts.specs.Periods.{head_text}
 
 -- the line of a period: its number and its head
-abbrev pub period_line : ℕ → Option ℤ → List ℕ
+unfoldable pub period_line : ℕ → Option ℤ → List ℕ
 period_line period through = decimal period ++ codes " " ++ head_text through ++ line_end
 
 -- the lines of closed periods, by the days that they were closed through; the first has that number

@@ -5,11 +5,11 @@ use Rattle.book_model.specs.Words.{day_text_of}
 use Rattle.report_texts.specs.Columns.{line_end}
 
 -- a period is open, or was closed through a day
-abbrev pub head_text : Option ℤ → List ℕ
+unfoldable pub head_text : Option ℤ → List ℕ
 head_text None = codes "OPEN"
 head_text (Some through) = codes "CLOSED THROUGH " ++ day_text_of through
 
 -- the first line of a report on a period: what the report is, and the period's number and head
-abbrev pub title_line : List ℕ → ℕ → Option ℤ → List ℕ
+unfoldable pub title_line : List ℕ → ℕ → Option ℤ → List ℕ
 title_line report period through =
     report ++ codes " PERIOD " ++ decimal period ++ codes " " ++ head_text through ++ line_end

@@ -6,10 +6,11 @@ ghost use Rattle.book_model.specs.Words.{IsDay, AreLines};
 ghost use Rattle.report_texts.specs.AdjustmentLists as spec;
 
 use crate::columns::{amount_text, push_left, push_right};
+use crate::parts::{push_name, push_shown};
 use crate::periods::push_title;
 use crate::statements::push_key;
 use book_model::Line;
-use smf_text::{day_text, show};
+use smf_text::day_text;
 use std::alloc::{AllocError, Global};
 
 /// What is charged less what is reversed, in units: a minus sign comes before what is below
@@ -27,6 +28,7 @@ fn signed_text(alloc: Global, charged: u64, taken: u64) -> Result<String, AllocE
 }
 
 /// Appends the column of a signed amount.
+#[tactic(auto, unfolding(crate::specs::AdjustmentLists::signed_column))]
 fn push_signed(alloc: Global, out: &mut String, charged: u64, taken: u64) -> Result<(), AllocError>
     ensures { OnOk result (string_bytes out.new
         ≡ string_bytes out.old ++ spec.signed_column charged taken) }
@@ -66,28 +68,46 @@ fn taken_by(line: &Line) -> u64
 }
 
 /// Appends which record a line is of, and ends the line.
+#[tactic(auto, unfolding(crate::specs::AdjustmentLists::record_columns))]
 fn push_record(alloc: Global, out: &mut String, line: &Line) -> Result<(), AllocError>
     ensures { OnOk result (string_bytes out.new
         ≡ string_bytes out.old ++ spec.record_columns line.now) }
 {
     out.push(' ')?;
-    out.push_str(hex::encode(alloc, line.name)?.as_str())?;
+    push_name(alloc, out, &line.name)?;
     out.push(' ')?;
-    out.push_str(show(alloc, &line.job)?.as_str())?;
+    push_shown(alloc, out, &line.job)?;
     out.push('\n')
 }
 
+/// The word for whether a line charges its record, or takes the charge back.
+fn word_of(line: &Line) -> &'static str
+    ensures { result.now ≡ spec.word_of line.now.plus }
+{
+    if line.plus { "PLUS" } else { "MINUS" }
+}
+
+/// Appends the columns that say what a line does, and where its record is charged, of a line.
+#[tactic(auto, unfolding(crate::specs::AdjustmentLists::line_place))]
+fn push_line_place(alloc: Global, out: &mut String, line: &Line) -> Result<(), AllocError>
+    requires { IsDay line.now.priced.day }
+    ensures { OnOk result (string_bytes out.new
+        ≡ string_bytes out.old ++ spec.line_place line.now) }
+{
+    let day = day_text(alloc, line.priced.day)?;
+    let centre = line.priced.centre.text();
+    let shift = line.priced.shift.text();
+    push_place(out, word_of(line), day.as_str(), centre, shift)
+}
+
 /// Appends the line of a record.
+#[tactic(auto, unfolding(crate::specs::AdjustmentLists::adjustment_line))]
 fn push_line(alloc: Global, out: &mut String, line: &Line) -> Result<(), AllocError>
     requires { IsDay line.now.priced.day }
     ensures { OnOk result (string_bytes out.new
         ≡ string_bytes out.old ++ spec.adjustment_line line.now) }
 {
-    let word = if line.plus { "PLUS" } else { "MINUS" };
-    let day = day_text(alloc, line.priced.day)?;
-    let centre = line.priced.centre.text();
-    let shift = line.priced.shift.text();
-    push_place(out, word, day.as_str(), centre, shift)?;
+    push_line_place(alloc, out, line)?;
     push_signed(alloc, out, charged_by(line), taken_by(line))?;
     push_record(alloc, out, line)
 }
@@ -119,6 +139,7 @@ fn sums(lines: &[Line]) -> (u64, u64)
 }
 
 /// Appends the line below the others.
+#[tactic(auto, unfolding(crate::specs::AdjustmentLists::sum_line))]
 fn push_sum(alloc: Global, out: &mut String, lines: &[Line]) -> Result<(), AllocError>
     requires { AreLines lines.now }
     ensures { OnOk result (string_bytes out.new ≡ string_bytes out.old ++ spec.sum_line lines.now) }

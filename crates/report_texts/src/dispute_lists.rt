@@ -7,10 +7,10 @@ ghost use Rattle.book_model.specs.Words.{identity2_length, identity_length};
 ghost use Rattle.smf_frames.specs.Number as numbers;
 ghost use Rattle.report_texts.specs.DisputeLists as spec;
 
-use crate::columns::{amount_text, push_number, push_right};
+use crate::columns::push_number;
+use crate::parts::{push_day, push_hex, push_money, push_name, push_shown};
 use book_model::{Dispute, Variant};
 use byteorder::{BigEndian, ByteOrder};
-use smf_text::{day_text, show};
 use std::alloc::{AllocError, Global};
 
 /// The bytes of an identity by the second rule.
@@ -31,9 +31,27 @@ fn push_job(alloc: Global, out: &mut String, identity: &[u8]) -> Result<(), Allo
     ensures { OnOk result (string_bytes out.new
         ≡ string_bytes out.old ++ spec.job_text identity.now) }
 {
-    out.push_str(show(alloc, part(identity, 0, 4))?.as_str())?;
+    push_shown(alloc, out, part(identity, 0, 4))?;
     out.push(' ')?;
-    out.push_str(show(alloc, part(identity, 4, 8))?.as_str())
+    push_shown(alloc, out, part(identity, 4, 8))
+}
+
+/// Appends a word, and a time and a date behind it.
+#[tactic(auto, unfolding(crate::specs::DisputeLists::moment_text))]
+fn push_moment(
+    alloc: Global,
+    out: &mut String,
+    word: &str,
+    time: &[u8],
+    date: &[u8],
+) -> Result<(), AllocError>
+    ensures { OnOk result (string_bytes out.new
+        ≡ string_bytes out.old ++ spec.moment_text word.now time.now date.now) }
+{
+    out.push_str(word)?;
+    push_hex(alloc, out, time)?;
+    out.push(' ')?;
+    push_hex(alloc, out, date)
 }
 
 /// Appends the reader's time and date of an identity.
@@ -43,10 +61,13 @@ fn push_reader(alloc: Global, out: &mut String, identity: &[u8]) -> Result<(), A
     ensures { OnOk result (string_bytes out.new
         ≡ string_bytes out.old ++ spec.reader_text identity.now) }
 {
-    out.push_str(" READER ")?;
-    out.push_str(hex::encode_upper(alloc, part(identity, 12, 4))?.as_str())?;
-    out.push(' ')?;
-    out.push_str(hex::encode_upper(alloc, part(identity, 16, 4))?.as_str())
+    push_moment(
+        alloc,
+        out,
+        " READER ",
+        part(identity, 12, 4),
+        part(identity, 16, 4),
+    )
 }
 
 /// Appends the subtype and the step number of an identity.
@@ -69,10 +90,13 @@ fn push_start(alloc: Global, out: &mut String, identity: &[u8]) -> Result<(), Al
     ensures { OnOk result (string_bytes out.new
         ≡ string_bytes out.old ++ spec.start_text identity.now) }
 {
-    out.push_str(" START ")?;
-    out.push_str(hex::encode_upper(alloc, part(identity, 24, 4))?.as_str())?;
-    out.push(' ')?;
-    out.push_str(hex::encode_upper(alloc, part(identity, 28, 4))?.as_str())
+    push_moment(
+        alloc,
+        out,
+        " START ",
+        part(identity, 24, 4),
+        part(identity, 28, 4),
+    )
 }
 
 /// Appends the line of an identity.
@@ -92,6 +116,7 @@ fn push_identity(alloc: Global, out: &mut String, identity: &[u8]) -> Result<(),
 }
 
 /// Appends a completion code and a termination indicator.
+#[tactic(auto, unfolding(crate::specs::DisputeLists::completion_text))]
 fn push_completion(
     alloc: Global,
     out: &mut String,
@@ -103,39 +128,42 @@ fn push_completion(
     match completion {
         None => out.push_str("----"),
         Some(bytes) => {
-            out.push_str(hex::encode_upper(alloc, part(&bytes, 0, 2))?.as_str())?;
+            push_hex(alloc, out, part(&bytes, 0, 2))?;
             out.push('/')?;
-            out.push_str(hex::encode_upper(alloc, part(&bytes, 2, 2))?.as_str())
+            push_hex(alloc, out, part(&bytes, 2, 2))
         }
     }
 }
 
 /// Appends the name of a record, its day and its price.
+#[tactic(auto, unfolding(crate::specs::DisputeLists::price_columns))]
 fn push_price(alloc: Global, out: &mut String, member: &Variant) -> Result<(), AllocError>
     requires { IsDay member.now.priced.day }
     ensures { OnOk result (string_bytes out.new
         ≡ string_bytes out.old ++ spec.price_columns member.now) }
 {
-    out.push_str(hex::encode(alloc, member.name)?.as_str())?;
+    push_name(alloc, out, &member.name)?;
     out.push(' ')?;
-    out.push_str(day_text(alloc, member.priced.day)?.as_str())?;
+    push_day(alloc, out, member.priced.day)?;
     out.push(' ')?;
-    push_right(out, 21, amount_text(alloc, member.priced.amount)?.as_str())
+    push_money(alloc, out, 21, member.priced.amount)
 }
 
 /// Appends how the work of a record ended, and which work it was.
+#[tactic(auto, unfolding(crate::specs::DisputeLists::work_columns))]
 fn push_work(alloc: Global, out: &mut String, member: &Variant) -> Result<(), AllocError>
     ensures { OnOk result (string_bytes out.new
         ≡ string_bytes out.old ++ spec.work_columns member.now) }
 {
     push_completion(alloc, out, member.completion)?;
     out.push(' ')?;
-    out.push_str(show(alloc, &member.job_id)?.as_str())?;
+    push_shown(alloc, out, &member.job_id)?;
     out.push(' ')?;
-    out.push_str(show(alloc, &member.program)?.as_str())
+    push_shown(alloc, out, &member.program)
 }
 
 /// Appends the line of a record.
+#[tactic(auto, unfolding(crate::specs::DisputeLists::member_line))]
 fn push_member(alloc: Global, out: &mut String, member: &Variant) -> Result<(), AllocError>
     requires { IsDay member.now.priced.day }
     ensures { OnOk result (string_bytes out.new
@@ -171,6 +199,18 @@ fn push_dispute(alloc: Global, out: &mut String, dispute: &Dispute) -> Result<()
     push_members(alloc, out, &dispute.members)
 }
 
+/// Appends the lines of identities and their records.
+fn push_disputes(alloc: Global, out: &mut String, disputes: &[Dispute]) -> Result<(), AllocError>
+    requires { AreDisputes (map dispute_shown disputes.now) }
+    ensures { OnOk result (string_bytes out.new
+        ≡ string_bytes out.old ++ flat_map spec.dispute_lines (map dispute_shown disputes.now)) }
+{
+    for dispute in disputes {
+        push_dispute(alloc, out, dispute)?;
+    }
+    Ok(())
+}
+
 /// The list of disputes, in the order in which the books give them.
 pub fn dispute_list_text(alloc: Global, disputes: &[Dispute]) -> Result<String, AllocError>
     requires { AreDisputes (map dispute_shown disputes.now) }
@@ -180,8 +220,6 @@ pub fn dispute_list_text(alloc: Global, disputes: &[Dispute]) -> Result<String, 
     let mut out = String::from_str(alloc, "DISPUTES ")?;
     push_number(&mut out, disputes.len() as u64)?;
     out.push('\n')?;
-    for dispute in disputes {
-        push_dispute(alloc, &mut out, dispute)?;
-    }
+    push_disputes(alloc, &mut out, disputes)?;
     Ok(out)
 }

@@ -4,6 +4,7 @@
 mod adjustment_lists;
 mod columns;
 mod dispute_lists;
+mod parts;
 mod period_lists;
 mod periods;
 mod statement_tables;

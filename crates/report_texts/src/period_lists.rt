@@ -10,6 +10,7 @@ use crate::periods::push_head;
 use std::alloc::{AllocError, Global};
 
 /// Appends the line of a period.
+#[tactic(auto, unfolding(crate::specs::PeriodLists::period_line))]
 fn push_period(
     alloc: Global,
     out: &mut String,

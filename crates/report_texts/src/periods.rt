@@ -6,10 +6,11 @@ ghost use Rattle.book_model.specs.Words.{IsDay};
 ghost use Rattle.report_texts.specs.Periods.{head_text, title_line};
 
 use crate::columns::push_number;
-use smf_text::day_text;
+use crate::parts::push_day;
 use std::alloc::{AllocError, Global};
 
 /// Appends the head of a period: whether it is open, or the day that it was closed through.
+#[tactic(auto, unfolding(crate::specs::Periods::head_text))]
 pub(crate) fn push_head(
     alloc: Global,
     out: &mut String,
@@ -22,12 +23,13 @@ pub(crate) fn push_head(
         None => out.push_str("OPEN"),
         Some(day) => {
             out.push_str("CLOSED THROUGH ")?;
-            out.push_str(day_text(alloc, day)?.as_str())
+            push_day(alloc, out, day)
         }
     }
 }
 
 /// Appends the first line of a report on a period.
+#[tactic(auto, unfolding(crate::specs::Periods::title_line))]
 pub(crate) fn push_title(
     alloc: Global,
     out: &mut String,

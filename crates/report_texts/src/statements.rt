@@ -1,6 +1,6 @@
 //! Statements: what a period is charged.
 
-ghost use Rattle.std.specs.Prelude.{◌≡◌, ◌++◌, IfOk, OnOk, flat_map, string_bytes};
+ghost use Rattle.std.specs.Prelude.{◌≡◌, ◌++◌, IfOk, OnOk, flat_map, string_bytes, sum_by};
 ghost use Rattle.std.specs.Option.{ForSome};
 ghost use Rattle.book_model.specs.Words.{IsDay, AreRows};
 ghost use Rattle.report_texts.specs.Statements as spec;
@@ -105,16 +105,36 @@ fn push_rows(alloc: Global, out: &mut String, rows: &[ChargeRow]) -> Result<(), 
     Ok(())
 }
 
+/// The sums of rows: how many records there are, their CPU time, their blocks, and what they cost.
+fn sums(rows: &[ChargeRow]) -> (u64, u64, u64, u64)
+    requires { AreRows rows.now }
+    ensures { result ≡ (
+      sum_by (λ row. row.count) rows.now,
+      sum_by (λ row. row.cpu) rows.now,
+      sum_by (λ row. row.blocks) rows.now,
+      sum_by (λ row. row.amount) rows.now,
+    ) }
+{
+    let mut count = 0;
+    let mut cpu = 0;
+    let mut blocks = 0;
+    let mut amount = 0;
+    for row in rows {
+        count += row.count;
+        cpu += row.cpu;
+        blocks += row.blocks;
+        amount += row.amount;
+    }
+    (count, cpu, blocks, amount)
+}
+
 /// Appends the columns of numbers, for the sums of rows.
 fn push_sums(alloc: Global, out: &mut String, rows: &[ChargeRow]) -> Result<(), AllocError>
     requires { AreRows rows.now }
     ensures { OnOk result (string_bytes out.new
         ≡ string_bytes out.old ++ spec.sum_columns rows.now) }
 {
-    let count = rows.iter().map(|row| row.count).sum();
-    let cpu = rows.iter().map(|row| row.cpu).sum();
-    let blocks = rows.iter().map(|row| row.blocks).sum();
-    let amount = rows.iter().map(|row| row.amount).sum();
+    let (count, cpu, blocks, amount) = sums(rows);
     push_numbers(alloc, out, count, cpu, blocks, amount)
 }
 

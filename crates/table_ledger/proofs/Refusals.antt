@@ -4,9 +4,14 @@ use Rattle.std.specs.Prelude.{IsErr, IfSome}
 use Rattle.std.specs.Option.{ok_or}
 use Rattle.sqlite_trees.specs.declared.error.StoreError.{StoreError}
 use Rattle.kept_tables.specs.Tables.{Tables}
-use Rattle.tree_tables.specs.States.{State}
+use Rattle.tree_tables.specs.States.{State, Survives}
 use Rattle.tree_tables.specs.Steps.{Does, Looks}
 use Rattle.table_ledger.specs.Commits.{Saw, CommitsOne}
+use Rattle.table_ledger.specs.Making.{MakesNew}
+use Rattle.tree_tables.proofs.Looking.{kept_after, kept_behind}
+use Rattle.table_ledger.proofs.Standing.{stands_kept}
+use Rattle.table_ledger.proofs.StepLemmas.{makes_none}
+use Rattle.table_ledger.proofs.SurvivalLemmas.{clean_before, survives_so, survives_then}
 use Rattle.table_ledger.proofs.TryLemmas.{looks_known, looks_stopped}
 
 -- a look that is refused
@@ -47,3 +52,62 @@ does_failed (Err other) failed does = record {
   refused = does.refused;
 }
 does_failed (Ok value) failed does = absurd (true≢false (sym failed))
+
+-- a step that is refused behind another one
+pub does_failed_behind : {A T U : Type 0} {first middle last : State}
+    {First After When : Tables → Type 0} {one other change : Tables → Tables} {done : A}
+    {error : StoreError} (result : Result U StoreError) → IsErr result
+    → Does (Ok done) first middle First one → Does {T = T} (Err error) middle last After other
+    → Does result first last When change
+does_failed_behind (Err other) failed early late = record {
+  survives = survives_then early.survives late.survives;
+  done = λ clean. tt;
+  refused = λ clean.
+      kept_after (early.done (clean_before late.survives clean)).only (late.refused clean);
+}
+does_failed_behind (Ok value) failed early late = absurd (true≢false (sym failed))
+
+-- a look that is refused, before a step
+pub does_unseen : {A U : Type 0} {old new : State} {When : Tables → Type 0}
+    {Others : Tables → A → Type 0} {change : Tables → Tables} {error : StoreError}
+    (result : Result U StoreError) → IsErr result
+    → Looks {A = A} (Err error) old new Others → Does result old new When change
+does_unseen (Err other) failed looks =
+    record { survives = looks.survives; done = λ clean. tt; refused = looks.refused }
+does_unseen (Ok value) failed looks = absurd (true≢false (sym failed))
+
+-- steps that are refused, before their commit
+pub commit_unmade : {T U : Type 0} {old new : State} {When : Tables → Type 0}
+    {change : Tables → Tables} {error : StoreError} (result : Result U StoreError) → IsErr result
+    → Does {T = T} (Err error) old new When change → CommitsOne result old new When change
+commit_unmade (Err other) failed does = record {
+  survives = survives_so does.survives (λ clean trees none. absurd none);
+  done = λ clean rest tables holds when. stands_kept (does.refused clean);
+}
+commit_unmade (Ok value) failed does = absurd (true≢false (sym failed))
+
+-- a look that is refused behind others
+pub looks_failed_behind : {A B : Type 0} {old middle new : State} {Known : Tables → Type 0}
+    {Answers : Tables → A → Type 0} {Others : Tables → B → Type 0} {error : StoreError}
+    (result : Result A StoreError) → IsErr result → Saw old middle Known
+    → Looks {A = B} (Err error) middle new Others → Looks result old new Answers
+looks_failed_behind (Err other) failed saw looks = record {
+  survives = survives_then saw.survives looks.survives;
+  found = λ clean. tt;
+  refused = λ clean.
+      kept_behind (saw.seen (clean_before looks.survives clean)).same (looks.refused clean);
+}
+looks_failed_behind (Ok value) failed saw looks = absurd (true≢false (sym failed))
+
+-- looks, behind which something else fails
+pub looks_failed_after : {A : Type 0} {old new : State} {Known : Tables → Type 0}
+    {Answers : Tables → A → Type 0} (result : Result A StoreError) → IsErr result
+    → Saw old new Known → Looks result old new Answers
+looks_failed_after (Err other) failed saw = looks_stopped saw
+looks_failed_after (Ok value) failed saw = absurd (true≢false (sym failed))
+
+-- new books are not made, whatever fails
+pub makes_failed : {T : Type 0} {old new : State} (result : Result T StoreError) → IsErr result
+    → Survives old new (λ trees. ⊥) → MakesNew result old new
+makes_failed (Err error) failed survives = makes_none survives
+makes_failed (Ok value) failed survives = absurd (true≢false (sym failed))

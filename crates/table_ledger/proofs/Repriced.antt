@@ -30,6 +30,16 @@ module _ (period : ℕ) (name : List ℕ) (row : RecordRow) (priced : Priced) (t
       (put_price_row name priced tables)) (sym charged)
       ∙ sym (reprice_is_steps period name row priced tables there)
 
+  -- and of one that is not
+  pub repriced_uncharged : row.charged ≡ false
+      → put_price_row name priced tables ≡ reprice period name row priced tables
+  repriced_uncharged uncharged =
+      ap (λ b. cond b
+      (change_day_row period (Some (Add priced)) (change_day_row period (Some (Take row.priced))
+      (put_price_row name priced tables)))
+      (put_price_row name priced tables)) (sym uncharged)
+      ∙ sym (reprice_is_steps period name row priced tables there)
+
   -- the step of a record that a tariff is for
   pub step_priced : (terms : Terms) → price_under terms row ≡ Some priced
       → reprice period name row priced tables ≡ reprice_step period terms name tables

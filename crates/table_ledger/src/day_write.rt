@@ -19,7 +19,7 @@ use tariff_rules::Priced;
 use tree_tables::{DayPlace, TreeTables};
 
 /// What is written to the charge rows.
-#[derive(Clone, Copy, Debug)]
+#[derive(Clone, Copy)]
 pub(crate) enum DayWrite {
     Leave,
     /// A row at its place, replacing one that was there.

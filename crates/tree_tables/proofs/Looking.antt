@@ -1,5 +1,5 @@
 -- Looks at the tables, and steps of them, by what calls on rows say.
-use Rattle.std.proofs.Common.{◌≡◌, ◌∙◌, ℕ, List, Option, inl, inr, Result, Ok, Err, refl, sym}
+use Rattle.std.proofs.Common.{◌≡◌, ◌∙◌, ℕ, Bool, List, Option, inl, inr, Result, Ok, Err, refl, sym}
 use Rattle.std.proofs.Common.{ap, subst, true≢false, arith, rules}
 use Rattle.std.specs.Prelude.{IfErr, IsErr, IfOk, OnErr, OnOk}
 use Rattle.sqlite_disk.specs.Disk.{MoreFaults}
@@ -11,7 +11,7 @@ use Rattle.sqlite_trees.specs.declared.error.StoreError.{StoreError}
 use Rattle.sqlite_trees.specs.declared.error.StoreError.TheVariants.{OutOfMemory}
 use Rattle.sqlite_trees.specs.declared.store.Store.{Ghosts}
 use Rattle.kept_tables.specs.Tables.{Tables}
-use Rattle.tree_rows.specs.Rows.{IsUnchanged, Rewrites}
+use Rattle.tree_rows.specs.Rows.{Finds, IsUnchanged, Rewrites}
 use Rattle.tree_rows.proofs.Failing.{caused_after, caused_by_memory}
 use Rattle.tree_tables.specs.Holds.{Holds}
 use Rattle.tree_tables.specs.States.{HasCleanDisk, State, Survives, state}
@@ -142,6 +142,13 @@ pub held_behind : (old : View) {new : View} {tables : Tables} → IsUnchanged ol
     → Holds old.trees tables → Holds new.trees tables
 held_behind old {tables = tables} same holds =
     subst (λ (trees : Trees). Holds trees tables) (sym (ap (λ (v : View). v.trees) same)) holds
+
+-- what is found after a look was there before it
+pub found_before : (old : View) (tree : ℕ) {new : View} {key row : Row} {hit : Bool}
+    → IsUnchanged old new → Finds key (new.trees tree) row hit
+    → Finds key (old.trees tree) row hit
+found_before old tree {key = key} {row = row} {hit = hit} same finds =
+    subst (λ (rows : List Row). Finds key rows row hit) (ap (λ (v : View). v.trees tree) same) finds
 
 -- the disk was clean before a call, if it is after it
 pub was_clean : {old new : State} → Survives old new (λ trees. ⊥) → HasCleanDisk new

@@ -27,12 +27,6 @@ abbrev pub place_key : Option (List ℕ) → Row
 place_key None = []
 place_key (Some name) = Blob name ∷ []
 
--- the columns of a record that is posted as it is charged
-abbrev pub posted_columns : Row → Row
-posted_columns row =
-    column row 0 ∷ column row 1 ∷ column row 2 ∷ column row 3 ∷ column row 4 ∷ column row 5
-    ∷ column row 6 ∷ column row 7 ∷ column row 8 ∷ column row 9 ∷ column row 9 ∷ []
-
 -- The trees hold these tables, but that the two trees which find records have the keys of others.
 abbrev pub with_rows_of : RecordTable → Trees → Trees
 with_rows_of records trees tree =

@@ -7,7 +7,7 @@ ghost use Rattle.tree_tables.specs.Columns.{book_columns};
 ghost use Rattle.tree_tables.specs.Fits.{BookFits};
 ghost use Rattle.tree_tables.specs.Stored.{book_of};
 
-use crate::cells::count_at;
+use crate::cells::{count_at, push_all};
 use crate::keys::number_key;
 use crate::tables::TreeTables;
 use sqlite_trees::error::StoreError;
@@ -48,12 +48,16 @@ fn book_row(row: &mut Row, book: &StoredBook) -> Result<(), StoreError>
     ensures { OnOk result (row.new ≡ book_columns (book_of book.now)) }
 {
     row.clear();
-    row.push(ValueRef::Int(FIRST))?;
-    row.push(ValueRef::Int(book.rule as i64))?;
-    row.push(ValueRef::Int(book.adopted as i64))?;
-    row.push(ValueRef::Int(book.held as i64))?;
-    row.push(ValueRef::Int(book.amount as i64))?;
-    Ok(())
+    push_all(
+        row,
+        &[
+            ValueRef::Int(FIRST),
+            ValueRef::Int(book.rule as i64),
+            ValueRef::Int(book.adopted as i64),
+            ValueRef::Int(book.held as i64),
+            ValueRef::Int(book.amount as i64),
+        ],
+    )
 }
 
 /// What the row of the book says.

@@ -1,7 +1,7 @@
 //! Columns that are read into types of the books. What does not fit is an ill-formed row.
 
-ghost use Rattle.std.specs.Prelude.{◌≡◌, ◌≢◌, ◌<◌, ◌^◌, IfErr, IfOk, IfSome, None, OnOk, ℤ, length};
-ghost use Rattle.std.specs.Prelude.{pos, slice_set, string_bytes};
+ghost use Rattle.std.specs.Prelude.{◌≡◌, ◌≢◌, ◌<◌, ◌+◌, ◌++◌, ◌^◌, IfErr, IfOk, IfSome, None, OnOk};
+ghost use Rattle.std.specs.Prelude.{ℤ, length, map, pos, slice_set, string_bytes};
 ghost use Rattle.sqlite_value.specs.Order.{column};
 ghost use Rattle.sqlite_value.specs.Value.{owned};
 ghost use Rattle.sqlite_value.specs.declared.value.Value.TheVariants.{Blob, Int, Text};
@@ -34,6 +34,32 @@ pub fn count_at(row: &Row, at: usize) -> Result<u64, StoreError>
 {
     let n = int_at(row, at)?;
     u64::try_from(n).map_err(|_| StoreError::Corrupt)
+}
+
+/// The numbers in three columns, one after the other.
+#[derive(Clone, Copy)]
+pub(crate) struct Counts {
+    pub(crate) first: u64,
+    pub(crate) second: u64,
+    pub(crate) third: u64,
+}
+
+/// The numbers in three columns from one on, where none is below 0.
+pub(crate) fn counts_at(row: &Row, at: usize) -> Result<Counts, StoreError>
+    requires { at < 2 ^ 32 }
+    ensures first { IfOk result (λ counts. column row.now at ≡ Int (pos counts.first)) }
+    ensures second { IfOk result (λ counts. column row.now (at + 1) ≡ Int (pos counts.second)) }
+    ensures third { IfOk result (λ counts. column row.now (at + 2) ≡ Int (pos counts.third)) }
+    ensures small { IfOk result (λ counts. (counts.first < 2 ^ 63) × (counts.second < 2 ^ 63)
+        × (counts.third < 2 ^ 63)) }
+    ensures taken { IfErr result (λ error. HasCount (column row.now at)
+        → HasCount (column row.now (at + 1)) → HasCount (column row.now (at + 2)) → ⊥) }
+{
+    Ok(Counts {
+        first: count_at(row, at)?,
+        second: count_at(row, at + 1)?,
+        third: count_at(row, at + 2)?,
+    })
 }
 
 /// The period in a column.
@@ -146,6 +172,16 @@ pub fn name_at(row: &Row, at: usize) -> Result<Name, StoreError>
 {
     let text = str_at(row, at)?;
     Name::of(text).ok_or(StoreError::Corrupt)
+}
+
+/// Values join a row.
+pub(crate) fn push_all(row: &mut Row, values: &[ValueRef<'_>]) -> Result<(), StoreError>
+    ensures { OnOk result (row.new ≡ row.old ++ map owned values.now) }
+{
+    for value in values {
+        row.push(*value)?;
+    }
+    Ok(())
 }
 
 /// Makes a row that is another one but for the value in one column.

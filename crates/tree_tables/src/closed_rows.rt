@@ -4,7 +4,7 @@ ghost use Rattle.std.specs.Prelude.{◌≡◌, OnOk};
 ghost use Rattle.tree_tables.specs.Columns.{closed_columns};
 ghost use Rattle.tree_tables.specs.Stored.{close_of};
 
-use crate::cells::{day_at, period_at};
+use crate::cells::{day_at, period_at, push_all};
 use crate::keys::period_key;
 use crate::tables::TreeTables;
 use sqlite_trees::error::StoreError;
@@ -29,9 +29,13 @@ fn close_row(row: &mut Row, close: &Close) -> Result<(), StoreError>
     ensures { OnOk result (row.new ≡ closed_columns (close_of close.now)) }
 {
     row.clear();
-    row.push(ValueRef::Int(i64::from(close.period)))?;
-    row.push(ValueRef::Int(i64::from(close.through)))?;
-    Ok(())
+    push_all(
+        row,
+        &[
+            ValueRef::Int(i64::from(close.period)),
+            ValueRef::Int(i64::from(close.through)),
+        ],
+    )
 }
 
 impl ReadRow for Close {

@@ -8,7 +8,7 @@ ghost use Rattle.tree_tables.specs.Columns.{day_columns, place_columns};
 ghost use Rattle.tree_tables.specs.Days.{RowFits, SaysDay};
 ghost use Rattle.tree_tables.specs.Fits.{ChargeFits};
 
-use crate::cells::{count_at, day_at, name_at};
+use crate::cells::{count_at, counts_at, day_at, name_at, push_all};
 use crate::closed_rows::Close;
 use crate::keys::period_key;
 use crate::tables::TreeTables;
@@ -56,11 +56,15 @@ fn place_key(key: &mut Row, period: u32, place: &RowKey) -> Result<(), StoreErro
     ensures { OnOk result (key.new ≡ place_columns (period, place.now)) }
 {
     key.clear();
-    key.push(ValueRef::Int(i64::from(period)))?;
-    key.push(ValueRef::Int(i64::from(place.day)))?;
-    key.push(ValueRef::Text(place.centre.text().as_bytes()))?;
-    key.push(ValueRef::Text(place.shift.text().as_bytes()))?;
-    Ok(())
+    push_all(
+        key,
+        &[
+            ValueRef::Int(i64::from(period)),
+            ValueRef::Int(i64::from(place.day)),
+            ValueRef::Text(place.centre.text().as_bytes()),
+            ValueRef::Text(place.shift.text().as_bytes()),
+        ],
+    )
 }
 
 /// Makes the row of a charge row.
@@ -69,11 +73,15 @@ fn day_row(row: &mut Row, period: u32, charge: &ChargeRow) -> Result<(), StoreEr
     ensures { OnOk result (row.new ≡ day_columns ((period, place_of charge.now), charge.now)) }
 {
     place_key(row, period, &place_in(charge))?;
-    row.push(ValueRef::Int(charge.count as i64))?;
-    row.push(ValueRef::Int(charge.cpu as i64))?;
-    row.push(ValueRef::Int(charge.blocks as i64))?;
-    row.push(ValueRef::Int(charge.amount as i64))?;
-    Ok(())
+    push_all(
+        row,
+        &[
+            ValueRef::Int(charge.count as i64),
+            ValueRef::Int(charge.cpu as i64),
+            ValueRef::Int(charge.blocks as i64),
+            ValueRef::Int(charge.amount as i64),
+        ],
+    )
 }
 
 /// The first columns of charge rows of the period that are dated after the day.
@@ -82,9 +90,13 @@ fn later_key(key: &mut Row, close: &Close) -> Result<(), StoreError>
         ≡ Int (pos close.now.period) ∷ Int (close.now.through +ℤ pos 1) ∷ []) }
 {
     key.clear();
-    key.push(ValueRef::Int(i64::from(close.period)))?;
-    key.push(ValueRef::Int(i64::from(close.through) + 1))?;
-    Ok(())
+    push_all(
+        key,
+        &[
+            ValueRef::Int(i64::from(close.period)),
+            ValueRef::Int(i64::from(close.through) + 1),
+        ],
+    )
 }
 
 /// Whether a charge row is one of the period.
@@ -103,14 +115,15 @@ fn read_day(row: &Row) -> Result<ChargeRow, StoreError>
     ensures fits { IfOk result RowFits }
     ensures taken { IfErr result (λ error. ¬ ChargeFits row.now) }
 {
+    let counts = counts_at(row, 5)?;
     Ok(ChargeRow {
         day: day_at(row, 1)?,
         centre: name_at(row, 2)?,
         shift: name_at(row, 3)?,
         count: count_at(row, 4)?,
-        cpu: count_at(row, 5)?,
-        blocks: count_at(row, 6)?,
-        amount: count_at(row, 7)?,
+        cpu: counts.first,
+        blocks: counts.second,
+        amount: counts.third,
     })
 }
 

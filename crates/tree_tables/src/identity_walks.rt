@@ -2,7 +2,8 @@
 //! and then into the two trees that find them, in the order of these trees. So each page of the
 //! three is written about once, and the log of a large file does not grow with every record.
 
-ghost use Rattle.std.specs.Prelude.{OnOk, true};
+ghost use Rattle.std.specs.Prelude.{◌≡◌, IfOk, OnOk, true};
+ghost use Rattle.sqlite_value.specs.Order.{column};
 ghost use Rattle.kept_tables.specs.TableChanges.{by_second_rule};
 ghost use Rattle.tree_tables.specs.Walks.{RenewsRow};
 
@@ -33,6 +34,14 @@ fn renamed_row(row: &mut Row, before: &Row, alloc: Global) -> Result<(), StoreEr
     let bytes = usage_bytes(alloc, data)?;
     let identity = Type30::of_usage(&bytes).identity2();
     with_column(row, before, IDENTITY, ValueRef::Blob(&identity))
+}
+
+/// Whether a record is found by the identity that its row says.
+fn is_keyed(before: &Row, last: &Row) -> Result<bool, StoreError>
+    ensures { IfOk result (λ keyed. keyed ≡ true
+        → column before.now IDENTITY ≡ column last.now 0) }
+{
+    Ok(blob_at(before, IDENTITY)? == blob_at(last, 0)?)
 }
 
 impl<S: Store> TreeTables<S> {
@@ -105,7 +114,7 @@ impl<S: Store> TreeTables<S> {
             // Only a disk that lies has an entry of no record.
             return Err(StoreError::Corrupt);
         }
-        if blob_at(&self.before, IDENTITY)? == blob_at(last, 0)? {
+        if is_keyed(&self.before, last)? {
             return Ok(true);
         }
         self.key_record(last)?;

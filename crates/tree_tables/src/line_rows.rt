@@ -6,7 +6,7 @@ ghost use Rattle.tree_tables.specs.Columns.{line_columns};
 ghost use Rattle.tree_tables.specs.Fits.{LineFits};
 ghost use Rattle.tree_tables.specs.Stored.{SaysLine};
 
-use crate::cells::{hash_at, mark_at};
+use crate::cells::{hash_at, mark_at, push_all};
 use crate::keys::period_key;
 use crate::tables::TreeTables;
 use sqlite_trees::error::StoreError;
@@ -40,9 +40,13 @@ fn line_key(key: &mut Row, spot: &LinePlace<'_>) -> Result<(), StoreError>
     ensures { OnOk result (key.new ≡ Int (pos spot.now.period) ∷ Blob spot.now.name.now ∷ []) }
 {
     key.clear();
-    key.push(ValueRef::Int(i64::from(spot.period)))?;
-    key.push(ValueRef::Blob(spot.name))?;
-    Ok(())
+    push_all(
+        key,
+        &[
+            ValueRef::Int(i64::from(spot.period)),
+            ValueRef::Blob(spot.name),
+        ],
+    )
 }
 
 /// Makes the row of a line.

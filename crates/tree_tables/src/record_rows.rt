@@ -6,7 +6,7 @@ ghost use Rattle.sqlite_value.specs.declared.value.Value.TheVariants.{Blob, Int,
 ghost use Rattle.tree_tables.specs.Columns.{flag, record_columns};
 ghost use Rattle.tree_tables.specs.Stored.{new_entry, priced_entry};
 
-use crate::cells::with_column;
+use crate::cells::{push_all, with_column};
 use crate::keys::{bytes_key, number_key};
 use crate::stored_record::{StoredRecord, read_record};
 use crate::tables::TreeTables;
@@ -59,15 +59,11 @@ fn push_number(row: &mut Row, number: u64) -> Result<(), StoreError>
     Ok(())
 }
 
-/// What a record costs joins its row.
+/// What a record used and costs joins its row.
 fn push_price(row: &mut Row, priced: &Priced) -> Result<(), StoreError>
-    ensures { OnOk result (row.new ≡ row.old ++ Int priced.now.day ∷ Text priced.now.shift
-        ∷ Text priced.now.centre ∷ Int (pos priced.now.cpu) ∷ Int (pos priced.now.excp)
-        ∷ Int (pos priced.now.amount) ∷ []) }
+    ensures { OnOk result (row.new ≡ row.old ++ Int (pos priced.now.cpu)
+        ∷ Int (pos priced.now.excp) ∷ Int (pos priced.now.amount) ∷ []) }
 {
-    row.push(ValueRef::Int(i64::from(priced.day)))?;
-    row.push(ValueRef::Text(priced.shift.text().as_bytes()))?;
-    row.push(ValueRef::Text(priced.centre.text().as_bytes()))?;
     push_number(row, priced.cpu)?;
     push_number(row, priced.excp)?;
     push_number(row, priced.amount)
@@ -85,9 +81,17 @@ fn record_row(row: &mut Row, kept: &NewRecord<'_>) -> Result<(), StoreError>
     ensures { OnOk result (row.new ≡ record_columns (new_entry kept.now)) }
 {
     row.clear();
-    row.push(ValueRef::Blob(kept.name))?;
-    row.push(ValueRef::Blob(kept.identity))?;
-    row.push(ValueRef::Blob(kept.data_bytes))?;
+    push_all(
+        row,
+        &[
+            ValueRef::Blob(kept.name),
+            ValueRef::Blob(kept.identity),
+            ValueRef::Blob(kept.data_bytes),
+            ValueRef::Int(i64::from(kept.priced.day)),
+            ValueRef::Text(kept.priced.shift.text().as_bytes()),
+            ValueRef::Text(kept.priced.centre.text().as_bytes()),
+        ],
+    )?;
     push_price(row, &kept.priced)?;
     row.push(mark_value(kept.charged))?;
     row.push(mark_value(kept.posted))?;
@@ -117,9 +121,7 @@ pub(crate) fn identity_row(
     ensures { OnOk result (row.new ≡ owned identity.entry ∷ owned name.entry ∷ []) }
 {
     row.clear();
-    row.push(identity)?;
-    row.push(name)?;
-    Ok(())
+    push_all(row, &[identity, name])
 }
 
 /// Makes the row that finds a record by its mark.
@@ -133,10 +135,7 @@ pub(crate) fn mark_row(
         ≡ owned mark.entry ∷ owned identity.entry ∷ owned name.entry ∷ []) }
 {
     row.clear();
-    row.push(mark)?;
-    row.push(identity)?;
-    row.push(name)?;
-    Ok(())
+    push_all(row, &[mark, identity, name])
 }
 
 /// Makes the row of a record anew, charged or not.

@@ -1,15 +1,16 @@
 //! Walks over all records, by name.
 
 ghost use Rattle.std.specs.Prelude.{◌≡◌, ◌∷◌, [], IfErr, IfOk, OnErr, OnOk};
+ghost use Rattle.std.specs.Prelude.{slice_set};
 ghost use Rattle.sqlite_disk.specs.Disk.{MoreFaults};
 ghost use Rattle.sqlite_trees.specs.View.{HasCause, IsClean, IsQuiet, KeepsCommitted, KeepsSchema};
 ghost use Rattle.sqlite_value.specs.Keys.{plain};
 ghost use Rattle.sqlite_value.specs.Order.{column};
 ghost use Rattle.kept_tables.specs.Steps.{post_by};
 ghost use Rattle.tree_rows.specs.Rows.{IsFirst, IsUnchanged};
-ghost use Rattle.tree_tables.specs.Walks.{RenewsRow, place_key, posted_columns, rows_behind};
+ghost use Rattle.tree_tables.specs.Walks.{RenewsRow, place_key, rows_behind};
 
-use crate::cells::{day_at, mark_at};
+use crate::cells::{day_at, mark_at, with_column};
 use crate::keys::bytes_key;
 use crate::record_rows::{CHARGED, RECORDS};
 use crate::stored_record::{StoredRecord, read_record};
@@ -86,21 +87,9 @@ fn walk_key(key: &mut Row, last: Option<[u8; 32]>) -> Result<(), StoreError>
 
 /// Makes the row of a record anew, posted as it is charged.
 fn posted_row(row: &mut Row, before: &Row) -> Result<(), StoreError>
-    ensures { OnOk result (row.new ≡ posted_columns before.now) }
+    ensures { OnOk result (row.new ≡ slice_set before.now POSTED (column before.now CHARGED)) }
 {
-    row.clear();
-    row.push(before.get(0))?;
-    row.push(before.get(1))?;
-    row.push(before.get(2))?;
-    row.push(before.get(3))?;
-    row.push(before.get(4))?;
-    row.push(before.get(5))?;
-    row.push(before.get(6))?;
-    row.push(before.get(7))?;
-    row.push(before.get(8))?;
-    row.push(before.get(CHARGED))?;
-    row.push(before.get(CHARGED))?;
-    Ok(())
+    with_column(row, before, POSTED, before.get(CHARGED))
 }
 
 /// Makes the row of a record as a close through the day posts it, or answers that it is so

@@ -8,7 +8,7 @@ ghost use Rattle.tree_tables.specs.Columns.{record_columns};
 ghost use Rattle.tree_tables.specs.Fits.{PriceFits, RecordFits};
 ghost use Rattle.tree_tables.specs.Stored.{stored_entry};
 
-use crate::cells::{bytes_at, count_at, day_at, hash_at, mark_at, name_at};
+use crate::cells::{bytes_at, counts_at, day_at, hash_at, mark_at, name_at};
 use sqlite_trees::error::StoreError;
 use sqlite_value::row::Row;
 use std::alloc::Global;
@@ -39,13 +39,14 @@ fn read_price(row: &Row) -> Result<Priced, StoreError>
     ensures amount { IfOk result (λ priced. column row.now 8 ≡ Int (pos priced.amount)) }
     ensures taken { IfErr result (λ error. ¬ PriceFits row.now) }
 {
+    let counts = counts_at(row, 6)?;
     Ok(Priced {
         day: day_at(row, 3)?,
         shift: name_at(row, 4)?,
         centre: name_at(row, 5)?,
-        cpu: count_at(row, 6)?,
-        excp: count_at(row, 7)?,
-        amount: count_at(row, 8)?,
+        cpu: counts.first,
+        excp: counts.second,
+        amount: counts.third,
     })
 }
 

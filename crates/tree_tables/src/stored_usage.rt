@@ -17,10 +17,7 @@ pub fn record_with(alloc: Global, data_bytes: &[u8]) -> Result<Vec<u8>, AllocErr
 {
     let len = 4 + data_bytes.len();
     let mut bytes = Vec::with_capacity(alloc, len)?;
-    bytes.push((len / 256) as u8)?;
-    bytes.push((len % 256) as u8)?;
-    bytes.push(0)?;
-    bytes.push(0)?;
+    bytes.extend_from_slice(&[(len / 256) as u8, (len % 256) as u8, 0, 0])?;
     bytes.extend_from_slice(data_bytes)?;
     Ok(bytes)
 }

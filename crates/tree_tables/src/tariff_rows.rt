@@ -3,7 +3,7 @@
 ghost use Rattle.std.specs.Prelude.{◌≡◌, OnOk, Some};
 ghost use Rattle.tree_tables.specs.Columns.{tariff_columns};
 
-use crate::cells::{day_at, text_at};
+use crate::cells::{day_at, push_all, text_at};
 use crate::keys::day_key;
 use crate::tables::TreeTables;
 use sqlite_trees::error::StoreError;
@@ -35,9 +35,13 @@ fn tariff_row(row: &mut Row, tariff: &TariffText<'_>) -> Result<(), StoreError>
     ensures { OnOk result (row.new ≡ tariff_columns (tariff.now.day, Some tariff.now.body.now)) }
 {
     row.clear();
-    row.push(ValueRef::Int(i64::from(tariff.day)))?;
-    row.push(ValueRef::Text(tariff.body.as_bytes()))?;
-    Ok(())
+    push_all(
+        row,
+        &[
+            ValueRef::Int(i64::from(tariff.day)),
+            ValueRef::Text(tariff.body.as_bytes()),
+        ],
+    )
 }
 
 impl ReadRow for StoredTariff {

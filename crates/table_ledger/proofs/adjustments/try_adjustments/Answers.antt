@@ -1,4 +1,4 @@
-use Rattle.std.proofs.Common.{◌≡◌, ◌∙◌, ap, rules, true, false}
+use Rattle.std.proofs.Common.{◌≡◌, ◌∙◌, ap, sym, true, false}
 use Rattle.std.specs.Prelude.{List}
 use Rattle.std.proofs.lemmas.Result.{err_from_is_err_and}
 use Rattle.kept_tables.specs.Reading.{lines_read}
@@ -22,7 +22,8 @@ use Rattle.table_ledger.proofs.adjustments.try_adjustments.Goals as goal
 pub returns-then-not-has_period-clause-tries : goal.returns-then-not-has_period-clause-tries
 returns-then-not-has_period-clause-tries g c = λ naming.
     let number = c.args.period in
-    let absent : is_period number (ruled_in c.args.summary.now) ≡ false = search rules in
+    let absent : is_period number (ruled_in c.args.summary.now) ≡ false =
+    sym c.has_period.ensures ∙ c.if-not-has_period.true in
     no_period number (lines_read number)
     (λ book whole. lists_follow.adjustments naming book number whole) absent
 
@@ -46,7 +47,8 @@ returns-in_default-clause-tries g c = λ naming.
 pub returns-clause-tries : goal.returns-clause-tries
 returns-clause-tries g c = λ naming.
     let number = c.args.period in
-    let there : is_period number (ruled_in c.args.summary.now) ≡ true = search rules in
+    let there : is_period number (ruled_in c.args.summary.now) ≡ true =
+    sym c.has_period.ensures ∙ c.if-not-has_period.false in
     period_read number (lines_read number)
     (λ book whole. lists_follow.adjustments naming book number whole) c.in-Some.sorted there
     (saw_then (saw_found c.in_ok-found.ensures.looks)
@@ -64,7 +66,8 @@ returns-in_err-found-clause-own g c = λ naming wide.
     let start = state g.S.Store c.args.tables.now.store in
     let end = state g.S.Store c.list_lines.new.self.store in
     let number = c.args.period in
-    let there : is_period number (ruled_in c.args.summary.now) ≡ true = search rules in
+    let there : is_period number (ruled_in c.args.summary.now) ≡ true =
+    sym c.has_period.ensures ∙ c.if-not-has_period.false in
     let cause : HasCleanDisk end → (book : Book)
     → IsReadyAt naming c.args.summary.now start.view book
     → IsCaused start end c.in_err-found.field-0.0 =
@@ -92,7 +95,8 @@ returns-in_err-lines-clause-own g c = λ naming wide.
 pub returns-in_default-clause-own : goal.returns-in_default-clause-own
 returns-in_default-clause-own g c = λ naming wide clean book ready.
     let number = c.args.period in
-    let there : is_period number (ruled_in c.args.summary.now) ≡ true = search rules in
+    let there : is_period number (ruled_in c.args.summary.now) ≡ true =
+    sym c.has_period.ensures ∙ c.if-not-has_period.false in
     let saw = saw_then (saw_found c.in_ok-found.ensures.looks)
     (saw_found c.in_ok-lines.ensures.looks) in
     let known = (saw.seen clean).known (tables_of naming book) ready.kept.holds in

@@ -3,6 +3,7 @@ use Rattle.tree_tables.specs.Steps.{Always}
 use Rattle.table_ledger.proofs.Settling.{does_seen}
 use Rattle.table_ledger.proofs.StepLemmas.{does_so}
 use Rattle.table_ledger.proofs.TryLemmas.{saw_found}
+use Rattle.table_ledger.proofs.Refusals.{does_unseen}
 use Rattle.table_ledger.proofs.adoption.charge_due.Goals as goal
 
 -- the walk goes by the choices that were read
@@ -10,4 +11,11 @@ pub returns : goal.returns
 returns g c = record {
   does = does_seen {When = Always} c.settle_all.result (saw_found c.in_ok-chosen.ensures.looks)
       (does_so c.settle_all.result c.settle_all.ensures.does (λ tables known. (known.1, refl)));
+}
+
+pub returns-in_err-chosen : goal.returns-in_err-chosen
+returns-in_err-chosen g c = record {
+  does =
+      does_unseen c.from_residual.result c.from_residual.ensures.0
+      c.in_err-chosen.ensures.looks;
 }

@@ -4,6 +4,7 @@ use Rattle.table_ledger.specs.Adoptions.{is_last}
 use Rattle.table_ledger.proofs.Settling.{due_alone, due_chosen}
 use Rattle.table_ledger.proofs.TryLemmas.{looks_known, saw_found, saw_none}
 use Rattle.tree_tables.specs.States.{state}
+use Rattle.table_ledger.proofs.Refusals.{looks_failed}
 use Rattle.table_ledger.proofs.adoption.is_due.Goals as goal
 
 pub returns-then-is_last : goal.returns-then-is_last
@@ -26,4 +27,11 @@ returns g c = record {
       (λ tables shared stands lasts.
       let own : FindsSharing stored.identity.items tables sharing = search rules in
       due_alone stored tables c.args.chosen.now sharing _ is own (search rules) stands lasts);
+}
+
+pub returns-in_err-sharing : goal.returns-in_err-sharing
+returns-in_err-sharing g c = record {
+  looks =
+      looks_failed c.from_residual.result c.from_residual.ensures.0
+      c.in_err-sharing.ensures.looks;
 }

@@ -1,4 +1,4 @@
-use Rattle.std.proofs.Common.{◌≡◌, ◌∙◌, Ok, ap, false, not, refl, rules, true}
+use Rattle.std.proofs.Common.{◌∙◌, Ok, ap, refl}
 use Rattle.tree_tables.specs.States.{state}
 use Rattle.tree_tables.specs.Stored.{IsAsRead}
 use Rattle.book_core.specs.Effects.{charge_held}
@@ -7,6 +7,7 @@ use Rattle.table_ledger.specs.Adoptions.{IsLast}
 use Rattle.table_ledger.proofs.Settling.{does_seen, settles_charged, settles_due, settles_undue}
 use Rattle.table_ledger.proofs.StepLemmas.{does_nothing, does_so}
 use Rattle.table_ledger.proofs.TryLemmas.{saw_found}
+use Rattle.table_ledger.proofs.Refusals.{does_unseen}
 use Rattle.table_ledger.proofs.adoption.settle_record.Goals as goal
 
 -- a record that is charged stays
@@ -27,7 +28,7 @@ pub returns-then-not-branch : goal.returns-then-not-branch
 returns-then-not-branch g c = record {
   does =
       let due = c.in_ok-is_due.field-0 in
-      let not_due : due ≡ false = search rules in
+      let not_due = c.if-not-branch.true in
       does_seen {When = λ tables. IsAsRead c.args.stored.now tables × IsLast c.args.chosen.now tables}
       (Ok tt) (saw_found c.in_ok-is_due.ensures.looks)
       (does_so (Ok tt)
@@ -45,7 +46,7 @@ pub returns : goal.returns
 returns g c = record {
   does =
       let due = c.in_ok-is_due.field-0 in
-      let is_due : due ≡ true = search rules in
+      let is_due = c.if-not-branch.false in
       let stored = c.args.stored.now in
       does_seen {When = λ tables. IsAsRead stored tables × IsLast c.args.chosen.now tables}
       c.charge.result (saw_found c.in_ok-is_due.ensures.looks)
@@ -59,4 +60,11 @@ returns g c = record {
             ∙ settles_due c.args.period c.args.through stored tables known.0.0 due is_due
             c.if-stored.false (known.1 known.0.0 known.0.1),
       )));
+}
+
+pub returns-in_err-is_due : goal.returns-in_err-is_due
+returns-in_err-is_due g c = record {
+  does =
+      does_unseen c.from_residual.result c.from_residual.ensures.0
+      c.in_err-is_due.ensures.looks;
 }

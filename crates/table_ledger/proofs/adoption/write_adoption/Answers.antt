@@ -6,6 +6,7 @@ use Rattle.std.specs.FinMap.{keys}
 use Rattle.tree_tables.specs.States.{state}
 use Rattle.tree_tables.specs.Steps.{Always, Does}
 use Rattle.table_ledger.proofs.StepLemmas.{does_then}
+use Rattle.table_ledger.proofs.Refusals.{does_failed, does_failed_behind}
 use Rattle.table_ledger.proofs.adoption.write_adoption.Goals as goal
 
 -- the identities, what is charged by them, and the rule
@@ -21,4 +22,19 @@ returns g c = record {
       c.set_rule.ensures.does (λ tables always. (tt, tt)) in
       does_then {When = Always} c.set_rule.result c.in_ok-rename_records.ensures.does rest
       (λ tables always. (tt, tt));
+}
+
+pub returns-in_err-rename_records : goal.returns-in_err-rename_records
+returns-in_err-rename_records g c = record {
+  does =
+      does_failed c.from_residual.result c.from_residual.ensures.0
+      c.in_err-rename_records.ensures.does;
+}
+
+pub returns-in_err-charge_due : goal.returns-in_err-charge_due
+returns-in_err-charge_due g c = record {
+  does =
+      does_failed_behind c.from_residual-in_err-charge_due.result
+      c.from_residual-in_err-charge_due.ensures.0 c.in_ok-rename_records.ensures.does
+      c.in_err-charge_due.ensures.does;
 }

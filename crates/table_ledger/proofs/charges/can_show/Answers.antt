@@ -1,5 +1,5 @@
-use Rattle.std.proofs.Common.{◌≡◌, ◌∙◌, ◌+◌, ◌<◌, ◌^◌, ℕ, List, sym, ap, subst, rules, take}
-use Rattle.std.proofs.Common.{arith, length, refl, slice_index_or}
+use Rattle.std.proofs.Common.{◌≡◌, ◌∙◌, ◌+◌, ◌<◌, ◌^◌, ℕ, List, sym, ap, subst, take}
+use Rattle.std.proofs.Common.{arith, length, refl, slice_index_or, true≢false}
 use Rattle.std.specs.Prelude.{All, sum_by}
 use Rattle.std.proofs.lemmas.List.{take_all}
 use Rattle.std.proofs.lemmas.List.Elements.{All-more}
@@ -15,7 +15,7 @@ loop-row-preserved c =
     let row = c.row-item.result in
     let before = c.loop-row.invariant in
     let more = c.in-Some.ensures in
-    let day : IsDay row.day = c.is_dated.ensures.day (search rules) in
+    let day : IsDay row.day = c.is_dated.ensures.day c.if-not-is_dated.false in
     let sums = λ (f : ChargeRow → ℕ). sum_by_more f rows at row c.loop-row-test.true in
     let is = λ (f : ChargeRow → ℕ). ap f c.row-item.is in
     record {
@@ -81,3 +81,13 @@ returns-in-None-clause-refused c = λ refused shown.
         let all = sum_by_more_le f rows at row within in
         let same = ap f own in
         omega (arith, all, same, is, small)
+
+-- no rows that are refused are shown, and none that are shown are refused
+pub returns-then-not-is_dated-clause-shown : goal.returns-then-not-is_dated-clause-shown
+returns-then-not-is_dated-clause-shown c = λ passed. absurd (true≢false (sym passed))
+
+pub returns-in-None-clause-shown : goal.returns-in-None-clause-shown
+returns-in-None-clause-shown c = λ passed. absurd (true≢false (sym passed))
+
+pub returns-clause-refused : goal.returns-clause-refused
+returns-clause-refused c = λ refused. absurd (true≢false refused)

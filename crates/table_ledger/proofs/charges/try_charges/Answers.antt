@@ -1,4 +1,4 @@
-use Rattle.std.proofs.Common.{◌≡◌, sym, rules, subst, true, false}
+use Rattle.std.proofs.Common.{◌≡◌, ◌∙◌, sym, subst, true, false}
 use Rattle.std.proofs.lemmas.Result.{err_from_is_err_and}
 use Rattle.book_model.specs.Words.{AreRows, Book}
 use Rattle.kept_tables.specs.Reading.{rows_read}
@@ -17,7 +17,8 @@ use Rattle.table_ledger.proofs.charges.try_charges.Goals as goal
 pub returns-then-not-has_period-clause-tries : goal.returns-then-not-has_period-clause-tries
 returns-then-not-has_period-clause-tries g c = λ naming.
     let number = c.args.period in
-    let absent : is_period number (ruled_in c.args.summary.now) ≡ false = search rules in
+    let absent : is_period number (ruled_in c.args.summary.now) ≡ false =
+    sym c.has_period.ensures ∙ c.if-not-has_period.true in
     no_period number (λ tables. rows_read number tables.days)
     (λ book whole. lists_follow.charges naming book number whole) absent
 
@@ -33,7 +34,8 @@ returns-then-not-can_show-clause-tries g c = λ naming.
 pub returns-clause-tries : goal.returns-clause-tries
 returns-clause-tries g c = λ naming.
     let number = c.args.period in
-    let there : is_period number (ruled_in c.args.summary.now) ≡ true = search rules in
+    let there : is_period number (ruled_in c.args.summary.now) ≡ true =
+    sym c.has_period.ensures ∙ c.if-not-has_period.false in
     period_read number (λ tables. rows_read number tables.days)
     (λ book whole. lists_follow.charges naming book number whole) c.in_ok-rows.rows there
     (saw_found c.in_ok-rows.ensures.looks) (λ tables is. sym is)
@@ -44,7 +46,8 @@ returns-in_err-rows-clause-own g c = λ naming.
     let start = state g.S.Store c.args.tables.now.store in
     let end = state g.S.Store c.list_days.new.self.store in
     let number = c.args.period in
-    let there : is_period number (ruled_in c.args.summary.now) ≡ true = search rules in
+    let there : is_period number (ruled_in c.args.summary.now) ≡ true =
+    sym c.has_period.ensures ∙ c.if-not-has_period.false in
     let cause : HasCleanDisk end → (book : Book)
     → IsReadyAt naming c.args.summary.now start.view book
     → IsCaused start end c.in_err-rows.field-0.0 =
@@ -57,7 +60,8 @@ returns-in_err-rows-clause-own g c = λ naming.
 pub returns-then-not-can_show-clause-own : goal.returns-then-not-can_show-clause-own
 returns-then-not-can_show-clause-own g c = λ naming clean book ready.
     let number = c.args.period in
-    let there : is_period number (ruled_in c.args.summary.now) ≡ true = search rules in
+    let there : is_period number (ruled_in c.args.summary.now) ≡ true =
+    sym c.has_period.ensures ∙ c.if-not-has_period.false in
     let lists = (c.in_ok-rows.ensures.looks.found clean).known (tables_of naming book)
     ready.kept.holds in
     absurd (c.can_show.ensures.refused c.if-not-can_show.true

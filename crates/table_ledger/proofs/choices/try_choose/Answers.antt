@@ -191,3 +191,15 @@ returns g c = record {
       (λ book ready known. choose_remembers naming summary name _ book ready stored known.0.0
       sharing known.0.1 many _ _ refl refl refl refl refl refl);
 }
+
+pub returns-in_err-sharing : goal.returns-in_err-sharing
+returns-in_err-sharing g c = record {
+  tries =
+      λ naming.
+      let summary = c.args.summary.now in
+      let outcome = choose_outcome naming c.args.name in
+      tries_err view naming summary outcome c.from_residual-in_err-sharing.result
+      c.from_residual-in_err-sharing.ensures.0
+      (λ error. later_refused view naming summary outcome (saw_found c.in_ok-stored.ensures.looks)
+      c.in_err-sharing.ensures.looks);
+}

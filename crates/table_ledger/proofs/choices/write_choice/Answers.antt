@@ -9,6 +9,7 @@ use Rattle.tree_tables.specs.States.{state}
 use Rattle.tree_tables.specs.Steps.{Does}
 use Rattle.table_ledger.specs.Entries.{IsNext}
 use Rattle.table_ledger.proofs.StepLemmas.{does_so, does_then}
+use Rattle.table_ledger.proofs.Refusals.{does_failed, does_failed_behind}
 use Rattle.table_ledger.proofs.choices.write_choice.Goals as goal
 
 -- effects leave the choices alone
@@ -48,4 +49,19 @@ returns g c = record {
                   (record { name = choice.name; period = choice.period });
             },
       ));
+}
+
+pub returns-in_err-withdraw : goal.returns-in_err-withdraw
+returns-in_err-withdraw g c = record {
+  does =
+      does_failed c.from_residual.result c.from_residual.ensures.0
+      c.in_err-withdraw.ensures.does;
+}
+
+pub returns-in_err-charge : goal.returns-in_err-charge
+returns-in_err-charge g c = record {
+  does =
+      does_failed_behind c.from_residual-in_err-charge.result
+      c.from_residual-in_err-charge.ensures.0 c.in_ok-withdraw.ensures.does
+      c.in_err-charge.ensures.does;
 }

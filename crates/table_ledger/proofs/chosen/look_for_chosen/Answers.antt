@@ -3,6 +3,7 @@ use Rattle.tree_tables.specs.declared.choice_rows.StoredChoice.{StoredChoice}
 use Rattle.tree_tables.proofs.Looking.{looks_behind}
 use Rattle.table_ledger.specs.Adoptions.{IsLastOf}
 use Rattle.table_ledger.proofs.Settling.{last_listed}
+use Rattle.table_ledger.proofs.Refusals.{looks_failed}
 use Rattle.table_ledger.proofs.chosen.look_for_chosen.Goals as goal
 
 -- the last of all choices that were listed
@@ -14,4 +15,11 @@ returns g c = record {
       (subst (λ (list : List StoredChoice).
       IsLastOf (map (λ (choice : StoredChoice). choice.name) list) tables.records chosen)
       c.deref.ensures.value lasts));
+}
+
+pub returns-in_err-choices : goal.returns-in_err-choices
+returns-in_err-choices g c = record {
+  looks =
+      looks_failed c.from_residual.result c.from_residual.ensures.0
+      c.in_err-choices.ensures.looks;
 }

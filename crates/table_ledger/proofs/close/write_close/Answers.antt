@@ -5,6 +5,7 @@ use Rattle.tree_tables.specs.States.{state}
 use Rattle.tree_tables.specs.Steps.{Always, Does}
 use Rattle.table_ledger.proofs.CodeDays.{kept_day}
 use Rattle.table_ledger.proofs.StepLemmas.{does_then}
+use Rattle.table_ledger.proofs.Refusals.{does_failed, does_failed_behind}
 use Rattle.table_ledger.proofs.close.write_close.Goals as goal
 
 pub returns : goal.returns
@@ -22,4 +23,19 @@ returns g c = record {
       (λ tables none. (tt, none)) in
       does_then c.move_days.result c.in_ok-put_close.ensures.does rest
       (λ tables none. (tt, none));
+}
+
+pub returns-in_err-put_close : goal.returns-in_err-put_close
+returns-in_err-put_close g c = record {
+  does =
+      does_failed c.from_residual.result c.from_residual.ensures.0
+      c.in_err-put_close.ensures.does;
+}
+
+pub returns-in_err-post_records : goal.returns-in_err-post_records
+returns-in_err-post_records g c = record {
+  does =
+      does_failed_behind c.from_residual-in_err-post_records.result
+      c.from_residual-in_err-post_records.ensures.0 c.in_ok-put_close.ensures.does
+      c.in_err-post_records.ensures.does;
 }

@@ -2,6 +2,7 @@ use Rattle.tree_tables.specs.States.{state}
 use Rattle.tree_tables.specs.Steps.{Always, Does}
 use Rattle.table_ledger.specs.Entries.{write_line, write_mark}
 use Rattle.table_ledger.proofs.StepLemmas.{does_then}
+use Rattle.table_ledger.proofs.Refusals.{does_failed, does_failed_behind}
 use Rattle.table_ledger.proofs.commits.write_effects.Goals as goal
 
 pub returns : goal.returns
@@ -16,4 +17,19 @@ returns g c = record {
       (λ tables when. (tt, tt)) in
       does_then c.write_mark.result c.in_ok-write_day.ensures.does rest
       (λ tables when. (tt, tt));
+}
+
+pub returns-in_err-write_day : goal.returns-in_err-write_day
+returns-in_err-write_day g c = record {
+  does =
+      does_failed c.from_residual.result c.from_residual.ensures.0
+      c.in_err-write_day.ensures.does;
+}
+
+pub returns-in_err-write_line : goal.returns-in_err-write_line
+returns-in_err-write_line g c = record {
+  does =
+      does_failed_behind c.from_residual-in_err-write_line.result
+      c.from_residual-in_err-write_line.ensures.0 c.in_ok-write_day.ensures.does
+      c.in_err-write_line.ensures.does;
 }

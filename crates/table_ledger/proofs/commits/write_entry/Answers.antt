@@ -1,5 +1,6 @@
 use Rattle.table_ledger.proofs.NewEntries.{new_still}
 use Rattle.table_ledger.proofs.StepLemmas.{does_then}
+use Rattle.table_ledger.proofs.Refusals.{does_failed}
 use Rattle.table_ledger.proofs.commits.write_entry.Goals as goal
 
 pub returns : goal.returns
@@ -10,4 +11,11 @@ returns g c = record {
         new_still c.args.entry.now.effects.unmark tables.records
             c.args.entry.now.record.name.now new,
       ));
+}
+
+pub returns-in_err-write_effects : goal.returns-in_err-write_effects
+returns-in_err-write_effects g c = record {
+  does =
+      does_failed c.from_residual.result c.from_residual.ensures.0
+      c.in_err-write_effects.ensures.does;
 }

@@ -1,4 +1,4 @@
-use Rattle.std.proofs.Common.{◌≡◌, ◌∙◌, None, ap, map, rules, sym}
+use Rattle.std.proofs.Common.{◌≡◌, ◌∙◌, ap, map, sym}
 use Rattle.std.proofs.lemmas.Result.{err_from_is_err_and}
 use Rattle.kept_tables.specs.Tables.{Tables}
 use Rattle.std.specs.Option.{option_map}
@@ -18,7 +18,7 @@ returns-in_err-row-clause-looks g c =
 
 pub returns-in_default-clause-looks : goal.returns-in_default-clause-looks
 returns-in_default-clause-looks g c =
-    let none : c.in_ok-row.field-0 ≡ None = search rules in
+    let none = c.in_default.is in
     looks_known (saw_found c.in_ok-row.ensures.looks)
     (λ (tables : Tables) known. absurd (never_missed c.in_ok-row.field-0 tables.book known none))
 
@@ -81,7 +81,9 @@ returns-in_err-closes-clause-cause g c =
     fails_behind _ (saw_then (saw_found c.in_ok-row.ensures.looks)
     (saw_found c.in_ok-tariffs.ensures.looks)) c.in_err-closes.ensures.looks.survives
     (λ clean tables holds when. c.in_err-closes.ensures.cause clean tables holds when.closes) in
-    search rules
+    let p = err_from_is_err_and c.from_residual-in_err-closes.result
+    c.from_residual-in_err-closes.ensures.1 in
+    rw (p.1, p.2) cause
 
 -- why the last choice was not, after all three
 pub returns-in_err-choices-clause-cause : goal.returns-in_err-choices-clause-cause
@@ -94,4 +96,6 @@ returns-in_err-choices-clause-cause g c =
     (saw_found c.in_ok-tariffs.ensures.looks)) (saw_found c.in_ok-closes.ensures.looks))
     c.in_err-choices.ensures.looks.survives
     (λ clean tables holds when. c.in_err-choices.ensures.cause clean tables holds when.choices) in
-    search rules
+    let p = err_from_is_err_and c.from_residual-in_err-choices.result
+    c.from_residual-in_err-choices.ensures.1 in
+    rw (p.1, p.2) cause

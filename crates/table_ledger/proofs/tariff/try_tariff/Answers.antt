@@ -15,6 +15,8 @@ use Rattle.table_ledger.proofs.TariffTries.{tariff_is_event, tariff_remembered, 
 use Rattle.table_ledger.proofs.TryLemmas.{saw_none, saw_found, try_answered}
 use Rattle.table_ledger.proofs.TryLemmas.{try_done, try_undone, tries_so, tries_err}
 use Rattle.table_ledger.proofs.TryLemmas.{tries_told}
+use Rattle.table_ledger.proofs.ListReadings.{first_refused}
+use Rattle.table_ledger.proofs.TryLemmas.{try_stopped}
 use Rattle.table_ledger.proofs.tariff.try_tariff.Goals as goal
 
 -- a call answers with what was ruled
@@ -156,3 +158,45 @@ invariant_of-summary-2-clause-rising g c =
     c.in_ok-reserve.ensures.items)
     c.in_ok-from_str.ensures.ok)
     ∙ tariff_rising summary text terms done
+
+pub returns-in_err-amount : goal.returns-in_err-amount
+returns-in_err-amount g c = record {
+  tries =
+      λ naming.
+      let summary = c.args.summary.now in
+      let outcome = tariff_outcome c.args.text.now in
+      tries_err view naming summary outcome c.from_residual.result
+      c.from_residual.ensures.0
+      (λ error. first_refused view naming summary outcome c.in_err-amount.ensures.looks);
+}
+
+pub returns-in_err-from_str : goal.returns-in_err-from_str
+returns-in_err-from_str g c = record {
+  tries =
+      λ naming.
+      let summary = c.args.summary.now in
+      let outcome = tariff_outcome c.args.text.now in
+      tries_err view naming summary outcome c.from_residual-in_err-from_str.result
+      c.from_residual-in_err-from_str.ensures.0
+      (λ error. try_stopped view naming summary outcome (saw_found c.in_ok-amount.ensures.looks));
+}
+
+pub returns-in_err-reserve : goal.returns-in_err-reserve
+returns-in_err-reserve g c = record {
+  tries =
+      λ naming.
+      let summary = c.args.summary.now in
+      let outcome = tariff_outcome c.args.text.now in
+      tries_err view naming summary outcome c.from_residual-in_err-reserve.result
+      c.from_residual-in_err-reserve.ensures.0
+      (λ error. tries_so view naming summary outcome
+      (try_stopped view naming summary outcome (saw_found c.in_ok-amount.ensures.looks))
+      (λ book remembers. record {
+        tariffs = c.in_err-reserve.ensures.items ∙ remembers.tariffs;
+        closes = remembers.closes;
+        choices = remembers.choices;
+        adopted = remembers.adopted;
+        held = remembers.held;
+        total = remembers.total;
+      }));
+}

@@ -5,6 +5,7 @@ use Rattle.kept_tables.specs.TableChanges.{reprice_step, walk}
 use Rattle.tree_tables.specs.Steps.{Always}
 use Rattle.table_ledger.proofs.CodeDays.{kept_day}
 use Rattle.table_ledger.proofs.StepLemmas.{does_so, does_then}
+use Rattle.table_ledger.proofs.Refusals.{does_failed, does_failed_behind}
 use Rattle.table_ledger.proofs.tariff.write_tariff.Goals as goal
 
 -- the prices, the tariff's row and the sums
@@ -25,4 +26,19 @@ returns g c = record {
             (put_tariff_row (day i) c.args.text.now
             (walk (reprice_step c.args.period terms) (keys tables.records) tables)),
       ));
+}
+
+pub returns-in_err-reprice_all : goal.returns-in_err-reprice_all
+returns-in_err-reprice_all g c = record {
+  does =
+      does_failed c.from_residual.result c.from_residual.ensures.0
+      c.in_err-reprice_all.ensures.does;
+}
+
+pub returns-in_err-put_tariff : goal.returns-in_err-put_tariff
+returns-in_err-put_tariff g c = record {
+  does =
+      does_failed_behind c.from_residual-in_err-put_tariff.result
+      c.from_residual-in_err-put_tariff.ensures.0 c.in_ok-reprice_all.ensures.does
+      c.in_err-put_tariff.ensures.does;
 }

@@ -1,6 +1,7 @@
 use Rattle.std.proofs.Common.{◌+◌, arith}
 use Rattle.tree_rows.specs.declared.listing.TheConstants.{MOST_ROWS}
 use Rattle.tree_rows.specs.Runs.{run_of}
+use Rattle.tree_rows.proofs.Calls.{kept_same}
 use Rattle.tree_rows.proofs.RunsRead.{all_read, no_more}
 use Rattle.tree_rows.proofs.listing.list_run.Goals as goal
 
@@ -17,3 +18,6 @@ returns-then-len-gt-MOST_ROWS-clause-cause g c = λ clean fit few.
     (run_of c.args.part.now ((g.S.Store.view c.args.store.now).trees c.args.tree))
     c.in_ok-all.all.items (MOST_ROWS + 1) (c.in_ok-all.ensures.found clean) in
     absurd (omega (arith, less, few, c.len.ensures, c.if-len-gt-MOST_ROWS.true))
+
+pub returns-then-len-gt-MOST_ROWS-clause-kept : goal.returns-then-len-gt-MOST_ROWS-clause-kept
+returns-then-len-gt-MOST_ROWS-clause-kept g c clean = kept_same (c.in_ok-all.ensures.same clean)

@@ -1,10 +1,6 @@
-use Rattle.std.proofs.Common.{◌≡◌, ◌∷◌, [], ◌∙◌, ap, false, rules, sym, subst, true}
-use Rattle.sqlite_trees.specs.View.{View}
-use Rattle.sqlite_value.specs.Order.{column}
-use Rattle.sqlite_value.specs.declared.value.Value.TheVariants.{Blob}
-use Rattle.tree_rows.specs.Rows.{Finds}
+use Rattle.std.proofs.Common.{◌∷◌, [], ◌∙◌}
 use Rattle.tree_tables.proofs.Keying.{keys_kept, keys_none, keys_one}
-use Rattle.tree_tables.proofs.Looking.{clean_before, same_both}
+use Rattle.tree_tables.proofs.Looking.{clean_before, found_before, same_both}
 use Rattle.tree_tables.proofs.tables.TreeTables.key_next.Goals as goal
 
 -- no entry is left
@@ -16,22 +12,19 @@ returns-then-not-branch-clause-keys g c clean =
     (rw c.if-not-branch.true at (c.in_ok-first_behind.ensures.found clean))
 
 -- its record is found by the identity that its row says
-pub returns-then-eq-clause-keys : goal.returns-then-eq-clause-keys
-returns-then-eq-clause-keys g c clean =
+pub returns-then-branch-clause-keys : goal.returns-then-branch-clause-keys
+returns-then-branch-clause-keys g c clean =
     let old = g.S.Store.view c.args.self.now.store in
     let before = clean_before g.S.Store c.find_row.ensures.quiet clean in
     let first = c.in_ok-first_behind.ensures.same before in
-    let same : c.in_ok-blob_at.field-0.now ≡ c.in_ok-blob_at-2.field-0.now = search rules in
     keys_kept old (g.S.Store.view c.find_row.new.store) c.args.last.now c.first_behind.new.row
     (same_both old first (c.in_ok-find_row.ensures.same clean)) c.identity_row.new.row
     (rw c.if-not-branch.false at (c.in_ok-first_behind.ensures.found before))
     (c.in_ok-identity_row.ensures ∙ (λ i. c.get.ensures i ∷ c.get-2.ensures i ∷ []))
     c.in_ok-column_key.ensures
-    (subst (λ (v : View). Finds c.column_key.new.key (v.trees 3) c.find_row.new.row
-    c.in_ok-find_row.field-0) first (c.in_ok-find_row.ensures.found clean))
+    (found_before old 3 first (c.in_ok-find_row.ensures.found clean))
     c.if-not-branch-2.false
-    (c.in_ok-blob_at.ensures.read ∙ ap Blob same
-    ∙ sym c.in_ok-blob_at-2.ensures.read)
+    (c.in_ok-is_keyed.ensures c.if-branch.true)
 
 -- or it is from now on
 pub returns-clause-keys : goal.returns-clause-keys
@@ -45,7 +38,6 @@ returns-clause-keys g c clean =
     (rw c.if-not-branch.false at (c.in_ok-first_behind.ensures.found before))
     (c.in_ok-identity_row.ensures ∙ (λ i. c.get.ensures i ∷ c.get-2.ensures i ∷ []))
     c.in_ok-column_key.ensures
-    (subst (λ (v : View). Finds c.column_key.new.key (v.trees 3) c.find_row.new.row
-    c.in_ok-find_row.field-0) first (c.in_ok-find_row.ensures.found after))
+    (found_before old 3 first (c.in_ok-find_row.ensures.found after))
     c.if-not-branch-2.false (g.S.Store.view c.key_record.new.self.store)
     (c.in_ok-key_record.ensures.keyed clean)

@@ -3,7 +3,7 @@ use Rattle.std.specs.List.{flat_map}
 use Rattle.std.specs.String.{string_bytes}
 use Rattle.book_model.specs.Words.{dispute_shown}
 use Rattle.report_texts.specs.DisputeLists.{dispute_lines}
-use Rattle.report_texts.proofs.dispute_lists.dispute_list_text.Given as goal
+use Rattle.report_texts.proofs.dispute_lists.push_disputes.Given as goal
 
 -- the lines of the disputes so far are appended
 abbrev pub invariant-loop-dispute : goal.invariant-loop-dispute
