@@ -8,9 +8,9 @@ use Rattle.book_model.specs.Words.{same_bytes}
 use Rattle.book_audit.specs.declared.choices.Chosen.{Chosen}
 
 -- the name of the record of an identity that was chosen last, if one was chosen
-abbrev pub name_of : Chosen → List ℕ → Option (List ℕ)
-name_of chosen identity = get_by (λ key. slice_cmp nat_cmp identity key.items) chosen.names
+abbrev pub last_chosen : Chosen → List ℕ → Option (List ℕ)
+last_chosen chosen identity = get_by (λ key. slice_cmp nat_cmp identity key.items) chosen.names
 
 -- it is this name
 abbrev pub is_last : Chosen → List ℕ → List ℕ → Bool
-is_last chosen identity name = option_map_or (same_bytes name) (name_of chosen identity) false
+is_last chosen identity name = option_map_or (same_bytes name) (last_chosen chosen identity) false

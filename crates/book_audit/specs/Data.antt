@@ -9,8 +9,8 @@ use Rattle.tariff_rules.specs.declared.priced.Priced.{Priced}
 use Rattle.tree_tables.specs.declared.stored_record.StoredRecord.{StoredRecord}
 
 -- the record, with the descriptor that the length of its data gives
-abbrev pub bytes_of : StoredRecord → List ℕ
-bytes_of stored = record_with stored.data_bytes.items
+abbrev pub stored_bytes : StoredRecord → List ℕ
+stored_bytes stored = record_with stored.data_bytes.items
 
 -- a tariff has begun on a day
 abbrev pub has_begun : ℤ → Terms → Bool

@@ -1,5 +1,5 @@
--- The trees and what is looked up in them; the rule of identity; what the data of a record say; which
--- record of an identity was chosen last; how a record is charged and posted.
+-- The trees and what is looked up in them; the rule of identity; what the data of a record say;
+-- which record of an identity was chosen last; how a record is charged and posted.
 pub mod Trees
 pub mod Rules
 pub mod Data

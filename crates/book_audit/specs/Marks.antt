@@ -3,12 +3,12 @@ use Rattle.std.specs.Prelude.{◌&&◌, ◌||◌, not, Bool, true, false, Option
 
 -- Whether a record is charged, by whether another one has its identity too, and by whether it was
 -- chosen last of that identity.
-abbrev pub is_charged : Bool → Bool → Bool
-is_charged shared chosen = not shared || chosen
+abbrev pub should_be_charged : Bool → Bool → Bool
+should_be_charged shared chosen = not shared || chosen
 
--- Whether a record is posted as the last close charged it, by its two marks, by whether it is dated on
--- or before that close, and by what the line of the open period says, if there is one: as it is charged
--- now, except for what the line changed since.
+-- Whether a record is posted as the last close charged it, by its two marks, by whether it is dated
+-- on or before that close, and by what the line of the open period says, if there is one: as it is
+-- charged now, except for what the line changed since.
 abbrev pub is_posted_so : Bool → Bool → Bool → Option Bool → Bool
 is_posted_so true posted true None = posted
 is_posted_so false posted true None = not posted

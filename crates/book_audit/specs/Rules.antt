@@ -11,15 +11,15 @@ abbrev pub never_adopted : ℕ
 never_adopted = 0
 
 -- such a period may be open
-abbrev pub is_period : ℕ → Bool
-is_period period = nat_lt 0 period && nat_le period last_period
+abbrev pub may_be_open : ℕ → Bool
+may_be_open period = nat_lt 0 period && nat_le period last_period
 
 -- The rule for a number and a period of adoption: the first was never adopted, and the second in
 -- a period. No books have another pair.
 abbrev pub rule_of : ℕ → ℕ → Option IdentityRule
 rule_of number adopted =
     if (number == first_rule) && (adopted == never_adopted) then Some First
-    else if (number == second_rule) && is_period adopted then Some (SecondSince adopted)
+    else if (number == second_rule) && may_be_open adopted then Some (SecondSince adopted)
     else None
 
 -- it was adopted no later than in this period, if it was adopted at all
@@ -28,11 +28,11 @@ is_by period First = true
 is_by period (SecondSince adopted) = nat_le adopted period
 
 -- it was adopted in this period or later, so that identities that were equal then may now differ
-abbrev pub parts : ℕ → IdentityRule → Bool
-parts period First = false
-parts period (SecondSince adopted) = nat_le period adopted
+abbrev pub may_split : ℕ → IdentityRule → Bool
+may_split period First = false
+may_split period (SecondSince adopted) = nat_le period adopted
 
 -- whose work a record measures
-abbrev pub identity_by : IdentityRule → List ℕ → List ℕ
-identity_by First bytes = identity_of bytes
-identity_by (SecondSince adopted) bytes = identity2_of bytes
+abbrev pub identity_under : IdentityRule → List ℕ → List ℕ
+identity_under First bytes = identity_of bytes
+identity_under (SecondSince adopted) bytes = identity2_of bytes

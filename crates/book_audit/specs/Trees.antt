@@ -11,17 +11,17 @@ use Rattle.book_audit.specs.declared.finding.Tree.TheVariants.{Days, Lines, Iden
 use Rattle.book_audit.specs.declared.finding.Tree.TheVariants.{Choices, ChoiceNames}
 
 -- in the order in which a file lists them
-abbrev pub number_of : Tree → ℕ
-number_of Book = 0
-number_of Tariffs = 1
-number_of Closes = 2
-number_of Records = 3
-number_of Days = 4
-number_of Lines = 5
-number_of Identities = 6
-number_of Marks = 7
-number_of Choices = 8
-number_of ChoiceNames = 9
+abbrev pub tree_number : Tree → ℕ
+tree_number Book = 0
+tree_number Tariffs = 1
+tree_number Closes = 2
+tree_number Records = 3
+tree_number Days = 4
+tree_number Lines = 5
+tree_number Identities = 6
+tree_number Marks = 7
+tree_number Choices = 8
+tree_number ChoiceNames = 9
 
 -- whether the row after the first that has the key has it too
 pub record FindsTwo (key : Row) (rows : List Row) (row : Row) (two : Bool) : Type 0 where

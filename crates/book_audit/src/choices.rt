@@ -2,7 +2,7 @@
 
 ghost use Rattle.std.specs.Prelude.{◌≡◌, ◌≤◌, ◌+◌, None};
 
-use crate::entries::check_entries;
+use crate::entry_counts::check_entries;
 use crate::finding::{Place, Tree, Wrong};
 use crate::identity_rule::IdentityRule;
 use crate::stop::{Stop, met, unsound};
@@ -52,11 +52,11 @@ pub(crate) struct Chosen {
 impl Chosen {
     ghost use Rattle.std.specs.Prelude.{◌≡◌, ℕ, List, None, OnOk, Some, if◌then◌else◌};
     ghost use Rattle.book_model.specs.Words.{same_bytes};
-    ghost use Rattle.book_audit.specs.Choices.{is_last, name_of};
+    ghost use Rattle.book_audit.specs.Choices.{is_last, last_chosen};
 
     /// No choices.
     fn new(alloc: Global) -> Chosen
-        ensures { (identity : List ℕ) → name_of result identity ≡ None }
+        ensures { (identity : List ℕ) → last_chosen result identity ≡ None }
     {
         Chosen {
             count: 0,
@@ -84,9 +84,9 @@ impl Chosen {
     fn put(&mut self, identity: Vec<u8>, choice: &Choice) -> Result<(), AllocError>
         ensures count { OnOk result (self.new.count ≡ choice.now.number) }
         ensures since { OnOk result (self.new.since ≡ choice.now.period) }
-        ensures names { OnOk result ((other : List ℕ) → name_of self.new other
+        ensures names { OnOk result ((other : List ℕ) → last_chosen self.new other
             ≡ if same_bytes other identity.items then Some choice.now.name
-            else name_of self.old other) }
+            else last_chosen self.old other) }
     {
         self.names.insert(identity, choice.name)?;
         self.count = choice.number;
@@ -120,7 +120,7 @@ fn chosen_identity<S: Store>(
     let Some(identity) = identity else {
         return Err(unsound(place, Wrong::NotHeld));
     };
-    if rule.parts(choice.period) {
+    if rule.may_split(choice.period) {
         return Ok(identity);
     }
     if !trees

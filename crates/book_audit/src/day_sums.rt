@@ -16,7 +16,7 @@ use sqlite_value::row::Row;
 use std::alloc::{AllocError, Global};
 use std::collections::BTreeMap;
 use tariff_rules::Priced;
-use tree_tables::{DayPlace, count_at, day_at, name_at, period_at};
+use tree_tables::{DayKey, count_at, day_at, name_at, period_at};
 
 /// How many records there are at a place, and what they measure and cost together. All sums are
 /// taken modulo 2^64, as a record that a line reverses may come before it is counted.
@@ -121,8 +121,8 @@ impl Places {
 }
 
 /// Where a charge row is.
-fn place_in(row: &Row) -> Result<DayPlace, StoreError> {
-    Ok(DayPlace {
+fn place_in(row: &Row) -> Result<DayKey, StoreError> {
+    Ok(DayKey {
         period: period_at(row, 0)?,
         place: RowKey {
             day: day_at(row, 1)?,
@@ -161,7 +161,7 @@ fn check_left(rulings: &Rulings, places: &Places) -> Result<(), Stop> {
         return Ok(());
     };
     let period = rulings.period_of(place.day);
-    Err(unsound(Place::Day(DayPlace { period, place }), Wrong::NoRow))
+    Err(unsound(Place::Day(DayKey { period, place }), Wrong::NoRow))
 }
 
 /// Reads all charge rows, which must be the sums of the places. Returns how many there are.

@@ -4,10 +4,10 @@ ghost use Rattle.std.specs.Prelude.{◌≡◌};
 ghost use Rattle.sqlite_trees.specs.View.{View};
 ghost use Rattle.sqlite_value.specs.Keys.{plain};
 ghost use Rattle.tree_tables.specs.Holds.{HasShapes};
-ghost use Rattle.book_audit.specs.Trees.{number_of};
+ghost use Rattle.book_audit.specs.Trees.{tree_number};
 
 use sqlite_trees::store::Shape;
-use tree_tables::DayPlace;
+use tree_tables::DayKey;
 
 /// A tree of books.
 #[derive(Clone, Copy, Debug, PartialEq, Eq)]
@@ -32,7 +32,7 @@ pub enum Tree {
 impl Tree {
     /// Its number in a store.
     pub(crate) fn number(self) -> u32
-        ensures value { result ≡ number_of self }
+        ensures value { result ≡ tree_number self }
         ensures shape { (view : View) → HasShapes view → view.shape result ≡ Shape.Index plain }
     {
         match self {
@@ -92,7 +92,7 @@ pub enum Place {
     /// The record of a name.
     Record([u8; 32]),
     /// A charge row.
-    Day(DayPlace),
+    Day(DayKey),
     /// A period's line for the record of a name.
     Line(u16, [u8; 32]),
 }

@@ -21,8 +21,8 @@ const LAST_PERIOD: u64 = 9_999;
 pub(crate) enum IdentityRule {
     /// The one under which books begin.
     First,
-    /// Time and date of the initiation are part of an identity. It was adopted while this period was
-    /// open.
+    /// Time and date of the initiation are part of an identity. It was adopted while this period
+    /// was open.
     SecondSince(u16),
 }
 
@@ -52,10 +52,10 @@ impl IdentityRule {
         }
     }
 
-    /// Whether a record that was chosen in a period may be alone in its identity: an adoption in that
-    /// period or later can part it from all records among which it was chosen.
-    pub(crate) fn parts(self, period: u16) -> bool
-        ensures { result ≡ spec.parts period self }
+    /// Whether a record that was chosen in a period may be alone in its identity: an adoption in
+    /// that period or later can part it from all records among which it was chosen.
+    pub(crate) fn may_split(self, period: u16) -> bool
+        ensures { result ≡ spec.may_split period self }
     {
         match self {
             IdentityRule::First => false,
@@ -65,7 +65,7 @@ impl IdentityRule {
 
     /// Whether that is the identity of usage.
     pub(crate) fn is_identity(self, identity: &[u8], usage: &Type30<'_>) -> bool
-        ensures { result ≡ true → identity.now ≡ spec.identity_by self usage.now }
+        ensures { result ≡ true → identity.now ≡ spec.identity_under self usage.now }
     {
         match self {
             IdentityRule::First => usage.identity().as_slice() == identity,

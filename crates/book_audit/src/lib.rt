@@ -2,29 +2,29 @@
 //! the texts of the tariffs. It relies on no sum and no mark of a ledger, and writes nothing.
 #![tactic(auto)]
 
+mod all_trees;
 mod audited;
-mod bytes;
 mod choices;
 mod day_sums;
-mod entries;
+mod entry_counts;
 mod finding;
 mod identity_rule;
 mod keys;
 mod lines;
 mod marks;
+mod record_bytes;
 mod records;
+mod repository;
 mod rulings;
-mod shelf;
 mod stop;
 mod texts;
 mod trees;
 mod walk;
 mod watch;
-mod whole;
 
+pub use all_trees::audit_trees;
 pub use audited::{Audited, Counts};
 pub use finding::{Finding, Place, Tree, Wrong};
-pub use shelf::AuditedShelf;
+pub use repository::AuditedRepository;
 pub use texts::audit_text;
 pub use watch::Watch;
-pub use whole::audit_trees;

@@ -12,8 +12,8 @@ use sqlite_trees::store::Store;
 use tree_tables::StoredRecord;
 
 /// Whether a record is to be charged: if it is alone in its identity, or was chosen last of it.
-fn is_charged(is_shared: bool, is_chosen: bool) -> bool
-    ensures { result ≡ spec.is_charged is_shared is_chosen }
+fn should_be_charged(is_shared: bool, is_chosen: bool) -> bool
+    ensures { result ≡ spec.should_be_charged is_shared is_chosen }
 {
     !is_shared || is_chosen
 }
@@ -56,7 +56,7 @@ fn wrong_by_trees<S: Store>(
         .is_shared(&record.identity)
         .map_err(|error| met(Tree::Identities, error))?;
     let is_chosen = chosen.is_last(&record.identity, &record.name);
-    if record.charged != is_charged(is_shared, is_chosen) {
+    if record.charged != should_be_charged(is_shared, is_chosen) {
         return Ok(Some(Wrong::Charged));
     }
     Ok(None)

@@ -1,10 +1,10 @@
 //! The records.
 
-use crate::bytes::check_data;
 use crate::day_sums::Places;
-use crate::entries::check_entries;
+use crate::entry_counts::check_entries;
 use crate::finding::{Place, Tree, Wrong};
 use crate::marks::check_marks;
+use crate::record_bytes::check_data;
 use crate::rulings::Rulings;
 use crate::stop::{Stop, met, unsound};
 use crate::trees::Trees;

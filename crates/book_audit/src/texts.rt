@@ -4,7 +4,7 @@ use crate::audited::{Audited, Counts};
 use crate::finding::{Finding, Place, Wrong};
 use smf_text::{FIRST_DAY, LAST_DAY, day_text};
 use std::alloc::{AllocError, Global};
-use tree_tables::DayPlace;
+use tree_tables::DayKey;
 
 /// What is wrong, in words.
 fn wrong_text(wrong: Wrong) -> &'static str {
@@ -55,7 +55,7 @@ fn push_day(alloc: Global, out: &mut String, day: i32) -> Result<(), AllocError>
 }
 
 /// Adds where a charge row is.
-fn push_spot(alloc: Global, out: &mut String, spot: &DayPlace) -> Result<(), AllocError> {
+fn push_spot(alloc: Global, out: &mut String, spot: &DayKey) -> Result<(), AllocError> {
     let period = spot.period;
     write!(out, "day_sum {period} ")?;
     push_day(alloc, out, spot.place.day)?;

@@ -34,8 +34,8 @@ impl<S: Store> Trees<S> {
     ghost use Rattle.tree_rows.specs.Rows.{Finds, IsFirst, IsUnchanged};
     ghost use Rattle.tree_tables.specs.Columns.{flag};
     ghost use Rattle.tree_tables.specs.Holds.{HasShapes};
-    ghost use Rattle.tree_tables.specs.Walks.{rows_behind};
-    ghost use Rattle.book_audit.specs.Trees.{FindsTwo, number_of};
+    ghost use Rattle.tree_tables.specs.Walks.{rows_past};
+    ghost use Rattle.book_audit.specs.Trees.{FindsTwo, tree_number};
 
     /// The trees in a store that has them.
     pub(crate) fn over(alloc: Global, store: S) -> Trees<S>
@@ -58,14 +58,14 @@ impl<S: Store> Trees<S> {
 
     /// Reads the first row after that of a key into `row`, or the very first if the key has no
     /// columns; or answers that there is none.
-    pub(crate) fn row_behind(
+    pub(crate) fn row_past(
         &mut self,
         tree: Tree,
         key: &Row,
         row: &mut Row,
     ) -> Result<bool, StoreError>
         ensures found { IfOk result (λ there. IsClean (S.Store.view self.new.store)
-            → IsFirst (rows_behind key.now ((S.Store.view self.old.store).trees (number_of tree)))
+            → IsFirst (rows_past key.now ((S.Store.view self.old.store).trees (tree_number tree)))
             row.new there) }
         ensures same { OnOk result (IsClean (S.Store.view self.new.store)
             → IsUnchanged (S.Store.view self.old.store) (S.Store.view self.new.store)) }
@@ -80,7 +80,7 @@ impl<S: Store> Trees<S> {
     /// Whether a row of a tree has the key; it is then found.
     fn finds(&mut self, tree: Tree) -> Result<bool, StoreError>
         ensures found { IfOk result (λ hit. IsClean (S.Store.view self.new.store)
-            → Finds self.old.key ((S.Store.view self.old.store).trees (number_of tree))
+            → Finds self.old.key ((S.Store.view self.old.store).trees (tree_number tree))
             self.new.found hit) }
         ensures same { OnOk result (IsClean (S.Store.view self.new.store)
             → IsUnchanged (S.Store.view self.old.store) (S.Store.view self.new.store)) }

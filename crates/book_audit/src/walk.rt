@@ -32,8 +32,8 @@ impl Walk {
     ghost use Rattle.std.specs.Prelude.{◌≡◌, IfOk, OnOk};
     ghost use Rattle.sqlite_trees.specs.View.{IsClean};
     ghost use Rattle.tree_rows.specs.Rows.{IsFirst, IsUnchanged};
-    ghost use Rattle.tree_tables.specs.Walks.{rows_behind};
-    ghost use Rattle.book_audit.specs.Trees.{number_of};
+    ghost use Rattle.tree_tables.specs.Walks.{rows_past};
+    ghost use Rattle.book_audit.specs.Trees.{tree_number};
 
     /// Before the first row.
     pub(crate) fn over(alloc: Global, tree: Tree) -> Walk {
@@ -55,14 +55,14 @@ impl Walk {
     /// row before is unsound, so a walk ends whatever the tree holds.
     pub(crate) fn next<S: Store>(&mut self, trees: &mut Trees<S>) -> Result<bool, Stop>
         ensures next { IfOk result (λ there. IsClean (S.Store.view trees.new.store)
-            → IsFirst (rows_behind self.old.key
-            ((S.Store.view trees.old.store).trees (number_of self.old.tree))) self.new.row there) }
+            → IsFirst (rows_past self.old.key
+            ((S.Store.view trees.old.store).trees (tree_number self.old.tree))) self.new.row there) }
         ensures same { OnOk result (IsClean (S.Store.view trees.new.store)
             → IsUnchanged (S.Store.view trees.old.store) (S.Store.view trees.new.store)) }
     {
         let tree = self.tree;
         let there = trees
-            .row_behind(tree, &self.key, &mut self.row)
+            .row_past(tree, &self.key, &mut self.row)
             .map_err(|error| met(tree, error))?;
         if !there {
             return Ok(false);

@@ -15,7 +15,7 @@ use Rattle.book_model.specs.declared.fault.LedgerFault.{LedgerFault}
 use Rattle.book_model.specs.declared.fault.LedgerFault.TheVariants.{NoSuchPeriod}
 use Rattle.book_model.specs.Words.{Book, open_number, open_period, period_of, IsBookCall}
 use Rattle.book_model.specs.Words.{close_event, close_outcome, last_period, close_answer, is_closed}
-use Rattle.book_model.specs.Words.{after_any, keep, close, Period, Naming, by_bytes, Tariffed}
+use Rattle.book_model.specs.Words.{after_any, keep, close, Period, Naming, by_bytes, AcceptedTerms}
 use Rattle.book_model.specs.Words.{last_close}
 use Rattle.book_model.specs.declared.answer.Ruled.{Ruled}
 use Rattle.book_model.proofs.CallLemmas.{close_by}
@@ -23,16 +23,16 @@ use Rattle.book_model.proofs.AnswerLemmas.{answers_itself, calls}
 use Rattle.book_model.proofs.ListLemmas.{last_or-is}
 use Rattle.book_core.specs.declared.chosen.ChosenRecord.{ChosenRecord}
 use Rattle.book_core.specs.declared.closed.ClosedPeriod.{ClosedPeriod}
-use Rattle.book_core.specs.declared.ending.Ending.{Ending}
+use Rattle.book_core.specs.declared.period_end.PeriodEnd.{PeriodEnd}
 use Rattle.book_core.specs.declared.held.HeldRecord.{HeldRecord}
-use Rattle.book_core.specs.declared.share.Share.{Share}
+use Rattle.book_core.specs.declared.treatment.Treatment.{Treatment}
 use Rattle.book_core.specs.Plain.{Entry, held_in, record_of, ruled_by, AreBooked}
 use Rattle.book_core.specs.PlainBook.{book_with}
-use Rattle.book_core.specs.Shares.{Names, NamesOf, SharesOf, AreNamed, IsEnding, under_name}
-use Rattle.book_core.specs.Shares.{charges, is_named, period_with, share_at, share_closed}
+use Rattle.book_core.specs.Treatments.{Names, NamesOf, TreatmentsOf, AreNamed, IsPeriodEnd, under_name}
+use Rattle.book_core.specs.Treatments.{charges, has_name_in, period_with, treatment_at, treatment_closed}
 use Rattle.book_core.proofs.HeldLemmas.{held_in-more}
 use Rattle.book_core.proofs.NameLemmas.{each_named_by, each_shared_by, posted-kept, past-kept}
-use Rattle.book_core.proofs.ShareLemmas.{where-agree, with-agree, charged-ends, period-ends}
+use Rattle.book_core.proofs.TreatmentLemmas.{where-agree, with-agree, charged-ends, period-ends}
 
 -- what is read of a period, where there is one
 pub read_of : {P A : Type 0} (read : P → A) (found : Option P) (period : P)
@@ -64,7 +64,7 @@ last_or-found [] = refl
 last_or-found (x ∷ xs) = last_or-is x xs ∙ ap (slice_get (x ∷ xs)) (omega arith)
 
 -- the day of the last close, by the last period that is closed
-pub last_close-by : (tariffs : List Tariffed) (closed : List ClosedPeriod)
+pub last_close-by : (tariffs : List AcceptedTerms) (closed : List ClosedPeriod)
     (choices : List ChosenRecord) (adopted : Option ℕ)
     → last_close (ruled_by tariffs closed choices adopted)
     ≡ option_map (λ period. period.through) (slice_get closed (length closed - 1))
@@ -75,7 +75,7 @@ last_close-by tariffs closed choices adopted =
     ∙ slice_get-map day closed (length closed - 1)
 
 -- the number of the open period
-pub open_number-by : (tariffs : List Tariffed) (entries : List Entry) (posted : Names)
+pub open_number-by : (tariffs : List AcceptedTerms) (entries : List Entry) (posted : Names)
     (closed : List ClosedPeriod) (choices : List ChosenRecord) (adopted : Option ℕ)
     → open_number (book_with tariffs entries posted closed choices adopted) ≡ length closed + 1
 open_number-by tariffs entries posted closed choices adopted =
@@ -126,14 +126,14 @@ is_next {X} xs number some most none =
     never (Some y) x none some = cc
 
 -- a period that is closed, by its number
-pub period_of-closed : (tariffs : List Tariffed) (entries : List Entry) (posted : Names)
+pub period_of-closed : (tariffs : List AcceptedTerms) (entries : List Entry) (posted : Names)
     (closed : List ClosedPeriod) (choices : List ChosenRecord) (adopted : Option ℕ)
     (number : ℕ) (one : ClosedPeriod)
     → 1 ≤ number → slice_get closed (number - 1) ≡ Some one
     → period_of (book_with tariffs entries posted closed choices adopted) number
-    ≡ Some (period_with (share_closed one) entries)
+    ≡ Some (period_with (treatment_closed one) entries)
 period_of-closed tariffs entries posted closed choices adopted number one some found =
-    let read : ClosedPeriod → Period = λ period. period_with (share_closed period) entries in
+    let read : ClosedPeriod → Period = λ period. period_with (treatment_closed period) entries in
     period_by_tests (book_with tariffs entries posted closed choices adopted) number false false
     (not_none number some)
     (ap (λ n. number == n) (open_number-by tariffs entries posted closed choices adopted)
@@ -141,47 +141,47 @@ period_of-closed tariffs entries posted closed choices adopted number one some f
     ∙ slice_get-map read closed (number - 1)
     ∙ ap (option_map read) found
 
-module _ {naming : Naming} (tariffs : List Tariffed) (closed : List ClosedPeriod)
+module _ {naming : Naming} (tariffs : List AcceptedTerms) (closed : List ClosedPeriod)
     (choices : List ChosenRecord) (adopted : Option ℕ) {entries : List Entry} {total : ℕ}
     (kept : AreBooked naming (ruled_by tariffs closed choices adopted) entries total)
     (rising : IsStrictlySortedBy by_bytes (keys_of entries)) where
   -- the open period, by its number
-  pub period_of-open : (posted : Names) (ending : Ending) (number : ℕ)
-      → IsEnding entries (ruled_by tariffs closed choices adopted) None ending
+  pub period_of-open : (posted : Names) (period_end : PeriodEnd) (number : ℕ)
+      → IsPeriodEnd entries (ruled_by tariffs closed choices adopted) None period_end
       → 1 ≤ number → number ≤ length closed + 1 → slice_get closed (number - 1) ≡ None
       → period_of (book_with tariffs entries posted closed choices adopted) number
-      ≡ Some (period_with (λ entry. share_at ending (is_named posted entry) entry.1) entries)
-  period_of-open posted ending number ends some most none =
+      ≡ Some (period_with (λ entry. treatment_at period_end (has_name_in posted entry) entry.1) entries)
+  period_of-open posted period_end number ends some most none =
       period_by_tests (book_with tariffs entries posted closed choices adopted) number false true
       (not_none number some)
       (ap (λ n. number == n) (open_number-by tariffs entries posted closed choices adopted)
       ∙ is_next closed number some most none)
-      ∙ ap Some (sym (period-ends kept rising (is_named posted) None ending ends))
+      ∙ ap Some (sym (period-ends kept rising (has_name_in posted) None period_end ends))
 
   -- the book after a close, by the names of the records that it charges and the shares that the
   -- period has
-  pub book-closed : (posted after : Names) (ending : Ending) (one : ClosedPeriod)
+  pub book-closed : (posted after : Names) (period_end : PeriodEnd) (one : ClosedPeriod)
       (all : List ClosedPeriod) (told day : ℤ) → all ≡ closed ++ one ∷ [] → told ≡ day
-      → IsEnding entries (ruled_by tariffs closed choices adopted) (Some told) ending
-      → NamesOf (λ entry. charges ending entry.1) entries after
-      → SharesOf (λ entry. share_at ending (is_named posted entry) entry.1) entries one.shares
+      → IsPeriodEnd entries (ruled_by tariffs closed choices adopted) (Some told) period_end
+      → NamesOf (λ entry. charges period_end entry.1) entries after
+      → TreatmentsOf (λ entry. treatment_at period_end (has_name_in posted entry) entry.1) entries one.treatments
       → one.through ≡ told
       → book_with tariffs entries after all choices adopted
       ≡ close day (book_with tariffs entries posted closed choices adopted)
-  book-closed posted after ending one all told day is_all is_day ends names shares through =
-      let charges_it : Entry → Bool = λ entry. charges ending entry.1 in
-      let share : Entry → Option Share =
-      λ entry. share_at ending (is_named posted entry) entry.1 in
-      let read : ClosedPeriod → Period = λ period. period_with (share_closed period) entries in
+  book-closed posted after period_end one all told day is_all is_day ends names treatments through =
+      let charges_it : Entry → Bool = λ entry. charges period_end entry.1 in
+      let treatment : Entry → Option Treatment =
+      λ entry. treatment_at period_end (has_name_in posted entry) entry.1 in
+      let read : ClosedPeriod → Period = λ period. period_with (treatment_closed period) entries in
       let day_of : ClosedPeriod → ℤ = λ period. period.through in
       let closes = map-append day_of closed (one ∷ [])
       ∙ ap (λ d. map day_of closed ++ d ∷ []) through in
-      let now = where-agree (is_named after) charges_it entries
+      let now = where-agree (has_name_in after) charges_it entries
       (each_named_by entries rising charges_it after names)
-      ∙ charged-ends kept rising (Some told) ending ends in
-      let ended = with-agree (share_closed one) share entries
-      (each_shared_by entries rising share one.shares shares)
-      ∙ period-ends kept rising (is_named posted) (Some told) ending ends in
+      ∙ charged-ends kept rising (Some told) period_end ends in
+      let ended = with-agree (treatment_closed one) treatment entries
+      (each_shared_by entries rising treatment one.treatments treatments)
+      ∙ period-ends kept rising (has_name_in posted) (Some told) period_end ends in
       let past = map-append read closed (one ∷ [])
       ∙ ap (λ period. map read closed ++ period ∷ []) ended in
       ap (λ all. book_with tariffs entries after all choices adopted) is_all
@@ -210,7 +210,7 @@ early_by None day = refl
 early_by (Some close) day = refl
 
 -- the same by the tests in their order, on what the ledger keeps
-pub close_calls-by : (tariffs : List Tariffed) (entries : List Entry) (posted : Names)
+pub close_calls-by : (tariffs : List AcceptedTerms) (entries : List Entry) (posted : Names)
     (periods : List ClosedPeriod) (choices : List ChosenRecord) (adopted : Option ℕ)
     (number : ℕ) (day : ℤ) (new : Book) (next : ℕ) (closed is_open late full : Bool)
     → next ≡ length periods + 1
@@ -237,7 +237,7 @@ close_calls-by tariffs entries posted periods choices adopted number day new nex
     changed
 
 -- no close changes how the entries are kept, no choice does, and no adoption
-pub kept-ruled : {naming : Naming} {tariffs : List Tariffed} (closed after : List ClosedPeriod)
+pub kept-ruled : {naming : Naming} {tariffs : List AcceptedTerms} (closed after : List ClosedPeriod)
     (choices more : List ChosenRecord) (adopted next : Option ℕ) {entries : List Entry} {total : ℕ}
     → AreBooked naming (ruled_by tariffs closed choices adopted) entries total
     → AreBooked naming (ruled_by tariffs after more next) entries total
@@ -251,7 +251,7 @@ kept-ruled closed after choices more adopted next kept = record {
 }
 
 -- the book with one entry more, under a name that none has
-pub book-kept : (tariffs : List Tariffed) (entries : List Entry) (posted : Names)
+pub book-kept : (tariffs : List AcceptedTerms) (entries : List Entry) (posted : Names)
     (closed : List ClosedPeriod) (choices : List ChosenRecord) (adopted : Option ℕ)
     (name : List ℕ) (h : HeldRecord)
     → under_name name entries ≡ None → AreNamed entries posted closed

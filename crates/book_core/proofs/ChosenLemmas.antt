@@ -16,7 +16,7 @@ use Rattle.book_model.specs.declared.answer.Ruled.{Ruled}
 use Rattle.book_model.specs.declared.answer.Ruled.TheVariants.{Done, Already}
 use Rattle.book_model.specs.declared.fault.LedgerFault.{LedgerFault}
 use Rattle.book_model.specs.declared.fault.LedgerFault.TheVariants.{Full, NoSuchRecord, NotDisputed}
-use Rattle.book_model.specs.Words.{Book, IsBookCall, Naming, Rulings, Tariffed, after_any, by_bytes}
+use Rattle.book_model.specs.Words.{Book, IsBookCall, Naming, Rulings, AcceptedTerms, after_any, by_bytes}
 use Rattle.book_model.specs.Words.{choose, choose_event, choose_outcome}
 use Rattle.book_model.specs.Words.{chosen_answer, is_chosen, is_unrivalled}
 use Rattle.book_model.specs.Words.{most_choices, open_by, record_named}
@@ -28,7 +28,7 @@ use Rattle.book_core.specs.declared.held.HeldRecord.{HeldRecord}
 use Rattle.book_core.specs.Choices.{choice_of}
 use Rattle.book_core.specs.Plain.{AreBooked, Entry, held_in, is_alone, record_of, ruled_by}
 use Rattle.book_core.specs.PlainBook.{book_with}
-use Rattle.book_core.specs.Shares.{Names, under_name}
+use Rattle.book_core.specs.Treatments.{Names, under_name}
 use Rattle.book_core.proofs.ChargedLemmas.{each_unrivalled}
 use Rattle.book_core.proofs.HeldLemmas.{bytes_of, has-found, named-held}
 use Rattle.book_core.proofs.NamedLemmas.{is_some-named, its_name, same_texts}
@@ -112,7 +112,7 @@ module _ {naming : Naming} {rulings : Rulings} {entries : List Entry} {total : �
             (sym (has-found kept rising one name h named found) ∙ held)))
       ] refl
 
-module _ {naming : Naming} (tariffs : List Tariffed) (closed : List ClosedPeriod)
+module _ {naming : Naming} (tariffs : List AcceptedTerms) (closed : List ClosedPeriod)
     (choices : List ChosenRecord) (adopted : Option ℕ) {entries : List Entry} {total : ℕ}
     (kept : AreBooked naming (ruled_by tariffs closed choices adopted) entries total)
     (rising : IsStrictlySortedBy by_bytes (keys_of entries)) where
@@ -155,7 +155,7 @@ module _ {naming : Naming} (tariffs : List Tariffed) (closed : List ClosedPeriod
       changed
 
 -- the book with one choice more
-pub book-chosen : (tariffs : List Tariffed) (entries : List Entry) (posted : Names)
+pub book-chosen : (tariffs : List AcceptedTerms) (entries : List Entry) (posted : Names)
     (closed : List ClosedPeriod) (choices after : List ChosenRecord) (adopted : Option ℕ)
     (choice : ChosenRecord)
     (bytes : List ℕ) → after ≡ choices ++ choice ∷ []

@@ -7,7 +7,7 @@ use Rattle.book_model.specs.Words.{Terms, terms_in, Naming, Book, new_book, open
 use Rattle.book_model.specs.Words.{after_all, accept_answer, tariff_answer, terms_answer}
 use Rattle.book_model.specs.Words.{close_answer, is_closed, is_early, last_period, Outcome}
 use Rattle.book_model.specs.Words.{accept_event, tariff_event, close_event, tariff_outcome}
-use Rattle.book_model.specs.Words.{close_outcome, book_after, book_of, IsAnswered}
+use Rattle.book_model.specs.Words.{close_outcome, book_after, book_of, IsMadeByCalls}
 use Rattle.book_model.specs.Words.{choose_answer, choose_event, choose_outcome, record_named}
 use Rattle.book_model.specs.Words.{adopt_answer, adopt_event, adopt_outcome, rule_by, second_rule}
 use Rattle.tariff_rules.specs.declared.fault.TariffFault.{TariffFault}
@@ -21,18 +21,18 @@ use Rattle.book_model.specs.declared.answer.Ruled.{Ruled}
 use Rattle.book_model.specs.declared.answer.Ruled.TheVariants.{Done, Already}
 use Rattle.book_model.proofs.StepLemmas.{books_follow_history}
 use Rattle.book_core.specs.Ledgers.{Seen}
-use Rattle.book_core.specs.Work.{Work, Then, IsWork}
+use Rattle.book_core.specs.Transition.{Transition, Then, IsTransition}
 use Rattle.book_core.specs.Calls.{Makes, Calls, listed}
 use Rattle.book_core.specs.Follow.{FollowsHistory}
 use Rattle.book_core.proofs.NamedLemmas.{its_name}
-use Rattle.book_core.proofs.WorkLemmas.{after_all-append}
+use Rattle.book_core.proofs.TransitionLemmas.{after_all-append}
 
 -- such work makes answered events of the book of any history that calls made
-abbrev pub MakesAnswered : Naming → Work → Type 0
+abbrev pub MakesAnswered : Naming → Transition → Type 0
 MakesAnswered naming Made =
     (history : List Event) (was : Bool) (events : List Event) (is : Bool)
     → Made was (book_after history) events is
-    → IsAnswered naming history → IsAnswered naming (events ++ history)
+    → IsMadeByCalls naming history → IsMadeByCalls naming (events ++ history)
 
 -- the book after events is that of the history with them
 pub after_all-book_of : (events history : List Event)
@@ -42,8 +42,8 @@ after_all-book_of events history =
     ∙ sym (after_all-append events history new_book) ∙ books_follow_history (events ++ history)
 
 -- so work that has its events answered follows the history
-pub follows : (old new : Seen) (Made : Work) → MakesAnswered old.naming Made
-    → IsWork old new Made → FollowsHistory old new Made
+pub follows : (old new : Seen) (Made : Transition) → MakesAnswered old.naming Made
+    → IsTransition old new Made → FollowsHistory old new Made
 follows old new Made answers work honest books history of book stands =
     let come = work.moves honest books book stands in
     let was : come.before ≡ book_of history = of come.before come.stood in
@@ -59,16 +59,16 @@ follows old new Made answers work honest books history of book stands =
     }
 
 -- work, and then other work
-pub then_answered : (naming : Naming) (First Next : Work) → MakesAnswered naming First
+pub then_answered : (naming : Naming) (First Next : Transition) → MakesAnswered naming First
     → MakesAnswered naming Next → MakesAnswered naming (Then First Next)
 then_answered naming First Next first next history was events is both answered =
-    let early : IsAnswered naming (both.early ++ history) =
+    let early : IsMadeByCalls naming (both.early ++ history) =
     first history was both.early both.between both.first answered in
-    let late : IsAnswered naming (both.late ++ (both.early ++ history)) =
+    let late : IsMadeByCalls naming (both.late ++ (both.early ++ history)) =
     next (both.early ++ history) both.between both.late is
     (subst (λ middle. Next both.between middle both.late is)
     (sym (after_all-append both.early history new_book)) both.next) early in
-    subst (IsAnswered naming)
+    subst (IsMadeByCalls naming)
     (sym (append_assoc both.late both.early history)
     ∙ ap (λ events. events ++ history) (sym both.all)) late
 
@@ -85,22 +85,22 @@ called_events view outcome (Err fault) events is = inl is.1
 -- a call that has its outcome's event answered
 pub calls_answered : {V A : Type 0} (naming : Naming) (view : V → A) (outcome : Book → Outcome A)
     (result : Result V LedgerFault)
-    → ((history : List Event) → IsAnswered naming history
-    → IsAnswered naming (listed (outcome (book_after history)).event ++ history))
+    → ((history : List Event) → IsMadeByCalls naming history
+    → IsMadeByCalls naming (listed (outcome (book_after history)).event ++ history))
     → MakesAnswered naming (Calls view outcome result)
 calls_answered naming view outcome result answers history was events is called answered =
     elim (called_events view (outcome (book_after history)) result events called.makes) [
-      | inl none ↦ subst (λ events. IsAnswered naming (events ++ history)) (sym none) answered
+      | inl none ↦ subst (λ events. IsMadeByCalls naming (events ++ history)) (sym none) answered
       | inr all ↦
-          subst (λ events. IsAnswered naming (events ++ history)) (sym all)
+          subst (λ events. IsMadeByCalls naming (events ++ history)) (sym all)
           (answers history answered)
     ]
 
 -- the event of the answer to a record
 pub accept_event-answered : (naming : Naming) (bytes : List ℕ) (history : List Event)
     (answer : Result Accepted LedgerFault)
-    → accept_answer naming (book_after history) bytes ≡ answer → IsAnswered naming history
-    → IsAnswered naming (listed (accept_event bytes answer) ++ history)
+    → accept_answer naming (book_after history) bytes ≡ answer → IsMadeByCalls naming history
+    → IsMadeByCalls naming (listed (accept_event bytes answer) ++ history)
 accept_event-answered naming bytes history (Ok Kept) is answered = (is, answered)
 accept_event-answered naming bytes history (Ok Known) is answered = answered
 accept_event-answered naming bytes history (Ok Unpriced) is answered = answered
@@ -109,16 +109,16 @@ accept_event-answered naming bytes history (Err fault) is answered = answered
 -- the event of the answer to a tariff's terms
 terms_event-answered : (naming : Naming) (text : List ℕ) (terms : Terms) (history : List Event)
     (answer : Result Ruled LedgerFault)
-    → terms_answer (book_after history) text terms ≡ answer → IsAnswered naming history
-    → IsAnswered naming (listed (tariff_event text (Ok terms) answer) ++ history)
+    → terms_answer (book_after history) text terms ≡ answer → IsMadeByCalls naming history
+    → IsMadeByCalls naming (listed (tariff_event text (Ok terms) answer) ++ history)
 terms_event-answered naming text terms history (Ok Done) is answered = (is, answered)
 terms_event-answered naming text terms history (Ok Already) is answered = answered
 terms_event-answered naming text terms history (Err fault) is answered = answered
 
 -- the event of the answer to a tariff's text, by the result of reading it
 tariff_event-answered : (naming : Naming) (text : List ℕ) (said : Result Terms TariffFault)
-    (history : List Event) → IsAnswered naming history
-    → IsAnswered naming
+    (history : List Event) → IsMadeByCalls naming history
+    → IsMadeByCalls naming
     (listed (tariff_event text said (tariff_answer (book_after history) text said)) ++ history)
 tariff_event-answered naming text (Ok terms) history answered =
     terms_event-answered naming text terms history
@@ -158,8 +158,8 @@ closes_open number day book is =
 -- the event of the answer to a close
 close_event-answered : (naming : Naming) (number : ℕ) (day : ℤ) (history : List Event)
     (answer : Result Ruled LedgerFault)
-    → close_answer (book_after history) number day ≡ answer → IsAnswered naming history
-    → IsAnswered naming (listed (close_event day answer) ++ history)
+    → close_answer (book_after history) number day ≡ answer → IsMadeByCalls naming history
+    → IsMadeByCalls naming (listed (close_event day answer) ++ history)
 close_event-answered naming number day history (Ok Done) is answered =
     let book : Book = book_after history in
     let its_number : number ≡ open_number book = closes_open number day book is in
@@ -180,8 +180,8 @@ close_answered naming view number day result =
 choose_event-answered : (naming : Naming) (name : List ℕ) (history : List Event)
     (meant : Option (List ℕ)) (answer : Result Ruled LedgerFault)
     → record_named naming (book_after history).held name ≡ meant
-    → choose_answer naming (book_after history) name ≡ answer → IsAnswered naming history
-    → IsAnswered naming (listed (choose_event meant answer) ++ history)
+    → choose_answer naming (book_after history) name ≡ answer → IsMadeByCalls naming history
+    → IsMadeByCalls naming (listed (choose_event meant answer) ++ history)
 choose_event-answered naming name history None answer found is answered = answered
 choose_event-answered naming name history (Some bytes) (Ok Done) found is answered =
     let book : Book = book_after history in
@@ -219,8 +219,8 @@ second_done rule book done =
 -- the event of the answer to a rule of identity
 adopt_event-answered : (naming : Naming) (rule : ℕ) (history : List Event)
     (answer : Result Ruled LedgerFault)
-    → adopt_answer (book_after history) rule ≡ answer → IsAnswered naming history
-    → IsAnswered naming (listed (adopt_event answer) ++ history)
+    → adopt_answer (book_after history) rule ≡ answer → IsMadeByCalls naming history
+    → IsMadeByCalls naming (listed (adopt_event answer) ++ history)
 adopt_event-answered naming rule history (Ok Done) is answered =
     (second_done rule (book_after history) is, answered)
 adopt_event-answered naming rule history (Ok Already) is answered = answered

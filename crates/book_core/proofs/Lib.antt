@@ -1,25 +1,25 @@
 -- Work on a ledger, and on the books of a history; entries of a map, and what those of a plain
 -- ledger hold, charge and dispute.
-pub mod WorkLemmas
+pub mod TransitionLemmas
 pub mod NamedLemmas
 pub mod FollowLemmas
 pub mod EntryLemmas
 pub mod HeldLemmas
-pub mod RecallLemmas
-pub mod ForceLemmas
+pub mod CacheLemmas
+pub mod IdentityInForce
 pub mod AcceptLemmas
 pub mod ChoiceLemmas
 pub mod ChargedLemmas
 pub mod DisputeLemmas
 pub mod GroupLemmas
 pub mod KeyedRowLemmas
-pub mod ShownLemmas
+pub mod ListLimits
 pub mod RepeatLemmas
 pub mod IdentityLemmas
 pub mod RepricingLemmas
 pub mod TariffLemmas
 pub mod NameLemmas
-pub mod ShareLemmas
+pub mod TreatmentLemmas
 pub mod BookLemmas
 pub mod ChosenLemmas
 pub mod MemoryLemmas

@@ -24,28 +24,28 @@ use Rattle.book_model.proofs.PermutedSets.{apart_from_distinct, given_permuted}
 use Rattle.book_model.proofs.PermutedSets.{IsDistinct-map_filter, members_reordered}
 use Rattle.book_model.proofs.PermutedSets.{members_of_distinct}
 use Rattle.book_model.proofs.SetLemmas.{same_bytes-by_cmp}
-use Rattle.book_core.specs.declared.share.Share.{Share}
-use Rattle.book_core.specs.declared.share.Share.TheVariants.{Counted, Added, Taken}
+use Rattle.book_core.specs.declared.treatment.Treatment.{Treatment}
+use Rattle.book_core.specs.declared.treatment.Treatment.TheVariants.{Counted, Added, Taken}
 use Rattle.book_core.specs.Plain.{Entry, entry_records, AreBooked}
-use Rattle.book_core.specs.Shares.{is_added, is_taken, line_of, line_at, records_where, period_with}
+use Rattle.book_core.specs.Treatments.{is_added, is_taken, line_of, line_at, records_where, period_with}
 use Rattle.book_core.proofs.HeldLemmas.{bytes_of, each_named, each_priced, records_differ}
 
-module _ (share : Entry → Option Share) where
+module _ (treatment : Entry → Option Treatment) where
   -- the lines of entries by their shares, in the entries' order
   abbrev pub lines_at : List Entry → List Line
-  lines_at entries = filter_map (λ entry. line_at (share entry) entry) entries
+  lines_at entries = filter_map (λ entry. line_at (treatment entry) entry) entries
 
   -- the entries that have a line
   abbrev adjusted : List Entry → List Entry
-  adjusted entries = filter (λ entry. is_some (line_at (share entry) entry)) entries
+  adjusted entries = filter (λ entry. is_some (line_at (treatment entry) entry)) entries
 
   -- the entries that a period adds
   abbrev added : List Entry → List Entry
-  added entries = filter (λ entry. is_added (share entry)) entries
+  added entries = filter (λ entry. is_added (treatment entry)) entries
 
   -- the entries that it reverses
   abbrev taken : List Entry → List Entry
-  taken entries = filter (λ entry. is_taken (share entry)) entries
+  taken entries = filter (λ entry. is_taken (treatment entry)) entries
 
   -- the names of the lines are those of their entries
   names_of_lines : (entries : List Entry)
@@ -55,9 +55,9 @@ module _ (share : Entry → Option Share) where
       let rest = names_of_lines entries in
       let lines : List Line = lines_at entries in
       let others : List Entry = adjusted entries in
-      elim (share entry)
-      as (λ share. map (λ (line : Line). line.name) (cons_option (line_at share entry) lines)
-      ≡ keys_of (cond (is_some (line_at share entry)) (entry ∷ others) others)) [
+      elim (treatment entry)
+      as (λ treatment. map (λ (line : Line). line.name) (cons_option (line_at treatment entry) lines)
+      ≡ keys_of (cond (is_some (line_at treatment entry)) (entry ∷ others) others)) [
         | None ↦ rest
         | Some Counted ↦ rest
         | Some Added ↦ ap (λ names. entry.0 ∷ names) rest
@@ -74,10 +74,10 @@ module _ (share : Entry → Option Share) where
       let lines : List Line = lines_at entries in
       let plus : List Line = map (line_of true) (added entries) in
       let minus : List Line = map (line_of false) (taken entries) in
-      elim (share entry)
-      as (λ share. IsPermutation (cons_option (line_at share entry) lines)
-      (map (line_of true) (cond (is_added share) (entry ∷ added entries) (added entries))
-      ++ map (line_of false) (cond (is_taken share) (entry ∷ taken entries) (taken entries)))) [
+      elim (treatment entry)
+      as (λ treatment. IsPermutation (cons_option (line_at treatment entry) lines)
+      (map (line_of true) (cond (is_added treatment) (entry ∷ added entries) (added entries))
+      ++ map (line_of false) (cond (is_taken treatment) (entry ∷ taken entries) (taken entries)))) [
         | None ↦ rest
         | Some Counted ↦ rest
         | Some Added ↦ IsPermutation-cons (line_of true entry) lines (plus ++ minus) rest
@@ -97,7 +97,7 @@ module _ (share : Entry → Option Share) where
       let rest = lines_dated entries in
       let lines : List Line = lines_at entries in
       let day = entry.1.priced_is.day in
-      elim (share entry) as (λ share. All IsDated (cons_option (line_at share entry) lines)) [
+      elim (treatment entry) as (λ treatment. All IsDated (cons_option (line_at treatment entry) lines)) [
         | None ↦ rest
         | Some Counted ↦ rest
         | Some Added ↦ All-cons IsDated (line_of true entry) lines day rest
@@ -116,8 +116,8 @@ module _ (share : Entry → Option Share) where
       let lines : List Line = lines_at entries in
       let all = sum_by-cons price entry entries in
       let more = λ (line : Line). sum_by-cons cost line lines in
-      elim (share entry)
-      as (λ share. sum_by cost (cons_option (line_at share entry) lines)
+      elim (treatment entry)
+      as (λ treatment. sum_by cost (cons_option (line_at treatment entry) lines)
       ≤ sum_by price (entry ∷ entries)) [
         | None ↦ omega arith
         | Some Counted ↦ omega arith
@@ -155,46 +155,46 @@ module _ {naming : Naming} {rulings : Rulings} {entries : List Entry} {total : �
       (given_permuted by_bytes give nat_list_cmp_total (entry_records chosen)
       (apart_from_distinct (eq_by_cmp by_bytes) (entry_records chosen) apart))
 
-  module _ (share : Entry → Option Share) where
+  module _ (treatment : Entry → Option Treatment) where
     -- the lines of the entries have different names
-    pub names_apart : IsDistinct same_bytes (map (λ line. line.name) (lines_at share entries))
+    pub names_apart : IsDistinct same_bytes (map (λ line. line.name) (lines_at treatment entries))
     names_apart =
-        subst (IsDistinct same_bytes) (sym (names_of_lines share entries))
+        subst (IsDistinct same_bytes) (sym (names_of_lines treatment entries))
         (IsDistinct-map_filter (λ entry. entry.0) _ same_bytes entries
         (subst (λ same. IsDistinct same (keys_of entries)) (sym same_bytes-by_cmp)
         (IsDistinct-from_sorted by_bytes (keys_of entries) rising)))
 
     -- in order, they are the lines of the period that has the entries so
-    pub lines_of-shares : lines_of naming rulings (period_with share entries)
-        ≡ members (set_of by_line (lines_at share entries))
-    lines_of-shares =
-        let is_plus : Entry → Bool = λ entry. is_added (share entry) in
-        let is_minus : Entry → Bool = λ entry. is_taken (share entry) in
+    pub lines_of-treatments : lines_of naming rulings (period_with treatment entries)
+        ≡ members (set_of by_line (lines_at treatment entries))
+    lines_of-treatments =
+        let is_plus : Entry → Bool = λ entry. is_added (treatment entry) in
+        let is_minus : Entry → Bool = λ entry. is_taken (treatment entry) in
         let plus : List Line = lines_for naming rulings true (records_where is_plus entries) in
         let minus : List Line = lines_for naming rulings false (records_where is_minus entries) in
         let own_plus : List Line = map (line_of true) (filter is_plus entries) in
         let own_minus : List Line = map (line_of false) (filter is_minus entries) in
-        let lines : List Line = lines_at share entries in
+        let lines : List Line = lines_at treatment entries in
         members_reordered by_line_total (plus ++ minus) lines
         (IsPermutation-trans (plus ++ minus) (own_plus ++ own_minus) lines
         (IsPermutation-append plus own_plus minus own_minus (lines_of_set true is_plus)
         (lines_of_set false is_minus))
-        (IsPermutation-sym lines (own_plus ++ own_minus) (both_signs share entries)))
+        (IsPermutation-sym lines (own_plus ++ own_minus) (both_signs treatment entries)))
         (distinct_lines lines names_apart)
 
     -- a list of adjustments can show them
-    pub are_lines : AreLines (members (set_of by_line (lines_at share entries)))
+    pub are_lines : AreLines (members (set_of by_line (lines_at treatment entries)))
     are_lines =
-        let lines : List Line = lines_at share entries in
+        let lines : List Line = lines_at treatment entries in
         let cost : Line → ℕ = λ line. line.priced.amount in
         let read : List Line = members (set_of by_line lines) in
         let same = members_of_distinct by_line_total lines (distinct_lines lines names_apart) in
         let amount = sum_by-IsPermutation cost read lines same in
-        let most = lines_cost share entries in
+        let most = lines_cost treatment entries in
         let summed = kept.summed in
         let small = kept.small in
         record {
           days = All-permutation (λ line. IsDay line.priced.day) lines read
-              (IsPermutation-sym read lines same) (lines_dated share entries);
+              (IsPermutation-sym read lines same) (lines_dated treatment entries);
           amount = omega arith;
         }

@@ -26,11 +26,11 @@ use Rattle.book_model.proofs.SetLemmas.{set_of-alike}
 use Rattle.book_model.proofs.SumsAlike.{filter-alike, map-alike}
 use Rattle.book_core.specs.declared.closed.ClosedPeriod.{ClosedPeriod}
 use Rattle.book_core.specs.declared.held.HeldRecord.{HeldRecord}
-use Rattle.book_core.specs.declared.share.Share.{Share}
+use Rattle.book_core.specs.declared.treatment.Treatment.{Treatment}
 use Rattle.book_core.specs.Plain.{Entry, entry_records}
-use Rattle.book_core.specs.Shares.{Names, NamesOf, SharesOf, AreNamed, under_name, is_named}
-use Rattle.book_core.specs.Shares.{records_where, period_with, share_closed, is_counted, is_added}
-use Rattle.book_core.specs.Shares.{is_taken}
+use Rattle.book_core.specs.Treatments.{Names, NamesOf, TreatmentsOf, AreNamed, under_name, has_name_in}
+use Rattle.book_core.specs.Treatments.{records_where, period_with, treatment_closed, is_counted, is_added}
+use Rattle.book_core.specs.Treatments.{is_taken}
 use Rattle.book_core.proofs.EntryLemmas.{insert_entry-alike}
 use Rattle.book_core.proofs.HeldLemmas.{bytes_of}
 
@@ -149,41 +149,41 @@ names-skip test done entry names missing are fails name =
     (sym (under_name-more done entry name missing))
 
 -- the shares so far, with one more
-pub shares-more : (share : Entry → Option Share) (done : List Entry) (entry : Entry) (one : Share)
-    (shares next : tree.BTreeMap (List ℕ) Share)
-    → under_name entry.0 done ≡ None → SharesOf share done shares → share entry ≡ Some one
+pub treatments-more : (treatment : Entry → Option Treatment) (done : List Entry) (entry : Entry) (one : Treatment)
+    (treatments next : tree.BTreeMap (List ℕ) Treatment)
+    → under_name entry.0 done ≡ None → TreatmentsOf treatment done treatments → treatment entry ≡ Some one
     → ((name : List ℕ) → tree.get by_bytes next name
-    ≡ cond (is_at (by_bytes entry.0) name) (Some one) (tree.get by_bytes shares name))
-    → SharesOf share (done ++ entry ∷ []) next
-shares-more share done entry one shares next missing are is put name =
+    ≡ cond (is_at (by_bytes entry.0) name) (Some one) (tree.get by_bytes treatments name))
+    → TreatmentsOf treatment (done ++ entry ∷ []) next
+treatments-more treatment done entry one treatments next missing are is put name =
     put name
     ∙ elim (is_at (by_bytes entry.0) name) as (λ b. is_at (by_bytes entry.0) name ≡ b
-    → cond b (Some one) (tree.get by_bytes shares name)
-    ≡ option_and_then (λ held. share (name, held)) (cond b (Some entry.1) (under_name name done))) [
+    → cond b (Some one) (tree.get by_bytes treatments name)
+    ≡ option_and_then (λ held. treatment (name, held)) (cond b (Some entry.1) (under_name name done))) [
       | true ↦ λ tied.
-          sym (ap (λ n. share (n, entry.1)) (sym (tells_apart exact_bytes entry.0 name tied)) ∙ is)
+          sym (ap (λ n. treatment (n, entry.1)) (sym (tells_apart exact_bytes entry.0 name tied)) ∙ is)
       | false ↦ λ other. are name
     ] refl
-    ∙ ap (option_and_then (λ held. share (name, held)))
+    ∙ ap (option_and_then (λ held. treatment (name, held)))
     (sym (under_name-more done entry name missing))
 
-pub shares-skip : (share : Entry → Option Share) (done : List Entry) (entry : Entry)
-    (shares : tree.BTreeMap (List ℕ) Share)
-    → under_name entry.0 done ≡ None → SharesOf share done shares → share entry ≡ None
-    → SharesOf share (done ++ entry ∷ []) shares
-shares-skip share done entry shares missing are is name =
+pub treatments-skip : (treatment : Entry → Option Treatment) (done : List Entry) (entry : Entry)
+    (treatments : tree.BTreeMap (List ℕ) Treatment)
+    → under_name entry.0 done ≡ None → TreatmentsOf treatment done treatments → treatment entry ≡ None
+    → TreatmentsOf treatment (done ++ entry ∷ []) treatments
+treatments-skip treatment done entry treatments missing are is name =
     are name
     ∙ elim (is_at (by_bytes entry.0) name) as (λ b. is_at (by_bytes entry.0) name ≡ b
-    → option_and_then (λ held. share (name, held)) (under_name name done)
-    ≡ option_and_then (λ held. share (name, held)) (cond b (Some entry.1) (under_name name done))) [
+    → option_and_then (λ held. treatment (name, held)) (under_name name done)
+    ≡ option_and_then (λ held. treatment (name, held)) (cond b (Some entry.1) (under_name name done))) [
       | true ↦ λ tied.
           let same = tells_apart exact_bytes entry.0 name tied in
-          ap (option_and_then (λ held. share (name, held)))
+          ap (option_and_then (λ held. treatment (name, held)))
           (ap (λ n. under_name n done) (sym same) ∙ missing)
-          ∙ sym (ap (λ n. share (n, entry.1)) (sym same) ∙ is)
+          ∙ sym (ap (λ n. treatment (n, entry.1)) (sym same) ∙ is)
       | false ↦ λ other. refl
     ] refl
-    ∙ ap (option_and_then (λ held. share (name, held)))
+    ∙ ap (option_and_then (λ held. treatment (name, held)))
     (sym (under_name-more done entry name missing))
 
 module _ (entries : List Entry) (rising : IsStrictlySortedBy by_bytes (keys_of entries)) where
@@ -196,19 +196,19 @@ module _ (entries : List Entry) (rising : IsStrictlySortedBy by_bytes (keys_of e
 
   -- so an entry is named where it passes the test
   pub each_named_by : (test : Entry → Bool) (names : Names) → NamesOf test entries names
-      → All (λ (entry : Entry). is_named names entry ≡ test entry) entries
+      → All (λ (entry : Entry). has_name_in names entry ≡ test entry) entries
   each_named_by test names are k d within =
       let entry = get_or entries k d in
       are entry.0
       ∙ ap (λ found. option_map_or (λ held. test (entry.0, held)) found false) (own_name k d within)
 
   -- and has the share
-  pub each_shared_by : (share : Entry → Option Share) (shares : tree.BTreeMap (List ℕ) Share)
-      → SharesOf share entries shares
-      → All (λ (entry : Entry). tree.get by_bytes shares entry.0 ≡ share entry) entries
-  each_shared_by share shares are k d within =
+  pub each_shared_by : (treatment : Entry → Option Treatment) (treatments : tree.BTreeMap (List ℕ) Treatment)
+      → TreatmentsOf treatment entries treatments
+      → All (λ (entry : Entry). tree.get by_bytes treatments entry.0 ≡ treatment entry) entries
+  each_shared_by treatment treatments are k d within =
       let entry = get_or entries k d in
-      are entry.0 ∙ ap (option_and_then (λ held. share (entry.0, held))) (own_name k d within)
+      are entry.0 ∙ ap (option_and_then (λ held. treatment (entry.0, held))) (own_name k d within)
 
 -- With one entry more, under a name that none has.
 module _ (entries : List Entry) (name : List ℕ) (h : HeldRecord)
@@ -226,12 +226,12 @@ module _ (entries : List Entry) (name : List ℕ) (h : HeldRecord)
       (entry_records (cond b ((name, h) ∷ filter test entries) (filter test entries)))) fails
 
   -- so does a period in which it has no share
-  pub with-kept : (share : Entry → Option Share) → share (name, h) ≡ None
-      → period_with share after ≡ period_with share entries
-  with-kept share none =
-      let each : (is : Option Share → Bool) → is None ≡ false
-      → records_where (λ e. is (share e)) after ≡ records_where (λ e. is (share e)) entries =
-      λ is fails. where-kept (λ e. is (share e)) (ap is none ∙ fails) in
+  pub with-kept : (treatment : Entry → Option Treatment) → treatment (name, h) ≡ None
+      → period_with treatment after ≡ period_with treatment entries
+  with-kept treatment none =
+      let each : (is : Option Treatment → Bool) → is None ≡ false
+      → records_where (λ e. is (treatment e)) after ≡ records_where (λ e. is (treatment e)) entries =
+      λ is fails. where-kept (λ e. is (treatment e)) (ap is none ∙ fails) in
       λ i. record {
         counted = each is_counted refl i;
         added = each is_added refl i;
@@ -241,17 +241,17 @@ module _ (entries : List Entry) (name : List ℕ) (h : HeldRecord)
   module _ (posted : Names) (closed : List ClosedPeriod) (named : AreNamed entries posted closed)
     where
       -- what was charged at the last close stays
-      pub posted-kept : records_where (is_named posted) after
-          ≡ records_where (is_named posted) entries
-      posted-kept = where-kept (is_named posted) (named.posted name missing)
+      pub posted-kept : records_where (has_name_in posted) after
+          ≡ records_where (has_name_in posted) entries
+      posted-kept = where-kept (has_name_in posted) (named.posted name missing)
 
       -- and so do closed periods
-      pub past-kept : map (λ period. period_with (share_closed period) after) closed
-          ≡ map (λ period. period_with (share_closed period) entries) closed
+      pub past-kept : map (λ period. period_with (treatment_closed period) after) closed
+          ≡ map (λ period. period_with (treatment_closed period) entries) closed
       past-kept =
-          map-agree (λ period. period_with (share_closed period) after)
-          (λ period. period_with (share_closed period) entries) closed
-          (λ k d within. with-kept (share_closed (get_or closed k d))
+          map-agree (λ period. period_with (treatment_closed period) after)
+          (λ period. period_with (treatment_closed period) entries) closed
+          (λ k d within. with-kept (treatment_closed (get_or closed k d))
           (named.past k d within name missing))
 
       -- nobody has a share who is not held
@@ -274,16 +274,16 @@ module _ (entries : List Entry) (name : List ℕ) (h : HeldRecord)
           not_put false found none = none
 
 -- after a close it is so again, where only what is held was charged, and has a share
-pub named-closed : (test : Entry → Bool) (share : Entry → Option Share) (entries : List Entry)
+pub named-closed : (test : Entry → Bool) (treatment : Entry → Option Treatment) (entries : List Entry)
     (names posted : Names) (closed : List ClosedPeriod) (one : ClosedPeriod)
     (all : List ClosedPeriod) → all ≡ closed ++ one ∷ []
     → AreNamed entries names closed → NamesOf test entries posted
-    → SharesOf share entries one.shares → AreNamed entries posted all
-named-closed test share entries names posted closed one all is named names_are shares_are =
+    → TreatmentsOf treatment entries one.treatments → AreNamed entries posted all
+named-closed test treatment entries names posted closed one all is named names_are shares_are =
     let Missing : ClosedPeriod → Type 0 = λ period. (name : List ℕ) → under_name name entries ≡ None
-    → tree.get by_bytes period.shares name ≡ None in
+    → tree.get by_bytes period.treatments name ≡ None in
     let last : Missing one = λ name none. shares_are name
-    ∙ ap (option_and_then (λ held. share (name, held))) none in
+    ∙ ap (option_and_then (λ held. treatment (name, held))) none in
     record {
       posted = λ name none. names_are name
           ∙ ap (λ found. option_map_or (λ held. test (name, held)) found false) none;

@@ -10,7 +10,7 @@ use Rattle.std.specs.Map.Calls.{RetainsPairs}
 use Rattle.std.specs.List.{list_any}
 use Rattle.std.proofs.lemmas.Map.Made.{is_some-lookup}
 use Rattle.std.proofs.lemmas.Simd.{map-map}
-use Rattle.book_model.specs.Words.{Terms, Tariffed, most_cost, by_bytes, set_of}
+use Rattle.book_model.specs.Words.{Terms, AcceptedTerms, most_cost, by_bytes, set_of}
 use Rattle.book_model.proofs.ListLemmas.{filter-map}
 use Rattle.book_core.specs.declared.chosen.ChosenRecord.{ChosenRecord}
 use Rattle.book_core.specs.declared.closed.ClosedPeriod.{ClosedPeriod}
@@ -18,8 +18,8 @@ use Rattle.book_core.specs.declared.held.HeldRecord.{HeldRecord}
 use Rattle.book_core.specs.Plain.{Entry, entry_records, held_in, record_of, ruled_by}
 use Rattle.book_core.specs.PlainBook.{book_with}
 use Rattle.book_core.specs.Repricing.{AreRepriced, if_room, price_anew, unpriced}
-use Rattle.book_core.specs.Shares.{Names, AreNamed, is_counted, is_added, is_taken, is_named}
-use Rattle.book_core.specs.Shares.{period_with, records_where, share_closed, under_name}
+use Rattle.book_core.specs.Treatments.{Names, AreNamed, is_counted, is_added, is_taken, has_name_in}
+use Rattle.book_core.specs.Treatments.{period_with, records_where, treatment_closed, under_name}
 
 -- a call on a record that answers `true`, and leaves the record at its new price
 pub record Reprices (terms : Terms) (old new : HeldRecord) (answer : Bool) : Type 0 where
@@ -87,26 +87,26 @@ module _ {terms : Terms} {entries anew : List Entry} (is : AreRepriced terms ent
       (chosen anew ∙ ap (λ pairs. map own (filter passes pairs)) is.same ∙ sym (chosen entries))
 
   -- what was charged at the last close stays
-  pub posted_stay : (posted : Names) → records_where (is_named posted) anew
-      ≡ records_where (is_named posted) entries
+  pub posted_stay : (posted : Names) → records_where (has_name_in posted) anew
+      ≡ records_where (has_name_in posted) entries
   posted_stay posted = where_stay (contains by_bytes posted)
 
   -- and so do closed periods
   pub past_stay : (closed : List ClosedPeriod)
-      → map (λ period. period_with (share_closed period) anew) closed
-      ≡ map (λ period. period_with (share_closed period) entries) closed
+      → map (λ period. period_with (treatment_closed period) anew) closed
+      ≡ map (λ period. period_with (treatment_closed period) entries) closed
   past_stay closed =
-      let each : (period : ClosedPeriod) → period_with (share_closed period) anew
-      ≡ period_with (share_closed period) entries =
+      let each : (period : ClosedPeriod) → period_with (treatment_closed period) anew
+      ≡ period_with (treatment_closed period) entries =
       λ period i. record {
-        counted = where_stay (λ name. is_counted (get by_bytes period.shares name)) i;
-        added = where_stay (λ name. is_added (get by_bytes period.shares name)) i;
-        taken = where_stay (λ name. is_taken (get by_bytes period.shares name)) i;
+        counted = where_stay (λ name. is_counted (get by_bytes period.treatments name)) i;
+        added = where_stay (λ name. is_added (get by_bytes period.treatments name)) i;
+        taken = where_stay (λ name. is_taken (get by_bytes period.treatments name)) i;
       } in
       λ i. map (λ period. each period i) closed
 
   -- so the book changes only in what its records cost
-  pub book_stays : (tariffs : List Tariffed) (posted : Names) (closed : List ClosedPeriod)
+  pub book_stays : (tariffs : List AcceptedTerms) (posted : Names) (closed : List ClosedPeriod)
       (choices : List ChosenRecord) (adopted : Option ℕ)
       → book_with tariffs anew posted closed choices adopted
       ≡ book_with tariffs entries posted closed choices adopted

@@ -5,7 +5,7 @@ use Rattle.book_model.specs.declared.fault.LedgerFault.{LedgerFault}
 use Rattle.book_model.specs.declared.fault.LedgerFault.TheVariants.{Memory, Store, Reopen}
 use Rattle.book_model.specs.Words.{Book, Event, Outcome}
 use Rattle.book_core.specs.Ledgers.{Seen}
-use Rattle.book_core.specs.Work.{IsWork}
+use Rattle.book_core.specs.Transition.{IsTransition}
 
 -- the events of an outcome: the one that it is, or none
 abbrev pub listed : Option Event → List Event
@@ -48,5 +48,5 @@ pub record Calls {V A : Type 0} (view : V → A) (outcome : Book → Outcome A)
 -- One call of a ledger: the one that the definitions say of the book before it.
 pub record IsCall {V A : Type 0} (view : V → A) (old new : Seen) (result : Result V LedgerFault)
     (outcome : Book → Outcome A) : Type 0 where
-  pub work : IsWork old new (Calls view outcome result)
+  pub work : IsTransition old new (Calls view outcome result)
   pub reopens : Reopens result old.must_reopen new.must_reopen

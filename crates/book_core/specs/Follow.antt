@@ -1,25 +1,25 @@
 -- Work on a ledger with the books of a history.
 use Rattle.std.specs.Prelude.{◌≡◌, List, ◌++◌}
-use Rattle.book_model.specs.Words.{Book, Event, book_of, IsAnswered}
-use Rattle.book_core.specs.Ledgers.{Seen, StandsAt}
-use Rattle.book_core.specs.Work.{Work}
+use Rattle.book_model.specs.Words.{Book, Event, book_of, IsMadeByCalls}
+use Rattle.book_core.specs.Ledgers.{Seen, MayHave}
+use Rattle.book_core.specs.Transition.{Transition}
 
 -- the books can only be those of this history
 abbrev pub AreOf : List Event → Seen → Type 0
-AreOf history seen = (book : Book) → StandsAt seen book → book ≡ book_of history
+AreOf history seen = (book : Book) → MayHave seen book → book ≡ book_of history
 
 -- the book of the history continued by what the work made; where calls made the history, they
 -- made all of it
-pub record Continues (history : List Event) (old new : Seen) (Made : Work) (book : Book)
+pub record Continues (history : List Event) (old new : Seen) (Made : Transition) (book : Book)
     : Type 0 where
   pub events : List Event
   pub made : Made old.must_reopen (book_of history) events new.must_reopen
-  pub answered : IsAnswered old.naming history → IsAnswered old.naming (events ++ history)
+  pub answered : IsMadeByCalls old.naming history → IsMadeByCalls old.naming (events ++ history)
   pub is : book ≡ book_of (events ++ history)
 
 -- Where the books were those of a history, they are those of that history with the events of the
 -- work more, looked at as a whole.
-abbrev pub FollowsHistory : Seen → Seen → Work → Type 0
+abbrev pub FollowsHistory : Seen → Seen → Transition → Type 0
 FollowsHistory old new Made =
     new.is_honest → old.is_books → (history : List Event) → AreOf history old → (book : Book)
-    → StandsAt new book → Continues history old new Made book
+    → MayHave new book → Continues history old new Made book

@@ -5,13 +5,13 @@ use Rattle.std.specs.Option.{option_map_or}
 use Rattle.book_model.specs.Words.{identity_length, identity2_length}
 
 -- bytes, and zeros up to the length of an identity by the second rule
-abbrev pub padded : List ℕ → List ℕ
-padded bytes = bytes ++ replicate (identity2_length - length bytes) 0
+abbrev pub padded_identity : List ℕ → List ℕ
+padded_identity bytes = bytes ++ replicate (identity2_length - length bytes) 0
 
 -- how an identity is kept: 32 bytes, first the identity and then zeros
-pub record IsPadded (bytes : List ℕ) (len : ℕ) : Type 0 where
+pub record IsPaddedIdentity (bytes : List ℕ) (len : ℕ) : Type 0 where
   pub lasts : length (take len bytes) ≡ len
-  pub zeros : padded (take len bytes) ≡ bytes
+  pub zeros : padded_identity (take len bytes) ≡ bytes
 
 -- the identity in force, by the one of the second rule: that of the first rule is a prefix of it
 abbrev pub identity_in : Option ℕ → List ℕ → List ℕ

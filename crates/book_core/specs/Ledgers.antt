@@ -21,18 +21,18 @@ pub record Books : Type 1 where
 abbrev pub books : {L : Type 0} → (L → Seen) → L → L → Books
 books seen old new = record { old = seen old; new = seen new }
 
-abbrev pub stands_by : Bool → Seen → Book → Type 0
-stands_by true seen book = seen.left book
-stands_by false seen book = book ≡ seen.book
+abbrev pub may_have : Bool → Seen → Book → Type 0
+may_have true seen book = seen.left book
+may_have false seen book = book ≡ seen.book
 
 -- The books may be these: the ledger's own; or, where it is to be reopened, any that an open may
 -- find.
-abbrev pub StandsAt : Seen → Book → Type 0
-StandsAt seen book = stands_by seen.must_reopen seen book
+abbrev pub MayHave : Seen → Book → Type 0
+MayHave seen book = may_have seen.must_reopen seen book
 
 -- An open ledger has its own book alone to leave.
-abbrev pub IsSettled : Seen → Type 0
-IsSettled seen = seen.must_reopen ≡ false → (book : Book) → seen.left book → book ≡ seen.book
+abbrev pub StopIsHarmless : Seen → Type 0
+StopIsHarmless seen = seen.must_reopen ≡ false → (book : Book) → seen.left book → book ≡ seen.book
 
 -- The ledger is open and has this book, and its storage is honest and holds books. So are
 -- ledgers that were just made.

@@ -2,25 +2,26 @@
 use Rattle.std.specs.Prelude.{◌≡◌, ℕ, List, map, Option, Result}
 use Rattle.book_model.specs.declared.fault.LedgerFault.{LedgerFault}
 use Rattle.book_model.specs.declared.naming.Naming.{Ghosts}
-use Rattle.book_model.specs.Words.{Tariffed, Period, Book, Outcome, IsBookCall}
+use Rattle.book_model.specs.Words.{AcceptedTerms, Period, Book, Outcome, IsBookCall}
 use Rattle.book_core.specs.declared.chosen.ChosenRecord.{ChosenRecord}
 use Rattle.book_core.specs.declared.closed.ClosedPeriod.{ClosedPeriod}
 use Rattle.book_core.specs.declared.period.Period.{Period as ReadPeriod}
 use Rattle.book_core.specs.declared.plain.PlainLedger.{PlainLedger}
 use Rattle.book_core.specs.Ledgers.{Seen, in_memory}
 use Rattle.book_core.specs.Plain.{Entry, held_in, ruled_by}
-use Rattle.book_core.specs.Shares.{Names, records_where, is_named, period_with}
-use Rattle.book_core.specs.Shares.{share_closed, share_in}
+use Rattle.book_core.specs.Treatments.{Names, records_where, has_name_in, period_with}
+use Rattle.book_core.specs.Treatments.{treatment_closed, treatment_in}
 
 -- the book of such tariffs, entries, posted names, closed periods and choices, under the rule of
 -- identity in force
 abbrev pub book_with :
-    List Tariffed → List Entry → Names → List ClosedPeriod → List ChosenRecord → Option ℕ → Book
+    List AcceptedTerms → List Entry → Names → List ClosedPeriod → List ChosenRecord → Option ℕ
+    → Book
 book_with tariffs entries posted closed choices adopted = record {
   rulings = ruled_by tariffs closed choices adopted;
   held = held_in entries;
-  posted = records_where (is_named posted) entries;
-  past = map (λ period. period_with (share_closed period) entries) closed;
+  posted = records_where (has_name_in posted) entries;
+  past = map (λ period. period_with (treatment_closed period) entries) closed;
 }
 
 module _ {N : Type 0} {names : Ghosts N} where
@@ -38,7 +39,7 @@ module _ {N : Type 0} {names : Ghosts N} where
 
   -- a period that is read of a ledger
   abbrev pub period_in : PlainLedger N names → ReadPeriod → Period
-  period_in ledger period = period_with (share_in period ledger.posted) ledger.held.entries
+  period_in ledger period = period_with (treatment_in period ledger.posted) ledger.held.entries
 
   -- A call of a plain ledger is one on its book. It names records as before.
   pub record IsPlainCall {V A : Type 0} (view : V → A) (old new : PlainLedger N names)

@@ -1,6 +1,6 @@
 ghost use Rattle.book_model.specs.Words.{IsDay};
 
-use crate::share::Share;
+use crate::treatment::Treatment;
 use std::collections::BTreeMap;
 
 /// A closed period: the day through which it was closed, in days since 1970-01-01, and what it does
@@ -8,6 +8,6 @@ use std::collections::BTreeMap;
 #[derive(Drop)]
 pub(crate) struct ClosedPeriod {
     pub(crate) through: i32,
-    pub(crate) shares: BTreeMap<[u8; 32], Share>,
+    pub(crate) treatments: BTreeMap<[u8; 32], Treatment>,
     ghost day: { IsDay through },
 }

@@ -26,15 +26,15 @@ pub(crate) struct Identity {
 
 impl Model for Identity {
     ghost use Rattle.std.specs.Prelude.{ℕ, List, take, length};
-    ghost use Rattle.book_core.specs.Identities.{IsPadded, padded};
+    ghost use Rattle.book_core.specs.Identities.{IsPaddedIdentity, padded_identity};
 
     ghost Value = { List ℕ };
 
     ghost view = { λ identity. take identity.len identity.bytes };
 
-    ghost invariant = { λ identity. IsPadded identity.bytes identity.len };
+    ghost invariant = { λ identity. IsPaddedIdentity identity.bytes identity.len };
 
-    ghost inverse = { λ bytes. record { bytes = padded bytes; len = length bytes } };
+    ghost inverse = { λ bytes. record { bytes = padded_identity bytes; len = length bytes } };
 
     ghost inverse_ok = { λ identity kept i. record {
       bytes = kept.zeros i;

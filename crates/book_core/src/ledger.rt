@@ -4,7 +4,7 @@ ghost use Rattle.book_model.specs.Words.{dispute_shown, accept_outcome, close_ou
 ghost use Rattle.book_model.specs.Words.{tariff_outcome, adjustments_outcome, charges_outcome};
 ghost use Rattle.book_model.specs.Words.{choose_outcome, disputes_outcome, periods_outcome};
 ghost use Rattle.book_model.specs.Words.{adopt_outcome};
-ghost use Rattle.book_core.specs.Ledgers.{IsSettled, Seen};
+ghost use Rattle.book_core.specs.Ledgers.{StopIsHarmless, Seen};
 ghost use Rattle.book_core.specs.Calls.{IsCall};
 
 use book_model::{Accepted, ChargeRow, Dispute, LedgerFault, Line, Ruled};
@@ -23,8 +23,8 @@ pub trait Ledger {
         ensures { IsCall (λ ruled. ruled) (seen self.old) (seen self.new) result
             (tariff_outcome text.now) };
 
-    /// Closes the open period, which is to be this one, through a day later than the last close. The
-    /// day is counted from 1970-01-01.
+    /// Closes the open period, which is to be this one, through a day later than the last close.
+    /// The day is counted from 1970-01-01.
     fn close(&mut self, period: u16, through: i32) -> Result<Ruled, LedgerFault>
         requires { IsDay through }
         ensures { IsCall (λ ruled. ruled) (seen self.old) (seen self.new) result
@@ -78,5 +78,5 @@ pub trait Ledger {
 
     /// While the books are open, a stop leaves them as they are.
     ghost settled: { (ledger : Self) → (seen ledger).is_honest → (seen ledger).is_books
-        → IsSettled (seen ledger) };
+        → StopIsHarmless (seen ledger) };
 }

@@ -3,10 +3,10 @@
 ghost use Rattle.std.specs.Prelude.{◌≡◌, length, map};
 ghost use Rattle.std.specs.List.{IsDistinct};
 ghost use Rattle.book_model.specs.Words.{by_line, same_bytes, members, set_of};
-ghost use Rattle.book_core.specs.Shares.{line_at, line_of};
+ghost use Rattle.book_core.specs.Treatments.{line_at, line_of};
 
 use crate::held::HeldRecord;
-use crate::share::Share;
+use crate::treatment::Treatment;
 use crate::variant::copied;
 use book_model::Line;
 
@@ -24,12 +24,12 @@ fn signed_line(plus: bool, name: &[u8; 32], held: &HeldRecord) -> Line
 }
 
 /// The line of the record that is held under a name, where a period adds it or takes it back.
-pub(crate) fn line(share: Option<Share>, name: &[u8; 32], held: &HeldRecord) -> Option<Line>
-    ensures { result ≡ line_at share (name.now, held.now) }
+pub(crate) fn line(treatment: Option<Treatment>, name: &[u8; 32], held: &HeldRecord) -> Option<Line>
+    ensures { result ≡ line_at treatment (name.now, held.now) }
 {
-    match share {
-        Some(Share::Added) => Some(signed_line(true, name, held)),
-        Some(Share::Taken) => Some(signed_line(false, name, held)),
+    match treatment {
+        Some(Treatment::Added) => Some(signed_line(true, name, held)),
+        Some(Treatment::Taken) => Some(signed_line(false, name, held)),
         _ => None,
     }
 }

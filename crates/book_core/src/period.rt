@@ -2,14 +2,14 @@
 
 ghost use Rattle.std.specs.Prelude.{◌≡◌, IfOk, filter, map};
 ghost use Rattle.std.specs.List.{filter_map};
-ghost use Rattle.book_core.specs.Shares as spec;
-ghost use Rattle.book_core.specs.Shares.{is_counted, line_at};
+ghost use Rattle.book_core.specs.Treatments as spec;
+ghost use Rattle.book_core.specs.Treatments.{is_counted, line_at};
 
 use crate::closed::ClosedPeriod;
-use crate::ending::Ending;
 use crate::held::HeldRecord;
 use crate::lines::line;
-use crate::share::Share;
+use crate::period_end::PeriodEnd;
+use crate::treatment::Treatment;
 use book_model::Line;
 use std::alloc::{AllocError, Global};
 use std::collections::{BTreeMap, BTreeSet};
@@ -21,30 +21,30 @@ pub(crate) enum Period<'a> {
     /// As it was at its close.
     Closed(&'a ClosedPeriod),
     /// As it would end now.
-    Open(Ending),
+    Open(PeriodEnd),
 }
 
 impl Period<'_> {
     /// How the period has the record of a name, which the last close charged or not.
-    fn share(
+    fn treatment(
         &self,
         posted: &BTreeSet<[u8; 32]>,
         name: &[u8; 32],
         kept: &HeldRecord,
-    ) -> Option<Share>
-        ensures { result ≡ spec.share_in self.now posted.now (name.now, kept.now) }
+    ) -> Option<Treatment>
+        ensures { result ≡ spec.treatment_in self.now posted.now (name.now, kept.now) }
     {
         match self {
-            Period::Closed(closed) => closed.shares.get(name).copied(),
-            Period::Open(ending) => ending.share(posted.contains(name), kept),
+            Period::Closed(closed) => closed.treatments.get(name).copied(),
+            Period::Open(period_end) => period_end.treatment(posted.contains(name), kept),
         }
     }
 
     /// The period counts the record of a name.
     fn counts(&self, posted: &BTreeSet<[u8; 32]>, name: &[u8; 32], kept: &HeldRecord) -> bool
-        ensures { result ≡ is_counted (spec.share_in self.now posted.now (name.now, kept.now)) }
+        ensures { result ≡ is_counted (spec.treatment_in self.now posted.now (name.now, kept.now)) }
     {
-        matches!(self.share(posted, name, kept), Some(Share::Counted))
+        matches!(self.treatment(posted, name, kept), Some(Treatment::Counted))
     }
 
     /// What the records cost that the period counts, by name.
@@ -55,7 +55,7 @@ impl Period<'_> {
         posted: &BTreeSet<[u8; 32]>,
     ) -> Result<Vec<Priced>, AllocError>
         ensures { IfOk result (λ prices. prices.items ≡ map (λ entry. entry.1.priced)
-            (filter (λ entry. is_counted (spec.share_in self.now posted.now entry))
+            (filter (λ entry. is_counted (spec.treatment_in self.now posted.now entry))
             held.now.entries)) }
     {
         let mut prices = Vec::new(alloc);
@@ -75,12 +75,12 @@ impl Period<'_> {
         posted: &BTreeSet<[u8; 32]>,
     ) -> Result<Vec<Line>, AllocError>
         ensures { IfOk result (λ lines. lines.items ≡ filter_map
-            (λ entry. line_at (spec.share_in self.now posted.now entry) entry)
+            (λ entry. line_at (spec.treatment_in self.now posted.now entry) entry)
             held.now.entries) }
     {
         let mut lines = Vec::new(alloc);
         for (name, kept) in held {
-            if let Some(line) = line(self.share(posted, name, kept), name, kept) {
+            if let Some(line) = line(self.treatment(posted, name, kept), name, kept) {
                 lines.push(line)?;
             }
         }

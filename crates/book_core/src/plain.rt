@@ -3,8 +3,8 @@ ghost use Rattle.std.specs.List.Sorted.{IsStrictlySortedBy};
 ghost use Rattle.std.specs.Map.{keys_of};
 ghost use Rattle.std.proofs.Props.{props};
 ghost use Rattle.book_model.specs.Words.{last_period, by_bytes, are_rising};
-ghost use Rattle.book_core.specs.Plain.{AreBooked, AreHeld, ruled_by};
-ghost use Rattle.book_core.specs.Shares.{AreNamed};
+ghost use Rattle.book_core.specs.Plain.{AreBooked, CacheIsHeld, ruled_by};
+ghost use Rattle.book_core.specs.Treatments.{AreNamed};
 
 mod adoption;
 mod choices;
@@ -17,7 +17,7 @@ use crate::chosen::ChosenRecord;
 use crate::closed::ClosedPeriod;
 use crate::held::HeldRecord;
 use crate::ledger::Ledger;
-use crate::recalled::Recalled;
+use crate::record_cache::RecordCache;
 use book_model::{Accepted, ChargeRow, Dispute, LedgerFault, Line, Naming, Ruled};
 use std::alloc::{AllocError, Global};
 use std::collections::{BTreeMap, BTreeSet};
@@ -29,7 +29,7 @@ pub struct PlainLedger<N: Naming + Drop> {
     naming: N,
     tariffs: Vec<AcceptedTariff>,
     held: BTreeMap<[u8; 32], HeldRecord>,
-    recalled: Recalled,
+    cache: RecordCache,
     /// What the records cost together.
     total: u64,
     /// The names of the records that the last close charged.
@@ -42,7 +42,7 @@ pub struct PlainLedger<N: Naming + Drop> {
     ghost rising: { IsStrictlySortedBy by_bytes (keys_of held.entries) } by { Prim.hlevel props },
     ghost kept: { AreBooked (N.name_of naming)
         (ruled_by tariffs.items closed.items choices.items adopted) held.entries total },
-    ghost recalls: { AreHeld held.entries recalled },
+    ghost recalls: { CacheIsHeld held.entries cache },
     ghost named: { AreNamed held.entries posted closed.items },
     ghost few: { length closed.items < last_period },
 }
@@ -81,7 +81,7 @@ impl<N: Naming + Drop> PlainLedger<N> {
             naming,
             tariffs,
             held: BTreeMap::new(alloc),
-            recalled: Recalled::new(alloc),
+            cache: RecordCache::new(alloc),
             total: 0,
             posted: BTreeSet::new(alloc),
             closed: Vec::new(alloc),

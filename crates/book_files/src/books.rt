@@ -7,8 +7,8 @@ ghost use Rattle.tree_tables.specs.Holds.{HasShapes};
 
 use book_audit::{Audited, Watch, audit_trees};
 use book_core::{LedgerFault, ShaNames};
-use book_trees::shut;
-use office::{ShelfFault, Visit};
+use book_trees::checkpoint_log;
+use office::{RepositoryFault, Visit};
 use sqlite_disk::{Disk, Files};
 use sqlite_store::FileStore;
 use sqlite_trees::error::StoreError;
@@ -59,8 +59,8 @@ fn are_new<S: Store>(
 }
 
 /// What a fault of the store means.
-fn fault_of(error: StoreError) -> ShelfFault {
-    ShelfFault::Ledger(match error {
+fn fault_of(error: StoreError) -> RepositoryFault {
+    RepositoryFault::Ledger(match error {
         StoreError::OutOfMemory => LedgerFault::Memory,
         _ => LedgerFault::Store,
     })
@@ -68,7 +68,7 @@ fn fault_of(error: StoreError) -> ShelfFault {
 
 /// Continues new books that were stopped while they were made, with or without their row. Books to
 /// which anything was submitted belong to somebody.
-fn go_on_in<S: Store>(alloc: Global, store: S) -> (Result<(), ShelfFault>, S)
+fn resume_in<S: Store>(alloc: Global, store: S) -> (Result<(), RepositoryFault>, S)
     requires { IsClean (S.Store.view store) → HasShapes (S.Store.view store) }
 {
     let mut tables = TreeTables::over(alloc, store);
@@ -77,10 +77,10 @@ fn go_on_in<S: Store>(alloc: Global, store: S) -> (Result<(), ShelfFault>, S)
     match found {
         Ok(None) => {
             let (made, store) = make_in(alloc, store);
-            (made.map_err(ShelfFault::Ledger), store)
+            (made.map_err(RepositoryFault::Ledger), store)
         }
         Ok(Some(true)) => (Ok(()), store),
-        Ok(Some(false)) => (Err(ShelfFault::Exists), store),
+        Ok(Some(false)) => (Err(RepositoryFault::Exists), store),
         Err(error) => (Err(fault_of(error)), store),
     }
 }
@@ -89,16 +89,16 @@ fn go_on_in<S: Store>(alloc: Global, store: S) -> (Result<(), ShelfFault>, S)
 /// nothing, and is ignored. Until the files that are given back are dropped nobody else has them.
 fn close<D: Disk>(store: FileStore<D>) -> Files<D> {
     let mut store = store;
-    let _ = shut(&mut store);
+    let _ = checkpoint_log(&mut store);
     store.close()
 }
 
 /// What came of open books, after which the file is closed.
 fn closed<D: Disk, T: Drop>(
     came: (Result<T, LedgerFault>, FileStore<D>),
-) -> (Result<T, ShelfFault>, Files<D>) {
+) -> (Result<T, RepositoryFault>, Files<D>) {
     let (answer, store) = came;
-    (answer.map_err(ShelfFault::Ledger), close(store))
+    (answer.map_err(RepositoryFault::Ledger), close(store))
 }
 
 /// Visits the books in a file that was opened, and closes it.
@@ -106,7 +106,7 @@ pub(crate) fn visit_and_close<D: Disk, V: Visit + Drop>(
     alloc: Global,
     store: FileStore<D>,
     visit: V,
-) -> (Result<V::Answer, ShelfFault>, Files<D>)
+) -> (Result<V::Answer, RepositoryFault>, Files<D>)
     requires { HasShapes (view store) }
 {
     closed(visit_in(alloc, store, visit))
@@ -116,20 +116,20 @@ pub(crate) fn visit_and_close<D: Disk, V: Visit + Drop>(
 pub(crate) fn make_and_close<D: Disk>(
     alloc: Global,
     store: FileStore<D>,
-) -> (Result<(), ShelfFault>, Files<D>)
+) -> (Result<(), RepositoryFault>, Files<D>)
     requires { HasShapes (view store) }
 {
     closed(make_in(alloc, store))
 }
 
 /// Continues new books in a file that was left while they were made, and closes it.
-pub(crate) fn go_on_and_close<D: Disk>(
+pub(crate) fn resume_and_close<D: Disk>(
     alloc: Global,
     store: FileStore<D>,
-) -> (Result<(), ShelfFault>, Files<D>)
+) -> (Result<(), RepositoryFault>, Files<D>)
     requires { HasShapes (view store) }
 {
-    let (answer, store) = go_on_in(alloc, store);
+    let (answer, store) = resume_in(alloc, store);
     (answer, close(store))
 }
 
@@ -139,9 +139,9 @@ pub(crate) fn audit_and_close<D: Disk, W: Watch>(
     alloc: Global,
     store: FileStore<D>,
     watch: &mut W,
-) -> (Result<Audited, ShelfFault>, Files<D>)
+) -> (Result<Audited, RepositoryFault>, Files<D>)
     requires { HasShapes (view store) }
 {
     let (audited, store) = audit_trees(alloc, store, watch);
-    (audited.map_err(ShelfFault::Ledger), store.close())
+    (audited.map_err(RepositoryFault::Ledger), store.close())
 }

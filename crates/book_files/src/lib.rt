@@ -3,7 +3,7 @@
 
 mod books;
 mod log;
-mod making;
-mod shelf;
+mod new_books;
+mod repository;
 
-pub use shelf::{Anything, Files, Supposed};
+pub use repository::{Anything, Files, Supposed};

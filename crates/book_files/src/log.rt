@@ -32,7 +32,7 @@ impl<'a> Log<'a> {
     /// has the file open, and with it the lock without which no log is made or written, so no other
     /// program has this one. Nothing is lost: by `needs_no_log` the file alone holds the same
     /// books, and what was committed was synced there before the log was cut short.
-    pub(crate) fn take_away(&self) -> bool {
+    pub(crate) fn remove_if_empty(&self) -> bool {
         let path = self.path.as_str();
         match fs::symlink_metadata(self.rt, path) {
             Ok(found) if found.is_file() && needs_no_log(found.len()) => {
@@ -52,7 +52,7 @@ impl<'a> Log<'a> {
     /// is removed. Where there are no files another program may have them, and nothing is touched.
     pub(crate) fn leave<F: Drop>(&self, files: Option<F>) {
         if files.is_some() && !self.was_there {
-            self.take_away();
+            self.remove_if_empty();
         }
         drop(files);
     }

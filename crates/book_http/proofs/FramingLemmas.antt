@@ -9,9 +9,9 @@ use Rattle.std.proofs.lemmas.List.Folds.{list_any-append, list_any_at}
 use Rattle.httparse.specs.Spans.{header_bytes}
 use Rattle.httparse.specs.declared.spans.HeaderSpan.{HeaderSpan}
 use Rattle.book_http.specs.declared.framing.Framing.TheVariants.{Faulty}
-use Rattle.book_http.specs.Framing.{is_called, values_called, framing_if, framing_by_all}
+use Rattle.book_http.specs.Framing.{is_field_named, field_values, framing_if, framing_by_all}
 use Rattle.book_http.specs.Framing.{with_length, with_field, declared, has_field}
-use Rattle.book_http.specs.Numbers.{number}
+use Rattle.book_http.specs.Numbers.{decimal_value}
 use Rattle.std.specs.List.{list_any}
 
 -- what holds where a list of fields has none
@@ -20,20 +20,20 @@ no_field = record { name = record { start = 0; end = 0 }; value = record { start
 
 -- the values among one more field
 values_more : (wanted : List ℕ) (fields : List (List ℕ × List ℕ)) (field : List ℕ × List ℕ)
-    → values_called wanted (fields ++ field ∷ [])
-    ≡ values_called wanted fields ++ values_called wanted (field ∷ [])
+    → field_values wanted (fields ++ field ∷ [])
+    ≡ field_values wanted fields ++ field_values wanted (field ∷ [])
 values_more wanted fields field = rw (filter-append, map-append) refl
 
 -- one length read makes two, whatever it says
 two_lengths : (said : Option ℕ) (length : List ℕ) → Faulty ≡ with_length (framing_if said) length
 two_lengths None length = refl
-two_lengths (Some number) length = refl
+two_lengths (Some decimal_value) length = refl
 
 -- a further length
 framing_more : (lengths : List (List ℕ)) (length : List ℕ)
     → framing_by_all (lengths ++ length ∷ []) ≡ with_length (framing_by_all lengths) length
 framing_more [] length = refl
-framing_more (first ∷ []) length = two_lengths (number 19 first) length
+framing_more (first ∷ []) length = two_lengths (decimal_value 19 first) length
 framing_more (first ∷ other ∷ rest) length = refl
 
 -- a further field, which is called so or not
@@ -55,12 +55,12 @@ declared_more bytes fields at within =
     let wanted = codes "content-length" in
     rw (take_more fields at no_field within, map-append)
     (ap framing_by_all (values_more wanted before field)
-    ∙ framing_with (is_called wanted field.0) (values_called wanted before) field)
+    ∙ framing_with (is_field_named wanted field.0) (field_values wanted before) field)
 
 -- no field is called so where the first of them are not, nor the next one
 pub still_plain : (wanted bytes : List ℕ) (fields : List HeaderSpan) (at : ℕ) → at < length fields
     → has_field wanted (map (header_bytes bytes) (take at fields)) ≡ false
-    → is_called wanted (header_bytes bytes (get_or fields at no_field)).0 ≡ false
+    → is_field_named wanted (header_bytes bytes (get_or fields at no_field)).0 ≡ false
     → has_field wanted (map (header_bytes bytes) (take (at + 1) fields)) ≡ false
 unfolding has_field
 still_plain wanted bytes fields at within before other =
@@ -75,10 +75,10 @@ list_any-map test f (x ∷ xs) = ap (λ rest. test (f x) || rest) (list_any-map 
 -- one field that is called so is enough
 pub has_field_at : (wanted bytes : List ℕ) (fields : List HeaderSpan) (at : ℕ)
     → at < length fields
-    → is_called wanted (header_bytes bytes (get_or fields at no_field)).0 ≡ true
+    → is_field_named wanted (header_bytes bytes (get_or fields at no_field)).0 ≡ true
     → has_field wanted (map (header_bytes bytes) fields) ≡ true
 unfolding has_field
 has_field_at wanted bytes fields at within same =
-    let test = λ (field : List ℕ × List ℕ). is_called wanted field.0 in
+    let test = λ (field : List ℕ × List ℕ). is_field_named wanted field.0 in
     rw (list_any-map test (header_bytes bytes) fields)
     (list_any_at (λ field. test (header_bytes bytes field)) fields at no_field within same)

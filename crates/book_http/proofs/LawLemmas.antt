@@ -4,24 +4,24 @@ use Rattle.std.proofs.Common.{ltb, refl, sym, ap, subst, inl, inr, Result, Ok, E
 use Rattle.httparse.specs.Grammar.{RequestHead}
 use Rattle.smf_frames.specs.declared.dump.Layout.{Layout}
 use Rattle.book_model.specs.Words.{front, Book, Event, after_all, book_after, Naming}
-use Rattle.book_model.specs.Answered as history
+use Rattle.book_model.specs.MadeByCalls as history
 use Rattle.book_model.proofs.StepLemmas.{books_follow_history}
 use Rattle.book_model.specs.declared.fault.LedgerFault.{LedgerFault}
 use Rattle.book_core.specs.Ledgers.{Seen}
-use Rattle.book_core.specs.Work.{IsWork}
+use Rattle.book_core.specs.Transition.{IsTransition}
 use Rattle.book_core.proofs.FollowLemmas.{MakesAnswered, called_events, follows, after_all-book_of}
 use Rattle.book_import.specs.declared.receipt.Receipt.{Receipt}
-use Rattle.book_import.specs.Dumps.{stop_behind}
+use Rattle.book_import.specs.Dumps.{stop_after}
 use Rattle.book_import.specs.Imports.{Imports}
 use Rattle.book_import.proofs.RepeatLemmas.{twice_is_once}
 use Rattle.book_reports.specs.declared.report.Report.{Report}
 use Rattle.book_reports.specs.BookTexts.{report_outcome}
-use Rattle.office.specs.Requests.{Dump, Told, Ruling, Count, Text, telling}
+use Rattle.office.specs.Requests.{Dump, Response, Ruling, Count, Text, response_outcome}
 use Rattle.office.specs.Requests.{Receives, whole_dump}
 use Rattle.office.proofs.LawLemmas.{receives_answered}
 use Rattle.book_http.specs.declared.asked.Asked.{Asked}
 use Rattle.book_http.specs.declared.asked.Asked.TheVariants as asks
-use Rattle.book_http.specs.declared.answer_head.Kind.TheVariants as kinds
+use Rattle.book_http.specs.declared.answer_head.BodyKind.TheVariants as kinds
 use Rattle.book_http.specs.Asked.{asked}
 use Rattle.book_http.specs.Answer.{office_reply, AnswersReport, AnswersBody, AnswersAsked}
 use Rattle.book_http.specs.Answer.{Answers, done, no_memory, no_head, a_head}
@@ -36,20 +36,20 @@ pub report_none : (naming : Naming) (asked : Report) (reply : Reply) (was : Bool
     (events : List Event) (is : Bool) → AnswersReport naming asked reply was before events is
     → events ≡ []
 report_none naming asked reply was before events is answers =
-    elim (called_events (λ (told : Told). told) (telling Text (report_outcome naming asked) before)
+    elim (called_events (λ (told : Response). told) (response_outcome Text (report_outcome naming asked) before)
     answers.told events answers.made.makes) [
       | inl none ↦ none
       | inr all ↦ all
     ]
 
 -- an import answers a receipt
-pub record IsCounted (naming : Naming) (dump : Dump) (told : Result Told LedgerFault) (was : Bool)
+pub record IsCounted (naming : Naming) (dump : Dump) (told : Result Response LedgerFault) (was : Bool)
     (before : Book) (events : List Event) (is : Bool) : Type 0 where
   pub receipt : Receipt
   pub counted : told ≡ Ok (Count receipt)
   pub imported : Imports naming dump.layout dump.cut dump.bytes receipt was before events is
 
-pub import_counted : (naming : Naming) (dump : Dump) (told : Result Told LedgerFault) (was : Bool)
+pub import_counted : (naming : Naming) (dump : Dump) (told : Result Response LedgerFault) (was : Bool)
     (before : Book) (events : List Event) (is : Bool)
     → Receives naming dump told was before events is
     → IsCounted naming dump told was before events is
@@ -76,7 +76,7 @@ import_twice true naming layout body once twice before first second between is o
 import_twice false naming layout body once twice before first second between is one unhindered two =
     let dump = whole_dump layout body in
     let found = front layout body in
-    let stop = stop_behind None found in
+    let stop = stop_after None found in
     let a = import_counted naming dump one.told false before first between one.made in
     let b = import_counted naming dump two.told between (after_all first before) second is two.made
     in
@@ -144,9 +144,9 @@ request_twice_is_once naming before bytes once twice first second between is one
 
 -- events that are none are answered
 none_answered : (naming : Naming) (past events : List Event) → events ≡ []
-    → history.IsAnswered naming past → history.IsAnswered naming (events ++ past)
+    → history.IsMadeByCalls naming past → history.IsMadeByCalls naming (events ++ past)
 none_answered naming past events none answered =
-    subst (λ (events : List Event). history.IsAnswered naming (events ++ past)) (sym none) answered
+    subst (λ (events : List Event). history.IsMadeByCalls naming (events ++ past)) (sym none) answered
 
 body_answered : (short : Bool) (naming : Naming) (layout : Layout) (body : List ℕ) (reply : Reply)
     → MakesAnswered naming (AnswersBody short naming layout body reply)
@@ -189,7 +189,7 @@ requests_make_history naming past bytes reply was events is answered made =
 
 -- so work that answers a request follows the history
 pub request_done : (old new : Seen) (bytes : List ℕ) (reply : Reply)
-    → IsWork old new (Answers old.naming bytes reply)
+    → IsTransition old new (Answers old.naming bytes reply)
     → IsDone old new (Answers old.naming bytes reply)
 request_done old new bytes reply work = record {
   work = work;

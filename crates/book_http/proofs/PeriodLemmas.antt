@@ -15,9 +15,9 @@ use Rattle.std.specs.List.{list_all, starts_with}
 use Rattle.std.specs.Prelude.{decimal, nat_eq, nat_lt, nat_le, cond}
 use Rattle.std.specs.Int.Digits.{digits_of}
 use Rattle.std.specs.Str.Parse.{IsNumeral, digits_value}
-use Rattle.book_http.specs.Numbers.{is_number, number}
-use Rattle.book_http.specs.Paths.{IsNamed}
-use Rattle.book_http.specs.Routes.{period, period_behind}
+use Rattle.book_http.specs.Numbers.{is_number, decimal_value}
+use Rattle.book_http.specs.Paths.{IsPathPeriod}
+use Rattle.book_http.specs.Routes.{period, period_after}
 
 -- the test of digits is std's
 pub are_digits : IsNumeralModel (λ text. list_all is_ascii_digit text ≡ true) (digits_value 10)
@@ -34,7 +34,7 @@ three_pass false b c e = absurd (true≢false (sym e))
 number_text : (text : List ℕ) → list_all is_ascii_digit text ≡ true
     → 0 < length text → length text ≤ 4
     → starts_with nat_eq text (codes "0") ≡ false
-    → (text ≡ decimal (digits_value 10 text)) × IsNamed (digits_value 10 text)
+    → (text ≡ decimal (digits_value 10 text)) × IsPathPeriod (digits_value 10 text)
 number_text [] digits some few first = absurd (omega arith)
 number_text (digit ∷ rest) digits some few first =
     let text = digit ∷ rest in
@@ -54,14 +54,14 @@ number_text (digit ∷ rest) digits some few first =
 
 -- a text that names a period is that number's
 pub period_named : (text : List ℕ)
-    → IfSome (period text) (λ n. (text ≡ decimal n) × IsNamed n)
-unfolding period number
+    → IfSome (period text) (λ n. (text ≡ decimal n) × IsPathPeriod n)
+unfolding period decimal_value
 period_named text = by (starts_with nat_eq text (codes "0")) refl
   where
     behind : (passes : Bool) → is_number 4 text ≡ passes
         → starts_with nat_eq text (codes "0") ≡ false
         → IfSome (cond passes (Some (digits_value 10 text)) None)
-        (λ n. (text ≡ decimal n) × IsNamed n)
+        (λ n. (text ≡ decimal n) × IsPathPeriod n)
     behind true e first =
         let passed =
         three_pass (nat_lt 0 (length text)) (nat_le (length text) 4)
@@ -71,21 +71,21 @@ period_named text = by (starts_with nat_eq text (codes "0")) refl
     behind false e first = tt
 
     by : (starts : Bool) → starts_with nat_eq text (codes "0") ≡ starts
-        → IfSome (cond starts None (number 4 text)) (λ n. (text ≡ decimal n) × IsNamed n)
+        → IfSome (cond starts None (decimal_value 4 text)) (λ n. (text ≡ decimal n) × IsPathPeriod n)
     by true e = tt
     by false e = behind (is_number 4 text) refl e
 
 -- a path that names a period after a prefix is that prefix and the number's text
 pub behind_named : (front path : List ℕ)
-    → IfSome (period_behind front path) (λ n. (path ≡ front ++ decimal n) × IsNamed n)
-unfolding period_behind
+    → IfSome (period_after front path) (λ n. (path ≡ front ++ decimal n) × IsPathPeriod n)
+unfolding period_after
 behind_named front path =
     by (starts_with nat_eq path front) refl (period (drop (length front) path))
     (period_named (drop (length front) path))
   where
     by : (starts : Bool) → starts_with nat_eq path front ≡ starts → (found : Option ℕ)
-        → IfSome found (λ n. (drop (length front) path ≡ decimal n) × IsNamed n)
-        → IfSome (cond starts found None) (λ n. (path ≡ front ++ decimal n) × IsNamed n)
+        → IfSome found (λ n. (drop (length front) path ≡ decimal n) × IsPathPeriod n)
+        → IfSome (cond starts found None) (λ n. (path ≡ front ++ decimal n) × IsPathPeriod n)
     by true e None h = tt
     by true e (Some n) h =
         let begins : front ≡ take (length front) path =
@@ -110,8 +110,8 @@ first_shown (d ∷ digits) some =
     let other : nat_eq 48 (48 + d) ≡ false = grind (arith, nat_tests) in rw other refl
 
 -- the text of a period's number names it
-pub period_found : (n : ℕ) → IsNamed n → period (decimal n) ≡ Some n
-unfolding period number
+pub period_found : (n : ℕ) → IsPathPeriod n → period (decimal n) ≡ Some n
+unfolding period decimal_value
 period_found n named =
     let fits : n < 2 ^ 64 = omega (arith, named.0, named.1) in
     let shown : IsNumeral 10 (decimal n) × (digits_value 10 (decimal n) ≡ n) =
@@ -129,9 +129,9 @@ period_found n named =
     rw (first, low, high, digits, shown.1) refl
 
 -- and so it does after a prefix
-pub behind_found : (front : List ℕ) (n : ℕ) → IsNamed n
-    → period_behind front (front ++ decimal n) ≡ Some n
-unfolding period_behind
+pub behind_found : (front : List ℕ) (n : ℕ) → IsPathPeriod n
+    → period_after front (front ++ decimal n) ≡ Some n
+unfolding period_after
 behind_found front n named =
     let starts : starts_with nat_eq (front ++ decimal n) front ≡ true =
     (bytes_eq-Decides front (take (length front) (front ++ decimal n))).1
@@ -139,7 +139,7 @@ behind_found front n named =
     rw (starts, drop-append_seam front (decimal n)) (period_found n named)
 
 -- a number's text is digits, one or more
-pub decimal_digits : (n : ℕ) → IsNamed n
+pub decimal_digits : (n : ℕ) → IsPathPeriod n
     → (0 < length (decimal n)) × (list_all is_ascii_digit (decimal n) ≡ true)
 decimal_digits n named =
     let fits : n < 2 ^ 64 = omega (arith, named.0, named.1) in

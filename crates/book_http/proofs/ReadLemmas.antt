@@ -14,8 +14,8 @@ use Rattle.book_http.proofs.PieceLemmas.{grown_front}
 use Rattle.book_http.proofs.HeadLemmas.{head_before}
 use Rattle.book_http.specs.Asked.{asked}
 use Rattle.book_http.specs.Head.{HasHead}
-use Rattle.book_http.specs.Reads.{Answering, OneRead, bytes_given, bytes_of, reader_behind}
-use Rattle.book_http.specs.Reads.{AreDue, IsReadBy, IsDue, for_head, for_body, IsDueBehind}
+use Rattle.book_http.specs.Reads.{ReadOutcome, ReadCall, bytes_given, bytes_read, reader_after}
+use Rattle.book_http.specs.Reads.{AreDue, AreReadsBetween, IsDue, for_head, for_body, IsDueAfterHead}
 use Rattle.book_http.specs.Reads.{IsDueForBody, IsDueForHead}
 use borrow.Rule.Slice.PartMut.{put_mid}
 
@@ -28,9 +28,9 @@ read_taken had left (Err error) given it =
 
 -- where nothing was read
 pub not_read : {R : Type 0} {answers : _} {bytes : _} (remaining : R → Option (List ℕ))
-    (MayAnswer : Answering R) (IsDue : List ℕ → ℕ → Type 0)
+    (MayAnswer : ReadOutcome R) (IsDue : List ℕ → ℕ → Type 0)
     (source : Source R answers bytes)
-    → IsReadBy remaining MayAnswer IsDue source source []
+    → AreReadsBetween remaining MayAnswer IsDue source source []
 not_read remaining MayAnswer IsDue source = record {
   due = tt;
   reader = refl;
@@ -40,15 +40,15 @@ not_read remaining MayAnswer IsDue source = record {
 
 -- one more read
 pub read_on : {R : Type 0} {answers : _} {bytes : _} (remaining : R → Option (List ℕ))
-    (MayAnswer : Answering R) (IsDue : List ℕ → ℕ → Type 0)
+    (MayAnswer : ReadOutcome R) (IsDue : List ℕ → ℕ → Type 0)
     (old between new : Source R answers bytes)
-    (reads : List (OneRead R)) (room : List ℕ) (answer : Result ℕ Error) (given : List ℕ)
-    → IsReadBy remaining MayAnswer IsDue old between reads
-    → IsDue (bytes_of reads) (length room)
+    (reads : List (ReadCall R)) (room : List ℕ) (answer : Result ℕ Error) (given : List ℕ)
+    → AreReadsBetween remaining MayAnswer IsDue old between reads
+    → IsDue (bytes_read reads) (length room)
     → MayAnswer (reader_of between) room answer (reader_of new) given
     → ReadConsumes (remaining (reader_of between)) (remaining (reader_of new)) answer given
     → reads_of new ≡ reads_of between + 1
-    → IsReadBy remaining MayAnswer IsDue old new
+    → AreReadsBetween remaining MayAnswer IsDue old new
     (record { room = room; answer = answer; after = reader_of new; given = given } ∷ reads)
 read_on remaining MayAnswer IsDue old between new reads room answer given so_far due is gives more =
     let count = so_far.count in
@@ -120,24 +120,24 @@ more_filled came body given had filled room count is low within few =
     ∙ ap (drop had) (sym (grown_front filled room count body given within few))
 
 -- reads that were due for one reason were due for a weaker one
-due_as : {R : Type 0} (MayAnswer : Answering R)
-    (IsDue IsDueToo : List ℕ → ℕ → Type 0) (first : R) (reads : List (OneRead R))
+due_as : {R : Type 0} (MayAnswer : ReadOutcome R)
+    (IsDue IsDueToo : List ℕ → ℕ → Type 0) (first : R) (reads : List (ReadCall R))
     → ((came : List ℕ) (room : ℕ) → IsDue came room → IsDueToo came room)
     → AreDue MayAnswer IsDue first reads → AreDue MayAnswer IsDueToo first reads
 due_as MayAnswer IsDue IsDueToo first [] weaker due = tt
 due_as MayAnswer IsDue IsDueToo first (read ∷ before) weaker due = (
   due_as MayAnswer IsDue IsDueToo first before weaker due.0,
-  weaker (bytes_of before) (length read.room) due.1,
+  weaker (bytes_read before) (length read.room) due.1,
   due.2,
 )
 
 pub read_as : {R : Type 0} {answers : _} {bytes : _} (remaining : R → Option (List ℕ))
-    (MayAnswer : Answering R)
+    (MayAnswer : ReadOutcome R)
     (IsDue IsDueToo : List ℕ → ℕ → Type 0) (old new : Source R answers bytes)
-    (reads : List (OneRead R))
+    (reads : List (ReadCall R))
     → ((came : List ℕ) (room : ℕ) → IsDue came room → IsDueToo came room)
-    → IsReadBy remaining MayAnswer IsDue old new reads
-    → IsReadBy remaining MayAnswer IsDueToo old new reads
+    → AreReadsBetween remaining MayAnswer IsDue old new reads
+    → AreReadsBetween remaining MayAnswer IsDueToo old new reads
 read_as remaining MayAnswer IsDue IsDueToo old new reads weaker it = record {
   due = due_as MayAnswer IsDue IsDueToo (reader_of old) reads weaker it.due;
   reader = it.reader;
@@ -146,51 +146,51 @@ read_as remaining MayAnswer IsDue IsDueToo old new reads weaker it = record {
 }
 
 -- reads after reads
-bytes_behind : {R : Type 0} (later before : List (OneRead R))
-    → bytes_of (later ++ before) ≡ bytes_of before ++ bytes_of later
-bytes_behind [] before = sym (append-nil (bytes_of before))
+bytes_behind : {R : Type 0} (later before : List (ReadCall R))
+    → bytes_read (later ++ before) ≡ bytes_read before ++ bytes_read later
+bytes_behind [] before = sym (append-nil (bytes_read before))
 bytes_behind (read ∷ later) before =
     let bytes = bytes_given read.answer read.given in
     ap (λ all. all ++ bytes) (bytes_behind later before)
-    ∙ append_assoc (bytes_of before) (bytes_of later) bytes
+    ∙ append_assoc (bytes_read before) (bytes_read later) bytes
 
-reader_behind_both : {R : Type 0} (first : R) (later before : List (OneRead R))
-    → reader_behind first (later ++ before) ≡ reader_behind (reader_behind first before) later
+reader_behind_both : {R : Type 0} (first : R) (later before : List (ReadCall R))
+    → reader_after first (later ++ before) ≡ reader_after (reader_after first before) later
 reader_behind_both first [] before = refl
 reader_behind_both first (read ∷ later) before = refl
 
-due_behind : {R : Type 0} (MayAnswer : Answering R)
-    (IsDue IsDueThen : List ℕ → ℕ → Type 0) (first : R) (later before : List (OneRead R))
-    → ((came : List ℕ) (room : ℕ) → IsDueThen came room → IsDue (bytes_of before ++ came) room)
+due_behind : {R : Type 0} (MayAnswer : ReadOutcome R)
+    (IsDue IsDueThen : List ℕ → ℕ → Type 0) (first : R) (later before : List (ReadCall R))
+    → ((came : List ℕ) (room : ℕ) → IsDueThen came room → IsDue (bytes_read before ++ came) room)
     → AreDue MayAnswer IsDue first before
-    → AreDue MayAnswer IsDueThen (reader_behind first before) later
+    → AreDue MayAnswer IsDueThen (reader_after first before) later
     → AreDue MayAnswer IsDue first (later ++ before)
 due_behind MayAnswer IsDue IsDueThen first [] before so due due_later = due
 due_behind MayAnswer IsDue IsDueThen first (read ∷ later) before so due due_later = (
   due_behind MayAnswer IsDue IsDueThen first later before so due due_later.0,
   subst (λ bytes. IsDue bytes (length read.room)) (sym (bytes_behind later before))
-      (so (bytes_of later) (length read.room) due_later.1),
+      (so (bytes_read later) (length read.room) due_later.1),
   subst (λ reader. MayAnswer reader read.room read.answer read.after read.given)
       (sym (reader_behind_both first later before)) due_later.2,
 )
 
 pub read_behind : {R : Type 0} {answers : _} {bytes : _} (remaining : R → Option (List ℕ))
-    (MayAnswer : Answering R)
+    (MayAnswer : ReadOutcome R)
     (IsDue IsDueThen : List ℕ → ℕ → Type 0) (old between new : Source R answers bytes)
-    (later before : List (OneRead R))
-    → ((came : List ℕ) (room : ℕ) → IsDueThen came room → IsDue (bytes_of before ++ came) room)
-    → IsReadBy remaining MayAnswer IsDue old between before
-    → IsReadBy remaining MayAnswer IsDueThen between new later
-    → IsReadBy remaining MayAnswer IsDue old new (later ++ before)
-    × (bytes_of (later ++ before) ≡ bytes_of before ++ bytes_of later)
+    (later before : List (ReadCall R))
+    → ((came : List ℕ) (room : ℕ) → IsDueThen came room → IsDue (bytes_read before ++ came) room)
+    → AreReadsBetween remaining MayAnswer IsDue old between before
+    → AreReadsBetween remaining MayAnswer IsDueThen between new later
+    → AreReadsBetween remaining MayAnswer IsDue old new (later ++ before)
+    × (bytes_read (later ++ before) ≡ bytes_read before ++ bytes_read later)
 read_behind remaining MayAnswer IsDue IsDueThen old between new later before so one two =
     let counts : reads_of new ≡ reads_of old + length (later ++ before) =
     rw length-append (omega (arith, one.count, two.count)) in
-    let both = Consumes-trans _ _ _ (bytes_of before) (bytes_of later) one.taken two.taken in (
+    let both = Consumes-trans _ _ _ (bytes_read before) (bytes_read later) one.taken two.taken in (
       record {
         due = due_behind MayAnswer IsDue IsDueThen (reader_of old) later before so one.due
             (subst (λ reader. AreDue MayAnswer IsDueThen reader later) one.reader two.due);
-        reader = two.reader ∙ ap (λ reader. reader_behind reader later) one.reader
+        reader = two.reader ∙ ap (λ reader. reader_after reader later) one.reader
             ∙ sym (reader_behind_both (reader_of old) later before);
         count = counts;
         taken = rw (bytes_behind later before) both;
@@ -200,16 +200,16 @@ read_behind remaining MayAnswer IsDue IsDueThen old between new later before so 
 
 -- a read that was due for the head was due
 pub head_read : {R : Type 0} {answers : _} {bytes : _} (remaining : R → Option (List ℕ))
-    (MayAnswer : Answering R)
-    (old new : Source R answers bytes) (reads : List (OneRead R))
-    → IsReadBy remaining MayAnswer IsDueForHead old new reads
-    → IsReadBy remaining MayAnswer IsDue old new reads
+    (MayAnswer : ReadOutcome R)
+    (old new : Source R answers bytes) (reads : List (ReadCall R))
+    → AreReadsBetween remaining MayAnswer IsDueForHead old new reads
+    → AreReadsBetween remaining MayAnswer IsDue old new reads
 head_read remaining MayAnswer old new reads it =
     read_as remaining MayAnswer IsDueForHead IsDue old new reads (λ came room due. for_head due) it
 
 -- after a head, so was one that was due for what the head asks
 pub behind_head : (bytes front behind : List ℕ) (head : RequestHead) → bytes ≡ front
     → HasHead front head behind → (came : List ℕ) (room : ℕ)
-    → IsDueBehind (asked head) (behind ++ came) room → IsDue (bytes ++ came) room
+    → IsDueAfterHead (asked head) (behind ++ came) room → IsDue (bytes ++ came) room
 behind_head bytes front behind head is stands came room due =
     rw is (for_body head (behind ++ came) (head_before front head behind came stands) due)

@@ -13,11 +13,11 @@ use Rattle.book_reports.specs.declared.report.Report.TheVariants.{Statement, Sta
 use Rattle.book_reports.specs.declared.report.Report.TheVariants.{AdjustmentList, DisputeList, PeriodList}
 use Rattle.book_http.specs.declared.route.Route.{Route}
 use Rattle.book_http.specs.declared.route.Route.TheVariants as route_to
-use Rattle.book_http.specs.Paths.{IsNamed, IsPathOf, IsServed, path_text}
-use Rattle.book_http.specs.Routes.{page_of, report_behind, route, route_at, route_on, route_rows}
-use Rattle.book_http.proofs.FindLemmas.{is_plain_along, numbered_found, rows_along}
+use Rattle.book_http.specs.Paths.{IsPathPeriod, IsPathOf, IsServedRoute, path_text}
+use Rattle.book_http.specs.Routes.{page_of, report_after, route, route_at, route_on, route_rows}
+use Rattle.book_http.proofs.ServedPathLemmas.{is_plain_along, numbered_found, rows_along}
 use Rattle.book_http.proofs.PeriodLemmas.{behind_found, behind_named, decimal_digits}
-use Rattle.book_http.proofs.SeekLemmas.{page_found, plain_path}
+use Rattle.book_http.proofs.RouterLemmas.{page_found, plain_path}
 
 -- a report on a period
 report_found : (path : List ℕ) (make : ℕ → Report) (found : Option ℕ)
@@ -57,23 +57,23 @@ route_found path = by (page_of path) (page_found path)
 -- a page whose path ends in a number is found there
 page_numbered : (front : List ℕ) (n : ℕ) (key : RouteOf Page)
     → is_plain_along front route_rows ≡ true
-    → rows_along front route_rows ≡ (param_token ∷ [], key) ∷ [] → IsNamed n
+    → rows_along front route_rows ≡ (param_token ∷ [], key) ∷ [] → IsPathPeriod n
     → page_of (front ++ decimal n) ≡ Some key.value
 page_numbered front n key plain ends named =
     let shown = decimal_digits n named in
     numbered_found front (decimal n) key plain ends shown.0 shown.1
 
-statement_found : (n : ℕ) → IsNamed n
+statement_found : (n : ℕ) → IsPathPeriod n
     → page_of (codes "/statement/" ++ decimal n) ≡ Some page.Statement
 unfolding matchit_on_literals route_rows
 statement_found n named = page_numbered (codes "/statement/") n _ refl refl named
 
-statement_csv_found : (n : ℕ) → IsNamed n
+statement_csv_found : (n : ℕ) → IsPathPeriod n
     → page_of (codes "/statement-csv/" ++ decimal n) ≡ Some page.StatementCsv
 unfolding matchit_on_literals route_rows
 statement_csv_found n named = page_numbered (codes "/statement-csv/") n _ refl refl named
 
-adjustments_found : (n : ℕ) → IsNamed n
+adjustments_found : (n : ℕ) → IsPathPeriod n
     → page_of (codes "/adjustments/" ++ decimal n) ≡ Some page.Adjustments
 unfolding matchit_on_literals route_rows
 adjustments_found n named = page_numbered (codes "/adjustments/") n _ refl refl named
@@ -100,13 +100,13 @@ on_page : (found : Page) (path : List ℕ) (asked : Route) → page_of path ≡ 
 on_page found path asked is_page is_for = ap (λ p. route_on p path) is_page ∙ is_for
 
 -- a report on the period that follows the prefix
-at_front : (make : ℕ → Report) (front : List ℕ) (n : ℕ) → IsNamed n
-    → report_behind make front (front ++ decimal n) ≡ Some (route_to.Report (make n))
+at_front : (make : ℕ → Report) (front : List ℕ) (n : ℕ) → IsPathPeriod n
+    → report_after make front (front ++ decimal n) ≡ Some (route_to.Report (make n))
 at_front make front n named =
     ap (option_map (λ k. route_to.Report (make k))) (behind_found front n named)
 
 -- what is served is found at its path
-pub served_found : (asked : Route) → IsServed asked → route (path_text asked) ≡ Some asked
+pub served_found : (asked : Route) → IsServedRoute asked → route (path_text asked) ≡ Some asked
 unfolding route_at
 served_found (route_to.Report PeriodList) served = on_page page.Periods _ _ periods_found refl
 served_found (route_to.Report (Statement n)) served =

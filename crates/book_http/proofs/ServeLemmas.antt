@@ -2,10 +2,10 @@
 use Rattle.std.proofs.Common.{ℕ, ◌<◌, Bool, List, ◌++◌, length, arith, length-append}
 use Rattle.httparse.specs.Grammar.{RequestHead}
 use Rattle.book_core.specs.Ledgers.{Seen}
-use Rattle.book_core.proofs.WorkLemmas.{work_as}
+use Rattle.book_core.proofs.TransitionLemmas.{work_as}
 use Rattle.book_http.specs.declared.status.Status.TheVariants.{BadRequest}
 use Rattle.book_http.specs.Asked.{asked}
-use Rattle.book_http.specs.Answer.{Answers, AnswersAsked, Refuses, UnlessMemory, no_head, a_head}
+use Rattle.book_http.specs.Answer.{Answers, AnswersAsked, RefusesRequest, UnlessMemory, no_head, a_head}
 use Rattle.book_http.specs.Head.{HasHead, NoHeadComes}
 use Rattle.book_http.specs.Replies.{Reply, refusal}
 use Rattle.book_http.specs.Served.{IsAnswer, IsAnswerTo}
@@ -19,7 +19,7 @@ pub refused_answer : (seen : Seen) (ended : Bool) (taken : List ℕ) → 0 < len
 refused_answer seen ended taken some never more none =
     let long : 0 < length (taken ++ more) = rw length-append (omega arith) in
     request_done seen seen (taken ++ more) (refusal BadRequest)
-    (work_as seen seen (Refuses (refusal BadRequest) (refusal BadRequest))
+    (work_as seen seen (RefusesRequest (refusal BadRequest) (refusal BadRequest))
     (Answers seen.naming (taken ++ more) (refusal BadRequest))
     (λ was before events is refused. no_head long (never more none) refused)
     (refuses seen (refusal BadRequest)))

@@ -7,14 +7,14 @@ use Rattle.smf_frames.specs.declared.dump.Layout.{Layout}
 use Rattle.book_model.specs.declared.fault.LedgerFault.{LedgerFault}
 use Rattle.book_model.specs.declared.fault.LedgerFault.TheVariants.{NoSuchPeriod}
 use Rattle.book_model.specs.Words.{Naming, Book, Event}
-use Rattle.book_core.specs.Work.{Work, NoEvent}
+use Rattle.book_core.specs.Transition.{Transition, NoEvent}
 use Rattle.book_reports.specs.declared.report.Report.{Report}
 use Rattle.book_reports.specs.declared.report.Report.TheVariants as report
 use Rattle.office.specs.declared.request.Asked.TheVariants as requests
 use Rattle.office.specs.Requests as tells
-use Rattle.office.specs.Requests.{Told, Asks, Receives, whole_dump, no_dump}
-use Rattle.book_http.specs.declared.answer_head.Kind.{Kind}
-use Rattle.book_http.specs.declared.answer_head.Kind.TheVariants.{Text, Csv}
+use Rattle.office.specs.Requests.{Response, Asks, Receives, whole_dump, no_dump}
+use Rattle.book_http.specs.declared.answer_head.BodyKind.{BodyKind}
+use Rattle.book_http.specs.declared.answer_head.BodyKind.TheVariants.{Text, Csv}
 use Rattle.book_http.specs.declared.asked.Asked.{Asked}
 use Rattle.book_http.specs.declared.asked.Asked.TheVariants as asks
 use Rattle.book_http.specs.declared.status.Status.TheVariants.{BadRequest, NotFound, Unavailable}
@@ -22,65 +22,65 @@ use Rattle.book_http.specs.Asked.{asked}
 use Rattle.book_http.specs.Head.{HasHead, HasNoHead}
 use Rattle.book_http.specs.Replies.{Reply, success, refusal, other_method, receipt_reply}
 
-abbrev pub kind_of : Report → Kind
-kind_of (report.StatementTable period) = Csv
-kind_of report = Text
+abbrev pub body_kind : Report → BodyKind
+body_kind (report.StatementTable period) = Csv
+body_kind report = Text
 
 -- What the office answered, as a reply. No ruling is asked over HTTP.
-abbrev pub office_reply : Kind → Result Told LedgerFault → Reply
+abbrev pub office_reply : BodyKind → Result Response LedgerFault → Reply
 office_reply kind (Ok (tells.Text text)) = success kind text
 office_reply kind (Ok (tells.Count receipt)) = receipt_reply receipt
 office_reply kind (Err NoSuchPeriod) = refusal NotFound
 office_reply kind told = refusal Unavailable
 
 -- the office was asked, and its answer is the reply
-pub record AnswersOffice (kind : Kind) (Making : Result Told LedgerFault → Work) (reply : Reply)
+pub record AnswersOffice (kind : BodyKind) (Making : Result Response LedgerFault → Transition) (reply : Reply)
     (was : Bool) (before : Book) (events : List Event) (is : Bool) : Type 0 where
-  pub told : Result Told LedgerFault
+  pub told : Result Response LedgerFault
   pub made : Making told was before events is
   pub replied : reply ≡ office_reply kind told
 
 -- a report of the books
-abbrev pub AnswersReport : Naming → Report → Reply → Work
+abbrev pub AnswersReport : Naming → Report → Reply → Transition
 AnswersReport naming report reply =
-    AnswersOffice (kind_of report) (Asks naming (requests.Report report) no_dump) reply
+    AnswersOffice (body_kind report) (Asks naming (requests.Report report) no_dump) reply
 
 -- the import of a body, which is a whole dump
-abbrev pub AnswersImport : Naming → Layout → List ℕ → Reply → Work
+abbrev pub AnswersImport : Naming → Layout → List ℕ → Reply → Transition
 AnswersImport naming layout body reply =
     AnswersOffice Text (Receives naming (whole_dump layout body)) reply
 
 -- nothing is done, and this is the reply
-pub record Refuses (refused reply : Reply) (was : Bool) (before : Book) (events : List Event)
+pub record RefusesRequest (refused reply : Reply) (was : Bool) (before : Book) (events : List Event)
     (is : Bool) : Type 0 where
   pub none : NoEvent was before events is
   pub replied : reply ≡ refused
 
 -- a body that ended early, or one that is whole
-abbrev pub AnswersBody : Bool → Naming → Layout → List ℕ → Reply → Work
-AnswersBody true naming layout body reply = Refuses (refusal BadRequest) reply
+abbrev pub AnswersBody : Bool → Naming → Layout → List ℕ → Reply → Transition
+AnswersBody true naming layout body reply = RefusesRequest (refusal BadRequest) reply
 AnswersBody false naming layout body reply = AnswersImport naming layout body reply
 
 -- what is asked is answered, by the bytes after the head
-abbrev pub AnswersAsked : Naming → Asked → List ℕ → Reply → Work
-AnswersAsked naming (asks.Refusal status) behind reply = Refuses (refusal status) reply
-AnswersAsked naming (asks.OtherMethod method) behind reply = Refuses (other_method method) reply
+abbrev pub AnswersAsked : Naming → Asked → List ℕ → Reply → Transition
+AnswersAsked naming (asks.Refusal status) behind reply = RefusesRequest (refusal status) reply
+AnswersAsked naming (asks.OtherMethod method) behind reply = RefusesRequest (other_method method) reply
 AnswersAsked naming (asks.Report report) behind reply = AnswersReport naming report reply
 AnswersAsked naming (asks.Import layout size) behind reply =
     AnswersBody (nat_lt (length behind) size) naming layout (take size behind) reply
 
 -- This was done and replied; or memory ran out, nothing was done, and the reply says so.
-pub data UnlessMemory (Made : Work) (reply : Reply) (was : Bool) (before : Book)
+pub data UnlessMemory (Made : Transition) (reply : Reply) (was : Bool) (before : Book)
     (events : List Event) (is : Bool) : Type 0 where
   done : Made was before events is → UnlessMemory Made reply was before events is
-  no_memory : Refuses (refusal Unavailable) reply was before events is
+  no_memory : RefusesRequest (refusal Unavailable) reply was before events is
       → UnlessMemory Made reply was before events is
 
 -- The answer to the bytes of a request: to what its head asks, where they begin with one.
 pub data Answers (naming : Naming) (bytes : List ℕ) (reply : Reply) (was : Bool) (before : Book)
     (events : List Event) (is : Bool) : Type 0 where
   no_head : 0 < length bytes → HasNoHead bytes
-      → Refuses (refusal BadRequest) reply was before events is
+      → RefusesRequest (refusal BadRequest) reply was before events is
       → Answers naming bytes reply was before events is
   a_head : (head : RequestHead) (behind : List ℕ) → HasHead bytes head behind
       → UnlessMemory (AnswersAsked naming (asked head) behind reply) reply was before events is

@@ -7,16 +7,16 @@ use Rattle.httparse.specs.Grammar.{RequestHead}
 use Rattle.httparse.specs.Spans.{name_and_value}
 use Rattle.book_http.specs.declared.framing.Framing.{Framing}
 use Rattle.book_http.specs.declared.framing.Framing.TheVariants.{Unframed, Framed, Faulty}
-use Rattle.book_http.specs.Numbers.{number}
+use Rattle.book_http.specs.Numbers.{decimal_value}
 
 -- the name is this one, in any case
-abbrev pub is_called : List ℕ → List ℕ → Bool
-is_called wanted name = bytes_eq (map to_ascii_lowercase name) (map to_ascii_lowercase wanted)
+abbrev pub is_field_named : List ℕ → List ℕ → Bool
+is_field_named wanted name = bytes_eq (map to_ascii_lowercase name) (map to_ascii_lowercase wanted)
 
 -- the values of the fields of a name, in order; a field is its name and its value
-abbrev pub values_called : List ℕ → List (List ℕ × List ℕ) → List (List ℕ)
-values_called wanted fields =
-    map (λ field. field.1) (filter (λ field. is_called wanted field.0) fields)
+abbrev pub field_values : List ℕ → List (List ℕ × List ℕ) → List (List ℕ)
+field_values wanted fields =
+    map (λ field. field.1) (filter (λ field. is_field_named wanted field.0) fields)
 
 -- a length is a number of 1 to 19 digits
 abbrev pub framing_if : Option ℕ → Framing
@@ -24,7 +24,7 @@ framing_if (Some length) = Framed length
 framing_if None = Faulty
 
 abbrev pub framing_by : List ℕ → Framing
-framing_by length = framing_if (number 19 length)
+framing_by length = framing_if (decimal_value 19 length)
 
 -- no length, one, or more than one: the last is a fault, also where they agree
 abbrev pub framing_by_all : List (List ℕ) → Framing
@@ -41,15 +41,15 @@ with_length Faulty length = Faulty
 -- what a further field makes of it
 abbrev pub with_field : Framing → List ℕ × List ℕ → Framing
 with_field before field =
-    if is_called (codes "content-length") field.0 then with_length before field.1 else before
+    if is_field_named (codes "content-length") field.0 then with_length before field.1 else before
 
 -- what the lengths say
 unfoldable pub declared : List (List ℕ × List ℕ) → Framing
-declared fields = framing_by_all (values_called (codes "content-length") fields)
+declared fields = framing_by_all (field_values (codes "content-length") fields)
 
 -- a field has this name
 unfoldable pub has_field : List ℕ → List (List ℕ × List ℕ) → Bool
-has_field wanted fields = list_any (λ field. is_called wanted field.0) fields
+has_field wanted fields = list_any (λ field. is_field_named wanted field.0) fields
 
 -- a field gives a transfer encoding
 abbrev pub is_encoded : List (List ℕ × List ℕ) → Bool

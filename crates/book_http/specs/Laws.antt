@@ -1,6 +1,6 @@
 -- Laws of requests, over the definition of their answers alone.
 use Rattle.std.specs.Prelude.{◌≡◌, ◌≢◌, ℕ, Bool, false, List, ◌++◌}
-use Rattle.book_model.specs.Words.{Naming, Book, Event, after_all, book_after, book_of, IsAnswered}
+use Rattle.book_model.specs.Words.{Naming, Book, Event, after_all, book_after, book_of, IsMadeByCalls}
 use Rattle.book_model.specs.declared.fault.LedgerFault.TheVariants.{DigestClash}
 use Rattle.book_import.specs.declared.receipt.Receipt.{Receipt}
 use Rattle.book_import.specs.declared.receipt.Stop.TheVariants.{Ledger}
@@ -59,8 +59,8 @@ RequestsAreMended =
     → after_all (second ++ first) before ≡ after_all all before
 
 -- a history that continues with events, and defines the book that they leave
-pub record GoesOn (naming : Naming) (history events : List Event) : Type 0 where
-  pub answered : IsAnswered naming (events ++ history)
+pub record ContinuesHistory (naming : Naming) (history events : List Event) : Type 0 where
+  pub answered : IsMadeByCalls naming (events ++ history)
   pub is : after_all events (book_after history) ≡ book_of (events ++ history)
 
 -- What a request does to the books of a history that calls made is such a history again. So the
@@ -68,6 +68,6 @@ pub record GoesOn (naming : Naming) (history events : List Event) : Type 0 where
 abbrev pub RequestsMakeHistory : Type 0
 RequestsMakeHistory =
     (naming : Naming) (history : List Event) (bytes : List ℕ) (reply : Reply) (was : Bool)
-    (events : List Event) (is : Bool) → IsAnswered naming history
+    (events : List Event) (is : Bool) → IsMadeByCalls naming history
     → Answers naming bytes reply was (book_after history) events is
-    → GoesOn naming history events
+    → ContinuesHistory naming history events

@@ -11,5 +11,5 @@ is_number most text =
     (nat_lt 0 (length text) && nat_le (length text) most) && list_all is_ascii_digit text
 
 -- the number that such a text writes
-unfoldable pub number : ℕ → List ℕ → Option ℕ
-number most text = if is_number most text then Some (digits_value 10 text) else None
+unfoldable pub decimal_value : ℕ → List ℕ → Option ℕ
+decimal_value most text = if is_number most text then Some (digits_value 10 text) else None

@@ -7,17 +7,17 @@ use Rattle.book_http.specs.declared.route.Route.{Route}
 use Rattle.book_http.specs.declared.route.Route.TheVariants as route_to
 
 -- a period that a path can name
-abbrev pub IsNamed : ℕ → Type 0
-IsNamed n = (1 ≤ n) × (n ≤ 9999)
+abbrev pub IsPathPeriod : ℕ → Type 0
+IsPathPeriod n = (1 ≤ n) × (n ≤ 9999)
 
 -- what is served: each report that names no period, and the others of such a period
-abbrev pub IsServed : Route → Type 0
-IsServed (route_to.Report PeriodList) = ⊤
-IsServed (route_to.Report (Statement n)) = IsNamed n
-IsServed (route_to.Report (StatementTable n)) = IsNamed n
-IsServed (route_to.Report (AdjustmentList n)) = IsNamed n
-IsServed (route_to.Report DisputeList) = ⊤
-IsServed (route_to.Import layout) = ⊤
+abbrev pub IsServedRoute : Route → Type 0
+IsServedRoute (route_to.Report PeriodList) = ⊤
+IsServedRoute (route_to.Report (Statement n)) = IsPathPeriod n
+IsServedRoute (route_to.Report (StatementTable n)) = IsPathPeriod n
+IsServedRoute (route_to.Report (AdjustmentList n)) = IsPathPeriod n
+IsServedRoute (route_to.Report DisputeList) = ⊤
+IsServedRoute (route_to.Import layout) = ⊤
 
 -- the path of what is served
 abbrev pub path_text : Route → List ℕ
@@ -31,4 +31,4 @@ path_text (route_to.Import Bdw) = codes "/import-bdw"
 
 -- what a path is found to be for: it is served, and that is its path
 abbrev pub IsPathOf : List ℕ → Route → Type 0
-IsPathOf path route = IsServed route × (path ≡ path_text route)
+IsPathOf path route = IsServedRoute route × (path ≡ path_text route)

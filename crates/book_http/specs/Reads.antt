@@ -13,15 +13,15 @@ use Rattle.book_http.specs.Asked.{asked}
 use Rattle.book_http.specs.Head.{HasHead, most_head_bytes}
 
 -- one read: the room that the reader was given, its answer, and the reader and the room then
-pub record OneRead (R : Type 0) : Type 0 where
+pub record ReadCall (R : Type 0) : Type 0 where
   pub room : List ℕ
   pub answer : Result ℕ Error
   pub after : R
   pub given : List ℕ
 
 -- what a read of a reader with this room may answer, with the reader and the room then
-abbrev pub Answering : Type 0 → Type 1
-Answering R = R → List ℕ → Result ℕ Error → R → List ℕ → Type 0
+abbrev pub ReadOutcome : Type 0 → Type 1
+ReadOutcome R = R → List ℕ → Result ℕ Error → R → List ℕ → Type 0
 
 -- the bytes that a read gave
 abbrev pub bytes_given : Result ℕ Error → List ℕ → List ℕ
@@ -29,32 +29,32 @@ bytes_given (Ok count) given = take count given
 bytes_given (Err error) given = []
 
 -- the bytes that reads gave
-abbrev pub bytes_of : {R : Type 0} → List (OneRead R) → List ℕ
-bytes_of [] = []
-bytes_of (read ∷ before) = bytes_of before ++ bytes_given read.answer read.given
+abbrev pub bytes_read : {R : Type 0} → List (ReadCall R) → List ℕ
+bytes_read [] = []
+bytes_read (read ∷ before) = bytes_read before ++ bytes_given read.answer read.given
 
 -- the reader after reads of this one
-abbrev pub reader_behind : {R : Type 0} → R → List (OneRead R) → R
-reader_behind first [] = first
-reader_behind first (read ∷ before) = read.after
+abbrev pub reader_after : {R : Type 0} → R → List (ReadCall R) → R
+reader_after first [] = first
+reader_after first (read ∷ before) = read.after
 
 -- Each of these reads is what the reader answered, and was due after the bytes of those before it,
 -- for as many bytes as it had room for.
-abbrev pub AreDue : {R : Type 0} → Answering R → (List ℕ → ℕ → Type 0) → R → List (OneRead R)
+abbrev pub AreDue : {R : Type 0} → ReadOutcome R → (List ℕ → ℕ → Type 0) → R → List (ReadCall R)
     → Type 0
 AreDue MayAnswer IsDue first [] = ⊤
 AreDue MayAnswer IsDue first (read ∷ before) =
-    AreDue MayAnswer IsDue first before × IsDue (bytes_of before) (length read.room)
-    × MayAnswer (reader_behind first before) read.room read.answer read.after read.given
+    AreDue MayAnswer IsDue first before × IsDue (bytes_read before) (length read.room)
+    × MayAnswer (reader_after first before) read.room read.answer read.after read.given
 
 -- From one source to the other by these reads and no others: what they gave is what was taken.
-pub record IsReadBy {R : Type 0} {answers : _} {bytes : _} (remaining : R → Option (List ℕ))
-    (MayAnswer : Answering R) (IsDue : List ℕ → ℕ → Type 0) (old new : Source R answers bytes)
-    (reads : List (OneRead R)) : Type 0 where
+pub record AreReadsBetween {R : Type 0} {answers : _} {bytes : _} (remaining : R → Option (List ℕ))
+    (MayAnswer : ReadOutcome R) (IsDue : List ℕ → ℕ → Type 0) (old new : Source R answers bytes)
+    (reads : List (ReadCall R)) : Type 0 where
   pub due : AreDue MayAnswer IsDue (reader_of old) reads
-  pub reader : reader_of new ≡ reader_behind (reader_of old) reads
+  pub reader : reader_of new ≡ reader_after (reader_of old) reads
   pub count : reads_of new ≡ reads_of old + length reads
-  pub taken : Consumes (remaining (reader_of old)) (remaining (reader_of new)) (bytes_of reads)
+  pub taken : Consumes (remaining (reader_of old)) (remaining (reader_of new)) (bytes_read reads)
 
 -- A read is due for the head, within its limit: there is no whole head in what came, and one may
 -- still come.
@@ -70,12 +70,12 @@ pub record IsDueForBody (size came room : ℕ) : Type 0 where
   pub within : came + room ≤ size
 
 -- After a head that asks this, and these bytes, a read is due only for the body of an import.
-abbrev pub IsDueBehind : Asked → List ℕ → ℕ → Type 0
-IsDueBehind (asks.Import layout size) behind room = IsDueForBody size (length behind) room
-IsDueBehind asked behind room = ⊥
+abbrev pub IsDueAfterHead : Asked → List ℕ → ℕ → Type 0
+IsDueAfterHead (asks.Import layout size) behind room = IsDueForBody size (length behind) room
+IsDueAfterHead asked behind room = ⊥
 
 -- a read is due for a request of which these bytes came
 pub data IsDue (bytes : List ℕ) (room : ℕ) : Type 0 where
   for_head : IsDueForHead bytes room → IsDue bytes room
   for_body : (head : RequestHead) (behind : List ℕ) → HasHead bytes head behind
-      → IsDueBehind (asked head) behind room → IsDue bytes room
+      → IsDueAfterHead (asked head) behind room → IsDue bytes room

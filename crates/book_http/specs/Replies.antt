@@ -6,8 +6,8 @@ use Rattle.book_import.specs.declared.receipt.Stop.TheVariants.{End, Frame}
 use Rattle.book_reports.specs.ReceiptLines.{receipt_line_text}
 use Rattle.book_http.specs.declared.answer.Answer.{Answer}
 use Rattle.book_http.specs.declared.answer.Answer.TheVariants as answer
-use Rattle.book_http.specs.declared.answer_head.Kind.{Kind}
-use Rattle.book_http.specs.declared.answer_head.Kind.TheVariants.{Text}
+use Rattle.book_http.specs.declared.answer_head.BodyKind.{BodyKind}
+use Rattle.book_http.specs.declared.answer_head.BodyKind.TheVariants.{Text}
 use Rattle.book_http.specs.declared.method.Method.{Method}
 use Rattle.book_http.specs.declared.status.Status.{Status}
 use Rattle.book_http.specs.declared.status.Status.TheVariants.{Done, MethodNotAllowed}
@@ -17,7 +17,7 @@ use Rattle.book_http.specs.Statuses.{status_body}
 
 pub record Reply : Type 0 where
   pub status : Status
-  pub kind : Kind
+  pub kind : BodyKind
   pub allow : Option Method
   pub body : List ℕ
 
@@ -27,7 +27,7 @@ reply_bytes reply =
     answer_head reply.status reply.kind reply.allow (length reply.body) ++ reply.body
 
 -- a text that the books answered
-abbrev pub success : Kind → List ℕ → Reply
+abbrev pub success : BodyKind → List ℕ → Reply
 success kind text = record { status = Done; kind = kind; allow = None; body = text }
 
 -- a refusal, whose body is its own status
@@ -39,15 +39,15 @@ abbrev pub other_method : Method → Reply
 other_method method = record (refusal MethodNotAllowed) { allow = Some method }
 
 -- The status that the stop of an import has. No reader can stop the import of a body.
-abbrev pub stop_status : Stop → Status
-stop_status End = Done
-stop_status (Frame fault) = Unprocessable
-stop_status stop = Unavailable
+abbrev pub import_status : Stop → Status
+import_status End = Done
+import_status (Frame fault) = Unprocessable
+import_status stop = Unavailable
 
 -- an import is answered by its receipt line, whatever its stop
 abbrev pub receipt_reply : Receipt → Reply
 receipt_reply receipt = record {
-  status = stop_status receipt.stop;
+  status = import_status receipt.stop;
   kind = Text;
   allow = None;
   body = receipt_line_text receipt;

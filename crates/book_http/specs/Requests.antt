@@ -12,7 +12,7 @@ abbrev pub has_origin : RequestHead → Bool
 has_origin h = has_field (codes "origin") (map name_and_value h.fields)
 
 -- the head says this method, this target, this of its body's length, and an origin or none
-pub record Says (h : RequestHead) (method target : List ℕ) (body : Framing) (origin : Bool) : Type 0
+pub record DescribesHead (h : RequestHead) (method target : List ℕ) (body : Framing) (origin : Bool) : Type 0
   where
     pub method_is : method ≡ h.method
     pub target_is : target ≡ h.target

@@ -16,7 +16,7 @@ use Rattle.book_http.specs.declared.route.Page.{Page}
 use Rattle.book_http.specs.declared.route.Page.TheVariants as page
 use Rattle.book_http.specs.declared.route.Route.{Route}
 use Rattle.book_http.specs.declared.route.Route.TheVariants as route_to
-use Rattle.book_http.specs.Numbers.{number}
+use Rattle.book_http.specs.Numbers.{decimal_value}
 
 -- a target up to a question mark; nothing is decoded
 abbrev pub path_of : List ℕ → List ℕ
@@ -24,25 +24,25 @@ path_of target = before_first (λ b. b == 63) target
 
 -- a period is 1 to 4 digits, the first of them no 0
 unfoldable pub period : List ℕ → Option ℕ
-period text = if starts_with nat_eq text (codes "0") then None else number 4 text
+period text = if starts_with nat_eq text (codes "0") then None else decimal_value 4 text
 
 -- the period that a path names after its prefix
-unfoldable pub period_behind : List ℕ → List ℕ → Option ℕ
-period_behind front path =
-    if starts_with nat_eq path front then period (drop (length front) path) else None
+unfoldable pub period_after : List ℕ → List ℕ → Option ℕ
+period_after prefix path =
+    if starts_with nat_eq path prefix then period (drop (length prefix) path) else None
 
 -- the report on the period that a path names after its prefix
-abbrev pub report_behind : (ℕ → Report) → List ℕ → List ℕ → Option Route
-report_behind report front path =
-    option_map (λ n. route_to.Report (report n)) (period_behind front path)
+abbrev pub report_after : (ℕ → Report) → List ℕ → List ℕ → Option Route
+report_after report prefix path =
+    option_map (λ n. route_to.Report (report n)) (period_after prefix path)
 
 -- what a page is for at a path
 unfoldable pub route_at : Page → List ℕ → Option Route
 route_at page.Periods path = Some (route_to.Report report_of.PeriodList)
-route_at page.Statement path = report_behind report_of.Statement (codes "/statement/") path
+route_at page.Statement path = report_after report_of.Statement (codes "/statement/") path
 route_at page.StatementCsv path =
-    report_behind report_of.StatementTable (codes "/statement-csv/") path
-route_at page.Adjustments path = report_behind report_of.AdjustmentList (codes "/adjustments/") path
+    report_after report_of.StatementTable (codes "/statement-csv/") path
+route_at page.Adjustments path = report_after report_of.AdjustmentList (codes "/adjustments/") path
 route_at page.Disputes path = Some (route_to.Report report_of.DisputeList)
 route_at page.Import path = Some (route_to.Import Rdw)
 route_at page.ImportBdw path = Some (route_to.Import Bdw)

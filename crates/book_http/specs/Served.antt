@@ -2,9 +2,9 @@
 use Rattle.std.specs.Prelude.{◌≡◌, ◌<◌, ℕ, Bool, true, false, List, [], ◌++◌, length, take, Option}
 use Rattle.std.specs.Prelude.{Result, Err}
 use Rattle.std.specs.Io.KnownBytes.{Appends}
-use Rattle.streams.specs.Sides.{Output}
+use Rattle.streams.specs.InputOutput.{Output}
 use Rattle.book_core.specs.Ledgers.{Seen, Books}
-use Rattle.book_core.specs.Work.{Work, IsWork}
+use Rattle.book_core.specs.Transition.{Transition, IsTransition}
 use Rattle.book_core.specs.Follow.{FollowsHistory}
 use Rattle.book_http.specs.declared.asked.Asked.{Asked}
 use Rattle.book_http.specs.declared.served.Served.{Served}
@@ -14,12 +14,12 @@ use Rattle.book_http.specs.declared.served.Unanswered.{Unanswered}
 use Rattle.book_http.specs.declared.served.Unanswered.TheVariants.{Failed}
 use Rattle.book_http.specs.Answer.{Answers, AnswersAsked, UnlessMemory}
 use Rattle.book_http.specs.Replies.{Reply, reply_bytes}
-use Rattle.book_http.specs.Statuses.{code_of}
+use Rattle.book_http.specs.Statuses.{status_code}
 
 -- Such work was done, and where the books were those of a history, they are those of that history
 -- with the events of the work added.
-pub record IsDone (old new : Seen) (Made : Work) : Type 0 where
-  pub work : IsWork old new Made
+pub record IsDone (old new : Seen) (Made : Transition) : Type 0 where
+  pub work : IsTransition old new Made
   pub history : FollowsHistory old new Made
 
 -- This is the answer to the bytes that were taken, whatever follows them; where the input ended,
@@ -33,13 +33,13 @@ IsAnswer old new ended taken reply =
 abbrev pub IsAnswerTo : Seen → Seen → Bool → Asked → List ℕ → Reply → Type 0
 IsAnswerTo old new ended asked behind reply =
     (more : List ℕ) → (ended ≡ true → more ≡ [])
-    → IsWork old new (UnlessMemory (AnswersAsked old.naming asked (behind ++ more) reply) reply)
+    → IsTransition old new (UnlessMemory (AnswersAsked old.naming asked (behind ++ more) reply) reply)
 
 -- A reply was written to a writer, where what this holds is known: the whole; or, where a write
 -- failed, a prefix that is not the whole.
 abbrev pub IsSent : Reply → Option (List ℕ) → Option (List ℕ) → Served → Type 0
 IsSent reply held holds (Answered status) =
-    (status ≡ code_of reply.status) × Appends held holds (reply_bytes reply)
+    (status ≡ status_code reply.status) × Appends held holds (reply_bytes reply)
 IsSent reply held holds WriteFault =
     (count : ℕ) × (count < length (reply_bytes reply))
     × Appends held holds (take count (reply_bytes reply))

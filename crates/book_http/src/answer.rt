@@ -1,4 +1,4 @@
-use crate::answer_head::Kind;
+use crate::answer_head::BodyKind;
 use crate::method::Method;
 use crate::status::Status;
 use book_import::Receipt;
@@ -7,7 +7,7 @@ use book_import::Receipt;
 #[derive(Drop)]
 pub enum Answer {
     /// A text that the books answered.
-    Report(Kind, Vec<u8>),
+    Report(BodyKind, Vec<u8>),
     /// What became of an import.
     Receipt(Receipt),
     /// A refusal.

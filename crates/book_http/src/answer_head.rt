@@ -3,7 +3,7 @@
 ghost use Rattle.std.specs.Prelude.{◌≡◌, ◌+◌, ◌≤◌, ◌++◌};
 ghost use Rattle.arrayvec.specs.ArrayString.{array_string_len};
 ghost use Rattle.book_http.specs.AnswerHead as spec;
-ghost use Rattle.book_http.specs.AnswerHead.{allow_line, kind_text};
+ghost use Rattle.book_http.specs.AnswerHead.{allow_line, media_type};
 ghost use Rattle.book_http.specs.Statuses as statuses;
 ghost use Rattle.book_http.specs.Statuses.{status_text};
 
@@ -17,21 +17,21 @@ pub type AnswerText = ArrayString<256>;
 
 /// What the body of an answer is.
 #[derive(Clone, Copy, Debug, PartialEq, Eq)]
-pub enum Kind {
+pub enum BodyKind {
     /// A text for people.
     Text,
     /// Rows with commas between their columns.
     Csv,
 }
 
-impl Kind {
+impl BodyKind {
     /// The media type.
     fn text(self) -> &'static str
-        ensures { result.now ≡ kind_text self }
+        ensures { result.now ≡ media_type self }
     {
         match self {
-            Kind::Text => "text/plain; charset=us-ascii",
-            Kind::Csv => "text/csv; charset=us-ascii",
+            BodyKind::Text => "text/plain; charset=us-ascii",
+            BodyKind::Csv => "text/csv; charset=us-ascii",
         }
     }
 }
@@ -76,7 +76,7 @@ fn push_size(text: &mut AnswerText, size: usize)
 
 /// The lines of an answer before a body of that many bytes, the empty line among them.
 #[tactic(auto, unfolding(crate::specs::AnswerHead::answer_head))]
-pub fn answer_head(status: Status, kind: Kind, allow: Option<Method>, size: usize) -> AnswerText
+pub fn answer_head(status: Status, kind: BodyKind, allow: Option<Method>, size: usize) -> AnswerText
     ensures { result.bytes ≡ spec.answer_head status kind allow size }
 {
     let mut text = AnswerText::new();

@@ -3,16 +3,16 @@
 ghost use Rattle.std.specs.Prelude.{◌≡◌, ◌+◌, ◌≤◌, ◌^◌, ◌++◌, List, IfOk, OnErr, IsUtf8};
 ghost use Rattle.std.specs.Prelude.{false, is_err};
 ghost use Rattle.httparse.specs.Grammar.{RequestHead};
-ghost use Rattle.streams.specs.Marks.{NothingIsLeft};
+ghost use Rattle.streams.specs.AnswerFlags.{NothingUnread};
 ghost use Rattle.streams.specs.Sources.{reader_of, reads_of, has_failed, has_ended};
 ghost use Rattle.book_http.specs.declared.asked.Asked.TheVariants as asks;
 ghost use Rattle.book_http.specs.Asked as spec;
 ghost use Rattle.book_http.specs.Asked.{IsServable};
 ghost use Rattle.book_http.specs.Bodies.{most_body_bytes};
 ghost use Rattle.book_http.specs.Head.{most_head_bytes};
-ghost use Rattle.book_http.specs.Reads.{OneRead, bytes_of, IsReadBy, IsDueBehind};
+ghost use Rattle.book_http.specs.Reads.{ReadCall, bytes_read, AreReadsBetween, IsDueAfterHead};
 ghost use Rattle.book_http.specs.Replies.{reply_of};
-ghost use Rattle.book_http.specs.Requests.{Says};
+ghost use Rattle.book_http.specs.Requests.{DescribesHead};
 ghost use Rattle.book_http.specs.Served.{IsAnswerTo};
 
 use crate::answer::Answer;
@@ -45,16 +45,16 @@ fn answer_body<R: Reader + Drop, L: Ledger>(
     requires asked { reads_of source.old ≤ 2 ^ 62 + most_head_bytes }
     requires failed { has_failed source.old ≡ false }
     requires ended { has_ended source.old ≡ false }
-    ensures answer { (reads : List (OneRead R)) × IsReadBy R.remaining R.may_answer
-        (λ came room. IsDueBehind (asks.Import layout size) (front.now ++ came) room)
+    ensures answer { (reads : List (ReadCall R)) × AreReadsBetween R.remaining R.may_answer
+        (λ came room. IsDueAfterHead (asks.Import layout size) (front.now ++ came) room)
         source.old source.new reads
         × IfOk result (λ answer. IsAnswerTo (L.seen ledger.old) (L.seen ledger.new)
-        (has_ended source.new) (asks.Import layout size) (front.now ++ bytes_of reads)
+        (has_ended source.new) (asks.Import layout size) (front.now ++ bytes_read reads)
         (reply_of answer)) }
     ensures none { OnErr result (ledger.new ≡ ledger.old) }
     ensures failed { has_failed source.new ≡ is_err result }
     ensures asked { reads_of source.new ≤ reads_of source.old + most_body_bytes }
-    ensures left { NothingIsLeft
+    ensures left { NothingUnread
         (has_ended source.new) (R.remaining (reader_of source.new)) }
 {
     match read_body(alloc, source, front, size) {
@@ -77,14 +77,14 @@ fn answer_asked<R: Reader + Drop, L: Ledger>(
     requires asked { reads_of source.old ≤ 2 ^ 62 + most_head_bytes }
     requires failed { has_failed source.old ≡ false }
     requires ended { has_ended source.old ≡ false }
-    ensures answer { (reads : List (OneRead R)) × IsReadBy R.remaining R.may_answer
-        (λ came room. IsDueBehind asked (front.now ++ came) room) source.old source.new reads
+    ensures answer { (reads : List (ReadCall R)) × AreReadsBetween R.remaining R.may_answer
+        (λ came room. IsDueAfterHead asked (front.now ++ came) room) source.old source.new reads
         × IfOk result (λ answer. IsAnswerTo (L.seen ledger.old) (L.seen ledger.new)
-        (has_ended source.new) asked (front.now ++ bytes_of reads) (reply_of answer)) }
+        (has_ended source.new) asked (front.now ++ bytes_read reads) (reply_of answer)) }
     ensures none { OnErr result (ledger.new ≡ ledger.old) }
     ensures failed { has_failed source.new ≡ is_err result }
     ensures asked { reads_of source.new ≤ reads_of source.old + most_body_bytes }
-    ensures left { NothingIsLeft
+    ensures left { NothingUnread
         (has_ended source.new) (R.remaining (reader_of source.new)) }
 {
     match asked {
@@ -108,18 +108,18 @@ pub fn answer_request<R: Reader + Drop, L: Ledger>(
     requires asked { reads_of source.old ≤ 2 ^ 62 + most_head_bytes }
     requires failed { has_failed source.old ≡ false }
     requires ended { has_ended source.old ≡ false }
-    ensures answer { (head : RequestHead) → Says head request.now.method.now
+    ensures answer { (head : RequestHead) → DescribesHead head request.now.method.now
         request.now.target.now request.now.framing request.now.has_origin
-        → (reads : List (OneRead R)) × IsReadBy R.remaining R.may_answer
-        (λ came room. IsDueBehind (spec.asked head) (request.now.behind.now ++ came) room)
+        → (reads : List (ReadCall R)) × AreReadsBetween R.remaining R.may_answer
+        (λ came room. IsDueAfterHead (spec.asked head) (request.now.behind.now ++ came) room)
         source.old source.new reads
         × IfOk result (λ answer. IsAnswerTo (L.seen ledger.old) (L.seen ledger.new)
-        (has_ended source.new) (spec.asked head) (request.now.behind.now ++ bytes_of reads)
+        (has_ended source.new) (spec.asked head) (request.now.behind.now ++ bytes_read reads)
         (reply_of answer)) }
     ensures none { OnErr result (ledger.new ≡ ledger.old) }
     ensures failed { has_failed source.new ≡ is_err result }
     ensures asked { reads_of source.new ≤ reads_of source.old + most_body_bytes }
-    ensures left { NothingIsLeft
+    ensures left { NothingUnread
         (has_ended source.new) (R.remaining (reader_of source.new)) }
 {
     let Ok(found) = find_route(alloc, request.target) else {

@@ -2,11 +2,11 @@
 
 ghost use Rattle.std.specs.Prelude.{◌≡◌, ◌+◌, ◌<◌, ◌≤◌, ◌^◌, ◌++◌, List, false, true};
 ghost use Rattle.std.specs.Prelude.{length, take, drop, OnOk, IsErrOf};
-ghost use Rattle.streams.specs.Marks.{NothingIsLeft};
+ghost use Rattle.streams.specs.AnswerFlags.{NothingUnread};
 ghost use Rattle.streams.specs.Sources.{reader_of, reads_of, has_failed, has_ended};
 ghost use Rattle.book_http.specs.Bodies.{BodyComes, is_failed_body, most_body_bytes};
 ghost use Rattle.book_http.specs.Head.{most_head_bytes};
-ghost use Rattle.book_http.specs.Reads.{OneRead, bytes_of, IsReadBy, IsDueForBody};
+ghost use Rattle.book_http.specs.Reads.{ReadCall, bytes_read, AreReadsBetween, IsDueForBody};
 
 use std::alloc::Global;
 use streams::{Reader, Source};
@@ -37,16 +37,16 @@ fn fill<R: Reader + Drop>(
     requires failed { has_failed source.old ≡ false }
     requires ended { has_ended source.old ≡ false }
     ensures kept { take had body.new ≡ take had body.old }
-    ensures reads { (reads : List (OneRead R)) × IsReadBy R.remaining R.may_answer
+    ensures reads { (reads : List (ReadCall R)) × AreReadsBetween R.remaining R.may_answer
         (λ came room. IsDueForBody (length body.old) (had + length came) room)
         source.old source.new reads
-        × OnOk result (bytes_of reads ≡ drop had body.new)
-        × (IsErrOf result BodyFault.Short → had + length (bytes_of reads) < length body.new) }
+        × OnOk result (bytes_read reads ≡ drop had body.new)
+        × (IsErrOf result BodyFault.Short → had + length (bytes_read reads) < length body.new) }
     ensures ended { IsErrOf result BodyFault.Short → has_ended source.new ≡ true }
     ensures failed { has_failed source.new ≡ is_failed_body result }
     ensures memory { IsErrOf result BodyFault.Memory → ⊥ }
     ensures asked { reads_of source.new ≤ reads_of source.old + length body.old }
-    ensures left { NothingIsLeft
+    ensures left { NothingUnread
         (has_ended source.new) (R.remaining (reader_of source.new)) }
 {
     let mut filled = had;
@@ -63,7 +63,7 @@ fn fill<R: Reader + Drop>(
 }
 
 /// Fills a body, the beginning of which was read after the head.
-fn fill_behind<R: Reader + Drop>(
+fn fill_body<R: Reader + Drop>(
     source: &mut Source<R>,
     body: &mut [u8],
     front: &[u8],
@@ -72,15 +72,15 @@ fn fill_behind<R: Reader + Drop>(
     requires asked { reads_of source.old ≤ 2 ^ 62 + most_head_bytes }
     requires failed { has_failed source.old ≡ false }
     requires ended { has_ended source.old ≡ false }
-    ensures reads { (reads : List (OneRead R)) × IsReadBy R.remaining R.may_answer
+    ensures reads { (reads : List (ReadCall R)) × AreReadsBetween R.remaining R.may_answer
         (λ came room. IsDueForBody (length body.old) (length (front.now ++ came)) room)
         source.old source.new reads
-        × BodyComes (λ _. body.new) (length body.old) (front.now ++ bytes_of reads) result }
+        × BodyComes (λ _. body.new) (length body.old) (front.now ++ bytes_read reads) result }
     ensures ended { IsErrOf result BodyFault.Short → has_ended source.new ≡ true }
     ensures failed { has_failed source.new ≡ is_failed_body result }
     ensures memory { IsErrOf result BodyFault.Memory → ⊥ }
     ensures asked { reads_of source.new ≤ reads_of source.old + length body.old }
-    ensures left { NothingIsLeft
+    ensures left { NothingUnread
         (has_ended source.new) (R.remaining (reader_of source.new)) }
 {
     let had = front.len().min(body.len());
@@ -103,23 +103,23 @@ pub fn read_body<R: Reader + Drop>(
 
     // The reads that were made, none of them for a byte after the body: with their bytes the body
     // is whole, or too short.
-    ensures reads { (reads : List (OneRead R)) × IsReadBy R.remaining R.may_answer
+    ensures reads { (reads : List (ReadCall R)) × AreReadsBetween R.remaining R.may_answer
         (λ came room. IsDueForBody size (length (front.now ++ came)) room)
         source.old source.new reads
-        × BodyComes (λ body. body.items) size (front.now ++ bytes_of reads) result }
+        × BodyComes (λ body. body.items) size (front.now ++ bytes_read reads) result }
 
     // It is called too short only at the input's end, and a read failed at no other fault.
     ensures ended { IsErrOf result BodyFault.Short → has_ended source.new ≡ true }
     ensures failed { has_failed source.new ≡ is_failed_body result }
     ensures memory { IsErrOf result BodyFault.Memory → source.new ≡ source.old }
     ensures asked { reads_of source.new ≤ reads_of source.old + size }
-    ensures left { NothingIsLeft
+    ensures left { NothingUnread
         (has_ended source.new) (R.remaining (reader_of source.new)) }
 {
     let Ok(mut body) = vec![in alloc; 0u8; size] else {
         return Err(BodyFault::Memory);
     };
-    match fill_behind(source, &mut body, front) {
+    match fill_body(source, &mut body, front) {
         Ok(()) => Ok(body),
         Err(fault) => Err(fault),
     }

@@ -4,7 +4,7 @@ ghost use Rattle.std.specs.Prelude.{◌≡◌, All, length, map};
 ghost use Rattle.httparse.specs.Spans.{IsHeaderWithin, header_bytes};
 ghost use Rattle.book_http.specs.Framing as spec;
 
-use crate::number::number;
+use crate::decimal_value::decimal_value;
 use httparse::spans::HeaderSpan;
 
 /// What a head says of its body's length.
@@ -28,8 +28,8 @@ const TRANSFER_ENCODING: &str = "transfer-encoding";
 const MOST_DIGITS: usize = 19;
 
 /// The field has this name, in any case.
-fn is_called(name: &[u8], wanted: &str) -> bool
-    ensures { result ≡ spec.is_called wanted.now name.now }
+fn is_field_named(name: &[u8], wanted: &str) -> bool
+    ensures { result ≡ spec.is_field_named wanted.now name.now }
 {
     name.eq_ignore_ascii_case(wanted.as_bytes())
 }
@@ -38,7 +38,7 @@ fn is_called(name: &[u8], wanted: &str) -> bool
 fn framing_by(length: &[u8]) -> Framing
     ensures { result ≡ spec.framing_by length.now }
 {
-    match number(MOST_DIGITS, length) {
+    match decimal_value(MOST_DIGITS, length) {
         Some(length) => Framing::Framed(length),
         None => Framing::Faulty,
     }
@@ -58,7 +58,7 @@ fn with_length(before: Framing, length: &[u8]) -> Framing
 fn with_field(before: Framing, name: &[u8], value: &[u8]) -> Framing
     ensures { result ≡ spec.with_field before (name.now, value.now) }
 {
-    if is_called(name, CONTENT_LENGTH) {
+    if is_field_named(name, CONTENT_LENGTH) {
         with_length(before, value)
     } else {
         before
@@ -83,7 +83,7 @@ pub fn has_field(bytes: &[u8], fields: &[HeaderSpan], wanted: &str) -> bool
     ensures { result ≡ spec.has_field wanted.now (map (header_bytes bytes.now) fields.now) }
 {
     for field in fields {
-        if is_called(field.name.of(bytes), wanted) {
+        if is_field_named(field.name.of(bytes), wanted) {
             return true;
         }
     }

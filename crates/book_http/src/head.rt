@@ -3,11 +3,11 @@
 ghost use Rattle.std.specs.Prelude.{◌≡◌, ◌+◌, ◌≤◌, ◌^◌, false, List, length, take};
 ghost use Rattle.httparse.specs.Grammar.{RequestHead};
 ghost use Rattle.httparse.specs.Spans.{IsRequestWithin};
-ghost use Rattle.streams.specs.Marks.{NothingIsLeft};
+ghost use Rattle.streams.specs.AnswerFlags.{NothingUnread};
 ghost use Rattle.streams.specs.Sources.{reader_of, reads_of, has_failed, has_ended};
 ghost use Rattle.book_http.specs.Head.{HeadComes, HoldsHead, IfWhole};
 ghost use Rattle.book_http.specs.Head.{is_failed_head, most_fields, most_head_bytes};
-ghost use Rattle.book_http.specs.Reads.{OneRead, bytes_of, IsReadBy, IsDueForHead};
+ghost use Rattle.book_http.specs.Reads.{ReadCall, bytes_read, AreReadsBetween, IsDueForHead};
 
 use httparse::Status;
 use httparse::spans::{HeaderSpan, RequestSpans, parse_request};
@@ -56,9 +56,9 @@ pub fn read_head<R: Reader + Drop>(
 
     // The reads that were made, each of them while no head was there yet, and what came of their
     // bytes.
-    ensures reads { (reads : List (OneRead R))
-        × IsReadBy R.remaining R.may_answer IsDueForHead source.old source.new reads
-        × HeadComes result buffer.new (has_ended source.new) (bytes_of reads) }
+    ensures reads { (reads : List (ReadCall R))
+        × AreReadsBetween R.remaining R.may_answer IsDueForHead source.old source.new reads
+        × HeadComes result buffer.new (has_ended source.new) (bytes_read reads) }
     ensures failed { has_failed source.new ≡ is_failed_head result }
 
     // The head that came, and how much of the buffer was filled for it.
@@ -71,7 +71,7 @@ pub fn read_head<R: Reader + Drop>(
     // What may be read after it.
     ensures goes_on { IfWhole result (λ whole. has_ended source.new ≡ false) }
     ensures asked { reads_of source.new ≤ reads_of source.old + most_head_bytes }
-    ensures left { NothingIsLeft
+    ensures left { NothingUnread
         (has_ended source.new) (R.remaining (reader_of source.new)) }
 {
     let mut filled = 0;

@@ -15,8 +15,8 @@ pub fn request_twice_is_once()
     ensures { RequestTwiceIsOnce }
 {}
 
-/// From each of the books that a request may have left, whatever hindered it, the same request again
-/// leaves the books of one that nothing hindered.
+/// From each of the books that a request may have left, whatever hindered it, the same request
+/// again leaves the books of one that nothing hindered.
 pub fn requests_are_mended()
     ensures { RequestsAreMended }
 {}

@@ -3,7 +3,7 @@
 ghost use Rattle.std.specs.Prelude.{◌≡◌, drop};
 ghost use Rattle.httparse.specs.Grammar.{RequestHead};
 ghost use Rattle.httparse.specs.Spans.{IsRequestAt, IsRequestWithin};
-ghost use Rattle.book_http.specs.Requests.{Says};
+ghost use Rattle.book_http.specs.Requests.{DescribesHead};
 
 use crate::framing::{Framing, framing_in, has_field};
 use httparse::spans::{HeaderSpan, RequestSpans};
@@ -31,7 +31,7 @@ pub fn request_in<'a>(bytes: &'a [u8], fields: &[HeaderSpan], spans: RequestSpan
     requires { IsRequestWithin bytes.now fields.now spans }
     ensures behind { result.behind.now ≡ drop spans.len bytes.now }
     ensures says { (h : RequestHead) → IsRequestAt bytes.now fields.now spans h
-        → Says h result.method.now result.target.now result.framing result.has_origin }
+        → DescribesHead h result.method.now result.target.now result.framing result.has_origin }
 {
     let fields = &fields[..spans.headers];
     Request {

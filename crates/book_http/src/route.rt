@@ -6,7 +6,7 @@ ghost use Rattle.book_http.specs.declared.route.Route.{Route};
 ghost use Rattle.book_http.specs.Routes as spec;
 ghost use Rattle.book_http.specs.Routes.{route_rows};
 
-use crate::number::number;
+use crate::decimal_value::decimal_value;
 use matchit::{InsertError, Router};
 use office::Report;
 use smf_frames::Layout;
@@ -85,21 +85,21 @@ fn period(text: &[u8]) -> Option<u16>
     if text.starts_with(b"0") {
         return None;
     }
-    match number(PERIOD_DIGITS, text) {
+    match decimal_value(PERIOD_DIGITS, text) {
         Some(period) => Some(period as u16),
         None => None,
     }
 }
 
 /// The period that a path names after its prefix.
-#[tactic(auto, unfolding(crate::specs::Routes::period_behind))]
-fn period_behind(front: &[u8], path: &[u8]) -> Option<u16>
-    ensures { result ≡ spec.period_behind front.now path.now }
+#[tactic(auto, unfolding(crate::specs::Routes::period_after))]
+fn period_after(prefix: &[u8], path: &[u8]) -> Option<u16>
+    ensures { result ≡ spec.period_after prefix.now path.now }
 {
-    if !path.starts_with(front) {
+    if !path.starts_with(prefix) {
         return None;
     }
-    period(&path[front.len()..])
+    period(&path[prefix.len()..])
 }
 
 /// What a page is for at a path.
@@ -110,15 +110,15 @@ fn route_at(page: Page, path: &[u8]) -> Option<Route>
     match page {
         Page::Periods => Some(Route::Report(Report::PeriodList)),
         Page::Statement => {
-            let period = period_behind(b"/statement/", path)?;
+            let period = period_after(b"/statement/", path)?;
             Some(Route::Report(Report::Statement(period)))
         }
         Page::StatementCsv => {
-            let period = period_behind(b"/statement-csv/", path)?;
+            let period = period_after(b"/statement-csv/", path)?;
             Some(Route::Report(Report::StatementTable(period)))
         }
         Page::Adjustments => {
-            let period = period_behind(b"/adjustments/", path)?;
+            let period = period_after(b"/adjustments/", path)?;
             Some(Route::Report(Report::AdjustmentList(period)))
         }
         Page::Disputes => Some(Route::Report(Report::DisputeList)),

@@ -7,7 +7,7 @@ ghost use Rattle.book_http.specs.Replies as spec;
 ghost use Rattle.book_http.specs.Served.{IsSent, is_write_fault};
 
 use crate::answer::Answer;
-use crate::answer_head::{Kind, answer_head, status_body};
+use crate::answer_head::{BodyKind, answer_head, status_body};
 use crate::method::Method;
 use crate::served::Served;
 use crate::status::Status;
@@ -17,8 +17,8 @@ use book_reports::{receipt_line_text, write_bytes, write_text};
 use std::io::Write;
 
 /// The status that the stop of an import has.
-fn stop_status(stop: Stop) -> Status
-    ensures { result ≡ spec.stop_status stop }
+fn import_status(stop: Stop) -> Status
+    ensures { result ≡ spec.import_status stop }
 {
     match stop {
         Stop::End => Status::Done,
@@ -31,7 +31,7 @@ fn stop_status(stop: Stop) -> Status
 fn send_reply<W: Write + Drop>(
     sink: &mut Sink<W>,
     status: Status,
-    kind: Kind,
+    kind: BodyKind,
     allow: Option<Method>,
     body: &[u8],
 ) -> Served
@@ -62,11 +62,23 @@ pub fn send<W: Write + Drop>(sink: &mut Sink<W>, answer: &Answer) -> Served
         Answer::Receipt(receipt) => {
             let line = receipt_line_text(receipt);
             let body = line.as_str().as_bytes();
-            send_reply(sink, stop_status(receipt.stop), Kind::Text, None, body)
+            send_reply(
+                sink,
+                import_status(receipt.stop),
+                BodyKind::Text,
+                None,
+                body,
+            )
         }
         Answer::Refusal(status) => {
             let text = status_body(*status);
-            send_reply(sink, *status, Kind::Text, None, text.as_str().as_bytes())
+            send_reply(
+                sink,
+                *status,
+                BodyKind::Text,
+                None,
+                text.as_str().as_bytes(),
+            )
         }
         Answer::OtherMethod(method) => {
             let status = Status::MethodNotAllowed;
@@ -74,7 +86,7 @@ pub fn send<W: Write + Drop>(sink: &mut Sink<W>, answer: &Answer) -> Served
             send_reply(
                 sink,
                 status,
-                Kind::Text,
+                BodyKind::Text,
                 Some(*method),
                 text.as_str().as_bytes(),
             )

@@ -2,14 +2,14 @@
 
 ghost use Rattle.std.specs.Prelude.{◌≡◌, ◌+◌, ◌≤◌, ◌^◌, List, [], false, true};
 ghost use Rattle.std.specs.Prelude.{IfOk, IsErrOf, OnErr};
-ghost use Rattle.streams.specs.Marks.{NothingIsLeft};
-ghost use Rattle.streams.specs.Sides.{output};
+ghost use Rattle.streams.specs.AnswerFlags.{NothingUnread};
+ghost use Rattle.streams.specs.InputOutput.{output};
 ghost use Rattle.streams.specs.Sinks as sinks;
 ghost use Rattle.streams.specs.Sources.{reader_of, reads_of, has_failed, has_ended};
 ghost use Rattle.book_core.specs.Ledgers.{books};
 ghost use Rattle.book_http.specs.Bodies.{most_body_bytes};
 ghost use Rattle.book_http.specs.Head.{most_head_bytes};
-ghost use Rattle.book_http.specs.Reads.{OneRead, bytes_of, IsReadBy, IsDue};
+ghost use Rattle.book_http.specs.Reads.{ReadCall, bytes_read, AreReadsBetween, IsDue};
 ghost use Rattle.book_http.specs.Replies.{reply_of};
 ghost use Rattle.book_http.specs.Served.{IsAnswer, IsServed};
 ghost use Rattle.book_http.specs.Served.{is_failed, is_read_fault, is_unanswered, is_write_fault};
@@ -28,7 +28,7 @@ use std::io::Write;
 use streams::Reader;
 
 /// Reads one request, and does what it asks of the books.
-fn answer_one<R: Reader + Drop, L: Ledger>(
+fn read_and_answer<R: Reader + Drop, L: Ledger>(
     alloc: Global,
     source: &mut Source<R>,
     ledger: &mut L,
@@ -36,17 +36,17 @@ fn answer_one<R: Reader + Drop, L: Ledger>(
     requires asked { reads_of source.old ≤ 2 ^ 62 }
     requires failed { has_failed source.old ≡ false }
     requires ended { has_ended source.old ≡ false }
-    ensures answer { (reads : List (OneRead R))
-        × IsReadBy R.remaining R.may_answer IsDue source.old source.new reads
+    ensures answer { (reads : List (ReadCall R))
+        × AreReadsBetween R.remaining R.may_answer IsDue source.old source.new reads
         × IfOk result (λ answer. IsAnswer (L.seen ledger.old) (L.seen ledger.new)
-        (has_ended source.new) (bytes_of reads) (reply_of answer))
-        × (IsErrOf result Unanswered.Closed → bytes_of reads ≡ []) }
+        (has_ended source.new) (bytes_read reads) (reply_of answer))
+        × (IsErrOf result Unanswered.Closed → bytes_read reads ≡ []) }
     ensures closed { IsErrOf result Unanswered.Closed → has_ended source.new ≡ true }
     ensures none { OnErr result (ledger.new ≡ ledger.old) }
     ensures failed { has_failed source.new ≡ is_failed result }
     ensures asked { reads_of source.new
         ≤ reads_of source.old + most_head_bytes + most_body_bytes }
-    ensures left { NothingIsLeft
+    ensures left { NothingUnread
         (has_ended source.new) (R.remaining (reader_of source.new)) }
 {
     let mut buffer = [0u8; MAX_HEAD];
@@ -82,13 +82,13 @@ pub fn serve_one<R: Reader + Drop, W: Write + Drop, L: Ledger>(
     // bytes that the reads gave, whatever may follow them. Each read was due: while there was no
     // head, or for the rest of the body of an import that is served. Where the source has ended,
     // these are all the bytes of a reader whose bytes are known.
-    ensures served { (reads : List (OneRead R))
-        × IsReadBy R.remaining R.may_answer IsDue source.old source.new reads
-        × IsServed (books L.seen ledger.old ledger.new) (bytes_of reads) (has_ended source.new)
+    ensures served { (reads : List (ReadCall R))
+        × AreReadsBetween R.remaining R.may_answer IsDue source.old source.new reads
+        × IsServed (books L.seen ledger.old ledger.new) (bytes_read reads) (has_ended source.new)
         (output W.contents sink.old sink.new) result }
     ensures asked { reads_of source.new
         ≤ reads_of source.old + most_head_bytes + most_body_bytes }
-    ensures left { NothingIsLeft
+    ensures left { NothingUnread
         (has_ended source.new) (R.remaining (reader_of source.new)) }
 
     // Where nothing is answered, nothing is done.
@@ -97,7 +97,7 @@ pub fn serve_one<R: Reader + Drop, W: Write + Drop, L: Ledger>(
     ensures read { has_failed source.new ≡ is_read_fault result }
     ensures written { sinks.has_failed sink.new ≡ is_write_fault result }
 {
-    match answer_one(alloc, source, ledger) {
+    match read_and_answer(alloc, source, ledger) {
         Ok(answer) => send(sink, &answer),
         Err(Unanswered::Closed) => Served::Closed,
         Err(Unanswered::Failed) => Served::ReadFault,

@@ -1,7 +1,7 @@
 //! The statuses of answers.
 
 ghost use Rattle.std.specs.Prelude.{◌≡◌, ◌≤◌, length};
-ghost use Rattle.book_http.specs.Statuses.{code_of, phrase_of};
+ghost use Rattle.book_http.specs.Statuses.{status_code, phrase_of};
 
 use http::StatusCode;
 
@@ -31,7 +31,7 @@ pub enum Status {
 impl Status {
     /// The code as `http` has it.
     pub(crate) fn in_http(self) -> StatusCode
-        ensures { result ≡ code_of self }
+        ensures { result ≡ status_code self }
     {
         match self {
             Status::Done => StatusCode::OK,
@@ -48,7 +48,7 @@ impl Status {
 
     /// The code that an answer shows.
     pub fn code(self) -> u16
-        ensures { result ≡ code_of self }
+        ensures { result ≡ status_code self }
     {
         self.in_http().as_u16()
     }

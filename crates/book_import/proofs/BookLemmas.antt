@@ -1,16 +1,16 @@
 -- The book of an import is the one that its events leave.
 use Rattle.std.proofs.Common.{◌≡◌, ◌∙◌, ℕ, List, [], ◌∷◌, refl, ap, Result, Ok, Err, Option}
 use Rattle.std.specs.Prelude.{IfOk}
-use Rattle.smf_type30.specs.declared.classes.Class.{Class}
-use Rattle.smf_type30.specs.declared.classes.Class.TheVariants.{Usage}
+use Rattle.smf_type30.specs.declared.record_class.Class.{Class}
+use Rattle.smf_type30.specs.declared.record_class.Class.TheVariants.{Usage}
 use Rattle.book_model.specs.Words.{class_of, Book, Event, after_any, after_all, accept_outcome}
 use Rattle.book_model.specs.Words.{Naming}
 use Rattle.book_model.specs.declared.answer.Accepted.{Accepted}
 use Rattle.book_model.specs.declared.fault.LedgerFault.{LedgerFault}
 use Rattle.book_import.specs.declared.receipt.Stop.{Stop}
-use Rattle.book_import.specs.Handled.{Imported, Answering, after_answer, handle_by, handle, go_on}
-use Rattle.book_import.specs.Handled.{handle_all, start_of}
-use Rattle.book_import.specs.Laws.{import_of_records, book_left}
+use Rattle.book_import.specs.Handled.{Imported, Answering, after_answer, handle_by, handle, continue_with}
+use Rattle.book_import.specs.Handled.{handle_all, nothing_imported}
+use Rattle.book_import.specs.Laws.{import_of_records, book_after_import}
 use Rattle.book_import.proofs.ImportLemmas.{after_listed}
 
 -- the book so far is the one that the events so far leave
@@ -42,13 +42,13 @@ all_left answers stop before [] so_far left = left
 all_left answers stop before (bytes ∷ rest) so_far left =
     let later : Imported → Imported = handle_all answers stop rest in
     elim (handle answers bytes so_far) as (λ handled.
-    IfOk handled (IsLeft before) → IsLeft before (go_on later so_far handled)) [
+    IfOk handled (IsLeft before) → IsLeft before (continue_with later so_far handled)) [
       | Ok next ↦ λ more. all_left answers stop before rest next more
       | Err fault ↦ λ none. left
     ] (one_left answers before bytes so_far (class_of bytes) left)
 
 -- for an import into open books
 pub left_is : (naming : Naming) (before : Book) (stop : Stop) (records : List (List ℕ))
-    → (import_of_records naming before stop records).book ≡ book_left naming before stop records
+    → (import_of_records naming before stop records).book ≡ book_after_import naming before stop records
 left_is naming before stop records =
-    all_left (accept_outcome naming) stop before records (start_of before) refl
+    all_left (accept_outcome naming) stop before records (nothing_imported before) refl

@@ -2,9 +2,9 @@
 use Rattle.std.proofs.Common.{◌≡◌, ◌∙◌, ℕ, Bool, true, false, List, [], ◌∷◌, ◌++◌, refl, sym, ap}
 use Rattle.std.proofs.Common.{subst, Result, Ok, Err, Option, None, Some, take, append_assoc}
 use Rattle.book_model.specs.Words.{class_of, Naming, accept_answer, Event, after_any}
-use Rattle.book_model.specs.Words.{accept_event, book_after, IsAnswered}
-use Rattle.smf_type30.specs.declared.classes.Class.{Class}
-use Rattle.smf_type30.specs.declared.classes.Class.TheVariants.{Usage}
+use Rattle.book_model.specs.Words.{accept_event, book_after, IsMadeByCalls}
+use Rattle.smf_type30.specs.declared.record_class.Class.{Class}
+use Rattle.smf_type30.specs.declared.record_class.Class.TheVariants.{Usage}
 use Rattle.book_model.specs.declared.answer.Accepted.{Accepted}
 use Rattle.book_model.specs.declared.fault.LedgerFault.{LedgerFault}
 use Rattle.book_model.specs.declared.fault.LedgerFault.TheVariants.{Memory, Store}
@@ -13,13 +13,13 @@ use Rattle.book_core.proofs.FollowLemmas.{MakesAnswered, accept_event-answered}
 use Rattle.book_import.specs.declared.receipt.Receipt.{Receipt}
 use Rattle.book_import.specs.declared.receipt.Stop.{Stop}
 use Rattle.book_import.specs.declared.receipt.Stop.TheVariants.{Ledger}
-use Rattle.book_import.specs.Handled.{Imported, answers_of, after_answer, handle_by, handle, go_on}
-use Rattle.book_import.specs.Handled.{handle_all, start_of}
+use Rattle.book_import.specs.Handled.{Imported, answers_of, after_answer, handle_by, handle, continue_with}
+use Rattle.book_import.specs.Handled.{handle_all, nothing_imported}
 use Rattle.book_import.specs.Imports.{Handles, whole, out_of_memory, store_failed}
 
 -- The events so far are answered, and the book is the one that they lead to.
 record IsAnsweredSoFar (naming : Naming) (history : List Event) (so_far : Imported) : Type 0 where
-  answered : IsAnswered naming (so_far.events ++ history)
+  answered : IsMadeByCalls naming (so_far.events ++ history)
   book : so_far.book ≡ book_after (so_far.events ++ history)
 
 -- the same for what came of a record
@@ -44,7 +44,7 @@ usage_answered naming bytes history so_far (Ok given) is so =
     let made : List Event = listed (accept_event bytes (Ok given)) in
     let joined = append_assoc made so_far.events history in
     record {
-      answered = subst (IsAnswered naming) (sym joined)
+      answered = subst (IsMadeByCalls naming) (sym joined)
           (accept_event-answered naming bytes (so_far.events ++ history) (Ok given) is so.answered);
       book = ap (after_any (accept_event bytes (Ok given))) so.book
           ∙ book_listed (accept_event bytes (Ok given)) (so_far.events ++ history)
@@ -66,14 +66,14 @@ record_answered naming was bytes class history so_far so =
 -- many records
 all_answered : (naming : Naming) (was : Bool) (stop : Stop) (records : List (List ℕ))
     (history : List Event) (so_far : Imported) → IsAnsweredSoFar naming history so_far
-    → IsAnswered naming
+    → IsMadeByCalls naming
     ((handle_all (answers_of was naming) stop records so_far).events ++ history)
 all_answered naming was stop [] history so_far so = so.answered
 all_answered naming was stop (bytes ∷ rest) history so_far so =
     let later : Imported → Imported = handle_all (answers_of was naming) stop rest in
     elim (handle (answers_of was naming) bytes so_far) as (λ handled.
     StaysAnswered naming history handled
-    → IsAnswered naming ((go_on later so_far handled).events ++ history)) [
+    → IsMadeByCalls naming ((continue_with later so_far handled).events ++ history)) [
       | Ok next ↦ λ more. all_answered naming was stop rest history next more
       | Err fault ↦ λ none. so.answered
     ] (record_answered naming was bytes (class_of bytes) history so_far so)
@@ -81,11 +81,11 @@ all_answered naming was stop (bytes ∷ rest) history so_far so =
 -- an import from its start
 from_start : (naming : Naming) (was : Bool) (stop : Stop) (records : List (List ℕ))
     (history events : List Event)
-    → (handle_all (answers_of was naming) stop records (start_of (book_after history))).events
-    ≡ events → IsAnswered naming history → IsAnswered naming (events ++ history)
+    → (handle_all (answers_of was naming) stop records (nothing_imported (book_after history))).events
+    ≡ events → IsMadeByCalls naming history → IsMadeByCalls naming (events ++ history)
 from_start naming was stop records history events made answered =
-    subst (λ events. IsAnswered naming (events ++ history)) made
-    (all_answered naming was stop records history (start_of (book_after history))
+    subst (λ events. IsMadeByCalls naming (events ++ history)) made
+    (all_answered naming was stop records history (nothing_imported (book_after history))
     (record { answered = answered; book = refl }))
 
 -- an import

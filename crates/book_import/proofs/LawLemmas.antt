@@ -10,8 +10,8 @@ use Rattle.std.proofs.lemmas.Cmp.{nat_list_cmp_total}
 use Rattle.std.proofs.lemmas.Map.Lookups.{exact_bytes}
 use Rattle.std.proofs.lemmas.Map.Views.{tells_apart}
 use Rattle.tariff_rules.specs.declared.priced.Priced.{Priced}
-use Rattle.smf_type30.specs.declared.classes.Class.{Class}
-use Rattle.smf_type30.specs.declared.classes.Class.TheVariants.{Usage}
+use Rattle.smf_type30.specs.declared.record_class.Class.{Class}
+use Rattle.smf_type30.specs.declared.record_class.Class.TheVariants.{Usage}
 use Rattle.book_model.specs.Words.{class_of, Book, Records, Naming, by_bytes, Rulings, price_in}
 use Rattle.book_model.specs.Words.{set_of, has, those, clashes, is_full, accept_priced, keep}
 use Rattle.book_model.specs.Words.{accept_event, accept_outcome}
@@ -21,10 +21,10 @@ use Rattle.book_model.specs.declared.fault.LedgerFault.{LedgerFault}
 use Rattle.book_model.specs.declared.fault.LedgerFault.TheVariants.{Full, DigestClash}
 use Rattle.book_model.proofs.SetLemmas.{has-with, same_set, those-set_of}
 use Rattle.book_import.specs.declared.receipt.Stop.{Stop}
-use Rattle.book_import.specs.Handled.{Imported, after_answer, handle_by, handle, go_on, handle_all}
-use Rattle.book_import.specs.Handled.{start_of}
+use Rattle.book_import.specs.Handled.{Imported, after_answer, handle_by, handle, continue_with, handle_all}
+use Rattle.book_import.specs.Handled.{nothing_imported}
 use Rattle.book_import.specs.Laws.{is_class_of_usage, is_priced_usage, priced_usage, IsUnrefused}
-use Rattle.book_import.specs.Laws.{import_of_records, book_left, HoldsMore, HoldsWhatCame, Batch}
+use Rattle.book_import.specs.Laws.{import_of_records, book_after_import, HoldsMore, HoldsWhatCame, Batch}
 use Rattle.book_import.specs.Laws.{all_records, book_after_batches, AreUnrefused}
 use Rattle.book_import.specs.Laws.{CutsMakeNoDifference}
 use Rattle.book_import.proofs.BookLemmas.{left_is}
@@ -176,9 +176,9 @@ holds_from naming stop (bytes ∷ rest) so_far unrefused =
     elim (handle (accept_outcome naming) bytes so_far) as (λ handled.
     IfOk handled
     (λ next. HoldsIt (is_priced_usage so_far.book.rulings bytes) bytes so_far.book next.book)
-    → IsUnrefused (go_on later so_far handled)
+    → IsUnrefused (continue_with later so_far handled)
     → HoldsMore (priced_usage so_far.book.rulings (bytes ∷ rest)) so_far.book
-    (go_on later so_far handled).book) [
+    (continue_with later so_far handled).book) [
       | Ok next ↦ λ one unrefused.
           then_rest bytes rest one (holds_from naming stop rest next unrefused)
       | Err fault ↦ λ one unrefused. absurd (true≢false unrefused)
@@ -189,7 +189,7 @@ pub holds_what_came : HoldsWhatCame
 holds_what_came naming before stop records unrefused =
     subst (HoldsMore (priced_usage before.rulings records) before)
     (left_is naming before stop records)
-    (holds_from naming stop records (start_of before) unrefused)
+    (holds_from naming stop records (nothing_imported before) unrefused)
 
 -- what is among the priced usage records of two lists
 has-both : (rulings : Rulings) (records later : List (List ℕ)) (other : List ℕ)
@@ -235,7 +235,7 @@ holds_batches naming before [] unrefused = none_came before
 holds_batches naming before (batch ∷ later) unrefused =
     then_later batch.records (all_records later)
     (holds_what_came naming before batch.stop batch.records unrefused.0)
-    (holds_batches naming (book_left naming before batch.stop batch.records) later unrefused.1)
+    (holds_batches naming (book_after_import naming before batch.stop batch.records) later unrefused.1)
 
 -- lists with one set have one set of priced usage records
 same_priced : (rulings : Rulings) (records others : List (List ℕ))
@@ -275,7 +275,7 @@ pub one_import_each : (naming : Naming) (before : Book) (stop other_stop : Stop)
     → set_of by_bytes records ≡ set_of by_bytes others
     → IsUnrefused (import_of_records naming before stop records)
     → IsUnrefused (import_of_records naming before other_stop others)
-    → book_left naming before stop records ≡ book_left naming before other_stop others
+    → book_after_import naming before stop records ≡ book_after_import naming before other_stop others
 one_import_each naming before stop other_stop records others same unrefused other_unrefused =
     let batch : Batch = record { records = records; stop = stop } in
     let other_batch : Batch = record { records = others; stop = other_stop } in

@@ -7,8 +7,8 @@ use Rattle.std.proofs.Math.Bool.{or-true}
 use Rattle.std.proofs.lemmas.Cmp.{nat_list_cmp_total, tied_itself}
 use Rattle.std.proofs.lemmas.Map.Lookups.{exact_bytes}
 use Rattle.std.proofs.lemmas.Map.Views.{tells_apart}
-use Rattle.smf_type30.specs.declared.classes.Class.{Class}
-use Rattle.smf_type30.specs.declared.classes.Class.TheVariants.{Usage}
+use Rattle.smf_type30.specs.declared.record_class.Class.{Class}
+use Rattle.smf_type30.specs.declared.record_class.Class.TheVariants.{Usage}
 use Rattle.book_model.specs.Words.{class_of, Book, Naming, has, accept_answer, Event, accept_event}
 use Rattle.book_model.specs.Words.{accept_outcome}
 use Rattle.book_model.specs.declared.answer.Accepted.{Accepted}
@@ -16,13 +16,13 @@ use Rattle.book_model.specs.declared.fault.LedgerFault.{LedgerFault}
 use Rattle.book_model.proofs.SetLemmas.{same_set}
 use Rattle.book_import.specs.declared.receipt.Stop.{Stop}
 use Rattle.book_import.specs.Handled.{Imported, after_answer, after_accept, handle_by, handle}
-use Rattle.book_import.specs.Handled.{go_on, handle_all}
+use Rattle.book_import.specs.Handled.{continue_with, handle_all}
 use Rattle.book_import.specs.Laws.{is_priced_usage}
 use Rattle.book_import.proofs.LawLemmas.{is_same, HoldsIt, one_handled}
 
 -- a record that these books hold, if it is one that they would hold
-abbrev pub IsSettled : Book → List ℕ → Type 0
-IsSettled book bytes = is_priced_usage book.rulings bytes ≡ true → has book.held bytes ≡ true
+abbrev pub StopIsHarmless : Book → List ℕ → Type 0
+StopIsHarmless book bytes = is_priced_usage book.rulings bytes ≡ true → has book.held bytes ≡ true
 
 -- the new books hold what the old ones held, under the same rulings
 pub record Grows (old new : Book) : Type 0 where
@@ -30,8 +30,8 @@ pub record Grows (old new : Book) : Type 0 where
   pub rulings : new.rulings ≡ old.rulings
 
 -- what was settled stays settled
-pub still_settled : {old new : Book} (bytes : List ℕ) → Grows old new → IsSettled old bytes
-    → IsSettled new bytes
+pub still_settled : {old new : Book} (bytes : List ℕ) → Grows old new → StopIsHarmless old bytes
+    → StopIsHarmless new bytes
 still_settled bytes grows settled = λ priced.
     grows.held bytes
     (settled (sym (ap (λ rulings. is_priced_usage rulings bytes) grows.rulings) ∙ priced))
@@ -47,7 +47,7 @@ grows_by {counts} bytes one = record {
 -- is then settled
 pub settled_by : {old new : Book} (bytes : List ℕ)
     → HoldsIt (is_priced_usage old.rulings bytes) bytes old new
-    → IsSettled new bytes
+    → StopIsHarmless new bytes
 settled_by {old} bytes one = λ priced.
     let counts = sym (ap (λ rulings. is_priced_usage rulings bytes) one.rulings) ∙ priced in
     let same : is_same bytes bytes ≡ true = ap is_eq (tied_itself nat_list_cmp_total bytes) in
@@ -67,7 +67,7 @@ not_more false same false there = refl
 -- books that take no new record stay as they are
 pub stays : {old new : Book} (bytes : List ℕ)
     → HoldsIt (is_priced_usage old.rulings bytes) bytes old new
-    → IsSettled old bytes → new ≡ old
+    → StopIsHarmless old bytes → new ≡ old
 stays {old} {new} bytes one settled =
     let each = λ (other : List ℕ).
     one.held other
@@ -102,7 +102,7 @@ all_grow naming stop (bytes ∷ rest) so_far =
     IfOk handled
     (λ next. HoldsIt (is_priced_usage so_far.book.rulings bytes) bytes so_far.book next.book)
     → Grows so_far.book
-    (go_on (handle_all (accept_outcome naming) stop rest) so_far handled).book) [
+    (continue_with (handle_all (accept_outcome naming) stop rest) so_far handled).book) [
       | Ok next ↦ λ one. then_grows (grows_by bytes one) (all_grow naming stop rest next)
       | Err fault ↦ λ one. grows_none so_far.book
     ] (one_handled naming bytes so_far (class_of bytes))
@@ -129,14 +129,14 @@ refused_again naming bytes class so_far again fault same refused = cc
 -- a record that is settled leaves the books as they are, and so does what comes after it
 once_more : (naming : Naming) (bytes : List ℕ) (again : Imported) (later : Imported → Imported)
     (end : Book)
-    → again.book ≡ end → IsSettled again.book bytes
+    → again.book ≡ end → StopIsHarmless again.book bytes
     → ((after : Imported) → after.book ≡ end → (later after).book ≡ end)
-    → (go_on later again (handle (accept_outcome naming) bytes again)).book ≡ end
+    → (continue_with later again (handle (accept_outcome naming) bytes again)).book ≡ end
 once_more naming bytes again later end same settled rest =
     elim (handle (accept_outcome naming) bytes again) as (λ handled.
     IfOk handled
     (λ after. HoldsIt (is_priced_usage again.book.rulings bytes) bytes again.book after.book)
-    → (go_on later again handled).book ≡ end) [
+    → (continue_with later again handled).book ≡ end) [
       | Ok after ↦ λ one. rest after (stays bytes one settled ∙ same)
       | Err fault ↦ λ one. same
     ] (one_handled naming bytes again (class_of bytes))
@@ -157,16 +157,16 @@ again_from naming stop other (suc count) (bytes ∷ rest) so_far again same =
     handle (accept_outcome naming) bytes so_far ≡ handled
     → IfOk handled
     (λ next. HoldsIt (is_priced_usage so_far.book.rulings bytes) bytes so_far.book next.book)
-    → again.book ≡ (go_on later so_far handled).book
-    → (go_on again_later again (handle (accept_outcome naming) bytes again)).book
-    ≡ (go_on later so_far handled).book) [
+    → again.book ≡ (continue_with later so_far handled).book
+    → (continue_with again_later again (handle (accept_outcome naming) bytes again)).book
+    ≡ (continue_with later so_far handled).book) [
       | Ok next ↦ λ is one same.
           let settled = still_settled bytes (all_grow naming stop rest next)
           (settled_by bytes one) in
           once_more naming bytes again again_later (later next).book same
-          (subst (λ book. IsSettled book bytes) (sym same) settled)
+          (subst (λ book. StopIsHarmless book bytes) (sym same) settled)
           (λ after kept. again_from naming stop other count rest next after kept)
       | Err fault ↦ λ is one same.
-          ap (λ handled. (go_on again_later again handled).book)
+          ap (λ handled. (continue_with again_later again handled).book)
           (refused_again naming bytes (class_of bytes) so_far again fault same is) ∙ same
     ] refl (one_handled naming bytes so_far (class_of bytes)) same

@@ -6,15 +6,15 @@ use Rattle.std.specs.Prelude.{◌||◌}
 use Rattle.std.specs.Io.KnownBytes.{Consumes}
 use Rattle.std.proofs.KnownBytes.{Consumes-nil}
 use Rattle.smf_frames.specs.declared.dump.Layout.{Layout}
-use Rattle.smf_frames.proofs.Standing.{front_of_nothing}
-use Rattle.streams.specs.Sides.{Input}
+use Rattle.smf_frames.proofs.JoinerStates.{front_of_nothing}
+use Rattle.streams.specs.InputOutput.{Input}
 use Rattle.book_model.specs.Words.{Front, front}
 use Rattle.book_import.specs.declared.receipt.Receipt.{Receipt}
 use Rattle.book_import.specs.declared.receipt.Stop.{Stop}
-use Rattle.book_import.specs.Reading.{piece_length}
+use Rattle.book_import.specs.ReadLimits.{piece_length}
 use Rattle.book_import.specs.Receipts.{counted, is_stop_of_books}
-use Rattle.book_import.specs.Reach.{is_early, EndsBy, IsNoFurther, IsReadFor}
-use Rattle.book_import.proofs.GoingLemmas.{Doing}
+use Rattle.book_import.specs.Reach.{is_early_stop, EndsBy, IsNoFurther, IsReadFor}
+use Rattle.book_import.proofs.FeedLemmas.{Doing}
 
 -- from this many counted records before a piece to this many now: each that was found was counted
 abbrev pub CountsOver : ℕ → ℕ → Doing
@@ -48,7 +48,7 @@ ends_early soon failed ended = record {
 -- the receipt with its stop, if the front of what came is not broken
 not_early : (layout : Layout) (bytes : List ℕ) (receipt told : Receipt) (stop : Stop)
     → told ≡ record receipt { stop = stop } → is_stop_of_books stop ≡ false
-    → (front layout bytes).is_broken ≡ false → is_early (front layout bytes) told.stop ≡ false
+    → (front layout bytes).is_broken ≡ false → is_early_stop (front layout bytes) told.stop ≡ false
 not_early layout bytes receipt told stop so other whole =
     ap (λ (one : Receipt). is_stop_of_books one.stop || (front layout bytes).is_broken) so
     ∙ ap (λ b. b || (front layout bytes).is_broken) other ∙ whole
@@ -140,7 +140,7 @@ pub read_to_stop : (layout : Layout) (allowed : ℕ) (bytes part : List ℕ)
     (receipt later told : Receipt) (stop : Stop) (input : Input)
     → told ≡ record later { stop = stop } → (front layout bytes).is_broken ≡ false
     → length (front layout bytes).records ≤ counted receipt
-    → (is_early (front layout (bytes ++ part)) stop ≡ true) × (counted receipt ≤ counted later)
+    → (is_early_stop (front layout (bytes ++ part)) stop ≡ true) × (counted receipt ≤ counted later)
     → length part ≤ piece_length → input.new.reads ≤ input.old.reads + length bytes + 1
     → input.new.has_failed ≡ false → input.new.has_ended ≡ false
     → Consumes input.old.left input.new.left (bytes ++ part)
@@ -150,7 +150,7 @@ read_to_stop layout allowed bytes part receipt later told stop input so whole al
     record {
       taken = taken;
       ends = ends_early
-          (ap (λ (one : Receipt). is_early (front layout (bytes ++ part)) one.stop) so ∙ here.0)
+          (ap (λ (one : Receipt). is_early_stop (front layout (bytes ++ part)) one.stop) so ∙ here.0)
           failed ended;
       no_further = piece_needed layout (λ records. length records ≤ counted told) input bytes part
           whole

@@ -3,13 +3,13 @@ use Rattle.std.proofs.Common.{◌≡◌, ◌∙◌, ℕ, zero, suc, List, [], �
 use Rattle.std.proofs.Common.{sym, ap, subst, Bool, false, ◌⊎◌, inl, inr, Ok, Err, arith}
 use Rattle.book_model.specs.Words.{Book, Naming, Event, after_all, accept_outcome}
 use Rattle.book_model.specs.declared.fault.LedgerFault.TheVariants.{Memory, Store}
-use Rattle.book_core.proofs.WorkLemmas.{after_all-append}
+use Rattle.book_core.proofs.TransitionLemmas.{after_all-append}
 use Rattle.book_import.specs.declared.receipt.Receipt.{Receipt}
 use Rattle.book_import.specs.declared.receipt.Stop.{Stop}
 use Rattle.book_import.specs.declared.receipt.Stop.TheVariants.{Ledger}
-use Rattle.book_import.specs.Handled.{Imported, Answering, handle, go_on, handle_all, start_of}
-use Rattle.book_import.specs.Imports.{IsTold, Handles, whole, out_of_memory, store_failed}
-use Rattle.book_import.specs.Laws.{import_of_records, book_left}
+use Rattle.book_import.specs.Handled.{Imported, Answering, handle, continue_with, handle_all, nothing_imported}
+use Rattle.book_import.specs.Imports.{GivesReceipt, Handles, whole, out_of_memory, store_failed}
+use Rattle.book_import.specs.Laws.{import_of_records, book_after_import}
 use Rattle.book_import.specs.Repeats.{IsUnhindered, TwiceIsOnce}
 use Rattle.book_import.proofs.BookLemmas.{left_is}
 use Rattle.book_import.proofs.OnceLemmas.{again_from}
@@ -27,8 +27,8 @@ memory_or_whole naming stop (suc count) (bytes ∷ rest) so_far =
     let answers : Answering = accept_outcome naming in
     let first : Imported → Imported = handle_all answers (Ledger Memory) (take count rest) in
     elim (handle (accept_outcome naming) bytes so_far) as (λ handled.
-    ((go_on first so_far handled).receipt.stop ≡ Ledger Memory)
-    ⊎ (go_on first so_far handled ≡ go_on (handle_all answers stop rest) so_far handled)) [
+    ((continue_with first so_far handled).receipt.stop ≡ Ledger Memory)
+    ⊎ (continue_with first so_far handled ≡ continue_with (handle_all answers stop rest) so_far handled)) [
       | Ok next ↦ memory_or_whole naming stop count rest next
       | Err fault ↦ inr refl
     ]
@@ -37,7 +37,7 @@ memory_or_whole naming stop (suc count) (bytes ∷ rest) so_far =
 pub record IsWhole (naming : Naming) (stop : Stop) (records : List (List ℕ)) (before : Book)
     (once : Receipt) (events : List Event) (is : Bool) : Type 0 where
   pub stays_open : is ≡ false
-  pub told : IsTold (import_of_records naming before stop records) once events
+  pub told : GivesReceipt (import_of_records naming before stop records) once events
 
 -- if neither a lack of memory nor the store stopped it, the import is a whole one
 pub is_whole : (naming : Naming) (stop : Stop) (records : List (List ℕ)) (before : Book)
@@ -47,7 +47,7 @@ pub is_whole : (naming : Naming) (stop : Stop) (records : List (List ℕ)) (befo
 is_whole naming stop records before once events is (whole same told) unhindered =
     record { stays_open = same; told = told }
 is_whole naming stop records before once events is (out_of_memory count same told) unhindered =
-    elim (memory_or_whole naming stop count records (start_of before)) [
+    elim (memory_or_whole naming stop count records (nothing_imported before)) [
       | inl memory ↦
           absurd (unhindered.memory (ap (λ (r : Receipt). r.stop) (sym told.receipt) ∙ memory))
       | inr all ↦ record {
@@ -88,13 +88,13 @@ of_first naming stop records before told made is
 
 -- the first so many records again leave the book of an import of them all
 first_again : (naming : Naming) (before book : Book) (stop other : Stop) (count : ℕ)
-    (records : List (List ℕ)) → book ≡ book_left naming before stop records
-    → book_left naming book other (take count records) ≡ book
+    (records : List (List ℕ)) → book ≡ book_after_import naming before stop records
+    → book_after_import naming book other (take count records) ≡ book
 first_again naming before book stop other count records left =
     let is : book ≡ (import_of_records naming before stop records).book =
     left ∙ sym (left_is naming before stop records) in
     sym (left_is naming book other (take count records))
-    ∙ again_from naming stop other count records (start_of before) (start_of book) is ∙ sym is
+    ∙ again_from naming stop other count records (nothing_imported before) (nothing_imported book) is ∙ sym is
 
 -- the law
 pub twice_is_once : TwiceIsOnce
@@ -102,7 +102,7 @@ twice_is_once naming before stop again records once twice first second between i
     handled_again =
     let all = is_whole naming stop records before once first between handled unhindered in
     let book : Book = after_all first before in
-    let left : book ≡ book_left naming before stop records =
+    let left : book ≡ book_after_import naming before stop records =
     ap (λ events. after_all events before) (sym all.told.events) in
     let those = of_first naming again records book twice second is
     (subst (λ b. Handles naming again records twice b book second is) all.stays_open

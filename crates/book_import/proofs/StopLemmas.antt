@@ -3,24 +3,24 @@ use Rattle.std.proofs.Common.{◌≡◌, ◌∙◌, ℕ, ◌+◌, ◌<◌, Bool,
 use Rattle.std.proofs.Common.{drop, get_or, drop-cons, add-one, refl, sym, ap, subst, Result, Ok}
 use Rattle.std.proofs.Common.{Err, inl, inr, Option, append-nil}
 use Rattle.std.proofs.lemmas.List.{take-append-drop}
-use Rattle.smf_type30.specs.declared.classes.Class.{Class}
-use Rattle.smf_type30.specs.declared.classes.Class.TheVariants.{Usage}
+use Rattle.smf_type30.specs.declared.record_class.Class.{Class}
+use Rattle.smf_type30.specs.declared.record_class.Class.TheVariants.{Usage}
 use Rattle.book_model.specs.Words.{class_of, Naming, Book, accept_answer, Event, after_all}
 use Rattle.book_model.specs.Words.{accept_event, accept_outcome}
 use Rattle.book_model.specs.declared.answer.Accepted.{Accepted}
 use Rattle.book_model.specs.declared.fault.LedgerFault.{LedgerFault}
 use Rattle.book_model.specs.declared.fault.LedgerFault.TheVariants.{Memory, Store}
-use Rattle.book_core.specs.Work.{Then}
+use Rattle.book_core.specs.Transition.{Then}
 use Rattle.book_core.specs.Calls.{Calls, listed}
-use Rattle.book_core.proofs.WorkLemmas.{Fails, wanting, failed, to_reopen, refused, fails}
+use Rattle.book_core.proofs.TransitionLemmas.{Fails, wanting, failed, to_reopen, refused, fails}
 use Rattle.book_import.specs.declared.receipt.Receipt.{Receipt}
 use Rattle.book_import.specs.declared.receipt.Stop.{Stop}
 use Rattle.book_import.specs.declared.receipt.Stop.TheVariants.{Ledger}
 use Rattle.book_import.specs.Handled.{Imported, Answering, answers_of, after_answer, handle_by}
-use Rattle.book_import.specs.Handled.{go_on, handle_all, handle_first, start_of, stop_with}
-use Rattle.book_import.specs.Imports.{IsCounted, counts_by, Counts, IsTold, Handles, whole}
+use Rattle.book_import.specs.Handled.{continue_with, handle_all, handle_first, nothing_imported, with_stop}
+use Rattle.book_import.specs.Imports.{IsCounted, counts_by, CountsRecord, GivesReceipt, Handles, whole}
 use Rattle.book_import.specs.Imports.{out_of_memory, store_failed}
-use Rattle.book_import.specs.Pieces.{LeadsTo, so_far_at}
+use Rattle.book_import.specs.Pieces.{LeadsTo, imported_with}
 use Rattle.book_import.proofs.ImportLemmas.{one_more_handled}
 
 -- what a call returned is an error
@@ -70,8 +70,8 @@ refusal_by naming bytes class receipt next fault was before late is other counts
 -- the events of the first records and of one more, by whether the books refuse that one
 events_more : (naming : Naming) (bytes : List ℕ) (stop : Stop) (receipt : Receipt) (before : Book)
     (early : List Event) (answer : Result Accepted LedgerFault)
-    → (go_on (stop_with stop) (so_far_at receipt before early)
-    (after_answer (so_far_at receipt before early) (accept_event bytes answer) answer)).events
+    → (continue_with (with_stop stop) (imported_with receipt before early)
+    (after_answer (imported_with receipt before early) (accept_event bytes answer) answer)).events
     ≡ listed (accept_event bytes answer) ++ early
 events_more naming bytes stop receipt before early (Ok given) = refl
 events_more naming bytes stop receipt before early (Err fault) = refl
@@ -82,39 +82,39 @@ module _ (naming : Naming) (records : List (List ℕ)) (i : ℕ) (receipt : Rece
     (usage : class_of (get_or records i []) ≡ Usage)
     (was : Bool) (before : Book) (early : List Event)
     (leads : (stop : Stop) (rest : List (List ℕ))
-    → handle_all (answers_of was naming) stop (take i records ++ rest) (start_of before)
-    ≡ handle_all (answers_of was naming) stop rest (so_far_at receipt before early)) where
+    → handle_all (answers_of was naming) stop (take i records ++ rest) (nothing_imported before)
+    ≡ handle_all (answers_of was naming) stop rest (imported_with receipt before early)) where
   -- those before it, with a fault after them,
   first_told : (cause : LedgerFault)
       → handle_first (answers_of was naming) i cause records before
-      ≡ stop_with (Ledger cause) (so_far_at receipt before early)
+      ≡ with_stop (Ledger cause) (imported_with receipt before early)
   first_told cause =
-      ap (λ first. handle_all (answers_of was naming) (Ledger cause) first (start_of before))
+      ap (λ first. handle_all (answers_of was naming) (Ledger cause) first (nothing_imported before))
       (sym (append-nil (take i records)))
       ∙ leads (Ledger cause) []
 
   -- it ends the import
   all_told : (answers_of was naming (get_or records i []) (after_all early before)).answer
       ≡ Err fault
-      → handle_all (answers_of was naming) stop records (start_of before)
-      ≡ stop_with (Ledger fault) (so_far_at receipt before early)
+      → handle_all (answers_of was naming) stop records (nothing_imported before)
+      ≡ with_stop (Ledger fault) (imported_with receipt before early)
   all_told answer =
       let answers : Answering = answers_of was naming in
       let bytes : List ℕ = get_or records i [] in
-      let so_far : Imported = so_far_at receipt before early in
+      let so_far : Imported = imported_with receipt before early in
       let event : Option Event = (answers bytes so_far.book).event in
-      ap (λ all. handle_all answers stop all (start_of before)) (sym (take-append-drop i records))
+      ap (λ all. handle_all answers stop all (nothing_imported before)) (sym (take-append-drop i records))
       ∙ leads stop (drop i records)
       ∙ ap (λ rest. handle_all answers stop rest so_far)
       (drop-cons records i [] within ∙ ap (λ n. bytes ∷ drop n records) (sym (add-one i)))
-      ∙ ap (λ class. go_on (handle_all answers stop (drop (i + 1) records)) so_far
+      ∙ ap (λ class. continue_with (handle_all answers stop (drop (i + 1) records)) so_far
       (handle_by answers bytes so_far class)) usage
-      ∙ ap (λ answer. go_on (handle_all answers stop (drop (i + 1) records)) so_far
+      ∙ ap (λ answer. continue_with (handle_all answers stop (drop (i + 1) records)) so_far
       (after_answer so_far event answer)) answer
 
   -- memory ran out, or the store failed, after this many events
   told_first : (cause : LedgerFault) (events : List Event) → cause ≡ fault → events ≡ early
-      → IsTold (handle_first (answers_of was naming) i cause records before)
+      → GivesReceipt (handle_first (answers_of was naming) i cause records before)
       (record receipt { stop = Ledger fault }) events
   told_first cause events same none = record {
     receipt = ap (λ (one : Imported). one.receipt) (first_told cause)
@@ -129,15 +129,15 @@ module _ (naming : Naming) (records : List (List ℕ)) (i : ℕ) (receipt : Rece
   kept_too open_before events late all made =
       let answers : Answering = answers_of was naming in
       let bytes : List ℕ = get_or records i [] in
-      let so_far : Imported = so_far_at receipt before early in
+      let so_far : Imported = imported_with receipt before early in
       let last : Stop = Ledger Store in
-      ap (λ first. (handle_all answers last first (start_of before)).events)
+      ap (λ first. (handle_all answers last first (nothing_imported before)).events)
       (sym (append-nil (take (i + 1) records)))
       ∙ ap (λ (one : Imported). one.events)
       (one_more_handled answers records i before so_far within leads last [])
-      ∙ ap (λ class. (go_on (stop_with last) so_far (handle_by answers bytes so_far class)).events)
+      ∙ ap (λ class. (continue_with (with_stop last) so_far (handle_by answers bytes so_far class)).events)
       usage
-      ∙ ap (λ b. (go_on (stop_with last) so_far
+      ∙ ap (λ b. (continue_with (with_stop last) so_far
       (handle_by (answers_of b naming) bytes so_far Usage)).events) open_before
       ∙ events_more naming bytes last receipt before early
       (accept_answer naming (after_all early before) bytes)
@@ -190,13 +190,13 @@ pub stopped_at : (naming : Naming) (records : List (List ℕ)) (i : ℕ)
     → next ≡ receipt → told ≡ record next { stop = Ledger fault }
     → (was : Bool) (before : Book) (events : List Event) (is : Bool)
     → Then (LeadsTo naming (take i records) receipt)
-    (Counts naming (get_or records i []) receipt next (Err fault)) was before events is
+    (CountsRecord naming (get_or records i []) receipt next (Err fault)) was before events is
     → Handles naming stop records told was before events is
 stopped_at naming records i receipt next told stop fault within same so was before events is both =
     let bytes : List ℕ = get_or records i [] in
     let book : Book = after_all both.early before in
-    let counts : Counts naming bytes receipt next (Err fault) was book both.late is =
-    subst (λ b. Counts naming bytes receipt next (Err fault) b book both.late is)
+    let counts : CountsRecord naming bytes receipt next (Err fault) was book both.late is =
+    subst (λ b. CountsRecord naming bytes receipt next (Err fault) b book both.late is)
     both.first.same both.next in
     let refusal = refusal_by naming bytes (class_of bytes) receipt next fault was book both.late is
     refl counts in

@@ -1,8 +1,8 @@
 -- Records that are submitted to the books one after another.
 use Rattle.std.specs.Prelude.{ℕ, Bool, true, false, List, [], ◌∷◌, ◌++◌, Option, None, Result, Ok}
 use Rattle.std.specs.Prelude.{Err, take}
-use Rattle.smf_type30.specs.declared.classes.Class.{Class}
-use Rattle.smf_type30.specs.declared.classes.Class.TheVariants.{Usage}
+use Rattle.smf_type30.specs.declared.record_class.Class.{Class}
+use Rattle.smf_type30.specs.declared.record_class.Class.TheVariants.{Usage}
 use Rattle.book_model.specs.Words.{class_of, Naming, Book, Event, after_any, Outcome}
 use Rattle.book_model.specs.Words.{accept_outcome}
 use Rattle.book_model.specs.declared.answer.Accepted.{Accepted}
@@ -29,11 +29,11 @@ pub record Imported : Type 0 where
   pub book : Book
   pub events : List Event
 
-abbrev pub start_of : Book → Imported
-start_of book = record { receipt = receipt_stopped End; book = book; events = [] }
+abbrev pub nothing_imported : Book → Imported
+nothing_imported book = record { receipt = receipt_stopped End; book = book; events = [] }
 
-abbrev pub stop_with : Stop → Imported → Imported
-stop_with stop so_far = record so_far { receipt = record so_far.receipt { stop = stop } }
+abbrev pub with_stop : Stop → Imported → Imported
+with_stop stop so_far = record so_far { receipt = record so_far.receipt { stop = stop } }
 
 -- The books answered to a usage record, and that was this event: the record is counted, unless
 -- they refused it.
@@ -60,18 +60,18 @@ abbrev pub handle : Answering → List ℕ → Imported → Result Imported Ledg
 handle answers bytes so_far = handle_by answers bytes so_far (class_of bytes)
 
 -- a record that was refused ends the import; after any other it goes on
-abbrev pub go_on : (Imported → Imported) → Imported → Result Imported LedgerFault → Imported
-go_on later so_far (Err fault) = stop_with (Ledger fault) so_far
-go_on later so_far (Ok next) = later next
+abbrev pub continue_with : (Imported → Imported) → Imported → Result Imported LedgerFault → Imported
+continue_with later so_far (Err fault) = with_stop (Ledger fault) so_far
+continue_with later so_far (Ok next) = later next
 
 -- records in order, up to the first that the books refuse; if they refuse none, there is this
 -- stop after the last
 abbrev pub handle_all : Answering → Stop → List (List ℕ) → Imported → Imported
-handle_all answers stop [] so_far = stop_with stop so_far
+handle_all answers stop [] so_far = with_stop stop so_far
 handle_all answers stop (bytes ∷ rest) so_far =
-    go_on (handle_all answers stop rest) so_far (handle answers bytes so_far)
+    continue_with (handle_all answers stop rest) so_far (handle answers bytes so_far)
 
 -- the first so many records, and then this fault
 abbrev pub handle_first : Answering → ℕ → LedgerFault → List (List ℕ) → Book → Imported
 handle_first answers count fault records before =
-    handle_all answers (Ledger fault) (take count records) (start_of before)
+    handle_all answers (Ledger fault) (take count records) (nothing_imported before)

@@ -3,19 +3,19 @@ use Rattle.std.specs.Prelude.{◌≡◌, ◌⊎◌, ℕ, ◌+◌, ◌<◌, Bool,
 use Rattle.std.specs.Prelude.{Result, Ok, Err}
 use Rattle.smf_frames.specs.declared.dump.Layout.{Layout}
 use Rattle.book_model.specs.Words.{front, class_of, Naming, Book, Event, accept_outcome}
-use Rattle.smf_type30.specs.declared.classes.Class.{Class}
-use Rattle.smf_type30.specs.declared.classes.Class.TheVariants.{Usage}
+use Rattle.smf_type30.specs.declared.record_class.Class.{Class}
+use Rattle.smf_type30.specs.declared.record_class.Class.TheVariants.{Usage}
 use Rattle.book_model.specs.declared.answer.Accepted.{Accepted}
 use Rattle.book_model.specs.declared.fault.LedgerFault.{LedgerFault}
 use Rattle.book_model.specs.declared.fault.LedgerFault.TheVariants.{Memory, Store}
-use Rattle.book_core.specs.Work.{Work, NoEvent}
+use Rattle.book_core.specs.Transition.{Transition, NoEvent}
 use Rattle.book_core.specs.Calls.{Calls}
 use Rattle.book_import.specs.declared.receipt.Receipt.{Receipt}
 use Rattle.book_import.specs.declared.receipt.Stop.{Stop}
 use Rattle.book_import.specs.declared.receipt.Stop.TheVariants.{Ledger}
-use Rattle.book_import.specs.Dumps.{stop_behind}
+use Rattle.book_import.specs.Dumps.{stop_after}
 use Rattle.book_import.specs.Receipts.{count_class, count_accepted}
-use Rattle.book_import.specs.Handled.{Imported, answers_of, handle_all, handle_first, start_of}
+use Rattle.book_import.specs.Handled.{Imported, answers_of, handle_all, handle_first, nothing_imported}
 
 -- what becomes of a receipt, and of the import, by what the books answered to a usage record
 abbrev pub IsCounted : Result Accepted LedgerFault → Receipt → Receipt
@@ -24,7 +24,7 @@ IsCounted (Ok accepted) old new result = (new ≡ count_accepted accepted old) �
 IsCounted (Err fault) old new result = (new ≡ old) × (result ≡ Err fault)
 
 -- a usage record was submitted to the books
-pub record HandsIn (naming : Naming) (bytes : List ℕ) (old new : Receipt)
+pub record AcceptsUsage (naming : Naming) (bytes : List ℕ) (old new : Receipt)
     (result : Result (Unit {0}) LedgerFault) (was : Bool) (before : Book) (events : List Event)
     (is : Bool) : Type 0 where
   pub answer : Result Accepted LedgerFault
@@ -40,16 +40,17 @@ pub record CountsOther (class : Class) (old new : Receipt) (result : Result (Uni
   pub done : result ≡ Ok tt
 
 abbrev pub counts_by : Class → Naming → List ℕ → Receipt → Receipt
-    → Result (Unit {0}) LedgerFault → Work
-counts_by Usage naming bytes old new result = HandsIn naming bytes old new result
+    → Result (Unit {0}) LedgerFault → Transition
+counts_by Usage naming bytes old new result = AcceptsUsage naming bytes old new result
 counts_by class naming bytes old new result = CountsOther class old new result
 
 -- one record was handled, by its class: this receipt came of that one
-abbrev pub Counts : Naming → List ℕ → Receipt → Receipt → Result (Unit {0}) LedgerFault → Work
-Counts naming bytes = counts_by (class_of bytes) naming bytes
+abbrev pub CountsRecord : Naming → List ℕ → Receipt → Receipt → Result (Unit {0}) LedgerFault
+    → Transition
+CountsRecord naming bytes = counts_by (class_of bytes) naming bytes
 
 -- the import is described by this receipt and these events
-pub record IsTold (imported : Imported) (told : Receipt) (made : List Event) : Type 0 where
+pub record GivesReceipt (imported : Imported) (told : Receipt) (made : List Event) : Type 0 where
   pub receipt : imported.receipt ≡ told
   pub events : imported.events ≡ made
 
@@ -58,10 +59,10 @@ pub record IsTold (imported : Imported) (told : Receipt) (made : List Event) : T
 pub data Handles (naming : Naming) (stop : Stop) (records : List (List ℕ)) (receipt : Receipt)
     (was : Bool) (before : Book) (events : List Event) (is : Bool) : Type 0 where
   whole : is ≡ was
-      → IsTold (handle_all (answers_of was naming) stop records (start_of before)) receipt events
+      → GivesReceipt (handle_all (answers_of was naming) stop records (nothing_imported before)) receipt events
       → Handles naming stop records receipt was before events is
   out_of_memory : (count : ℕ) → is ≡ was
-      → IsTold (handle_first (answers_of was naming) count Memory records before) receipt events
+      → GivesReceipt (handle_first (answers_of was naming) count Memory records before) receipt events
       → Handles naming stop records receipt was before events is
   store_failed : (count kept : ℕ) → was ≡ false → is ≡ true
       → count < length records → (kept ≡ count) ⊎ (kept ≡ count + 1)
@@ -72,7 +73,7 @@ pub data Handles (naming : Naming) (stop : Stop) (records : List (List ℕ)) (re
 
 -- The import of these bytes, whose reading something may have cut short, answered this receipt and
 -- made these events.
-abbrev pub Imports : Naming → Layout → Option Stop → List ℕ → Receipt → Work
+abbrev pub Imports : Naming → Layout → Option Stop → List ℕ → Receipt → Transition
 Imports naming layout cut bytes =
     let dump = front layout bytes in
-    Handles naming (stop_behind cut dump) dump.records
+    Handles naming (stop_after cut dump) dump.records

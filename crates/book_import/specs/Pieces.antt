@@ -3,18 +3,18 @@
 use Rattle.std.specs.Prelude.{◌≡◌, ℕ, ◌+◌, ◌≤◌, Bool, true, false, List, ◌++◌, length, Option}
 use Rattle.std.specs.Prelude.{Some, None}
 use Rattle.smf_frames.specs.declared.dump.Layout.{Layout}
-use Rattle.book_model.specs.Words.{front, Joining, StandsAfter, Naming, Book, Event, after_all}
-use Rattle.book_core.specs.Work.{Work}
+use Rattle.book_model.specs.Words.{front, Joining, HasTaken, Naming, Book, Event, after_all}
+use Rattle.book_core.specs.Transition.{Transition}
 use Rattle.book_import.specs.declared.receipt.Receipt.{Receipt}
 use Rattle.book_import.specs.declared.receipt.Stop.{Stop}
 use Rattle.book_import.specs.Receipts.{counted}
-use Rattle.book_import.specs.Reach.{is_early}
-use Rattle.book_import.specs.Handled.{Imported, answers_of, handle_all, start_of}
+use Rattle.book_import.specs.Reach.{is_early_stop}
+use Rattle.book_import.specs.Handled.{Imported, answers_of, handle_all, nothing_imported}
 use Rattle.book_import.specs.Imports.{Imports}
 
 -- this receipt, with these events on the book before them
-abbrev pub so_far_at : Receipt → Book → List Event → Imported
-so_far_at receipt before events =
+abbrev pub imported_with : Receipt → Book → List Event → Imported
+imported_with receipt before events =
     record { receipt = receipt; book = after_all events before; events = events }
 
 -- Whatever comes after the first records, handling them leads to this receipt and these events.
@@ -23,27 +23,27 @@ pub record LeadsTo (naming : Naming) (first : List (List ℕ)) (receipt : Receip
     (before : Book) (events : List Event) (is : Bool) : Type 0 where
   pub same : is ≡ was
   pub leads : (stop : Stop) (rest : List (List ℕ))
-      → handle_all (answers_of was naming) stop (first ++ rest) (start_of before)
-      ≡ handle_all (answers_of was naming) stop rest (so_far_at receipt before events)
+      → handle_all (answers_of was naming) stop (first ++ rest) (nothing_imported before)
+      ≡ handle_all (answers_of was naming) stop rest (imported_with receipt before events)
 
 -- After work that led to this receipt over the first records: together with that, the work is such.
-abbrev pub Behind : Naming → List (List ℕ) → Receipt → Work → Work
-Behind naming first receipt Made was before events is =
+abbrev pub FollowsRecords : Naming → List (List ℕ) → Receipt → Transition → Transition
+FollowsRecords naming first receipt Made was before events is =
     (begun : Book) (early : List Event) → before ≡ after_all early begun
     → LeadsTo naming first receipt was begun early was → Made was begun (events ++ early) is
 
 -- the import of a text was stopped, whatever bytes follow and whatever cuts their reading short
-abbrev pub StopsAt : Naming → Layout → List ℕ → Receipt → Work
+abbrev pub StopsAt : Naming → Layout → List ℕ → Receipt → Transition
 StopsAt naming layout text told was before events is = (more : List ℕ) (cut : Option Stop)
     → Imports naming layout cut (text ++ more) told was before events is
 
 -- a piece after a text was handled: all of it, or up to a stop
 abbrev pub HandlesPiece : Naming → Layout → List ℕ → List ℕ → Receipt → Receipt → Option Stop
-    → Work
-HandlesPiece naming layout text piece old new None = Behind naming (front layout text).records old
+    → Transition
+HandlesPiece naming layout text piece old new None = FollowsRecords naming (front layout text).records old
     (LeadsTo naming (front layout (text ++ piece)).records new)
 HandlesPiece naming layout text piece old new (Some stop) =
-    Behind naming (front layout text).records old
+    FollowsRecords naming (front layout text).records old
     (StopsAt naming layout (text ++ piece) (record new { stop = stop }))
 
 -- each record that a piece completes after a text was counted; or the import was stopped early
@@ -52,12 +52,12 @@ CountsPiece layout text piece old new None =
     length (front layout (text ++ piece)).records + counted old
     ≤ length (front layout text).records + counted new
 CountsPiece layout text piece old new (Some stop) =
-    (is_early (front layout (text ++ piece)) stop ≡ true) × (counted old ≤ counted new)
+    (is_early_stop (front layout (text ++ piece)) stop ≡ true) × (counted old ≤ counted new)
 
 -- a joiner took all of a piece that breaks no front, and holds no record
 pub record TakesAll (old : Joining) (piece : List ℕ) (new : Joining) : Type 0 where
   pub layout_is : new.layout ≡ old.layout
-  pub none : new.standing ≡ None
-  pub stands : (text : List ℕ) → StandsAfter text old → StandsAfter (text ++ piece) new
-  pub whole : (text : List ℕ) → StandsAfter text old
+  pub none : new.ready ≡ None
+  pub stands : (text : List ℕ) → HasTaken text old → HasTaken (text ++ piece) new
+  pub whole : (text : List ℕ) → HasTaken text old
       → (front old.layout (text ++ piece)).is_broken ≡ false

@@ -3,17 +3,17 @@ use Rattle.std.specs.Prelude.{◌≡◌, ℕ, ◌+◌, ◌≤◌, Bool, true, fa
 use Rattle.std.specs.Prelude.{length}
 use Rattle.std.specs.Io.KnownBytes.{Consumes}
 use Rattle.smf_frames.specs.declared.dump.Layout.{Layout}
-use Rattle.streams.specs.Sides.{Input}
+use Rattle.streams.specs.InputOutput.{Input}
 use Rattle.book_model.specs.Words.{Front, front}
 use Rattle.book_import.specs.declared.receipt.Receipt.{Receipt}
 use Rattle.book_import.specs.declared.receipt.Stop.{Stop}
-use Rattle.book_import.specs.Reading.{piece_length}
+use Rattle.book_import.specs.ReadLimits.{piece_length}
 use Rattle.book_import.specs.Receipts.{counted, is_stop_of_books}
 
 -- the stop did not wait for the input's end: the books refused, or a descriptor has a fault that no
 -- more bytes could mend
-abbrev pub is_early : Front → Stop → Bool
-is_early front stop = is_stop_of_books stop || front.is_broken
+abbrev pub is_early_stop : Front → Stop → Bool
+is_early_stop front stop = is_stop_of_books stop || front.is_broken
 
 -- After an early stop the reader had neither failed nor come to its end. After any other stop the
 -- reading went on to the input's end, to a failure, or to the last read that was allowed.
@@ -23,9 +23,9 @@ pub record EndsBy (allowed : ℕ) (early : Bool) (input : Input) : Type 0 where
   pub read_out : early ≡ false → input.new.has_failed ≡ false → input.new.has_ended ≡ false
       → input.new.reads ≡ input.old.reads + allowed
 
--- No read was made once the stop was known. Of the bytes that came, these came before the last read,
--- one or more for each: they have no fault at a descriptor, and this was done with their records.
--- With the last read came at most a piece; and nothing, if it failed or was the end.
+-- No read was made once the stop was known. Of the bytes that came, these came before the last
+-- read, one or more for each: they have no fault at a descriptor, and this was done with their
+-- records. With the last read came at most a piece; and nothing, if it failed or was the end.
 pub record IsNoFurther (layout : Layout) (bytes : List ℕ) (AreDone : List (List ℕ) → Type 0)
     (input : Input) : Type 0 where
   pub before : List ℕ
@@ -42,6 +42,6 @@ pub record IsNoFurther (layout : Layout) (bytes : List ℕ) (AreDone : List (Lis
 pub record IsReadFor (layout : Layout) (allowed : ℕ) (bytes : List ℕ) (told : Receipt)
     (input : Input) : Type 0 where
   pub taken : Consumes input.old.left input.new.left bytes
-  pub ends : EndsBy allowed (is_early (front layout bytes) told.stop) input
+  pub ends : EndsBy allowed (is_early_stop (front layout bytes) told.stop) input
   pub no_further :
       IsNoFurther layout bytes (λ records. length records ≤ counted told) input

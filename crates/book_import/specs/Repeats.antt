@@ -6,7 +6,7 @@ use Rattle.book_import.specs.declared.receipt.Receipt.{Receipt}
 use Rattle.book_import.specs.declared.receipt.Stop.{Stop}
 use Rattle.book_import.specs.declared.receipt.Stop.TheVariants.{Ledger}
 use Rattle.book_import.specs.Imports.{Handles}
-use Rattle.book_import.specs.Laws.{book_left}
+use Rattle.book_import.specs.Laws.{book_after_import}
 
 -- neither a lack of memory nor the store stopped the import
 pub record IsUnhindered (told : Receipt) : Type 0 where
@@ -34,4 +34,4 @@ StopsAreMended =
     → Handles naming stop records once false before first between
     → Handles naming again records twice false (after_all first before) second is
     → IsUnhindered twice → twice.stop ≢ Ledger DigestClash
-    → after_all (second ++ first) before ≡ book_left naming before stop records
+    → after_all (second ++ first) before ≡ book_after_import naming before stop records

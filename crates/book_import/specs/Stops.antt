@@ -26,14 +26,14 @@ pub record StaysToReopen (records : List (List ℕ)) (told : Receipt) (events : 
 
 -- The import of open books: they are to be reopened now exactly if the stop is Store, and no
 -- record is answered Reopen.
-pub record TellsStore (told : Receipt) (is : Bool) : Type 0 where
+pub record ShowsStoreFault (told : Receipt) (is : Bool) : Type 0 where
   pub store : told.stop ≡ Ledger Store → is ≡ true
   pub fails : is ≡ true → told.stop ≡ Ledger Store
   pub no_reopen : told.stop ≢ Ledger Reopen
 
 -- If the stop after the last record is that of a dump, the receipt's stop shows whether a store
 -- failed, and whether the books were to be reopened.
-pub record StopsTell : Type 0 where
+pub record StopsShowFaults : Type 0 where
   pub closed :
       (naming : Naming) (stop : Stop) (records : List (List ℕ)) (told : Receipt) (before : Book)
       (events : List Event) (is : Bool) → is_stop_of_books stop ≡ false
@@ -43,4 +43,4 @@ pub record StopsTell : Type 0 where
       (naming : Naming) (stop : Stop) (records : List (List ℕ)) (told : Receipt) (before : Book)
       (events : List Event) (is : Bool) → is_stop_of_books stop ≡ false
       → Handles naming stop records told false before events is
-      → TellsStore told is
+      → ShowsStoreFault told is

@@ -1,6 +1,6 @@
 ghost use Rattle.std.specs.Prelude.{◌≡◌, ◌+◌, ◌<◌, ◌≤◌, ◌^◌, ℕ, List, None, length};
-ghost use Rattle.book_model.specs.Words.{StandsAfter};
-ghost use Rattle.book_core.specs.Work.{IsWork};
+ghost use Rattle.book_model.specs.Words.{HasTaken};
+ghost use Rattle.book_core.specs.Transition.{IsTransition};
 ghost use Rattle.book_import.specs.Receipts.{counted};
 ghost use Rattle.book_import.specs.Pieces.{HandlesPiece, CountsPiece, TakesAll};
 
@@ -17,15 +17,15 @@ pub(crate) fn import_piece<L: Ledger>(
     receipt: &mut Receipt,
     piece: &[u8],
 ) -> Option<Stop>
-    requires stands { (text : List ℕ) × StandsAfter text joiner.old }
-    requires none { joiner.old.standing ≡ None }
+    requires stands { (text : List ℕ) × HasTaken text joiner.old }
+    requires none { joiner.old.ready ≡ None }
     requires few { counted receipt.old + length piece.now < 2 ^ 63 }
-    ensures handled { (text : List ℕ) → StandsAfter text joiner.old
-        → IsWork (L.seen ledger.old) (L.seen ledger.new)
+    ensures handled { (text : List ℕ) → HasTaken text joiner.old
+        → IsTransition (L.seen ledger.old) (L.seen ledger.new)
         (HandlesPiece (L.seen ledger.old).naming joiner.old.layout text piece.now receipt.old
         receipt.new result) }
     ensures taken { result ≡ None → TakesAll joiner.old piece.now joiner.new }
-    ensures counts { (text : List ℕ) → StandsAfter text joiner.old
+    ensures counts { (text : List ℕ) → HasTaken text joiner.old
         → CountsPiece joiner.old.layout text piece.now receipt.old receipt.new result }
     ensures counted { counted receipt.new ≤ counted receipt.old + length piece.now }
 {

@@ -1,7 +1,7 @@
 ghost use Rattle.std.specs.Prelude.{◌≡◌, ◌+◌, ◌≤◌, ◌<◌, ◌^◌, OnErr, OnOk};
 ghost use Rattle.book_model.specs.Words.{IsFramed};
-ghost use Rattle.book_core.specs.Work.{IsWork};
-ghost use Rattle.book_import.specs.Imports.{Counts};
+ghost use Rattle.book_core.specs.Transition.{IsTransition};
+ghost use Rattle.book_import.specs.Imports.{CountsRecord};
 ghost use Rattle.book_import.specs.Receipts as spec;
 ghost use Rattle.book_import.specs.Receipts.{counted};
 
@@ -45,8 +45,8 @@ pub(crate) fn handle<L: Ledger>(
 ) -> Result<(), LedgerFault>
     requires framed { IsFramed bytes.now }
     requires few { counted receipt.old < 2 ^ 63 }
-    ensures handled { IsWork (L.seen ledger.old) (L.seen ledger.new)
-        (Counts (L.seen ledger.old).naming bytes.now receipt.old receipt.new result) }
+    ensures handled { IsTransition (L.seen ledger.old) (L.seen ledger.new)
+        (CountsRecord (L.seen ledger.old).naming bytes.now receipt.old receipt.new result) }
     ensures refused { OnErr result (receipt.new ≡ receipt.old) }
     ensures counted { counted receipt.new ≤ counted receipt.old + 1 }
     ensures counts { OnOk result (counted receipt.new ≡ counted receipt.old + 1) }

@@ -5,11 +5,11 @@ use Rattle.std.specs.FinMap as map
 use Rattle.std.specs.Option.{option_map_or}
 use Rattle.book_model.specs.Words.{Period, period_by, Event, book_after, Records, by_bytes}
 use Rattle.book_model.specs.Words.{rows_for, Rulings, prices, price_in, members, total_of}
-use Rattle.book_model.specs.Words.{all_periods, charged_of, AreDatedBy}
+use Rattle.book_model.specs.Words.{all_periods, charged_of, AreDatedThrough}
 use Rattle.book_model.proofs.SetLemmas.{members-empty}
 use Rattle.book_model.proofs.SumLemmas.{sum_by-plus}
 use Rattle.book_model.proofs.SumsAlike.{sum_by-filter_map}
-use Rattle.book_laws.specs.PeriodAmounts.{rows_amount, added_amount, taken_amount}
+use Rattle.book_laws.specs.PeriodAmounts.{rows_amount, added_amount, reversed_amount}
 use Rattle.book_laws.specs.HistoryLaws.{ConservedInSets}
 use Rattle.book_laws.proofs.PeriodLemmas.{net, all_nets}
 use Rattle.book_laws.proofs.RowSums.{sum_by-rows_of}
@@ -38,7 +38,7 @@ module _ (rulings : Rulings) where
   taken period = total_of rulings period.taken
 
   -- one period
-  period_balances : (last : Option ℤ) (before charged : Records) → AreDatedBy last before
+  period_balances : (last : Option ℤ) (before charged : Records) → AreDatedThrough last before
       → given (period_by last before charged) + total_of rulings before
       ≡ total_of rulings charged + taken (period_by last before charged)
   period_balances last before charged old =
@@ -55,7 +55,7 @@ module _ (rulings : Rulings) where
   pub all_balance : (history : List Event)
       → rows_amount rulings (all_periods (book_after history)) + added_amount rulings
       (all_periods (book_after history))
-      ≡ total_of rulings (charged_of (book_after history)) + taken_amount rulings
+      ≡ total_of rulings (charged_of (book_after history)) + reversed_amount rulings
       (all_periods (book_after history))
   all_balance history =
       let periods : List Period = all_periods (book_after history) in
@@ -70,5 +70,5 @@ module _ (rulings : Rulings) where
 pub conserved_in_sets : ConservedInSets
 conserved_in_sets rulings history =
     let periods : List Period = all_periods (book_after history) in
-    net (rows_amount rulings periods + added_amount rulings periods) (taken_amount rulings periods)
+    net (rows_amount rulings periods + added_amount rulings periods) (reversed_amount rulings periods)
     (total_of rulings (charged_of (book_after history))) (all_balance rulings history)

@@ -1,15 +1,15 @@
 -- Calls on one ledger, one after another: their work, and the events that they make.
 use Rattle.std.proofs.Common.{false, List, [], ◌∷◌, ◌++◌, Result, refl, sym, subst, map}
-use Rattle.book_model.specs.Words.{accept_answer, IsAnswered, Book, new_book, dispute_shown}
+use Rattle.book_model.specs.Words.{accept_answer, IsMadeByCalls, Book, new_book, dispute_shown}
 use Rattle.book_model.specs.Words.{book_after, Outcome, accept_outcome, charges_outcome}
 use Rattle.book_model.specs.Words.{adjustments_outcome, disputes_outcome, periods_outcome, Naming}
 use Rattle.book_model.specs.declared.fault.LedgerFault.{LedgerFault}
 use Rattle.book_core.specs.Calls.{Calls, listed}
 use Rattle.book_core.specs.Ledgers.{Seen, IsOpenAt}
-use Rattle.book_core.specs.Work.{NoEvent, IsWork}
+use Rattle.book_core.specs.Transition.{NoEvent, IsTransition}
 use Rattle.book_core.proofs.FollowLemmas.{MakesAnswered, then_answered, calls_answered}
 use Rattle.book_core.proofs.FollowLemmas.{accept_event-answered}
-use Rattle.book_core.proofs.WorkLemmas.{no_work, work_then, after_all-append}
+use Rattle.book_core.proofs.TransitionLemmas.{no_work, work_then, after_all-append}
 use Rattle.book_reports.proofs.ReadingLemmas.{IsReading}
 use Rattle.office.proofs.LawLemmas.{asks_answered}
 use Rattle.office.proofs.LeavingLemmas.{work_leaves}
@@ -17,7 +17,7 @@ use Rattle.office.proofs.RunLemmas.{runs_answered}
 use Rattle.book_laws.specs.CallLaws.{CallsFollowHistory}
 use Rattle.book_laws.specs.Calls.{Call, Request, RunRequests, AcceptRecord, ReadCharges}
 use Rattle.book_laws.specs.Calls.{ReadAdjustments, ReadDisputes, ReadPeriods, Step, AreDone}
-use Rattle.book_laws.specs.Calls.{calls_of, ledger_after, work_of, works_of}
+use Rattle.book_laws.specs.Calls.{calls_of, ledger_after_calls, work_of, works_of}
 
 -- what is read makes none
 readings_answered : {V A : Type 0} (naming : Naming) (view : V → A) (outcome : Book → Outcome A)
@@ -25,13 +25,13 @@ readings_answered : {V A : Type 0} (naming : Naming) (view : V → A) (outcome :
     → MakesAnswered naming (Calls view outcome result)
 readings_answered naming view outcome result none =
     calls_answered naming view outcome result (λ history answered.
-    subst (λ event. IsAnswered naming (listed event ++ history))
+    subst (λ event. IsMadeByCalls naming (listed event ++ history))
     (sym (none (book_after history))) answered)
 
 -- nor does the absence of calls
 none_answered : (naming : Naming) → MakesAnswered naming NoEvent
 none_answered naming = λ history was events is none answered.
-    subst (λ events. IsAnswered naming (events ++ history)) (sym none.none) answered
+    subst (λ events. IsMadeByCalls naming (events ++ history)) (sym none.none) answered
 
 -- each call makes only events that the books answered
 call_answered : (naming : Naming) (call : Call) → MakesAnswered naming (work_of naming call)
@@ -63,22 +63,22 @@ calls_are_answered naming (call ∷ later) =
 -- calls that were done are one work
 pub done_is_work : {L : Type 0} (seen : L → Seen) (before : L) (steps : List (Step L))
     → AreDone seen before steps
-    → IsWork (seen before) (seen (ledger_after before steps))
+    → IsTransition (seen before) (seen (ledger_after_calls before steps))
     (works_of (seen before).naming (calls_of steps))
 done_is_work seen before [] done = no_work (seen before)
 done_is_work seen before (step ∷ later) done =
-    let last : Seen = seen (ledger_after step.after later) in
+    let last : Seen = seen (ledger_after_calls step.after later) in
     work_then (seen before) (seen step.after) last (work_of (seen before).naming step.call)
     (works_of (seen before).naming (calls_of later)) done.0
-    (subst (λ naming. IsWork (seen step.after) last (works_of naming (calls_of later)))
+    (subst (λ naming. IsTransition (seen step.after) last (works_of naming (calls_of later)))
     done.0.naming (done_is_work seen step.after later done.1))
 
 -- calls on the books of a history leave those of one that goes on with it
 pub calls_follow_history : {L : Type 0} (seen : L → Seen) → CallsFollowHistory seen
 calls_follow_history seen naming start before steps answered opened done still =
-    let after : Seen = seen (ledger_after before steps) in
-    let work : IsWork (seen before) after (works_of naming (calls_of steps)) =
-    subst (λ naming. IsWork (seen before) after (works_of naming (calls_of steps))) opened.naming
+    let after : Seen = seen (ledger_after_calls before steps) in
+    let work : IsTransition (seen before) after (works_of naming (calls_of steps)) =
+    subst (λ naming. IsTransition (seen before) after (works_of naming (calls_of steps))) opened.naming
     (done_is_work seen before steps done) in
     let left = work_leaves opened work still in
     record {

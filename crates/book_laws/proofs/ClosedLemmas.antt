@@ -6,18 +6,18 @@ use Rattle.std.specs.Option.{ok_or, option_map}
 use Rattle.std.proofs.lemmas.Bool.{ne_eqb}
 use Rattle.std.proofs.lemmas.List.{length-append}
 use Rattle.std.proofs.lemmas.Option.{slice_get-get_or}
-use Rattle.book_model.specs.Words.{Terms, IsAnswered, Book, open_number, open_period, period_of}
+use Rattle.book_model.specs.Words.{Terms, IsMadeByCalls, Book, open_number, open_period, period_of}
 use Rattle.book_model.specs.Words.{charged_through, is_dated_after, Event, RecordKept}
 use Rattle.book_model.specs.Words.{TariffAccepted, PeriodClosed, RecordChosen, SecondRuleAdopted}
 use Rattle.book_model.specs.Words.{keep, close, put_in_force, choose, adopt, book_after, lines_of}
-use Rattle.book_model.specs.Words.{reading, Period, period_by, Naming, terms_answer, rows_for}
-use Rattle.book_model.specs.Words.{Rulings, last_close, IsSound, AreAllDatedBy}
+use Rattle.book_model.specs.Words.{no_event, Period, period_by, Naming, terms_answer, rows_for}
+use Rattle.book_model.specs.Words.{Rulings, last_close, IsSound, AreAllDatedThrough}
 use Rattle.book_model.specs.declared.answer.Ruled.TheVariants.{Done}
 use Rattle.book_model.specs.declared.fault.LedgerFault.TheVariants.{NoSuchPeriod}
-use Rattle.book_model.proofs.AnsweredLemmas.{sound_after}
+use Rattle.book_model.proofs.MadeByCallsLemmas.{sound_after}
 use Rattle.book_model.proofs.ListLemmas.{slice_get-front}
-use Rattle.book_model.proofs.CallLemmas.{settled_prices_stay}
-use Rattle.book_model.proofs.ReadingLemmas.{same_rows, same_lines}
+use Rattle.book_model.proofs.CallLemmas.{closed_prices_stay}
+use Rattle.book_model.proofs.SamePriceLemmas.{same_rows, same_lines}
 use Rattle.book_laws.specs.ClosedPeriods.{IsClosed, IsReadAlike}
 use Rattle.book_laws.specs.HistoryLaws.{ClosedStays}
 
@@ -37,7 +37,7 @@ found_past number book closed =
 past_period : (naming : Naming) (number : ℕ) (book : Book) → IsSound naming book
     → IsClosed number book
     → (period : Period) × (slice_get book.past (number - 1) ≡ Some period)
-    × AreAllDatedBy (last_close book.rulings) period
+    × AreAllDatedThrough (last_close book.rulings) period
 past_period naming number book sound closed =
     let some = closed.is_numbered in
     let past = closed.is_past in
@@ -61,15 +61,15 @@ alike naming number old new period day was is rows lines = record {
   period = is ∙ sym was;
   rows =
       let rows_by = λ (rulings : Rulings) (found : Option Period).
-      reading (ok_or (option_map (λ period. rows_for rulings period.counted) found) NoSuchPeriod) in
+      no_event (ok_or (option_map (λ period. rows_for rulings period.counted) found) NoSuchPeriod) in
       ap (rows_by new.rulings) is
-      ∙ ap (λ rows. reading (ok_or (Some rows) NoSuchPeriod)) rows
+      ∙ ap (λ rows. no_event (ok_or (Some rows) NoSuchPeriod)) rows
       ∙ sym (ap (rows_by old.rulings) was);
   lines =
       let lines_by = λ (rulings : Rulings) (found : Option Period).
-      reading (ok_or (option_map (lines_of naming rulings) found) NoSuchPeriod) in
+      no_event (ok_or (option_map (lines_of naming rulings) found) NoSuchPeriod) in
       ap (lines_by new.rulings) is
-      ∙ ap (λ lines. reading (ok_or (Some lines) NoSuchPeriod)) lines
+      ∙ ap (λ lines. no_event (ok_or (Some lines) NoSuchPeriod)) lines
       ∙ sym (ap (lines_by old.rulings) was);
 }
 
@@ -110,7 +110,7 @@ module _ (naming : Naming) (number : ℕ) (old : Book) (sound : IsSound naming o
       let new : Book = put_in_force (Some text) terms old in
       let last : Option ℤ = last_close old.rulings in
       let prices = λ (bytes : List ℕ) (early : is_dated_after last bytes ≡ false).
-      settled_prices_stay old text terms bytes done early in
+      closed_prices_stay old text terms bytes done early in
       let still : IsClosed number new =
       record { is_numbered = closed.is_numbered; is_past = closed.is_past } in
       let there = past_period naming number old sound closed in
@@ -176,7 +176,7 @@ record Stays (naming : Naming) (number : ℕ) (old new : Book) : Type 0 where
 
 -- the same holds after any events that calls made
 stays : (naming : Naming) (later earlier : List Event) (number : ℕ)
-    → IsAnswered naming (later ++ earlier) → IsClosed number (book_after earlier)
+    → IsMadeByCalls naming (later ++ earlier) → IsClosed number (book_after earlier)
     → Stays naming number (book_after earlier) (book_after (later ++ earlier))
 stays naming [] earlier number answered closed = record {
   closed = closed;
@@ -208,8 +208,8 @@ stays naming (TariffAccepted (Some text) terms ∷ later) earlier number answere
           (after_tariff naming number old sound before.closed text terms answered.0);
     }
 stays naming (TariffAccepted None terms ∷ later) earlier number none closed =
-    let none_answered : IsAnswered naming (later ++ earlier) =
-    subst (IsAnswered naming) (sym none) tt in
+    let none_answered : IsMadeByCalls naming (later ++ earlier) =
+    subst (IsMadeByCalls naming) (sym none) tt in
     let before = stays naming later earlier number none_answered closed in
     let of_none = subst (λ history. IsClosed number (book_after history)) none before.closed in
     let some = of_none.is_numbered in

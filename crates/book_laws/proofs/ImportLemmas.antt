@@ -2,8 +2,8 @@
 use Rattle.std.proofs.Common.{false, sym, subst}
 use Rattle.book_model.specs.Words.{front, after_all}
 use Rattle.book_core.specs.Ledgers.{Seen, IsOpenAt}
-use Rattle.book_core.specs.Work.{IsWork}
-use Rattle.book_import.specs.Dumps.{stop_behind}
+use Rattle.book_core.specs.Transition.{IsTransition}
+use Rattle.book_import.specs.Dumps.{stop_after}
 use Rattle.book_import.specs.Imports.{Imports}
 use Rattle.book_import.proofs.RepeatLemmas.{is_whole}
 use Rattle.office.proofs.LeavingLemmas.{work_leaves}
@@ -11,13 +11,13 @@ use Rattle.book_laws.specs.ImportLaws.{OneReceipt}
 
 pub one_receipt : {L : Type 0} (seen : L → Seen) → OneReceipt seen
 one_receipt seen naming start old new dump receipt come =
-    let work : IsWork (seen old) (seen new)
+    let work : IsTransition (seen old) (seen new)
     (Imports naming dump.layout dump.cut dump.bytes receipt) =
-    subst (λ naming. IsWork (seen old) (seen new)
+    subst (λ naming. IsTransition (seen old) (seen new)
     (Imports naming dump.layout dump.cut dump.bytes receipt)) come.opened.naming come.work in
     let gone = work_leaves come.opened work come.still in
     let found = front dump.layout dump.bytes in
-    let all = is_whole naming (stop_behind dump.cut found) found.records start receipt gone.events
+    let all = is_whole naming (stop_after dump.cut found) found.records start receipt gone.events
     false gone.made come.unhindered in
     record {
       receipt_is = sym all.told.receipt;

@@ -13,9 +13,9 @@ use Rattle.book_model.specs.declared.line.Line.{Line}
 use Rattle.book_model.specs.declared.row.ChargeRow.{ChargeRow}
 use Rattle.book_model.specs.Words.{total_of, Book, open_number, open_period, all_periods, period_of}
 use Rattle.book_model.specs.Words.{charged_of, Event, after_all, book_after, book_of, lines_of}
-use Rattle.book_model.specs.Words.{Outcome, reading, charges_outcome, adjustments_outcome, Period}
+use Rattle.book_model.specs.Words.{Outcome, no_event, charges_outcome, adjustments_outcome, Period}
 use Rattle.book_model.specs.Words.{Naming, rows_for}
-use Rattle.book_model.proofs.AnsweredLemmas.{sound_after}
+use Rattle.book_model.proofs.MadeByCallsLemmas.{sound_after}
 use Rattle.book_model.proofs.ListLemmas.{slice_get-front, slice_get-behind}
 use Rattle.book_model.proofs.StepLemmas.{books_follow_history}
 use Rattle.book_core.specs.Ledgers.{Seen}
@@ -79,7 +79,7 @@ module _ {A : Type 0} (f : Period → A) (amount : A → ℕ) (book : Book)
     (closed : length book.past ≡ length book.rulings.closes) where
   amounts_from : (front rest : List Period) (lists : List A) → all_periods book ≡ front ++ rest
       → length lists ≡ length rest
-      → AreAnswered (λ number. reading (ok_or (option_map f (period_of book number)) NoSuchPeriod))
+      → AreAnswered (λ number. no_event (ok_or (option_map f (period_of book number)) NoSuchPeriod))
       (suc (length front)) lists
       → sum_by amount lists ≡ sum_by (λ period. amount (f period)) rest
   amounts_from front [] [] all as_many answered = refl
@@ -101,7 +101,7 @@ module _ {A : Type 0} (f : Period → A) (amount : A → ℕ) (book : Book)
       let later = amounts_from (front ++ period ∷ []) rest lists
       (all ∙ sym (append_assoc front (period ∷ []) rest)) (omega arith)
       (subst (λ place. AreAnswered
-      (λ number. reading (ok_or (option_map f (period_of book number)) NoSuchPeriod)) (suc place)
+      (λ number. no_event (ok_or (option_map f (period_of book number)) NoSuchPeriod)) (suc place)
       lists) (sym next) answered.1) in
       sum_by-cons amount list lists ∙ ap (λ list. amount list + sum_by amount lists) first
       ∙ ap (λ sum. amount (f period) + sum) later
@@ -109,7 +109,7 @@ module _ {A : Type 0} (f : Period → A) (amount : A → ℕ) (book : Book)
 
   -- all of them
   all_amounts : (lists : List A) → length lists ≡ open_number book
-      → AreAnswered (λ number. reading (ok_or (option_map f (period_of book number)) NoSuchPeriod)) 1
+      → AreAnswered (λ number. no_event (ok_or (option_map f (period_of book number)) NoSuchPeriod)) 1
       lists
       → sum_by amount lists ≡ sum_by (λ period. amount (f period)) (all_periods book)
   all_amounts lists as_many answered =

@@ -4,10 +4,10 @@ use Rattle.std.proofs.Common.{is_some, not, ◌&&◌, arith}
 use Rattle.std.specs.Prelude.{ℤ, pos, Option, sum_by}
 use Rattle.std.specs.FinMap as map
 use Rattle.book_model.specs.Words.{Period, period_by, is_dated_after, book_after, Records}
-use Rattle.book_model.specs.Words.{by_bytes, has, without, all_periods, charged_of, AreDatedBy}
+use Rattle.book_model.specs.Words.{by_bytes, has, without, all_periods, charged_of, AreDatedThrough}
 use Rattle.book_model.proofs.RecordSets.{has_those}
 use Rattle.book_model.proofs.SumLemmas.{sum_by-plus}
-use Rattle.book_laws.specs.NetCounts.{one_if, times_counted, times_added, times_taken, net_count}
+use Rattle.book_laws.specs.NetCounts.{one_if, times_counted, times_added, times_reversed, net_count}
 use Rattle.book_laws.specs.NetCounts.{NamesOnce}
 use Rattle.book_laws.specs.HistoryLaws.{ChargedOnce, PostedOnce, NamedOnce}
 use Rattle.book_laws.proofs.PeriodLemmas.{net, past_nets, all_nets, all_hold}
@@ -52,7 +52,7 @@ module _ (bytes : List ℕ) where
   taken period = one_if (has period.taken bytes)
 
   -- one period
-  one_period : (last : Option ℤ) (before charged : Records) → AreDatedBy last before
+  one_period : (last : Option ℤ) (before charged : Records) → AreDatedThrough last before
       → given (period_by last before charged) + one_if (has before bytes)
       ≡ one_if (has charged bytes) + taken (period_by last before charged)
   one_period last before charged old =
@@ -76,7 +76,7 @@ module _ (bytes : List ℕ) where
       let both =
       sum_by-plus (λ (period : Period). one_if (has period.counted bytes))
       (λ period. one_if (has period.added bytes)) periods in
-      net (times_counted periods bytes + times_added periods bytes) (times_taken periods bytes)
+      net (times_counted periods bytes + times_added periods bytes) (times_reversed periods bytes)
       (one_if (has charged bytes)) (omega arith)
 
 -- the law

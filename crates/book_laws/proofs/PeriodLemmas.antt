@@ -9,7 +9,7 @@ use Rattle.std.proofs.lemmas.List.Sums.{sum_by_push}
 use Rattle.book_model.specs.Words.{Period, period_by, Book, all_periods, charged_of, is_dated_after}
 use Rattle.book_model.specs.Words.{charged_through, Event, RecordKept, TariffAccepted, PeriodClosed}
 use Rattle.book_model.specs.Words.{RecordChosen, SecondRuleAdopted, book_after, Records, by_bytes}
-use Rattle.book_model.specs.Words.{last_close, AreDatedBy}
+use Rattle.book_model.specs.Words.{last_close, AreDatedThrough}
 use Rattle.book_model.proofs.ListLemmas.{last_or-behind}
 use Rattle.book_model.proofs.SoundLemmas.{through_dated}
 
@@ -19,7 +19,7 @@ net given taken rest is = omega (arith, ints)
 
 -- what was charged at the last close is not dated after it
 pub posted_dated : (history : List Event)
-    → AreDatedBy (last_close (book_after history).rulings) (book_after history).posted
+    → AreDatedThrough (last_close (book_after history).rulings) (book_after history).posted
 posted_dated [] bytes there =
     absurd (true≢false (sym there ∙ ap is_some (map.get-empty by_bytes bytes)))
 posted_dated (RecordKept new ∷ older) bytes there = posted_dated older bytes there
@@ -34,12 +34,12 @@ posted_dated (PeriodClosed day ∷ older) bytes there =
 -- If each period gives and takes the difference of what is charged before it and at its end,
 -- then all periods give what is charged now, and what they take.
 module _ (given taken : Period → ℕ) (standing : Records → ℕ) (none : standing map.empty ≡ 0)
-    (one_period : (last : Option ℤ) (before charged : Records) → AreDatedBy last before
+    (one_period : (last : Option ℤ) (before charged : Records) → AreDatedThrough last before
     → given (period_by last before charged) + standing before
     ≡ standing charged + taken (period_by last before charged)) where
   -- one more period
   nets_with : (periods : List Period) (last : Option ℤ) (before charged : Records)
-      → AreDatedBy last before → sum_by given periods ≡ standing before + sum_by taken periods
+      → AreDatedThrough last before → sum_by given periods ≡ standing before + sum_by taken periods
       → sum_by given (periods ++ period_by last before charged ∷ [])
       ≡ standing charged + sum_by taken (periods ++ period_by last before charged ∷ [])
   nets_with periods last before charged old nets =

@@ -17,9 +17,9 @@ use Rattle.book_model.proofs.ListLemmas.{map-agree}
 use Rattle.book_model.proofs.RecordSets.{is, is_itself, in_those}
 use Rattle.book_model.proofs.SoundLemmas.{period_held}
 use Rattle.book_laws.specs.PeriodAmounts.{rows_amount, plus_of, minus_of, plus_amount, minus_amount}
-use Rattle.book_laws.specs.PeriodAmounts.{added_amount, taken_amount}
+use Rattle.book_laws.specs.PeriodAmounts.{added_amount, reversed_amount}
 use Rattle.book_laws.specs.PeriodLines.{both_lines, AreReadOnce}
-use Rattle.book_model.proofs.AnsweredLemmas.{sound_after}
+use Rattle.book_model.proofs.MadeByCallsLemmas.{sound_after}
 use Rattle.book_laws.specs.HistoryLaws.{Conserved, LinesOnce}
 use Rattle.book_laws.proofs.AmountLemmas.{all_balance}
 use Rattle.book_model.proofs.LineOrder.{line_of, line_by}
@@ -75,7 +75,7 @@ module _ (naming : Naming) (book : Book) (sound : IsSound naming book) where
 
   -- and the minus lines to what the reversed records cost
   minus_costs : minus_amount naming book.rulings (all_periods book)
-      ≡ taken_amount book.rulings (all_periods book)
+      ≡ reversed_amount book.rulings (all_periods book)
   minus_costs = amounts_cost minus_of (λ period. period.taken) (λ period held.
       minus_cost naming book.rulings period (named period.added held.added)
       (named period.taken held.taken))

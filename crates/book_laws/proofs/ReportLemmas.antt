@@ -1,7 +1,7 @@
 -- Reports of an open ledger.
 use Rattle.std.proofs.Common.{◌≡◌, ◌≢◌, List, refl, sym, ap, subst, Result, Ok, Err}
 use Rattle.std.specs.Prelude.{ℕ}
-use Rattle.streams.specs.Sides.{Output}
+use Rattle.streams.specs.InputOutput.{Output}
 use Rattle.book_model.specs.declared.fault.LedgerFault.{LedgerFault}
 use Rattle.book_model.specs.declared.fault.LedgerFault.TheVariants as ledger
 use Rattle.book_model.specs.Words.{Book, Naming}
@@ -15,8 +15,8 @@ use Rattle.book_reports.specs.Faults.{report_fault_of}
 use Rattle.book_reports.specs.Reports.{IsPassedOn}
 use Rattle.book_reports.proofs.WritingLemmas.{refusal_not_write}
 use Rattle.book_laws.specs.AnswerLaws.{IsCalled}
-use Rattle.book_laws.specs.ReportLaws.{IsReported, HasText, HasFront, IsRefused}
-use Rattle.book_laws.specs.ReportLaws.{OneText, OneFront, OneRefusedReport}
+use Rattle.book_laws.specs.ReportLaws.{IsReported, HasText, HasPrefix, IsRefused}
+use Rattle.book_laws.specs.ReportLaws.{OneText, OnePrefix, OneRefusedReport}
 use Rattle.book_laws.proofs.AnswerLemmas.{one_answer, one_refusal}
 
 -- the fault of a report that failed
@@ -40,7 +40,7 @@ text_of (Err fault) output passed = absurd (ok_not_err passed.refusal)
 
 -- so is one that was passed on in part
 front_of : (answer : Result (List ℕ) LedgerFault) (output : Output)
-    → IsPassedOn answer output (Err Write) → HasFront answer output
+    → IsPassedOn answer output (Err Write) → HasPrefix answer output
 front_of (Ok text) output passed = record {
   text = text;
   is = refl;
@@ -95,8 +95,8 @@ one_text seen asked naming start old new output come =
       written = has.written;
     }
 
-pub one_front : {L : Type 0} (seen : L → Seen) → OneFront seen
-one_front seen asked naming start old new output come =
+pub one_prefix : {L : Type 0} (seen : L → Seen) → OnePrefix seen
+one_prefix seen asked naming start old new output come =
     let has = front_of come.report.answer output come.report.passed_on in
     record {
       text = has.text;

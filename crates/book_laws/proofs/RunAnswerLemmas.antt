@@ -8,27 +8,27 @@ use Rattle.book_model.specs.Words.{front, Book, Event, after_all, Naming, Outcom
 use Rattle.book_model.specs.Words.{close_outcome, choose_outcome, adopt_outcome}
 use Rattle.book_core.specs.Calls.{Calls}
 use Rattle.book_core.specs.Ledgers.{Seen, IsOpenAt}
-use Rattle.book_core.specs.Work.{IsWork}
-use Rattle.book_core.proofs.WorkLemmas.{after_all-append}
+use Rattle.book_core.specs.Transition.{IsTransition}
+use Rattle.book_core.proofs.TransitionLemmas.{after_all-append}
 use Rattle.book_import.specs.declared.receipt.Receipt.{Receipt}
 use Rattle.book_import.specs.declared.receipt.Stop.{Stop}
-use Rattle.book_import.specs.Dumps.{stop_behind}
+use Rattle.book_import.specs.Dumps.{stop_after}
 use Rattle.book_import.specs.Imports.{Handles, whole, out_of_memory, store_failed}
 use Rattle.office.specs.declared.request.Asked.{Asked}
 use Rattle.office.specs.declared.request.Asked.TheVariants.{Tariff, Close, Choose, Adopt, Import}
 use Rattle.office.specs.declared.request.Asked.TheVariants.{ImportBytes, Report}
 use Rattle.office.specs.declared.request.Answer.{Answer}
-use Rattle.office.specs.Does.{Done, does, is_hindered}
+use Rattle.office.specs.Outcomes.{AskedOutcome, asked_outcome, is_hindered}
 use Rattle.book_reports.specs.BookTexts.{report_outcome}
-use Rattle.office.specs.Requests.{Dump, Told, Ruling, Count, Text, Receives, Asks, telling}
-use Rattle.office.specs.Requests.{told_by}
-use Rattle.office.specs.Runs.{AsksAlone, Runs, dump_here}
+use Rattle.office.specs.Requests.{Dump, Response, Ruling, Count, Text, Receives, Asks, response_outcome}
+use Rattle.office.specs.Requests.{response_by}
+use Rattle.office.specs.Runs.{AsksWithoutReader, Runs, dump_here}
 use Rattle.office.proofs.LawLemmas.{asks_done}
 use Rattle.office.proofs.LeavingLemmas.{work_leaves}
-use Rattle.book_laws.specs.RunAnswers.{told_to, book_behind, OneRun}
+use Rattle.book_laws.specs.RunAnswers.{responses_to, book_after_requests, OneRun}
 
 -- books that are open after a call were open before it
-call_opened : (outcome : Book → Outcome Told) (told : Result Told LedgerFault) (was : Bool)
+call_opened : (outcome : Book → Outcome Response) (told : Result Response LedgerFault) (was : Bool)
     (before : Book) (events : List Event) (is : Bool)
     → Calls (λ told. told) outcome told was before events is → is ≡ false → was ≡ false
 call_opened outcome told true before events is called is_open =
@@ -47,36 +47,36 @@ import_opened naming stop records receipt was before events is (out_of_memory co
 import_opened naming stop records receipt was before events is
     (store_failed count kept open_before reopen within either stopped so made) is_open = open_before
 
-receipt_opened : (naming : Naming) (dump : Dump) (told : Result Told LedgerFault) (was : Bool)
+receipt_opened : (naming : Naming) (dump : Dump) (told : Result Response LedgerFault) (was : Bool)
     (before : Book) (events : List Event) (is : Bool)
     → Receives naming dump told was before events is → is ≡ false → was ≡ false
 receipt_opened naming dump (Ok (Count receipt)) was before events is made is_open =
     let found = front dump.layout dump.bytes in
-    import_opened naming (stop_behind dump.cut found) found.records receipt was before events is
+    import_opened naming (stop_after dump.cut found) found.records receipt was before events is
     made is_open
 receipt_opened naming dump (Ok (Ruling ruled)) was before events is never is_open = absurd never
 receipt_opened naming dump (Ok (Text text)) was before events is never is_open = absurd never
 receipt_opened naming dump (Err fault) was before events is never is_open = absurd never
 
-asked_opened : (naming : Naming) (asked : Asked) (dump : Dump) (told : Result Told LedgerFault)
+asked_opened : (naming : Naming) (asked : Asked) (dump : Dump) (told : Result Response LedgerFault)
     (was : Bool) (before : Book) (events : List Event) (is : Bool)
     → Asks naming asked dump told was before events is → is ≡ false → was ≡ false
 asked_opened naming (Tariff text) dump told was before events is made is_open =
-    call_opened (telling Ruling (tariff_outcome (string_bytes text))) told was before events is made
+    call_opened (response_outcome Ruling (tariff_outcome (string_bytes text))) told was before events is made
     is_open
 asked_opened naming (Close period through) dump told was before events is made is_open =
-    call_opened (telling Ruling (close_outcome period through)) told was before events is made
+    call_opened (response_outcome Ruling (close_outcome period through)) told was before events is made
     is_open
 asked_opened naming (Choose name) dump told was before events is made is_open =
-    call_opened (telling Ruling (choose_outcome naming name)) told was before events is made is_open
+    call_opened (response_outcome Ruling (choose_outcome naming name)) told was before events is made is_open
 asked_opened naming (Adopt rule) dump told was before events is made is_open =
-    call_opened (telling Ruling (adopt_outcome rule)) told was before events is made is_open
+    call_opened (response_outcome Ruling (adopt_outcome rule)) told was before events is made is_open
 asked_opened naming (Import layout) dump told was before events is made is_open =
     receipt_opened naming dump told was before events is made is_open
 asked_opened naming (ImportBytes layout bytes) dump told was before events is made is_open =
     receipt_opened naming dump told was before events is made is_open
 asked_opened naming (Report report) dump told was before events is made is_open =
-    call_opened (telling Text (report_outcome naming report)) told was before events is made is_open
+    call_opened (response_outcome Text (report_outcome naming report)) told was before events is made is_open
 
 -- and before one request after another
 run_opened : (naming : Naming) (requests : List Asked) (answers : List (Result Answer LedgerFault))
@@ -86,7 +86,7 @@ run_opened naming [] [] was before events is none is_open = sym none.same ∙ is
 run_opened naming [] (answer ∷ answers) was before events is never is_open = absurd never
 run_opened naming (asked ∷ requests) [] was before events is never is_open = absurd never
 run_opened naming (asked ∷ requests) (answer ∷ answers) was before events is made is_open =
-    asked_opened naming asked (dump_here asked) (told_by answer) was before made.early made.between
+    asked_opened naming asked (dump_here asked) (response_by answer) was before made.early made.between
     made.first
     (run_opened naming requests answers made.between (after_all made.early before) made.late is
     made.next is_open)
@@ -95,13 +95,13 @@ run_opened naming (asked ∷ requests) (answer ∷ answers) was before events is
 record AreAs (naming : Naming) (requests : List Asked)
     (answers : List (Result Answer LedgerFault)) (before : Book) (events : List Event) : Type 0
   where
-    told : map told_by answers ≡ told_to naming requests before
-    book : after_all events before ≡ book_behind naming requests before
+    told : map response_by answers ≡ responses_to naming requests before
+    book : after_all events before ≡ book_after_requests naming requests before
 
 requests_are : (naming : Naming) (requests : List Asked)
     (answers : List (Result Answer LedgerFault)) (was : Bool) (before : Book) (events : List Event)
     (is : Bool) → Runs naming requests answers was before events is → was ≡ false → is ≡ false
-    → All (λ answer. is_hindered (told_by answer) ≡ false) answers
+    → All (λ answer. is_hindered (response_by answer) ≡ false) answers
     → AreAs naming requests answers before events
 requests_are naming [] [] was before events is none shut is_open free =
     record { told = refl; book = ap (λ events. after_all events before) none.none }
@@ -114,33 +114,33 @@ requests_are naming (asked ∷ requests) (answer ∷ answers) was before events 
     let between : made.between ≡ false =
     run_opened naming requests answers made.between (after_all made.early before) made.late is
     made.next is_open in
-    let first = asks_done naming asked (dump_here asked) (told_by answer) before made.early
-    (subst (λ was. AsksAlone naming asked answer was before made.early false) shut
-    (subst (λ is. AsksAlone naming asked answer was before made.early is) between made.first))
+    let first = asks_done naming asked (dump_here asked) (response_by answer) before made.early
+    (subst (λ was. AsksWithoutReader naming asked answer was before made.early false) shut
+    (subst (λ is. AsksWithoutReader naming asked answer was before made.early is) between made.first))
     (All-head Free answer answers free) in
     let next = requests_are naming requests answers made.between (after_all made.early before)
     made.late is made.next between is_open (All-tail Free answer answers free) in
-    let book : after_all made.early before ≡ after_all (does naming asked (dump_here asked)
+    let book : after_all made.early before ≡ after_all (asked_outcome naming asked (dump_here asked)
     before).events before =
-    ap (λ (done : Done). after_all done.events before) (sym first) in
+    ap (λ (done : AskedOutcome). after_all done.events before) (sym first) in
     record {
       told = (λ i. (sym first i).told ∷ next.told i)
-          ∙ ap (λ book. (does naming asked (dump_here asked) before).told
-          ∷ told_to naming requests book) book;
+          ∙ ap (λ book. (asked_outcome naming asked (dump_here asked) before).told
+          ∷ responses_to naming requests book) book;
       book = ap (λ events. after_all events before) made.all
           ∙ after_all-append made.late made.early before
           ∙ next.book
-          ∙ ap (book_behind naming requests) book;
+          ∙ ap (book_after_requests naming requests) book;
     }
   where
     Free : Result Answer LedgerFault → Type 0
-    Free answer = is_hindered (told_by answer) ≡ false
+    Free answer = is_hindered (response_by answer) ≡ false
 
 -- the law
 pub one_run : {L : Type 0} (seen : L → Seen) → OneRun seen
 one_run seen naming start old new requests answers come =
-    let work : IsWork (seen old) (seen new) (Runs naming requests answers) =
-    subst (λ naming. IsWork (seen old) (seen new) (Runs naming requests answers)) come.opened.naming
+    let work : IsTransition (seen old) (seen new) (Runs naming requests answers) =
+    subst (λ naming. IsTransition (seen old) (seen new) (Runs naming requests answers)) come.opened.naming
     come.work in
     let gone = work_leaves come.opened work come.still in
     let all = requests_are naming requests answers false start gone.events false gone.made refl refl

@@ -4,7 +4,7 @@ use Rattle.std.specs.Prelude.{Some, pos, ℤ}
 use Rattle.std.specs.Option.{option_map}
 use Rattle.std.specs.Result.{result_ok}
 use Rattle.book_model.specs.declared.row.ChargeRow.{ChargeRow}
-use Rattle.book_model.specs.Words.{IsAnswered, Book, new_book, is_undisputed, Event, book_after}
+use Rattle.book_model.specs.Words.{IsMadeByCalls, Book, new_book, is_undisputed, Event, book_after}
 use Rattle.book_model.specs.Words.{Outcome, Naming}
 use Rattle.book_model.proofs.OrderLemmas.{order_is_free}
 use Rattle.book_model.proofs.RecordSets.{has_those}
@@ -15,24 +15,24 @@ use Rattle.book_laws.specs.NetCounts.{one_if}
 use Rattle.book_laws.proofs.ClosedLemmas.{closed_stays}
 use Rattle.book_laws.proofs.NetLemmas.{charged_once}
 use Rattle.book_laws.proofs.ReadLemmas.{conserved}
-use Rattle.book_core.proofs.WorkLemmas.{after_all-append}
+use Rattle.book_core.proofs.TransitionLemmas.{after_all-append}
 use Rattle.book_reports.specs.BookTexts.{open_statement, dispute_text}
 use Rattle.report_texts.specs.Statements.{statement_text}
 use Rattle.office.proofs.RunLemmas.{runs_answered}
 use Rattle.book_laws.specs.RunLaws.{RunsMakeHistory, RunsFollowHistory, ChargesOnce, RunsChargeOnce}
 use Rattle.book_laws.specs.RunLaws.{RunsConserve, RunOrderIsFree, ClosedStatementsStay}
 use Rattle.book_laws.specs.RunLaws.{OpenStatementIsFirst}
-use Rattle.book_laws.specs.Runs.{Run, IsRunAfter, book_left, history_with}
-use Rattle.book_laws.specs.Statements.{statement_of, TellAlike}
+use Rattle.book_laws.specs.Runs.{Run, IsRunAfter, book_after_run, history_with}
+use Rattle.book_laws.specs.Statements.{statement_of, HaveSameTexts}
 
 -- the book that a run leaves is that of the history with it
 left_after : (history : List Event) (run : Run)
-    → book_left history run ≡ book_after (history_with history run)
+    → book_after_run history run ≡ book_after (history_with history run)
 left_after history run = sym (after_all-append run.events history new_book)
 
 -- calls made the history that goes on with a run
 next_answered : (naming : Naming) (history : List Event) (run : Run)
-    → IsRunAfter naming history run → IsAnswered naming (history_with history run)
+    → IsRunAfter naming history run → IsMadeByCalls naming (history_with history run)
 next_answered naming history run after =
     runs_answered naming run.requests run.answers history after.was run.events after.is after.runs
     after.answered
@@ -71,7 +71,7 @@ runs_conserve naming history run after =
     (conserved naming (history_with history run) (next_answered naming history run after))
 
 -- equal books have equal texts
-tell_alike : (one other : Book) → one ≡ other → TellAlike one other
+tell_alike : (one other : Book) → one ≡ other → HaveSameTexts one other
 tell_alike one other same = record {
   book = same;
   statements = λ number. ap (λ book. statement_of book number) same;
@@ -81,7 +81,7 @@ tell_alike one other same = record {
 -- the law of cuts and order
 pub run_order_is_free : RunOrderIsFree
 run_order_is_free naming before_one before_other one other after_one after_other ruled between =
-    tell_alike (book_left before_one one) (book_left before_other other)
+    tell_alike (book_after_run before_one one) (book_after_run before_other other)
     (left_after before_one one
     ∙ order_is_free new_book (history_with before_one one) (history_with before_other other) ruled
     between
@@ -100,11 +100,11 @@ closed_statements_stay naming history run number after closed =
     let old : Book = book_after history in
     let read = closed_stays naming run.events history number
     (next_answered naming history run after) closed in
-    let alike : IsReadAlike naming number old (book_left history run) =
+    let alike : IsReadAlike naming number old (book_after_run history run) =
     subst (IsReadAlike naming number old) (sym (left_after history run)) read in
     record {
       read = alike;
-      statement = same_statement naming number old (book_left history run) alike;
+      statement = same_statement naming number old (book_after_run history run) alike;
     }
 
 -- the law of the open statement

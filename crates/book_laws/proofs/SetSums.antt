@@ -6,7 +6,7 @@ use Rattle.std.proofs.lemmas.Cmp.{nat_list_cmp_total}
 use Rattle.std.proofs.lemmas.List.Filters.{sum_by-filter_both}
 use Rattle.std.proofs.lemmas.Map.Lookups.{exact_bytes}
 use Rattle.book_model.specs.Words.{is_dated_after, Records, members, has, those, period_by}
-use Rattle.book_model.specs.Words.{AreDatedBy}
+use Rattle.book_model.specs.Words.{AreDatedThrough}
 use Rattle.book_model.proofs.SetLemmas.{members-those}
 use Rattle.book_model.proofs.RecordSets.{same_records, has_those, those-those}
 
@@ -34,7 +34,7 @@ module _ (f : List ℕ → ℕ) where
 
   -- What a period counts and adds, and what was charged before it, is what is charged at its end
   -- and what it takes.
-  pub one_period : (last : Option ℤ) (before charged : Records) → AreDatedBy last before
+  pub one_period : (last : Option ℤ) (before charged : Records) → AreDatedThrough last before
       → (over (period_by last before charged).counted + over (period_by last before charged).added)
       + over before
       ≡ over charged + over (period_by last before charged).taken

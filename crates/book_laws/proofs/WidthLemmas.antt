@@ -32,27 +32,27 @@ use Rattle.book_model.proofs.RowLemmas.{by_key_total, by_key_exact}
 use Rattle.book_model.proofs.SetLemmas.{any_tied-members}
 use Rattle.book_model.proofs.SumsAlike.{length-sum_by, sum_by-filter_map}
 use Rattle.book_laws.proofs.RowSums.{sum_by-rows}
-use Rattle.kept_tables.proofs.HeldPeriods.{all_held, one_of}
-use Rattle.kept_tables.proofs.PeriodPlaces.{at_place}
-use Rattle.report_texts.specs.Columns.{amount_text, digits_in, left, line_end, right}
+use Rattle.table_model.proofs.HeldPeriods.{all_held, one_of}
+use Rattle.table_model.proofs.PeriodPlaces.{at_place}
+use Rattle.report_texts.specs.Columns.{amount_text, digits_in, left_aligned, newline, right_aligned}
 use Rattle.report_texts.specs.Columns.{seconds_text}
 use Rattle.report_texts.specs.Statements.{heading, key_columns, number_columns, row_line}
 use Rattle.report_texts.specs.Statements.{sum_columns, total_line}
-use Rattle.table_readings.specs.Readable.{IsReadable}
-use Rattle.table_readings.proofs.PriceSums.{all_priced, part_within, some_within}
-use Rattle.table_readings.proofs.ReadableLemmas.{calls_read}
-use Rattle.book_laws.specs.StatementWidths.{AreEven, StatementsAreEven}
+use Rattle.table_laws.specs.Readable.{IsReadable}
+use Rattle.table_laws.proofs.PriceSums.{all_priced, part_within, some_within}
+use Rattle.table_laws.proofs.ReadableLemmas.{calls_read}
+use Rattle.book_laws.specs.StatementWidths.{AreAligned, StatementsAreAligned}
 
 -- a text that fits fills its column
-length-left : (width : ℕ) (text : List ℕ) → length text ≤ width
-    → length (left width text) ≡ width
-length-left width text fits =
+length-left_aligned : (width : ℕ) (text : List ℕ) → length text ≤ width
+    → length (left_aligned width text) ≡ width
+length-left_aligned width text fits =
     let blanks : List ℕ = replicate (width - length text) 32 in
     omega (arith, length-append text blanks, length-replicate {A = ℕ} (width - length text) 32)
 
-length-right : (width : ℕ) (text : List ℕ) → length text ≤ width
-    → length (right width text) ≡ width
-length-right width text fits =
+length-right_aligned : (width : ℕ) (text : List ℕ) → length text ≤ width
+    → length (right_aligned width text) ≡ width
+length-right_aligned width text fits =
     let blanks : List ℕ = replicate (width - length text) 32 in
     omega (arith, length-append blanks text, length-replicate {A = ℕ} (width - length text) 32)
 
@@ -100,8 +100,8 @@ length-key : (day centre shift : List ℕ) → length day ≤ 10 → length cent
     → length shift ≤ 16 → length (key_columns day centre shift) ≡ 45
 unfolding key_columns
 length-key day centre shift day_fits centre_fits shift_fits =
-    key_cells (left 10 day) (left 16 centre) (left 16 shift) (length-left 10 day day_fits)
-    (length-left 16 centre centre_fits) (length-left 16 shift shift_fits)
+    key_cells (left_aligned 10 day) (left_aligned 16 centre) (left_aligned 16 shift) (length-left_aligned 10 day day_fits)
+    (length-left_aligned 16 centre centre_fits) (length-left_aligned 16 shift shift_fits)
 
 -- numbers that fit their columns
 pub record FitColumns (count cpu blocks amount : ℕ) : Type 0 where
@@ -114,7 +114,7 @@ pub record FitColumns (count cpu blocks amount : ℕ) : Type 0 where
 number_cells : (count cpu blocks amount : List ℕ) → length count ≡ 8 → length cpu ≡ 19
     → length blocks ≡ 18 → length amount ≡ 21
     → length ((count ++ codes " " ++ cpu ++ codes " " ++ blocks ++ codes " ")
-    ++ (amount ++ line_end)) ≡ 70
+    ++ (amount ++ newline)) ≡ 70
 number_cells count cpu blocks amount one two three four = simp length-append (omega arith)
 
 length-numbers : (count cpu blocks amount : ℕ) → FitColumns count cpu blocks amount
@@ -124,14 +124,14 @@ length-numbers count cpu blocks amount fit =
     let few = fit.count_fits in
     let whole = fit.blocks_fit in
     let money = length-amount amount fit.amount_fits in
-    number_cells (right 8 (decimal count)) (right 19 (seconds_text cpu)) (right 18 (decimal blocks))
-    (right 21 (amount_text amount))
-    (length-right 8 (decimal count)
+    number_cells (right_aligned 8 (decimal count)) (right_aligned 19 (seconds_text cpu)) (right_aligned 18 (decimal blocks))
+    (right_aligned 21 (amount_text amount))
+    (length-right_aligned 8 (decimal count)
     (length-decimal-le 8 count (omega arith) few (omega arith)))
-    (length-right 19 (seconds_text cpu) (length-seconds cpu fit.cpu_fits))
-    (length-right 18 (decimal blocks)
+    (length-right_aligned 19 (seconds_text cpu) (length-seconds cpu fit.cpu_fits))
+    (length-right_aligned 18 (decimal blocks)
     (length-decimal-le 18 blocks (omega arith) whole (omega arith)))
-    (length-right 21 (amount_text amount) (omega arith))
+    (length-right_aligned 21 (amount_text amount) (omega arith))
 
 length-heading : length heading ≡ 115
 unfolding key_columns
@@ -236,7 +236,7 @@ module _ (priced : List Priced) (bounded : All IsPriced priced) (fit : FitTogeth
       let both = length-append (key_columns (codes "TOTAL") [] []) (sum_columns rows) in
       omega arith
 
-  pub are_even : AreEven (rows_of priced)
+  pub are_even : AreAligned (rows_of priced)
   are_even = record { above = length-heading; each = rows_even; below = total_even }
 
 -- one answer has one list of rows
@@ -275,7 +275,7 @@ module _ (naming : Naming) (book : Book) (whole : IsReadable naming book) where
       at_most_one (Some one) = omega arith
 
   -- so the lines are even of the rows for some of them
-  some_even : (some : Records) → AreAmong some book.held → AreEven (rows_for book.rulings some)
+  some_even : (some : Records) → AreAmong some book.held → AreAligned (rows_for book.rulings some)
   some_even some among =
       are_even (prices book.rulings some) (all_priced naming book whole some among)
       (fit_within (prices book.rulings book.held) (prices book.rulings some) held_fit
@@ -286,16 +286,16 @@ module _ (naming : Naming) (book : Book) (whole : IsReadable naming book) where
       → (rows : List ChargeRow)
       → ok_or (option_map (λ period. rows_for book.rulings period.counted) found) NoSuchPeriod
       ≡ Ok rows
-      → AreEven rows
+      → AreAligned rows
   period_even number None there rows is = cc is
   period_even number (Some period) there rows is =
       let place = at_place naming book whole.sound number period there in
       let held = one_of (AreHeld book.held) _ place.0 period (all_held naming book whole.sound)
       place.2 in
-      subst AreEven (same_rows (rows_for book.rulings period.counted) rows is)
+      subst AreAligned (same_rows (rows_for book.rulings period.counted) rows is)
       (some_even period.counted held.counted)
 
 -- the law
-pub statements_are_even : StatementsAreEven
-statements_are_even naming book number rows made is =
+pub statements_are_aligned : StatementsAreAligned
+statements_are_aligned naming book number rows made is =
     period_even naming book (calls_read naming book made) number (period_of book number) refl rows is

@@ -10,19 +10,19 @@ use Rattle.std.proofs.lemmas.Map.Lookups.{exact_bytes}
 use Rattle.smf_text.specs.PackedDate as packed
 use Rattle.smf_type30.specs.Usage as usage
 use Rattle.book_model.specs.Words.{day_of, Period, period_by, Book, conflict, is_undisputed}
-use Rattle.book_model.specs.Words.{is_dated_by, is_dated_after, charged_now, charged_through, Event}
+use Rattle.book_model.specs.Words.{is_dated_through, is_dated_after, charged_now, charged_through, Event}
 use Rattle.book_model.specs.Words.{RecordKept, TariffAccepted, PeriodClosed, RecordChosen}
 use Rattle.book_model.specs.Words.{SecondRuleAdopted, book_after, Records, by_bytes, Rulings}
 use Rattle.book_model.specs.Words.{no_rulings, last_close, set_of, has, without}
 use Rattle.book_model.proofs.SetLemmas.{has-set_of, any-members}
 use Rattle.book_model.proofs.RecordSets.{is, has_those}
 use Rattle.book_laws.specs.NetCounts.{one_if, net_count}
-use Rattle.book_laws.specs.WrongPeriods.{past_by, ChargedOnceBy, as_defined, no_minus, counts_early}
-use Rattle.book_laws.specs.WrongPeriods.{adds_late, WrongOnesFail}
+use Rattle.book_laws.specs.WrongPeriods.{closed_periods_by, ChargedOnceBy, as_defined, no_minus, counts_early}
+use Rattle.book_laws.specs.WrongPeriods.{adds_late, WrongPeriodsFail}
 use Rattle.book_laws.proofs.NetLemmas.{has_without, in_counted, in_added, charged_once}
 
 -- the periods of the book are made as they are defined
-past_is : (history : List Event) → past_by as_defined history ≡ (book_after history).past
+past_is : (history : List Event) → closed_periods_by as_defined history ≡ (book_after history).past
 past_is [] = refl
 past_is (RecordKept bytes ∷ older) = past_is older
 past_is (TariffAccepted text terms ∷ older) = past_is older
@@ -66,7 +66,7 @@ alone closes = refl
 apart : is one other ≡ false
 apart = refl
 
-dated : is_dated_by last one ≡ true
+dated : is_dated_through last one ≡ true
 unfolding usage.day_of packed.packed_day_of
 dated = refl
 
@@ -82,13 +82,13 @@ charged_is closes ks q =
 -- which were charged by a close
 posted_is : (closes : List ℤ) (day : ℤ) (ks : List (List ℕ)) (q : List ℕ)
     → has (charged_through (ruled closes) day (set_of by_bytes ks)) q
-    ≡ (((not (list_any (conflict (ruled closes) q) ks) || false) && is_dated_by day q)
+    ≡ (((not (list_any (conflict (ruled closes) q) ks) || false) && is_dated_through day q)
     && list_any (is q) ks)
 posted_is closes day ks q =
     has_those (λ bytes. is_undisputed (ruled closes) (set_of by_bytes ks) bytes
-    && is_dated_by day bytes) (set_of by_bytes ks) q
+    && is_dated_through day bytes) (set_of by_bytes ks) q
     ∙ (λ i. ((not (any-members nat_list_cmp_total exact_bytes (conflict (ruled closes) q) ks i)
-    || false) && is_dated_by day q) && has-set_of nat_list_cmp_total ks q i)
+    || false) && is_dated_through day q) && has-set_of nat_list_cmp_total ks q i)
 
 -- nothing is in the empty set
 nobody : (q : List ℕ) → has (set_of by_bytes []) q ≡ false
@@ -211,6 +211,6 @@ minus_fails law =
     absurd (omega (arith, ints))
 
 -- the law
-pub wrong_ones_fail : WrongOnesFail
-wrong_ones_fail =
+pub wrong_periods_fail : WrongPeriodsFail
+wrong_periods_fail =
     record { right = right; minus = minus_fails; counted = counted_fails; added = added_fails }

@@ -10,16 +10,16 @@ use Rattle.book_model.specs.Words.{dispute_shown, accept_outcome, charges_outcom
 use Rattle.book_model.specs.Words.{adjustments_outcome, disputes_outcome, periods_outcome, Naming}
 use Rattle.book_core.specs.Calls.{Calls}
 use Rattle.book_core.specs.Ledgers.{Seen}
-use Rattle.book_core.specs.Work.{Work, NoEvent, Then, IsWork}
+use Rattle.book_core.specs.Transition.{Transition, NoEvent, Then, IsTransition}
 use Rattle.office.specs.declared.request.Asked.{Asked}
 use Rattle.office.specs.declared.request.Answer.{Answer}
-use Rattle.office.specs.Requests.{Dump, Told, Asks}
+use Rattle.office.specs.Requests.{Dump, Response, Asks}
 use Rattle.office.specs.Runs.{Runs}
 
 -- What was asked of a ledger, and what it answered: a request to the office, with the dump that it
 -- gave, or many by `run`; a record; or a list of a period, of the disputes or of the closes.
 pub data Call : Type 0 where
-  Request : Asked → Dump → Result Told LedgerFault → Call
+  Request : Asked → Dump → Result Response LedgerFault → Call
   RunRequests : List Asked → List (Result Answer LedgerFault) → Call
   AcceptRecord : List ℕ → Result Accepted LedgerFault → Call
   ReadCharges : ℕ → Result (Vec ChargeRow Global) LedgerFault → Call
@@ -28,7 +28,7 @@ pub data Call : Type 0 where
   ReadPeriods : Result (Vec ℤ Global) LedgerFault → Call
 
 -- the work that the contract of the call says
-abbrev pub work_of : Naming → Call → Work
+abbrev pub work_of : Naming → Call → Transition
 work_of naming (Request asked dump told) = Asks naming asked dump told
 work_of naming (RunRequests requests answers) = Runs naming requests answers
 work_of naming (AcceptRecord bytes answer) =
@@ -42,7 +42,7 @@ work_of naming (ReadDisputes answer) =
 work_of naming (ReadPeriods answer) = Calls (λ days. days.items) periods_outcome answer
 
 -- the work of all calls, one after the other
-abbrev pub works_of : Naming → List Call → Work
+abbrev pub works_of : Naming → List Call → Transition
 works_of naming [] = NoEvent
 works_of naming (call ∷ later) = Then (work_of naming call) (works_of naming later)
 
@@ -55,13 +55,13 @@ abbrev pub calls_of : {L : Type 0} → List (Step L) → List Call
 calls_of steps = map (λ step. step.call) steps
 
 -- the ledger after all of them
-abbrev pub ledger_after : {L : Type 0} → L → List (Step L) → L
-ledger_after before [] = before
-ledger_after before (step ∷ later) = ledger_after step.after later
+abbrev pub ledger_after_calls : {L : Type 0} → L → List (Step L) → L
+ledger_after_calls before [] = before
+ledger_after_calls before (step ∷ later) = ledger_after_calls step.after later
 
 -- Each call kept its contract on the ledger that the one before it left, by what is seen of it.
 abbrev pub AreDone : {L : Type 0} → (L → Seen) → L → List (Step L) → Type 0
 AreDone seen before [] = Unit {0}
 AreDone seen before (step ∷ later) =
-    IsWork (seen before) (seen step.after) (work_of (seen before).naming step.call)
+    IsTransition (seen before) (seen step.after) (work_of (seen before).naming step.call)
     × AreDone seen step.after later

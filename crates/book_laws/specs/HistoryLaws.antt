@@ -3,12 +3,12 @@ use Rattle.std.specs.Prelude.{◌≡◌, ℕ, ◌+◌, true, false, All, List, O
 use Rattle.std.specs.Prelude.{◌-ℤ◌, ◌++◌}
 use Rattle.book_model.specs.Words.{Period, Book, charged_of, all_periods, is_dated_after, Event}
 use Rattle.book_model.specs.Words.{book_after, day_of_close, Naming, Rulings, has, total_of}
-use Rattle.book_model.specs.Words.{IsAnswered, IsSound}
+use Rattle.book_model.specs.Words.{IsMadeByCalls, IsSound}
 use Rattle.book_laws.specs.NetCounts.{net_count, one_if, NamesOnce}
 use Rattle.book_laws.specs.PeriodLines.{AreReadOnce}
 use Rattle.book_laws.specs.ClosedPeriods.{IsClosed, IsReadAlike}
 use Rattle.book_laws.specs.PeriodAmounts.{rows_amount, plus_amount, minus_amount, added_amount}
-use Rattle.book_laws.specs.PeriodAmounts.{taken_amount}
+use Rattle.book_laws.specs.PeriodAmounts.{reversed_amount}
 
 -- Over all periods of the book that a history leaves, including the open one, a record that is
 -- charged now is charged once net; any other nets to nothing.
@@ -50,7 +50,7 @@ IsBalanced naming book =
 
 -- the book that an answered history leaves is balanced
 abbrev pub Conserved : Type 0
-Conserved = (naming : Naming) (history : List Event) → IsAnswered naming history
+Conserved = (naming : Naming) (history : List Event) → IsMadeByCalls naming history
     → IsBalanced naming (book_after history)
 
 -- The same for the periods' sets of records: for every history, and at the prices of any rulings.
@@ -59,7 +59,7 @@ ConservedInSets =
     (rulings : Rulings) (history : List Event)
     → pos (rows_amount rulings (all_periods (book_after history)) + added_amount rulings
     (all_periods (book_after history)))
-    -ℤ pos (taken_amount rulings (all_periods (book_after history)))
+    -ℤ pos (reversed_amount rulings (all_periods (book_after history)))
     ≡ pos (total_of rulings (charged_of (book_after history)))
 
 -- In each period of the book that a history leaves, no record is in two of the three sets.
@@ -77,6 +77,6 @@ LinesOnce =
 abbrev pub ClosedStays : Type 0
 ClosedStays =
     (naming : Naming) (later earlier : List Event) (number : ℕ)
-    → IsAnswered naming (later ++ earlier)
+    → IsMadeByCalls naming (later ++ earlier)
     → IsClosed number (book_after earlier)
     → IsReadAlike naming number (book_after earlier) (book_after (later ++ earlier))

@@ -2,9 +2,9 @@
 use Rattle.std.specs.Prelude.{◌≡◌}
 use Rattle.book_model.specs.Words.{front, Naming, Book, after_all}
 use Rattle.book_core.specs.Ledgers.{Seen, IsOpenAt}
-use Rattle.book_core.specs.Work.{IsWork}
+use Rattle.book_core.specs.Transition.{IsTransition}
 use Rattle.book_import.specs.declared.receipt.Receipt.{Receipt}
-use Rattle.book_import.specs.Dumps.{stop_behind}
+use Rattle.book_import.specs.Dumps.{stop_after}
 use Rattle.book_import.specs.Handled.{Imported}
 use Rattle.book_import.specs.Imports.{Imports}
 use Rattle.book_import.specs.Laws.{import_of_records}
@@ -16,7 +16,7 @@ use Rattle.office.specs.Requests.{Dump}
 abbrev pub imported_into : Naming → Dump → Book → Imported
 imported_into naming dump book =
     let found = front dump.layout dump.bytes in
-    import_of_records naming book (stop_behind dump.cut found) found.records
+    import_of_records naming book (stop_after dump.cut found) found.records
 
 -- A dump was imported into a ledger that was open with this book, and is open now, on a store that
 -- is honest to the end. Neither a lack of memory nor the store stopped the import.
@@ -24,7 +24,7 @@ pub record IsImported (naming : Naming) (start : Book) (old new : Seen) (dump : 
     (receipt : Receipt) : Type 0 where
   pub opened : IsOpenAt naming start old
   pub still : IsStillOpen new
-  pub work : IsWork old new (Imports old.naming dump.layout dump.cut dump.bytes receipt)
+  pub work : IsTransition old new (Imports old.naming dump.layout dump.cut dump.bytes receipt)
   pub unhindered : IsUnhindered receipt
 
 -- the receipt is the definitions' one, and the ledger is open with the book after the import

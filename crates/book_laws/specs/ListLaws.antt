@@ -4,13 +4,13 @@ use Rattle.std.specs.Prelude.{Vec}
 use Rattle.std.specs.Global.{Global}
 use Rattle.book_model.specs.declared.line.Line.{Line}
 use Rattle.book_model.specs.declared.row.ChargeRow.{ChargeRow}
-use Rattle.book_model.specs.Words.{total_of, IsAnswered, Book, charged_of, open_number, Event}
+use Rattle.book_model.specs.Words.{total_of, IsMadeByCalls, Book, charged_of, open_number, Event}
 use Rattle.book_model.specs.Words.{book_after, book_of, Naming}
 use Rattle.book_core.specs.Ledgers.{Seen, IsOpenAt}
 use Rattle.book_laws.specs.PeriodAmounts.{plus_of, minus_of}
 use Rattle.office.specs.Laws.{IsStillOpen}
 use Rattle.book_laws.specs.Calls.{Call, ReadCharges, ReadAdjustments, Step, AreDone, calls_of}
-use Rattle.book_laws.specs.Calls.{ledger_after}
+use Rattle.book_laws.specs.Calls.{ledger_after_calls}
 
 -- what was answered for one period: its charge rows, and then its adjustment lines
 pub record PeriodLists : Type 0 where
@@ -41,8 +41,8 @@ abbrev pub ListsConserve : {L : Type 0} → (L → Seen) → Type 0
 ListsConserve {L} seen =
     (naming : Naming) (history : List Event) (before : L) (steps : List (Step L))
     (periods : List PeriodLists)
-    → IsAnswered naming history → IsOpenAt naming (book_after history) (seen before)
-    → AreDone seen before steps → IsStillOpen (seen (ledger_after before steps))
+    → IsMadeByCalls naming history → IsOpenAt naming (book_after history) (seen before)
+    → AreDone seen before steps → IsStillOpen (seen (ledger_after_calls before steps))
     → calls_of steps ≡ list_calls 1 periods
     → length periods ≡ open_number (book_of history)
     → let book : Book = book_of history in

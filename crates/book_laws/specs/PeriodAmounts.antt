@@ -29,5 +29,5 @@ minus_amount naming rulings periods =
 abbrev pub added_amount : Rulings → List Period → ℕ
 added_amount rulings periods = sum_by (λ period. total_of rulings period.added) periods
 
-abbrev pub taken_amount : Rulings → List Period → ℕ
-taken_amount rulings periods = sum_by (λ period. total_of rulings period.taken) periods
+abbrev pub reversed_amount : Rulings → List Period → ℕ
+reversed_amount rulings periods = sum_by (λ period. total_of rulings period.taken) periods

@@ -1,7 +1,7 @@
 -- Laws of reports: what is written about books is the text that the definitions give.
 use Rattle.std.specs.Prelude.{◌≡◌, ◌≢◌, ◌<◌, ℕ, List, length, take, Result, Ok, Err}
 use Rattle.std.specs.Io.KnownBytes.{Appends}
-use Rattle.streams.specs.Sides.{Output}
+use Rattle.streams.specs.InputOutput.{Output}
 use Rattle.book_model.specs.declared.fault.LedgerFault.{LedgerFault}
 use Rattle.book_model.specs.declared.fault.LedgerFault.TheVariants.{Store}
 use Rattle.book_model.specs.Words.{Naming, Book}
@@ -26,7 +26,7 @@ pub record HasText (answer : Result (List ℕ) LedgerFault) (output : Output) : 
   pub written : Appends output.old.holds output.new.holds text
 
 -- the answer is a text, and the writer has a prefix of it more, which is not the whole
-pub record HasFront (answer : Result (List ℕ) LedgerFault) (output : Output) : Type 0 where
+pub record HasPrefix (answer : Result (List ℕ) LedgerFault) (output : Output) : Type 0 where
   pub text : List ℕ
   pub is : answer ≡ Ok text
   pub count : ℕ
@@ -41,11 +41,11 @@ OneText {L} seen =
     → HasText (report_outcome naming asked start).answer output
 
 -- If a write failed, a prefix of that text was written.
-abbrev pub OneFront : {L : Type 0} → (L → Seen) → Type 0
-OneFront {L} seen =
+abbrev pub OnePrefix : {L : Type 0} → (L → Seen) → Type 0
+OnePrefix {L} seen =
     (asked : Report) (naming : Naming) (start : Book) (old new : L) (output : Output)
     → IsReported asked naming start (books seen old new) output (Err Write)
-    → HasFront (report_outcome naming asked start).answer output
+    → HasPrefix (report_outcome naming asked start).answer output
 
 -- the answer is this refusal, and nothing was written
 pub record IsRefused (answer : Result (List ℕ) LedgerFault) (fault : LedgerFault) (output : Output)

@@ -3,46 +3,46 @@ use Rattle.std.specs.Prelude.{◌≡◌, false, All, List, [], ◌∷◌, map, R
 use Rattle.book_model.specs.declared.fault.LedgerFault.{LedgerFault}
 use Rattle.book_model.specs.Words.{Naming, Book, after_all}
 use Rattle.book_core.specs.Ledgers.{Seen, IsOpenAt}
-use Rattle.book_core.specs.Work.{IsWork}
+use Rattle.book_core.specs.Transition.{IsTransition}
 use Rattle.office.specs.declared.request.Asked.{Asked}
 use Rattle.office.specs.declared.request.Answer.{Answer}
-use Rattle.office.specs.Does.{does, is_hindered}
+use Rattle.office.specs.Outcomes.{asked_outcome, is_hindered}
 use Rattle.office.specs.Laws.{IsStillOpen}
-use Rattle.office.specs.Requests.{Told, told_by}
+use Rattle.office.specs.Requests.{Response, response_by}
 use Rattle.office.specs.Runs.{Runs, dump_here}
 
 -- what the definitions answer to requests, one after another
-abbrev pub told_to : Naming → List Asked → Book → List (Result Told LedgerFault)
-told_to naming [] book = []
-told_to naming (asked ∷ later) book =
-    let done = does naming asked (dump_here asked) book in
-    done.told ∷ told_to naming later (after_all done.events book)
+abbrev pub responses_to : Naming → List Asked → Book → List (Result Response LedgerFault)
+responses_to naming [] book = []
+responses_to naming (asked ∷ later) book =
+    let done = asked_outcome naming asked (dump_here asked) book in
+    done.told ∷ responses_to naming later (after_all done.events book)
 
 -- the book after them
-abbrev pub book_behind : Naming → List Asked → Book → Book
-book_behind naming [] book = book
-book_behind naming (asked ∷ later) book =
-    book_behind naming later (after_all (does naming asked (dump_here asked) book).events book)
+abbrev pub book_after_requests : Naming → List Asked → Book → Book
+book_after_requests naming [] book = book
+book_after_requests naming (asked ∷ later) book =
+    book_after_requests naming later (after_all (asked_outcome naming asked (dump_here asked) book).events book)
 
 -- Requests were run on a ledger that was open with this book, and is open now, on a store that is
 -- honest to the end. Neither a lack of memory nor the store hindered one.
-pub record IsRun (naming : Naming) (start : Book) (old new : Seen) (requests : List Asked)
+pub record IsUnhinderedRun (naming : Naming) (start : Book) (old new : Seen) (requests : List Asked)
     (answers : List (Result Answer LedgerFault)) : Type 0 where
   pub opened : IsOpenAt naming start old
   pub still : IsStillOpen new
-  pub work : IsWork old new (Runs old.naming requests answers)
-  pub free : All (λ answer. is_hindered (told_by answer) ≡ false) answers
+  pub work : IsTransition old new (Runs old.naming requests answers)
+  pub free : All (λ answer. is_hindered (response_by answer) ≡ false) answers
 
 -- the answers are those of the definitions, and the ledger is open with the book after them
 pub record RunsAsDefined (naming : Naming) (start : Book) (new : Seen) (requests : List Asked)
     (answers : List (Result Answer LedgerFault)) : Type 0 where
-  pub told : map told_by answers ≡ told_to naming requests start
-  pub left : IsOpenAt naming (book_behind naming requests start) new
+  pub told : map response_by answers ≡ responses_to naming requests start
+  pub left : IsOpenAt naming (book_after_requests naming requests start) new
 
 -- This holds for all requests, including imports.
 abbrev pub OneRun : {L : Type 0} → (L → Seen) → Type 0
 OneRun {L} seen =
     (naming : Naming) (start : Book) (old new : L) (requests : List Asked)
     (answers : List (Result Answer LedgerFault))
-    → IsRun naming start (seen old) (seen new) requests answers
+    → IsUnhinderedRun naming start (seen old) (seen new) requests answers
     → RunsAsDefined naming start (seen new) requests answers

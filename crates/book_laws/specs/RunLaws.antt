@@ -2,13 +2,13 @@
 use Rattle.std.specs.Prelude.{◌≡◌, ◌&&◌, ℕ, Bool, List, [], ◌∷◌, None, Some, pos}
 use Rattle.book_model.specs.Words.{Terms, has, Naming, is_undisputed, Book, new_book, flat_book}
 use Rattle.book_model.specs.Words.{all_periods, Event, TariffAccepted, book_after, book_of}
-use Rattle.book_model.specs.Words.{IsAnswered, rulings_in, stretches}
+use Rattle.book_model.specs.Words.{IsMadeByCalls, rulings_in, record_batches}
 use Rattle.book_laws.specs.NetCounts.{net_count, one_if}
 use Rattle.book_laws.specs.HistoryLaws.{IsBalanced}
 use Rattle.book_laws.specs.ClosedPeriods.{IsClosed}
 use Rattle.book_reports.specs.BookTexts.{open_statement}
-use Rattle.book_laws.specs.Runs.{Run, IsRunOn, IsRunAfter, book_left, history_with}
-use Rattle.book_laws.specs.Statements.{statement_of, TellAlike, StaysClosed}
+use Rattle.book_laws.specs.Runs.{Run, IsRunOn, IsRunAfter, book_after_run, history_with}
+use Rattle.book_laws.specs.Statements.{statement_of, HaveSameTexts, StaysClosed}
 
 -- New books have no history, and new books under one tariff have only that tariff: any run on them
 -- is a run after it. And calls made the history that goes on with a run, so another run may follow.
@@ -19,13 +19,13 @@ pub record RunsMakeHistory : Type 0 where
       → IsRunOn naming (flat_book terms) was run is
       → IsRunAfter naming (TariffAccepted None terms ∷ []) run
   pub next : (naming : Naming) (history : List Event) (run : Run)
-      → IsRunAfter naming history run → IsAnswered naming (history_with history run)
+      → IsRunAfter naming history run → IsMadeByCalls naming (history_with history run)
 
 -- A run leaves the book that the history with it defines, looked at as a whole.
 abbrev pub RunsFollowHistory : Type 0
 RunsFollowHistory =
     (naming : Naming) (history : List Event) (run : Run) → IsRunAfter naming history run
-    → book_left history run ≡ book_of (history_with history run)
+    → book_after_run history run ≡ book_of (history_with history run)
 
 -- Over all periods of the book, including the open one, each record that is held and undisputed is
 -- charged once net; any other nets to nothing.
@@ -39,14 +39,14 @@ ChargesOnce book =
 abbrev pub RunsChargeOnce : Type 0
 RunsChargeOnce =
     (naming : Naming) (history : List Event) (run : Run) → IsRunAfter naming history run
-    → ChargesOnce (book_left history run)
+    → ChargesOnce (book_after_run history run)
 
 -- Nothing is lost or made in any run: all rows and plus lines less all minus lines, as they are
 -- read, add up to what the records cost that are charged now.
 abbrev pub RunsConserve : Type 0
 RunsConserve =
     (naming : Naming) (history : List Event) (run : Run) → IsRunAfter naming history run
-    → IsBalanced naming (book_left history run)
+    → IsBalanced naming (book_after_run history run)
 
 -- It makes no difference how records are cut into dumps, requests and runs, in which order they
 -- come between two rulings, and how often: histories with the same rulings in the same order, and
@@ -56,15 +56,16 @@ RunOrderIsFree =
     (naming : Naming) (before_one before_other : List Event) (one other : Run)
     → IsRunAfter naming before_one one → IsRunAfter naming before_other other
     → rulings_in (history_with before_one one) ≡ rulings_in (history_with before_other other)
-    → stretches (history_with before_one one) ≡ stretches (history_with before_other other)
-    → TellAlike (book_left before_one one) (book_left before_other other)
+    → record_batches (history_with before_one one)
+    ≡ record_batches (history_with before_other other)
+    → HaveSameTexts (book_after_run before_one one) (book_after_run before_other other)
 
 -- A closed statement never changes: whatever requests are run after a period is closed.
 abbrev pub ClosedStatementsStay : Type 0
 ClosedStatementsStay =
     (naming : Naming) (history : List Event) (run : Run) (number : ℕ)
     → IsRunAfter naming history run → IsClosed number (book_after history)
-    → StaysClosed naming number (book_after history) (book_left history run)
+    → StaysClosed naming number (book_after history) (book_after_run history run)
 
 -- That statement is the one that is written for books that were never closed, for their one period.
 abbrev pub OpenStatementIsFirst : Type 0

@@ -1,7 +1,7 @@
 -- Runs: lists of requests, on books that calls made.
 use Rattle.std.specs.Prelude.{Bool, List, ◌++◌, Result}
 use Rattle.book_model.specs.declared.fault.LedgerFault.{LedgerFault}
-use Rattle.book_model.specs.Words.{Naming, Book, Event, after_all, book_after, IsAnswered}
+use Rattle.book_model.specs.Words.{Naming, Book, Event, after_all, book_after, IsMadeByCalls}
 use Rattle.office.specs.declared.request.Asked.{Asked}
 use Rattle.office.specs.declared.request.Answer.{Answer}
 use Rattle.office.specs.Runs.{Runs}
@@ -18,14 +18,14 @@ IsRunOn naming before was run is = Runs naming run.requests run.answers was befo
 
 -- The run came after a history that calls made: it was on the books of that history.
 pub record IsRunAfter (naming : Naming) (history : List Event) (run : Run) : Type 0 where
-  pub answered : IsAnswered naming history
+  pub answered : IsMadeByCalls naming history
   pub was : Bool
   pub is : Bool
   pub runs : IsRunOn naming (book_after history) was run is
 
 -- the book that the run leaves
-abbrev pub book_left : List Event → Run → Book
-book_left history run = after_all run.events (book_after history)
+abbrev pub book_after_run : List Event → Run → Book
+book_after_run history run = after_all run.events (book_after history)
 
 -- the history that goes on with the run
 abbrev pub history_with : List Event → Run → List Event

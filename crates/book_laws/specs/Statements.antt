@@ -15,7 +15,7 @@ statement_of book number =
     (result_ok (charges_outcome number book).answer)
 
 -- the books are the same, and so are all texts about them
-pub record TellAlike (one other : Book) : Type 0 where
+pub record HaveSameTexts (one other : Book) : Type 0 where
   pub book : one ≡ other
   pub statements : (number : ℕ) → statement_of one number ≡ statement_of other number
   pub disputes : dispute_text one ≡ dispute_text other

@@ -9,55 +9,55 @@ use Rattle.book_laws.specs.NetCounts.{net_count, one_if}
 
 -- how a period is made: from the close before it, what that close charged, and what is charged at
 -- its end
-abbrev pub Making : Type 0
-Making = Option ℤ → Records → Records → Period
+abbrev pub PeriodDefinition : Type 0
+PeriodDefinition = Option ℤ → Records → Records → Period
 
 -- the closed periods of a history, made so
-abbrev pub past_by : Making → List Event → List Period
-past_by make [] = []
-past_by make (RecordKept bytes ∷ older) = past_by make older
-past_by make (TariffAccepted text terms ∷ older) = past_by make older
-past_by make (RecordChosen bytes ∷ older) = past_by make older
-past_by make (SecondRuleAdopted ∷ older) = past_by make older
-past_by make (PeriodClosed day ∷ older) =
+abbrev pub closed_periods_by : PeriodDefinition → List Event → List Period
+closed_periods_by make [] = []
+closed_periods_by make (RecordKept bytes ∷ older) = closed_periods_by make older
+closed_periods_by make (TariffAccepted text terms ∷ older) = closed_periods_by make older
+closed_periods_by make (RecordChosen bytes ∷ older) = closed_periods_by make older
+closed_periods_by make (SecondRuleAdopted ∷ older) = closed_periods_by make older
+closed_periods_by make (PeriodClosed day ∷ older) =
     let book : Book = book_after older in
-    past_by make older
+    closed_periods_by make older
     ++ make (last_close book.rulings) book.posted (charged_through book.rulings day book.held) ∷ []
 
 -- all its periods, the open one last
-abbrev pub all_by : Making → List Event → List Period
-all_by make history =
+abbrev pub all_periods_by : PeriodDefinition → List Event → List Period
+all_periods_by make history =
     let book : Book = book_after history in
-    past_by make history
+    closed_periods_by make history
     ++ make (last_close book.rulings) book.posted (charged_now book.rulings book.held) ∷ []
 
 -- the law of the net count, for periods that are made so
-abbrev pub ChargedOnceBy : Making → Type 0
+abbrev pub ChargedOnceBy : PeriodDefinition → Type 0
 ChargedOnceBy make =
     (history : List Event) (bytes : List ℕ)
-    → net_count (all_by make history) bytes
+    → net_count (all_periods_by make history) bytes
     ≡ pos (one_if (has (charged_now (book_after history).rulings (book_after history).held) bytes))
 
 -- as the books make it
-abbrev pub as_defined : Making
+abbrev pub as_defined : PeriodDefinition
 as_defined = period_by
 
 -- nothing is reversed
-abbrev pub no_minus : Making
+abbrev pub no_minus : PeriodDefinition
 no_minus last before charged =
     record (period_by last before charged) { taken = set_of by_bytes [] }
 
 -- the rows count early records too
-abbrev pub counts_early : Making
+abbrev pub counts_early : PeriodDefinition
 counts_early last before charged = record (period_by last before charged) { counted = charged }
 
 -- late records are added too
-abbrev pub adds_late : Making
+abbrev pub adds_late : PeriodDefinition
 adds_late last before charged =
     record (period_by last before charged) { added = without charged before }
 
 -- The law is true of periods as the books make them, and false of the others.
-pub record WrongOnesFail : Type 0 where
+pub record WrongPeriodsFail : Type 0 where
   pub right : ChargedOnceBy as_defined
   pub minus : ChargedOnceBy no_minus → ⊥
   pub counted : ChargedOnceBy counts_early → ⊥

@@ -3,7 +3,7 @@
 
 ghost use Rattle.book_laws.specs.AnswerLaws.{OneAnswer, OneBook, OneRefusal, RefusalChangesNothing};
 ghost use Rattle.book_laws.specs.ImportLaws.{OneReceipt};
-ghost use Rattle.book_laws.specs.ReportLaws.{OneFront, OneRefusedReport, OneText};
+ghost use Rattle.book_laws.specs.ReportLaws.{OnePrefix, OneRefusedReport, OneText};
 ghost use Rattle.book_laws.specs.RunAnswers.{OneRun};
 
 use book_core::Ledger;
@@ -34,8 +34,8 @@ pub fn one_text<L: Ledger>()
 {}
 
 /// What was written before a write failed is a prefix of that text, and not the whole.
-pub fn one_front<L: Ledger>()
-    ensures { OneFront L.seen }
+pub fn one_prefix<L: Ledger>()
+    ensures { OnePrefix L.seen }
 {}
 
 /// A refusal of the books that a report gives is the definitions' one, and nothing was written.

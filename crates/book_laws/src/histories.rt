@@ -3,7 +3,7 @@
 
 ghost use Rattle.book_laws.specs.HistoryLaws.{ChargedOnce, ClosedStays, Conserved, ConservedInSets};
 ghost use Rattle.book_laws.specs.HistoryLaws.{DatedRight, LinesOnce, NamedOnce, PostedOnce};
-ghost use Rattle.book_laws.specs.WrongPeriods.{WrongOnesFail};
+ghost use Rattle.book_laws.specs.WrongPeriods.{WrongPeriodsFail};
 
 /// Over all periods a record that is charged now is charged once net, and any other nets to
 /// nothing.
@@ -50,6 +50,6 @@ pub fn closed_stays()
 
 /// The law of the net count is false for periods that reverse nothing, count early records or add
 /// late ones.
-pub fn wrong_ones_fail()
-    ensures { WrongOnesFail }
+pub fn wrong_periods_fail()
+    ensures { WrongPeriodsFail }
 {}

@@ -1,20 +1,20 @@
 //! Laws of the books: whole histories, runs of requests, and single calls.
 #![tactic(auto)]
 
+mod calls;
 mod histories;
 mod runs;
-mod calls;
 
+pub use calls::{
+    one_answer, one_book, one_prefix, one_receipt, one_refusal, one_refused_report, one_run,
+    one_text, refusal_changes_nothing,
+};
 pub use histories::{
     charged_once, closed_stays, conserved, conserved_in_sets, dated_right, lines_once, named_once,
-    posted_once, wrong_ones_fail,
+    posted_once, wrong_periods_fail,
 };
 pub use runs::{
     calls_follow_history, closed_statements_stay, lists_conserve, open_statement_is_first,
     run_order_is_free, runs_charge_once, runs_conserve, runs_follow_history, runs_make_history,
-    statements_are_even,
-};
-pub use calls::{
-    one_answer, one_book, one_front, one_receipt, one_refusal, one_refused_report, one_run,
-    one_text, refusal_changes_nothing,
+    statements_are_aligned,
 };

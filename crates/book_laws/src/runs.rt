@@ -6,7 +6,7 @@ ghost use Rattle.book_laws.specs.CallLaws.{CallsFollowHistory};
 ghost use Rattle.book_laws.specs.RunLaws.{ClosedStatementsStay, OpenStatementIsFirst};
 ghost use Rattle.book_laws.specs.RunLaws.{RunOrderIsFree, RunsChargeOnce, RunsConserve};
 ghost use Rattle.book_laws.specs.RunLaws.{RunsFollowHistory, RunsMakeHistory};
-ghost use Rattle.book_laws.specs.StatementWidths.{StatementsAreEven};
+ghost use Rattle.book_laws.specs.StatementWidths.{StatementsAreAligned};
 
 use book_core::Ledger;
 
@@ -64,6 +64,6 @@ pub fn lists_conserve<L: Ledger>()
 
 /// Each line of a statement but the first has 114 characters, for any period of books that calls
 /// made: within the office's limits no number is wider than its column.
-pub fn statements_are_even()
-    ensures { StatementsAreEven }
+pub fn statements_are_aligned()
+    ensures { StatementsAreAligned }
 {}

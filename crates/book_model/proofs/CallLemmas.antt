@@ -15,7 +15,7 @@ use Rattle.book_model.specs.declared.fault.LedgerFault.TheVariants.{WrongPeriod,
 use Rattle.book_model.specs.Limits.{last_period}
 use Rattle.book_model.specs.Books.{Book, open_number}
 use Rattle.book_model.specs.Charged.{is_dated_after}
-use Rattle.book_model.specs.Laws.{IsAfterLastClose, CallsGoForward, SettledPricesStay}
+use Rattle.book_model.specs.Laws.{IsAfterLastClose, CallsGoForward, ClosedPricesStay}
 use Rattle.book_model.specs.Rulings.{last_close, with_tariff}
 use Rattle.book_model.specs.RulingAnswers.{has_text, is_effective, is_later, is_too_dear}
 use Rattle.book_model.specs.RulingAnswers.{terms_answer, is_closed, is_early, close_answer}
@@ -75,8 +75,8 @@ before_it None bytes day early after = absurd (true≢false early)
 before_it (Some close) bytes day early after = grind (arith, ints)
 
 -- so a tariff that is put in force changes no price of a record that is settled
-pub settled_prices_stay : SettledPricesStay
-settled_prices_stay book text terms bytes is early =
+pub closed_prices_stay : ClosedPricesStay
+closed_prices_stay book text terms bytes is early =
     earlier_prices_stay book.rulings (Some text) terms bytes
     (before_it (last_close book.rulings) bytes terms.effective early
     (tariff_done book text terms is))

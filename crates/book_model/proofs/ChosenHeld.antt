@@ -5,7 +5,7 @@ use Rattle.std.proofs.Common.{true, false, arith, Some, None}
 use Rattle.std.specs.Prelude.{All, nat_le}
 use Rattle.std.proofs.lemmas.Bool.{leb-true, leb-false}
 use Rattle.std.proofs.lemmas.List.Elements.{All-nil}
-use Rattle.book_model.specs.Answered.{IsAnswered}
+use Rattle.book_model.specs.MadeByCalls.{IsMadeByCalls}
 use Rattle.book_model.specs.Books.{Book}
 use Rattle.book_model.specs.Events.{Event, RecordKept, TariffAccepted, PeriodClosed, RecordChosen}
 use Rattle.book_model.specs.Events.{SecondRuleAdopted}
@@ -14,12 +14,12 @@ use Rattle.book_model.specs.Laws.{ChosenWereHeld}
 use Rattle.book_model.specs.Records.{Records, Naming}
 use Rattle.book_model.specs.Rulings.{Rulings, Choice, rulings_before}
 use Rattle.book_model.specs.Sound.{IsChoiceOf}
-use Rattle.book_model.proofs.AnsweredLemmas.{sound_after}
+use Rattle.book_model.proofs.MadeByCallsLemmas.{sound_after}
 use Rattle.book_model.proofs.HistoryLemmas.{choices_all, held_all, held_stays, ruled_stays}
 use Rattle.book_model.proofs.StepLemmas.{books_follow_history}
 
 -- it was, before a close to come
-to_come : (naming : Naming) (history : List Event) (k : ℕ) → IsAnswered naming history
+to_come : (naming : Naming) (history : List Event) (k : ℕ) → IsMadeByCalls naming history
     → length (closes history) ≤ k
     → All (IsChoiceOf (held_before (suc k) history)) (rulings_before k (rulings history)).choices
 to_come naming history k answered after =
@@ -48,11 +48,11 @@ same_choices k SecondRuleAdopted older came = refl
 
 -- each event was answered, and those before it
 answered_before : (naming : Naming) (event : Event) (older : List Event)
-    → IsAnswered naming (event ∷ older) → IsAnswered naming older
+    → IsMadeByCalls naming (event ∷ older) → IsMadeByCalls naming older
 answered_before naming (RecordKept bytes) older answered = answered.1
 answered_before naming (TariffAccepted (Some text) terms) older answered = answered.1
 answered_before naming (TariffAccepted None terms) older answered =
-    subst (IsAnswered naming) (sym answered) tt
+    subst (IsMadeByCalls naming) (sym answered) tt
 answered_before naming (PeriodClosed day) older answered = answered.1
 answered_before naming (RecordChosen bytes) older answered = answered.1
 answered_before naming SecondRuleAdopted older answered = answered.1

@@ -15,14 +15,14 @@ use Rattle.std.proofs.Math.Seq.{take-length, take-append_seam}
 use Rattle.std.proofs.lemmas.Map.Lookups.{exact_bytes}
 use Rattle.std.proofs.lemmas.Option.{slice_get_past, slice_get-get_or}
 use Rattle.smf_type30.specs.Usage.{day_of}
-use Rattle.book_model.specs.Charged.{is_undisputed, is_dated_by, is_dated_after, charged_now}
+use Rattle.book_model.specs.Charged.{is_undisputed, is_dated_through, is_dated_after, charged_now}
 use Rattle.book_model.specs.Charged.{charged_by}
 use Rattle.book_model.specs.Events.{Event, RecordKept, TariffAccepted, PeriodClosed, RecordChosen}
 use Rattle.book_model.specs.Events.{SecondRuleAdopted}
 use Rattle.book_model.specs.History.{rulings, closes, kept, tariffs, before_close, day_of_close}
 use Rattle.book_model.specs.History.{open_after, choices, adopted, held_before, charged_in}
 use Rattle.book_model.specs.Records.{Records, by_bytes}
-use Rattle.book_model.specs.Rulings.{Rulings, Tariffed, Choice, rulings_before, if_before}
+use Rattle.book_model.specs.Rulings.{Rulings, AcceptedTerms, Choice, rulings_before, if_before}
 use Rattle.book_model.specs.Rulings.{last_close}
 use Rattle.book_model.specs.Sets.{set_of, has}
 use Rattle.book_model.proofs.ListLemmas.{slice_get-front, slice_get-behind, last_or-is}
@@ -166,7 +166,7 @@ charged_not_after : (rulings : Rulings) (day : ℤ) (held : Records) (bytes : Li
     ≡ false
 charged_not_after rulings day held bytes is =
     let passes : List ℕ
-    → Bool = λ other. is_undisputed rulings held other && is_dated_by day other in
+    → Bool = λ other. is_undisputed rulings held other && is_dated_through day other in
     not_late (is_undisputed rulings held bytes) (int_lt day (day_of bytes)) (has held bytes)
     (sym (has-those nat_list_cmp_total exact_bytes passes held bytes) ∙ is)
 
@@ -252,7 +252,7 @@ held_stays k event older came =
     ap (λ before. set_of by_bytes (kept before)) (before_stays k event older came)
 
 -- who is charged does not hang on the tariffs
-charged_by-tariffs : (ruled : Rulings) (other : List Tariffed) (day : Option ℤ) (held : Records)
+charged_by-tariffs : (ruled : Rulings) (other : List AcceptedTerms) (day : Option ℤ) (held : Records)
     → charged_by (record ruled { tariffs = other }) day held ≡ charged_by ruled day held
 charged_by-tariffs ruled other None held = refl
 charged_by-tariffs ruled other (Some day) held = refl

@@ -10,7 +10,7 @@ use Rattle.smf_type30.specs.Usage.{day_of}
 use Rattle.tariff_rules.specs.Price.{price_by}
 use Rattle.tariff_rules.specs.declared.priced.Priced.{Priced}
 use Rattle.tariff_rules.specs.Terms.{Terms}
-use Rattle.book_model.specs.Rulings.{Rulings, Tariffed, later_of, latest, are_rising, has_begun}
+use Rattle.book_model.specs.Rulings.{Rulings, AcceptedTerms, later_of, latest, are_rising, has_begun}
 use Rattle.book_model.specs.Rulings.{in_force, last_close, price_in, price_under, with_tariff}
 use Rattle.book_model.specs.RulingAnswers.{is_later}
 use Rattle.book_model.proofs.ListLemmas.{list_all-not_any}
@@ -32,11 +32,11 @@ pub later-before : (day : ℤ) (rulings : Rulings) → is_later day rulings ≡ 
 later-before day rulings later = first_of _ _ (sym (is_later-by day rulings) ∙ later)
 
 -- the first tariff begins before the other
-abbrev pub precedes : Tariffed → Tariffed → Bool
+abbrev pub precedes : AcceptedTerms → AcceptedTerms → Bool
 precedes one other = int_lt one.terms.effective other.terms.effective
 
 -- after others, one more is after a day where they are, and it is
-all-behind : (p : Tariffed → Bool) (tariffs : List Tariffed) (later : Tariffed)
+all-behind : (p : AcceptedTerms → Bool) (tariffs : List AcceptedTerms) (later : AcceptedTerms)
     → list_all p tariffs ≡ true → p later ≡ true → list_all p (tariffs ++ later ∷ []) ≡ true
 all-behind p [] later all one = ap (λ b. b && true) one
 all-behind p (tariff ∷ tariffs) later all one =
@@ -44,7 +44,7 @@ all-behind p (tariff ∷ tariffs) later all one =
     (λ i. first_of (p tariff) (list_all p tariffs) all i && rest i)
 
 -- rising tariffs, and one that begins later than each of them
-pub rising-behind : (tariffs : List Tariffed) (later : Tariffed) → are_rising tariffs ≡ true
+pub rising-behind : (tariffs : List AcceptedTerms) (later : AcceptedTerms) → are_rising tariffs ≡ true
     → list_all (λ tariff. precedes tariff later) tariffs ≡ true
     → are_rising (tariffs ++ later ∷ []) ≡ true
 rising-behind [] later rise before = refl
@@ -59,21 +59,21 @@ rising-behind (tariff ∷ tariffs) later rise before =
     (λ i. all i && rest i)
 
 -- a test that both of two tariffs pass, the later of them passes
-later-passes : (q : Tariffed → Bool) (one other : Tariffed) → q one ≡ true → q other ≡ true
+later-passes : (q : AcceptedTerms → Bool) (one other : AcceptedTerms) → q one ≡ true → q other ≡ true
     → q (later_of one other) ≡ true
 later-passes q one other first second =
     elim (precedes one other) as (λ b. q (cond b other one) ≡ true)
     [ true ↦ second | false ↦ first ]
 
 -- the same of one, and of another if there is one
-either-passes : (q : Tariffed → Bool) (one : Tariffed) (other : Option Tariffed) → q one ≡ true
-    → ((found : Tariffed) → other ≡ Some found → q found ≡ true)
+either-passes : (q : AcceptedTerms → Bool) (one : AcceptedTerms) (other : Option AcceptedTerms) → q one ≡ true
+    → ((found : AcceptedTerms) → other ≡ Some found → q found ≡ true)
     → q (option_map_or (later_of one) other one) ≡ true
 either-passes q one None first second = first
 either-passes q one (Some found) first second = later-passes q one found first (second found refl)
 
 -- the latest of those that pass one test passes another one that all pass
-latest-passes : (p q : Tariffed → Bool) (tariffs : List Tariffed) (found : Tariffed)
+latest-passes : (p q : AcceptedTerms → Bool) (tariffs : List AcceptedTerms) (found : AcceptedTerms)
     → list_all q tariffs ≡ true → latest (filter p tariffs) ≡ Some found → q found ≡ true
 latest-passes p q [] found all is = cc
 latest-passes p q (tariff ∷ tariffs) found all is =
@@ -83,7 +83,7 @@ latest-passes p q (tariff ∷ tariffs) found all is =
     ≡ Some found
     → q found ≡ true) [
       | true ↦ λ is.
-          let latest_one : Tariffed =
+          let latest_one : AcceptedTerms =
           option_map_or (later_of tariff) (latest (filter p tariffs)) tariff in
           let same : latest_one ≡ found = cc in
           ap q (sym same)
@@ -93,8 +93,8 @@ latest-passes p q (tariff ∷ tariffs) found all is =
     ] is
 
 -- a tariff that begins before the others is the latest only where there are no others
-first-latest : (tariff : Tariffed) (others : Option Tariffed)
-    → ((found : Tariffed) → others ≡ Some found → precedes tariff found ≡ true)
+first-latest : (tariff : AcceptedTerms) (others : Option AcceptedTerms)
+    → ((found : AcceptedTerms) → others ≡ Some found → precedes tariff found ≡ true)
     → Some (option_map_or (later_of tariff) others tariff) ≡ option_or others (Some tariff)
 first-latest tariff None before = refl
 first-latest tariff (Some found) before =
@@ -106,14 +106,14 @@ or-none None = refl
 or-none (Some x) = refl
 
 -- of rising tariffs the latest that passes a test is the last that does
-latest-last : (p : Tariffed → Bool) (tariffs : List Tariffed) → are_rising tariffs ≡ true
+latest-last : (p : AcceptedTerms → Bool) (tariffs : List AcceptedTerms) → are_rising tariffs ≡ true
     → latest (filter p tariffs) ≡ find p (reverse tariffs)
 latest-last p [] rise = refl
 latest-last p (tariff ∷ tariffs) rise =
     let own = first_of (list_all (precedes tariff) tariffs) (are_rising tariffs) rise in
     let others = second_of (list_all (precedes tariff) tariffs) (are_rising tariffs) rise in
     let rest = latest-last p tariffs others in
-    let found : Option Tariffed = latest (filter p tariffs) in
+    let found : Option AcceptedTerms = latest (filter p tariffs) in
     let step : latest (filter p (tariff ∷ tariffs)) ≡ option_or found (find p (tariff ∷ [])) =
     elim (p tariff) as (λ b. latest (cond b (tariff ∷ filter p tariffs) (filter p tariffs))
     ≡ option_or found (cond b (Some tariff) None)) [
@@ -127,25 +127,25 @@ latest-last p (tariff ∷ tariffs) rise =
     ∙ ap (find p) (sym (reverse-append (tariff ∷ []) tariffs))
 
 -- so it is with those that have begun
-pub begun-last : (tariffs : List Tariffed) (day : ℤ) → are_rising tariffs ≡ true
+pub begun-last : (tariffs : List AcceptedTerms) (day : ℤ) → are_rising tariffs ≡ true
     → latest (filter (has_begun day) tariffs) ≡ find (has_begun day) (reverse tariffs)
 begun-last tariffs day rise = latest-last (has_begun day) tariffs rise
 
 -- what a record costs by the terms of a tariff, if one was found
-abbrev priced_by : List ℕ → Option Tariffed → Option Priced
+abbrev priced_by : List ℕ → Option AcceptedTerms → Option Priced
 priced_by bytes found =
     option_map (λ terms. price_by terms bytes)
-    (option_map (λ (tariff : Tariffed). tariff.terms) found)
+    (option_map (λ (tariff : AcceptedTerms). tariff.terms) found)
 
 -- the same, at once
-priced_by-found : (bytes : List ℕ) (found : Option Tariffed)
+priced_by-found : (bytes : List ℕ) (found : Option AcceptedTerms)
     → priced_by bytes found ≡ option_map (λ tariff. price_by tariff.terms bytes) found
 priced_by-found bytes None = refl
 priced_by-found bytes (Some tariff) = refl
 
 -- what a record costs by the last tariff that has begun on its day
-pub price_under-found : (tariffs : List Tariffed) (bytes : List ℕ) (day : ℤ)
-    (found : Option Tariffed)
+pub price_under-found : (tariffs : List AcceptedTerms) (bytes : List ℕ) (day : ℤ)
+    (found : Option AcceptedTerms)
     → are_rising tariffs ≡ true → day ≡ day_of bytes
     → found ≡ find (has_begun day) (reverse tariffs)
     → price_under tariffs bytes ≡ option_map (λ tariff. price_by tariff.terms bytes) found
@@ -155,7 +155,7 @@ price_under-found tariffs bytes day found rise is at =
     ∙ priced_by-found bytes found
 
 -- after tariffs that begin before it, a tariff that has begun is the latest that has
-latest_new : (begun : Tariffed → Bool) (tariffs : List Tariffed) (new : Tariffed)
+latest_new : (begun : AcceptedTerms → Bool) (tariffs : List AcceptedTerms) (new : AcceptedTerms)
     → list_all (λ tariff. precedes tariff new) tariffs ≡ true → begun new ≡ true
     → latest (filter begun (tariffs ++ new ∷ [])) ≡ Some new
 latest_new begun [] new before has = ap (λ b. latest (cond b (new ∷ []) [])) has
@@ -164,7 +164,7 @@ latest_new begun (tariff ∷ tariffs) new before has =
     before in
     let others = second_of (precedes tariff new) (list_all (λ tariff. precedes tariff new) tariffs)
     before in
-    let rest : List Tariffed = filter begun (tariffs ++ new ∷ []) in
+    let rest : List AcceptedTerms = filter begun (tariffs ++ new ∷ []) in
     let last = latest_new begun tariffs new others has in
     elim (begun tariff) as (λ b. latest (cond b (tariff ∷ rest) rest) ≡ Some new) [
       | true ↦ ap (λ found. Some (option_map_or (later_of tariff) found tariff)) last
@@ -179,6 +179,6 @@ pub later_price : (rulings : Rulings) (text : Option (List ℕ)) (terms : Terms)
     → price_in (with_tariff text terms rulings) bytes ≡ Some (price_by terms bytes)
 later_price rulings text terms before bytes late =
     ap (λ found. option_map (λ terms. price_by terms bytes)
-    (option_map (λ (tariff : Tariffed). tariff.terms) found))
+    (option_map (λ (tariff : AcceptedTerms). tariff.terms) found))
     (latest_new (has_begun (day_of bytes)) rulings.tariffs
     (record { text = text; terms = terms }) before (ap not late))

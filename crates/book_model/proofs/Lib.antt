@@ -7,11 +7,11 @@ pub mod SumLemmas
 pub mod SetLemmas
 pub mod RecordSets
 pub mod MapLemmas
-pub mod GivenLemmas
+pub mod FilterMapLemmas
 pub mod FilterLemmas
 pub mod PairLemmas
 pub mod InsertLemmas
-pub mod EntryReading
+pub mod SortedEntries
 pub mod SetChanges
 pub mod ChargedChanges
 pub mod ChosenLemmas
@@ -24,8 +24,8 @@ pub mod LatestLemmas
 pub mod AnswerLemmas
 pub mod CallLemmas
 pub mod SoundLemmas
-pub mod ReadingLemmas
-pub mod AnsweredLemmas
+pub mod SamePriceLemmas
+pub mod MadeByCallsLemmas
 pub mod HistoryLemmas
 pub mod PastLemmas
 pub mod StepLemmas

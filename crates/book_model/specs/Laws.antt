@@ -10,7 +10,7 @@ use Rattle.smf_type30.specs.Usage.{day_of}
 use Rattle.book_model.specs.declared.answer.Accepted.TheVariants.{Kept}
 use Rattle.book_model.specs.declared.answer.Ruled.TheVariants.{Done}
 use Rattle.book_model.specs.Records.{Naming, IsUsageRecord}
-use Rattle.book_model.specs.Rulings.{Rulings, Tariffed, price_in, with_tariff, are_rising}
+use Rattle.book_model.specs.Rulings.{Rulings, AcceptedTerms, price_in, with_tariff, are_rising}
 use Rattle.book_model.specs.Rulings.{has_begun, in_force, last_close, rulings_before, identity_by}
 use Rattle.book_model.specs.Charged.{is_dated_after, is_unrivalled, share_identity}
 use Rattle.book_model.specs.Disputes.{is_settled}
@@ -20,8 +20,8 @@ use Rattle.book_model.specs.Accept.{accept_answer}
 use Rattle.book_model.specs.RulingAnswers.{terms_answer, close_answer, record_named, adopt_answer}
 use Rattle.book_model.specs.RulingAnswers.{second_rule}
 use Rattle.book_model.specs.History.{tariffs, rulings, held_before, book_after, book_of}
-use Rattle.book_model.specs.Answered.{IsAnswered}
-use Rattle.book_model.specs.Stretches.{rulings_in, stretches}
+use Rattle.book_model.specs.MadeByCalls.{IsMadeByCalls}
+use Rattle.book_model.specs.RecordBatches.{rulings_in, record_batches}
 use Rattle.book_model.specs.Sets.{members, has}
 use Rattle.book_model.specs.Sound.{IsSound, IsChoiceOf, AreAmong}
 
@@ -48,8 +48,8 @@ pub record CallsGoForward : Type 0 where
 
 -- so no tariff that is Done changes the price of a record that is dated no later than the last
 -- close
-abbrev pub SettledPricesStay : Type 0
-SettledPricesStay =
+abbrev pub ClosedPricesStay : Type 0
+ClosedPricesStay =
     (book : Book) (text : List ℕ) (terms : Terms) (bytes : List ℕ)
     → terms_answer book text terms ≡ Ok Done
     → is_dated_after (last_close book.rulings) bytes ≡ false
@@ -58,9 +58,9 @@ SettledPricesStay =
 -- Of tariffs that each begin later than those before them, the one in force on a day is the last
 -- that has begun; and so are the tariffs of a history that calls made.
 pub record LatestIsLast : Type 0 where
-  pub rising : (naming : Naming) (history : List Event) → IsAnswered naming history
+  pub rising : (naming : Naming) (history : List Event) → IsMadeByCalls naming history
       → are_rising (tariffs history) ≡ true
-  pub last : (tariffs : List Tariffed) (day : ℤ) → are_rising tariffs ≡ true
+  pub last : (tariffs : List AcceptedTerms) (day : ℤ) → are_rising tariffs ≡ true
       → in_force day tariffs
       ≡ option_map (λ tariff. tariff.terms) (find (has_begun day) (reverse tariffs))
 
@@ -92,7 +92,7 @@ BooksFollowHistory = (history : List Event) → book_after history ≡ book_of h
 -- which of those in a record's identity came last.
 abbrev pub ChosenWereHeld : Type 0
 ChosenWereHeld =
-    (naming : Naming) (history : List Event) (k : ℕ) → IsAnswered naming history
+    (naming : Naming) (history : List Event) (k : ℕ) → IsMadeByCalls naming history
     → All (IsChoiceOf (held_before (suc k) history)) (rulings_before k (rulings history)).choices
 
 -- A record that is held is of an identity in dispute, which two or more have and none of them was
@@ -121,5 +121,5 @@ abbrev pub OrderIsFree : Type 0
 OrderIsFree =
     (before : Book) (one other : List Event)
     → rulings_in one ≡ rulings_in other
-    → stretches one ≡ stretches other
+    → record_batches one ≡ record_batches other
     → after_all one before ≡ after_all other before

@@ -19,8 +19,8 @@ pub mod Accept
 pub mod RulingAnswers
 pub mod Outcomes
 pub mod History
-pub mod Answered
-pub mod Stretches
+pub mod MadeByCalls
+pub mod RecordBatches
 pub mod Sound
 pub mod Laws
 pub mod Answers

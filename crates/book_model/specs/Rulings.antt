@@ -13,7 +13,7 @@ use Rattle.book_model.specs.Sets.{members}
 use Rattle.book_model.specs.Records.{Records}
 
 -- A tariff that the office accepted. The one that a ledger began with has no text.
-pub record Tariffed : Type 0 where
+pub record AcceptedTerms : Type 0 where
   pub text : Option (List ℕ)
   pub terms : Terms
 
@@ -25,7 +25,7 @@ pub record Choice : Type 0 where
 -- The tariffs, the days of the closes and the choices, each in the order in which they came; and
 -- the period that was open when the second rule of identity was adopted, if it was.
 pub record Rulings : Type 0 where
-  pub tariffs : List Tariffed
+  pub tariffs : List AcceptedTerms
   pub closes : List ℤ
   pub choices : List Choice
   pub adopted : Option ℕ
@@ -73,32 +73,32 @@ rulings_before others rulings = record rulings {
 }
 
 -- of two tariffs, the one with the later first day
-abbrev pub later_of : Tariffed → Tariffed → Tariffed
+abbrev pub later_of : AcceptedTerms → AcceptedTerms → AcceptedTerms
 later_of one other = if int_lt one.terms.effective other.terms.effective then other else one
 
 -- of some tariffs, the one with the latest first day
-abbrev pub latest : List Tariffed → Option Tariffed
+abbrev pub latest : List AcceptedTerms → Option AcceptedTerms
 latest [] = None
 latest (tariff ∷ others) = Some (option_map_or (later_of tariff) (latest others) tariff)
 
 -- each tariff begins later than those before it
-abbrev pub are_rising : List Tariffed → Bool
+abbrev pub are_rising : List AcceptedTerms → Bool
 are_rising [] = true
 are_rising (tariff ∷ others) =
     list_all (λ later. int_lt tariff.terms.effective later.terms.effective) others
     && are_rising others
 
 -- the tariff begins on the day or before it
-abbrev pub has_begun : ℤ → Tariffed → Bool
+abbrev pub has_begun : ℤ → AcceptedTerms → Bool
 has_begun day tariff = not (int_lt day tariff.terms.effective)
 
 -- the terms in force on a day: of the tariffs that have begun, those of the latest
-abbrev pub in_force : ℤ → List Tariffed → Option Terms
+abbrev pub in_force : ℤ → List AcceptedTerms → Option Terms
 in_force day tariffs =
     option_map (λ tariff. tariff.terms) (latest (filter (has_begun day) tariffs))
 
 -- what a record costs by the tariff in force on its day, if there is one
-abbrev pub price_under : List Tariffed → List ℕ → Option Priced
+abbrev pub price_under : List AcceptedTerms → List ℕ → Option Priced
 price_under tariffs bytes = option_map (λ terms. price_by terms bytes)
     (in_force (day_of bytes) tariffs)
 

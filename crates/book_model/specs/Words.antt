@@ -6,8 +6,8 @@ pub use Rattle.smf_text.specs.CodePage.{show_text}
 pub use Rattle.smf_frames.specs.Number.{number, part}
 pub use Rattle.smf_frames.specs.Framed.{IsFramed, data_of, record_with}
 pub use Rattle.smf_frames.specs.Faults.{frame_number}
-pub use Rattle.smf_frames.specs.Front.{Front, behind, front, front_from}
-pub use Rattle.smf_frames.specs.Joining.{Joining, StandsAfter, broken_by, let_go, nothing_found}
+pub use Rattle.smf_frames.specs.Front.{Front, prepend, front, front_from}
+pub use Rattle.smf_frames.specs.Joining.{Joining, HasTaken, broken_by, released, nothing_found}
 pub use Rattle.smf_frames.specs.Joining.{nothing_joined}
 pub use Rattle.smf_frames.specs.Feeding.{Feeds}
 pub use Rattle.smf_frames.specs.Texts.{texts}
@@ -25,12 +25,12 @@ pub use Rattle.book_model.specs.Sets.{Set, has, members, set_of, those, with, wi
 pub use Rattle.book_model.specs.Records.{IsUsageRecord, Naming, Records, by_bytes, name_of}
 pub use Rattle.book_model.specs.Records.{same_bytes}
 pub use Rattle.book_model.specs.Limits.{last_period, most_choices, most_cost, most_held}
-pub use Rattle.book_model.specs.Rulings.{Choice, Rulings, Tariffed, are_rising, has_begun}
+pub use Rattle.book_model.specs.Rulings.{Choice, Rulings, AcceptedTerms, are_rising, has_begun}
 pub use Rattle.book_model.specs.Rulings.{identity_by, in_force, last_close, no_rulings, open_by}
 pub use Rattle.book_model.specs.Rulings.{price_in, price_under, prices, with_choice, with_close}
 pub use Rattle.book_model.specs.Rulings.{with_second_rule, with_tariff}
 pub use Rattle.book_model.specs.Charged.{charged_by, charged_now, charged_through, conflict}
-pub use Rattle.book_model.specs.Charged.{is_chosen, is_dated_after, is_dated_by, is_undisputed}
+pub use Rattle.book_model.specs.Charged.{is_chosen, is_dated_after, is_dated_through, is_undisputed}
 pub use Rattle.book_model.specs.Charged.{is_unrivalled, last_chosen, share_identity}
 pub use Rattle.book_model.specs.Periods.{Period, period_by}
 pub use Rattle.book_model.specs.Rows.{AreRows, FitSums, by_key, charged_at, key_of, keys_of, row_at}
@@ -54,12 +54,12 @@ pub use Rattle.book_model.specs.Outcomes.{Outcome, accept_event, accept_outcome}
 pub use Rattle.book_model.specs.Outcomes.{adjustments_outcome, adopt_event, adopt_outcome}
 pub use Rattle.book_model.specs.Outcomes.{charges_outcome, choose_event, choose_outcome}
 pub use Rattle.book_model.specs.Outcomes.{close_event, close_outcome, disputes_outcome}
-pub use Rattle.book_model.specs.Outcomes.{periods_outcome, reading, tariff_event, tariff_outcome}
+pub use Rattle.book_model.specs.Outcomes.{periods_outcome, no_event, tariff_event, tariff_outcome}
 pub use Rattle.book_model.specs.History.{book_after, book_of, charged_in, closes, day_of_close}
 pub use Rattle.book_model.specs.History.{held_before, period_after, periods, rulings}
-pub use Rattle.book_model.specs.Answered.{IsAnswered}
-pub use Rattle.book_model.specs.Stretches.{rulings_in, stretches}
-pub use Rattle.book_model.specs.Sound.{AreAllDatedBy, AreAmong, AreDatedBy, AreHeld, IsChoiceOf}
+pub use Rattle.book_model.specs.MadeByCalls.{IsMadeByCalls}
+pub use Rattle.book_model.specs.RecordBatches.{rulings_in, record_batches}
+pub use Rattle.book_model.specs.Sound.{AreAllDatedThrough, AreAmong, AreDatedThrough, AreHeld, IsChoiceOf}
 pub use Rattle.book_model.specs.Sound.{IsSound}
 pub use Rattle.book_model.specs.Laws.{IsAfterLastClose}
 pub use Rattle.book_model.specs.Answers.{Answers, IsBookCall, event_of}

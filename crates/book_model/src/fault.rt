@@ -30,8 +30,8 @@ pub enum LedgerFault {
     /// Another tariff comes into force on that day.
     #[error("another tariff comes into force on that day")]
     TariffExists,
-    /// Records that are held are dated on the tariff's effective day or after it. It is not answered
-    /// any more: they are priced anew.
+    /// Records that are held are dated on the tariff's effective day or after it. It is not
+    /// answered any more: they are priced anew.
     #[error("records are dated after the tariff")]
     RecordsDated,
     /// Another period is open: this one.

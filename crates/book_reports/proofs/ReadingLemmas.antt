@@ -5,9 +5,9 @@ use Rattle.book_model.specs.declared.fault.LedgerFault.{LedgerFault}
 use Rattle.book_model.specs.declared.fault.LedgerFault.TheVariants.{Memory, Store, Reopen}
 use Rattle.book_model.specs.Words.{Book, Event, after_all, Outcome}
 use Rattle.book_core.specs.Ledgers.{Seen}
-use Rattle.book_core.specs.Work.{Then}
+use Rattle.book_core.specs.Transition.{Then}
 use Rattle.book_core.specs.Calls.{Calls, IsCall, Makes, Reopens, listed, is_store, is_reopen}
-use Rattle.book_core.proofs.WorkLemmas.{work_then, work_as}
+use Rattle.book_core.proofs.TransitionLemmas.{work_then, work_as}
 
 -- what a call answers of an outcome; out of memory, a fault of the store and Reopen show nothing
 abbrev pub Tells : {V A : Type 0} → (V → A) → Result V LedgerFault → Result A LedgerFault → Type 0

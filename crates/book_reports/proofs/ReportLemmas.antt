@@ -3,7 +3,7 @@ use Rattle.std.proofs.Common.{◌≡◌, ◌∙◌, ℕ, ◌<◌, true, List, []
 use Rattle.std.proofs.Common.{Result, Ok, Err, Vec, Global, refl, sym, ap, subst, append-nil}
 use Rattle.std.specs.Prelude.{IfErr}
 use Rattle.std.specs.Io.KnownBytes.{Appends}
-use Rattle.streams.specs.Sides.{Output}
+use Rattle.streams.specs.InputOutput.{Output}
 use Rattle.book_model.specs.declared.fault.LedgerFault.{LedgerFault}
 use Rattle.book_model.specs.declared.fault.LedgerFault.TheVariants.{Memory}
 use Rattle.book_model.specs.Words.{Answers, Book, Naming}
@@ -15,7 +15,7 @@ use Rattle.book_reports.specs.declared.fault.ReportFault.TheVariants as report
 use Rattle.book_reports.specs.declared.report.Report.{Report}
 use Rattle.book_reports.specs.BookTexts.{report_outcome, shown_by}
 use Rattle.book_reports.specs.Reports.{IsPassedOn, IsReport}
-use Rattle.book_reports.specs.Writing.{Writes, is_write_or_memory}
+use Rattle.book_reports.specs.Writing.{WritesTexts, is_write_or_memory}
 use Rattle.book_reports.proofs.ReadingLemmas.{IsAlike, IsReading, Tells, fault_alike, fault_tells}
 use Rattle.book_reports.proofs.ReadingLemmas.{read_as}
 use Rattle.book_reports.proofs.WritingLemmas.{nothing_written, same_value, memory_not_write}
@@ -52,7 +52,7 @@ report_made none answer call passed = record {
 passed_written : (answer : Result (List ℕ) LedgerFault) (result : Result (Unit {0}) ReportFault)
     (output : Output) (text : List ℕ)
     → Answers (λ text. text) answer (Ok text) → IsPassedOn answer output result
-    → Writes (text ∷ []) output.old.holds output.new.holds result
+    → WritesTexts (text ∷ []) output.old.holds output.new.holds result
 passed_written (Ok found) (Ok done) output text answers passed =
     subst (Appends output.old.holds output.new.holds) (sym (same_value answers) ∙ sym (append-nil text)) passed
 passed_written (Ok found) (Err report.Write) output text answers passed =
@@ -99,7 +99,7 @@ module _ {naming names : Naming} {book after : Book} {asked : Report} {output : 
 
     -- the text is written, up to a fault
     pub report_writes : (text : List ℕ) → (report_outcome naming asked book).answer ≡ Ok text
-        → Writes (text ∷ []) output.old.holds output.new.holds result
+        → WritesTexts (text ∷ []) output.old.holds output.new.holds result
     report_writes text is =
         passed_written made.answer result output text
         (subst (Answers (λ text. text) made.answer) is (answers_in_memory made.call)) made.passed_on

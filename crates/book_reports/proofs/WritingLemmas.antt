@@ -14,7 +14,7 @@ use Rattle.book_model.specs.declared.fault.LedgerFault.TheVariants as ledger
 use Rattle.book_reports.specs.declared.fault.ReportFault.{ReportFault}
 use Rattle.book_reports.specs.declared.fault.ReportFault.TheVariants.{Write, Memory}
 use Rattle.book_reports.specs.Faults.{report_fault_of}
-use Rattle.book_reports.specs.Writing.{Writes, WritesUpTo}
+use Rattle.book_reports.specs.Writing.{WritesTexts, WritesUpTo}
 
 -- one more write appends the bytes that it took to those so far
 pub taken_more : (first before after : Option (List ℕ)) (text : List ℕ) (written count : ℕ)
@@ -47,7 +47,7 @@ pub text_written : (F : Type 0) (held holds : Option (List ℕ)) (text : List �
     (answer : Result (Unit {0}) ReportFault)
     → OnOk answer (Appends held holds text × F) → IfErr answer (λ fault. fault ≡ Write)
     → OnErr answer ((n : ℕ) × (n < length text) × Appends held holds (take n text))
-    → Writes (text ∷ []) held holds answer
+    → WritesTexts (text ∷ []) held holds answer
 text_written F held holds text (Ok done) whole failed prefix =
     subst (Appends held holds) (sym (append-nil text)) whole.0
 text_written F held holds text (Err fault) whole failed prefix =
@@ -99,8 +99,8 @@ others_unwritten fault others writes =
 pub others_written : {A : Type 0} (first : List ℕ) (others : List (List ℕ))
     (held mid holds : Option (List ℕ))
     (answer : Result A ReportFault)
-    → Appends held mid (first ++ []) → Writes others mid holds answer
-    → Writes (first ∷ others) held holds answer
+    → Appends held mid (first ++ []) → WritesTexts others mid holds answer
+    → WritesTexts (first ∷ others) held holds answer
 others_written first others held mid holds (Ok value) one then =
     let text = subst (Appends held mid) (append-nil first) one in
     Appends-trans held mid holds first (concat others) text then

@@ -2,7 +2,7 @@
 use Rattle.std.specs.Prelude.{ℕ, ◌-◌, ℤ, List, slice_get, Option, None, Result, Ok, Err}
 use Rattle.sha2.specs.Sha256.{sha256}
 use Rattle.book_model.specs.declared.fault.LedgerFault.{LedgerFault}
-use Rattle.book_model.specs.Words.{Book, open_period, disputes_in, Outcome, reading}
+use Rattle.book_model.specs.Words.{Book, open_period, disputes_in, Outcome, no_event}
 use Rattle.book_model.specs.Words.{charges_outcome, adjustments_outcome, disputes_outcome}
 use Rattle.book_model.specs.Words.{periods_outcome, Naming, rows_for}
 use Rattle.report_texts.specs.Statements.{statement_text}
@@ -21,21 +21,21 @@ shown_by show (Ok value) = Ok (show value)
 shown_by show (Err fault) = Err fault
 
 -- the day that a period was closed through, if it is closed
-abbrev pub through_of : Book → ℕ → Option ℤ
-through_of book period = slice_get book.rulings.closes (period - 1)
+abbrev pub closed_through : Book → ℕ → Option ℤ
+closed_through book period = slice_get book.rulings.closes (period - 1)
 
 -- that day, as a ledger is asked for it
-abbrev pub through_outcome : ℕ → Book → Outcome (Option ℤ)
-through_outcome period book = reading (Ok (through_of book period))
+abbrev pub closed_through_outcome : ℕ → Book → Outcome (Option ℤ)
+closed_through_outcome period book = no_event (Ok (closed_through book period))
 
 -- what a book answers to a report: its text, or the refusal of a period that is not there
 abbrev pub report_answer : Naming → Report → Book → Result (List ℕ) LedgerFault
 report_answer naming (Statement period) book =
-    shown_by (statement_text period (through_of book period)) (charges_outcome period book).answer
+    shown_by (statement_text period (closed_through book period)) (charges_outcome period book).answer
 report_answer naming (StatementTable period) book =
     shown_by (statement_table period) (charges_outcome period book).answer
 report_answer naming (AdjustmentList period) book =
-    shown_by (adjustment_list_text period (through_of book period))
+    shown_by (adjustment_list_text period (closed_through book period))
     (adjustments_outcome naming period book).answer
 report_answer naming DisputeList book =
     shown_by dispute_list_text (disputes_outcome naming book).answer
@@ -43,7 +43,7 @@ report_answer naming PeriodList book = shown_by period_list_text (periods_outcom
 
 -- a report, as a ledger is asked for it
 abbrev pub report_outcome : Naming → Report → Book → Outcome (List ℕ)
-report_outcome naming report book = reading (report_answer naming report book)
+report_outcome naming report book = no_event (report_answer naming report book)
 
 -- the statement of the only period of books that were never closed
 abbrev pub open_statement : Book → List ℕ

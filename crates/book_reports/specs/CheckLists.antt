@@ -1,12 +1,12 @@
 -- Lists of a check: of which type and class each record is, and how many there are.
 use Rattle.std.specs.Prelude.{ℕ, ◌+◌, if◌then◌else◌, nat_lt, List, [], ◌∷◌, ◌++◌, length, codes}
 use Rattle.std.specs.Fmt.{decimal}
-use Rattle.smf_type30.specs.declared.classes.Class.{Class}
-use Rattle.smf_type30.specs.declared.classes.Class.TheVariants.{DumpHeader, DumpTrailer, DataLost}
-use Rattle.smf_type30.specs.declared.classes.Class.TheVariants.{Other, Continuation, Usage, Damaged}
+use Rattle.smf_type30.specs.declared.record_class.Class.{Class}
+use Rattle.smf_type30.specs.declared.record_class.Class.TheVariants.{DumpHeader, DumpTrailer, DataLost}
+use Rattle.smf_type30.specs.declared.record_class.Class.TheVariants.{Other, Continuation, Usage, Damaged}
 use Rattle.book_model.specs.Words.{type_of, class_of, damage_number}
 use Rattle.book_import.specs.declared.receipt.Stop.{Stop}
-use Rattle.report_texts.specs.Columns.{line_end}
+use Rattle.report_texts.specs.Columns.{newline}
 use Rattle.book_reports.specs.ReceiptLines.{fault_text, stop_text}
 
 -- the type of a record, which a record shorter than the 18 bytes of a header does not show
@@ -29,7 +29,7 @@ unfoldable pub record_line : ℕ → List ℕ → List ℕ
 record_line number bytes =
     decimal number
     ++ codes " TYPE " ++ type_text bytes
-    ++ codes " " ++ class_text (class_of bytes) ++ line_end
+    ++ codes " " ++ class_text (class_of bytes) ++ newline
 
 -- the lines of records, where the first has that number
 abbrev pub record_lines : ℕ → List (List ℕ) → List ℕ
@@ -39,7 +39,7 @@ record_lines number (bytes ∷ rest) = record_line number bytes ++ record_lines 
 -- how many records there are, and why there are no more
 abbrev pub last_line : ℕ → Stop → List ℕ
 last_line count stop =
-    codes "RECORDS " ++ decimal count ++ codes " STOP " ++ stop_text stop ++ line_end
+    codes "RECORDS " ++ decimal count ++ codes " STOP " ++ stop_text stop ++ newline
 
 -- the lines of the records, numbered from 1, and the last line
 abbrev pub check_list_text : List (List ℕ) → Stop → List ℕ

@@ -5,7 +5,7 @@ use Rattle.book_model.specs.Words.{frame_number, ledger_number}
 use Rattle.book_import.specs.declared.receipt.Receipt.{Receipt}
 use Rattle.book_import.specs.declared.receipt.Stop.{Stop}
 use Rattle.book_import.specs.declared.receipt.Stop.TheVariants.{End, Frame, Read, ReadLimit, Ledger}
-use Rattle.report_texts.specs.Columns.{line_end}
+use Rattle.report_texts.specs.Columns.{newline}
 
 -- a word and a number, and a blank after each
 abbrev pub count_text : List ℕ → ℕ → List ℕ
@@ -44,4 +44,4 @@ stop_text (Ledger fault) = fault_text (codes "LEDGER") (ledger_number fault)
 abbrev pub receipt_line_text : Receipt → List ℕ
 receipt_line_text receipt =
     usage_counts receipt ++ other_counts receipt
-    ++ codes "STOP " ++ stop_text receipt.stop ++ line_end
+    ++ codes "STOP " ++ stop_text receipt.stop ++ newline

@@ -1,7 +1,7 @@
 -- Reports: each is one call of a ledger that answers a text, and what a writer has of the answer.
 use Rattle.std.specs.Prelude.{◌≡◌, ◌<◌, ℕ, List, length, take, Result, Ok, Err}
 use Rattle.std.specs.Io.KnownBytes.{Appends}
-use Rattle.streams.specs.Sides.{Output}
+use Rattle.streams.specs.InputOutput.{Output}
 use Rattle.book_model.specs.declared.fault.LedgerFault.{LedgerFault}
 use Rattle.book_core.specs.Ledgers.{Books}
 use Rattle.book_core.specs.Calls.{IsCall}
@@ -26,7 +26,8 @@ pub record Refuses {A : Type 0} (fault : LedgerFault) (output : Output)
   pub none : output.new ≡ output.old
 
 -- what the books answered was passed on to a writer
-abbrev pub IsPassedOn : Result (List ℕ) LedgerFault → Output → Result (Unit {0}) ReportFault → Type 0
+abbrev pub IsPassedOn : Result (List ℕ) LedgerFault → Output → Result (Unit {0}) ReportFault
+    → Type 0
 IsPassedOn (Ok text) output result = IsWritten text output result
 IsPassedOn (Err fault) output result = Refuses fault output result
 

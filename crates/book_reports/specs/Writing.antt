@@ -21,10 +21,10 @@ pub record WritesUpTo (fault : ReportFault) (texts : List (List ℕ)) (held hold
 
 -- Texts were written one after another, if the writer shows its bytes: all of them, or those before
 -- a fault.
-abbrev pub Writes :
+abbrev pub WritesTexts :
     {A : Type 0} → List (List ℕ) → Option (List ℕ) → Option (List ℕ) → Result A ReportFault → Type 0
-Writes texts held holds (Ok value) = Appends held holds (concat texts)
-Writes texts held holds (Err fault) = WritesUpTo fault texts held holds
+WritesTexts texts held holds (Ok value) = Appends held holds (concat texts)
+WritesTexts texts held holds (Err fault) = WritesUpTo fault texts held holds
 
 -- A text was written, if the writer shows its bytes: the whole of it, or a prefix before a fault.
 abbrev pub WritesPrefix :

@@ -15,9 +15,9 @@ use report_texts::{
 use std::alloc::Global;
 
 /// The day that a period was closed through, `None` if no such period is closed.
-fn through_of<L: Ledger>(ledger: &mut L, period: u16) -> Result<Option<i32>, LedgerFault>
+fn closed_through<L: Ledger>(ledger: &mut L, period: u16) -> Result<Option<i32>, LedgerFault>
     ensures through { IsCall (λ through. through) (L.seen ledger.old) (L.seen ledger.new) result
-        (spec.through_outcome period) }
+        (spec.closed_through_outcome period) }
     ensures shown { IfOk result (λ through. ForSome through IsDay) }
 {
     let days = ledger.periods()?;
@@ -33,7 +33,7 @@ fn statement_of<L: Ledger>(
     ensures { IsCall (λ text. text.items) (L.seen ledger.old) (L.seen ledger.new) result
         (spec.report_outcome (L.seen ledger.old).naming (Report.Statement period)) }
 {
-    let through = through_of(ledger, period)?;
+    let through = closed_through(ledger, period)?;
     let rows = ledger.charges(period)?;
     Ok(statement_text(alloc, period, through, &rows)?.into_bytes())
 }
@@ -60,7 +60,7 @@ fn adjustment_list_of<L: Ledger>(
     ensures { IsCall (λ text. text.items) (L.seen ledger.old) (L.seen ledger.new) result
         (spec.report_outcome (L.seen ledger.old).naming (Report.AdjustmentList period)) }
 {
-    let through = through_of(ledger, period)?;
+    let through = closed_through(ledger, period)?;
     let lines = ledger.adjustments(period)?;
     Ok(adjustment_list_text(alloc, period, through, &lines)?.into_bytes())
 }

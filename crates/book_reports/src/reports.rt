@@ -2,13 +2,13 @@
 //! books refuse, or memory runs out, nothing is written.
 
 ghost use Rattle.std.specs.Prelude.{◌≡◌, ◌∷◌, [], false, IfErr};
-ghost use Rattle.streams.specs.Sides.{output};
+ghost use Rattle.streams.specs.InputOutput.{output};
 ghost use Rattle.streams.specs.Sinks.{writer_of, has_failed};
 ghost use Rattle.book_core.specs.Ledgers.{books};
 ghost use Rattle.book_reports.specs.BookTexts.{shown_by};
 ghost use Rattle.book_reports.specs.ReceiptLines as lines;
 ghost use Rattle.book_reports.specs.Reports.{IsPassedOn, IsReport};
-ghost use Rattle.book_reports.specs.Writing.{Writes, is_write_fault};
+ghost use Rattle.book_reports.specs.Writing.{WritesTexts, is_write_fault};
 
 use crate::book_texts::report_text;
 use crate::fault::ReportFault;
@@ -26,7 +26,7 @@ pub fn receipt_line<W: Write + Drop>(
     sink: &mut Sink<W>,
 ) -> Result<(), ReportFault>
     requires { has_failed sink.old ≡ false }
-    ensures text { Writes (lines.receipt_line_text receipt.now ∷ [])
+    ensures text { WritesTexts (lines.receipt_line_text receipt.now ∷ [])
         (W.contents (writer_of sink.old)) (W.contents (writer_of sink.new)) result }
     ensures failed { has_failed sink.new ≡ is_write_fault result }
     ensures fault { IfErr result (λ fault. fault ≡ ReportFault.Write) }

@@ -1,21 +1,21 @@
 -- Lives of books, one after another.
 use Rattle.std.proofs.Common.{◌≡◌, false, List, [], ◌∷◌, ◌++◌, refl, sym, subst, ap, ◌∙◌}
 use Rattle.std.proofs.Common.{append_assoc}
-use Rattle.book_model.specs.Words.{Book, Event, after_all, book_after, new_book, IsAnswered}
+use Rattle.book_model.specs.Words.{Book, Event, after_all, book_after, new_book, IsMadeByCalls}
 use Rattle.book_model.specs.Words.{Naming}
-use Rattle.book_core.specs.Ledgers.{Seen, IsOpenAt, stands_by}
-use Rattle.book_core.specs.Work.{IsWork}
-use Rattle.book_core.proofs.WorkLemmas.{after_all-append}
+use Rattle.book_core.specs.Ledgers.{Seen, IsOpenAt, may_have}
+use Rattle.book_core.specs.Transition.{IsTransition}
+use Rattle.book_core.proofs.TransitionLemmas.{after_all-append}
 use Rattle.book_laws.specs.Calls.{Call, works_of}
 use Rattle.book_laws.proofs.CallLemmas.{calls_are_answered}
-use Rattle.book_restarts.specs.Laws.{Life, AreLived, MakeAll, StopsFollowHistory, ledger_behind}
+use Rattle.book_restarts.specs.Laws.{Life, AreLived, MakeAll, StopsFollowHistory, ledger_after_lives}
 use Rattle.book_restarts.specs.Restarts.{IsRestart}
 
 -- an open ledger is only at its own book
-own_book : (seen : Seen) (start book : Book) → stands_by seen.must_reopen seen book
+own_book : (seen : Seen) (start book : Book) → may_have seen.must_reopen seen book
     → seen.must_reopen ≡ false → seen.book ≡ start → book ≡ start
 own_book seen start book stands is_open own =
-    subst (λ flag. stands_by flag seen book) is_open stands ∙ own
+    subst (λ flag. may_have flag seen book) is_open stands ∙ own
 
 -- what the calls of one life made of the books of a history, and where they were opened again
 record IsLife (naming : Naming) (start : List Event) (calls : List Call) (stopped again : Seen)
@@ -26,7 +26,7 @@ record IsLife (naming : Naming) (start : List Event) (calls : List Call) (stoppe
 
 -- each life is such
 one_life : (naming : Naming) (start : List Event) (calls : List Call) (before stopped again : Seen)
-    → IsOpenAt naming (book_after start) before → IsWork before stopped (works_of naming calls)
+    → IsOpenAt naming (book_after start) before → IsTransition before stopped (works_of naming calls)
     → stopped.is_honest → again.is_honest → IsRestart stopped again
     → IsLife naming start calls stopped again
 one_life naming start calls before stopped again opened work honest honest_again restart =
@@ -51,7 +51,7 @@ one_life naming start calls before stopped again opened work honest honest_again
 module _ {L : Type 0} (seen : L → Seen) (naming : Naming) where
   -- what was honest to the end was so in the beginning
   honest_first : (before : L) (lives : List (Life L)) → AreLived seen naming before lives
-      → (seen (ledger_behind before lives)).is_honest → (seen before).is_honest
+      → (seen (ledger_after_lives before lives)).is_honest → (seen before).is_honest
   honest_first before [] lived honest = honest
   honest_first before (life ∷ later) lived honest = lived.0.honest lived.1
 
@@ -82,7 +82,7 @@ lives_follow seen naming start before (life ∷ later) answered opened lived hon
             (after_all-append one.events start new_book) rest.made,
         refl,
       );
-      answered = subst (IsAnswered naming) (sym all) rest.answered;
+      answered = subst (IsMadeByCalls naming) (sym all) rest.answered;
       left = subst (λ history. IsOpenAt naming (book_after history)
-          (seen (ledger_behind life.again later))) (sym all) rest.left;
+          (seen (ledger_after_lives life.again later))) (sym all) rest.left;
     }

@@ -3,13 +3,13 @@ use Rattle.std.proofs.Common.{◌≡◌, Bool, true, false, refl, sym, subst}
 use Rattle.sqlite_trees.specs.Tree.{Trees}
 use Rattle.sqlite_trees.specs.View.{View, IsClean}
 use Rattle.book_model.specs.Words.{Book, Naming}
-use Rattle.book_core.specs.Ledgers.{Seen, IsOpenAt, stands_by}
-use Rattle.kept_tables.specs.TablesOf.{tables_of}
-use Rattle.table_readings.specs.FromCalls.{IsFromCalls}
-use Rattle.table_ledger.specs.Commits.{IsAtRest, Keeping}
-use Rattle.table_ledger.specs.Ready.{IsKeptIn}
-use Rattle.table_ledger.specs.Shelf.{AreBooks, seen_of}
-use Rattle.table_ledger.specs.Told.{LeavesTheLast, settled_on, told_kept}
+use Rattle.book_core.specs.Ledgers.{Seen, IsOpenAt, may_have}
+use Rattle.table_model.specs.TablesOf.{tables_of}
+use Rattle.table_laws.specs.FromCalls.{IsFromCalls}
+use Rattle.table_ledger.specs.Commits.{IsAtRest, Stores}
+use Rattle.table_ledger.specs.Ready.{IsStoredIn}
+use Rattle.table_ledger.specs.LedgerState.{AreBooks, seen_of}
+use Rattle.table_ledger.specs.ReadyBooks.{LeavesTheLast, settled_on, book_of_stored}
 use Rattle.table_ledger.specs.declared.summary.Summary.{Summary}
 use Rattle.book_restarts.specs.Restarts.{IsRestart}
 
@@ -17,7 +17,7 @@ module _ (naming : Naming) (view : View) (may_leave : Trees → Type 0) (must_re
     (summary : Summary) (last : LeavesTheLast view may_leave) (found : View) (new : Seen)
     (rest : new.is_honest → IsAtRest found) (left : new.is_honest → may_leave found.trees)
     (given : Naming) (same : given ≡ naming) (opens : new.is_honest → (book : Book)
-    → IsFromCalls given book → Keeping found (tables_of given book) → IsOpenAt given book new)
+    → IsFromCalls given book → Stores found (tables_of given book) → IsOpenAt given book new)
   where
     -- what was seen of the ledger that was released
     abbrev old : Seen
@@ -26,18 +26,18 @@ module _ (naming : Naming) (view : View) (may_leave : Trees → Type 0) (must_re
     -- it was at the book that is found
     stood : (flag : Bool) → must_reopen ≡ flag → IsClean view
         → AreBooks naming view may_leave must_reopen summary → new.is_honest → (book : Book)
-        → IsKeptIn naming book found.trees → stands_by flag old book
+        → IsStoredIn naming book found.trees → may_have flag old book
     stood true closed clean books honest book kept =
-        (found.trees, left honest, sym (told_kept kept))
+        (found.trees, left honest, sym (book_of_stored kept))
     stood false is_open clean books honest book kept =
         settled_on naming view may_leave must_reopen summary last clean books is_open book
-        (found.trees, left honest, sym (told_kept kept))
+        (found.trees, left honest, sym (book_of_stored kept))
 
     -- and the new one is open at it
-    opened : new.is_honest → (book : Book) → IsKeptIn naming book found.trees
+    opened : new.is_honest → (book : Book) → IsStoredIn naming book found.trees
         → IsOpenAt naming book new
     opened honest book kept =
-        let open_at = subst (λ name. IsFromCalls name book → Keeping found (tables_of name book)
+        let open_at = subst (λ name. IsFromCalls name book → Stores found (tables_of name book)
         → IsOpenAt name book new) same (opens honest book) in
         open_at kept.calls (record { holds = kept.holds; rest = rest honest })
 

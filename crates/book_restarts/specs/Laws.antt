@@ -1,8 +1,8 @@
 -- What calls leave of books, with stops between them.
 use Rattle.std.specs.Prelude.{◌≡◌, false, List, [], ◌∷◌, ◌++◌}
-use Rattle.book_model.specs.Words.{Book, Event, after_all, book_after, IsAnswered, Naming}
+use Rattle.book_model.specs.Words.{Book, Event, after_all, book_after, IsMadeByCalls, Naming}
 use Rattle.book_core.specs.Ledgers.{Seen, IsOpenAt}
-use Rattle.book_core.specs.Work.{IsWork}
+use Rattle.book_core.specs.Transition.{IsTransition}
 use Rattle.book_laws.specs.Calls.{Call, works_of}
 use Rattle.book_restarts.specs.Restarts.{IsRestart}
 
@@ -14,16 +14,16 @@ pub record Life (L : Type 0) : Type 0 where
   pub again : L
 
 -- the ledger after all of them
-abbrev pub ledger_behind : {L : Type 0} → L → List (Life L) → L
-ledger_behind before [] = before
-ledger_behind before (life ∷ later) = ledger_behind life.again later
+abbrev pub ledger_after_lives : {L : Type 0} → L → List (Life L) → L
+ledger_after_lives before [] = before
+ledger_after_lives before (life ∷ later) = ledger_after_lives life.again later
 
--- In each life the calls kept their contracts, on a store that returned what was written; and its end
--- was a restart. By what is seen of the ledgers.
+-- In each life the calls kept their contracts, on a store that returned what was written; and its
+-- end was a restart. By what is seen of the ledgers.
 abbrev pub AreLived : {L : Type 0} → (L → Seen) → Naming → L → List (Life L) → Type 0
 AreLived seen naming before [] = Unit {0}
 AreLived seen naming before (life ∷ later) =
-    IsWork (seen before) (seen life.stopped) (works_of naming life.calls)
+    IsTransition (seen before) (seen life.stopped) (works_of naming life.calls)
     × (seen life.stopped).is_honest × IsRestart (seen life.stopped) (seen life.again)
     × AreLived seen naming life.again later
 
@@ -37,11 +37,11 @@ MakeAll seen naming (life ∷ later) before events =
     × MakeAll seen naming later (after_all early before) late × (events ≡ late ++ early)
 
 -- The lives made these events, and the books are those of the history that goes on with them.
-pub record LeaveBooks {L : Type 0} (seen : L → Seen) (naming : Naming) (start : List Event)
+pub record LivesLeaveBooks {L : Type 0} (seen : L → Seen) (naming : Naming) (start : List Event)
     (lives : List (Life L)) (after : Seen) : Type 0 where
   pub events : List Event
   pub made : MakeAll seen naming lives (book_after start) events
-  pub answered : IsAnswered naming (events ++ start)
+  pub answered : IsMadeByCalls naming (events ++ start)
   pub left : IsOpenAt naming (book_after (events ++ start)) after
 
 -- Whatever calls are made on the books of a history, and wherever they are stopped: the books are
@@ -49,6 +49,6 @@ pub record LeaveBooks {L : Type 0} (seen : L → Seen) (naming : Naming) (start 
 abbrev pub StopsFollowHistory : {L : Type 0} → (L → Seen) → Type 0
 StopsFollowHistory {L} seen =
     (naming : Naming) (start : List Event) (before : L) (lives : List (Life L))
-    → IsAnswered naming start → IsOpenAt naming (book_after start) (seen before)
-    → AreLived seen naming before lives → (seen (ledger_behind before lives)).is_honest
-    → LeaveBooks seen naming start lives (seen (ledger_behind before lives))
+    → IsMadeByCalls naming start → IsOpenAt naming (book_after start) (seen before)
+    → AreLived seen naming before lives → (seen (ledger_after_lives before lives)).is_honest
+    → LivesLeaveBooks seen naming start lives (seen (ledger_after_lives before lives))

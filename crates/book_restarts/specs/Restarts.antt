@@ -1,11 +1,11 @@
 -- Books are released, at any moment, and opened again.
 use Rattle.book_model.specs.Words.{Book}
-use Rattle.book_core.specs.Ledgers.{Seen, IsOpenAt, StandsAt}
+use Rattle.book_core.specs.Ledgers.{Seen, IsOpenAt, MayHave}
 
 -- a ledger is open at one of the books at which another was
 pub record OpensAt (old new : Seen) : Type 0 where
   pub book : Book
-  pub stood : StandsAt old book
+  pub stood : MayHave old book
   pub opened : IsOpenAt old.naming book new
 
 -- Books were released and opened again. If what they are stored on was honest before and after, and

@@ -2,10 +2,10 @@
 //! history goes on with what was acknowledged.
 #![tactic(auto)]
 
-mod behind_close;
-mod behind_crash;
+mod after_close;
+mod after_crash;
 mod laws;
 
-pub use behind_close::open_behind_close;
-pub use behind_crash::open_behind_crash;
+pub use after_close::open_after_close;
+pub use after_crash::open_after_crash;
 pub use laws::stops_follow_history;

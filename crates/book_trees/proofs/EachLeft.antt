@@ -14,9 +14,9 @@ use Rattle.sqlite_store.specs.declared.store.FileStore.{FileStore}
 use Rattle.sqlite_trees.specs.Tree.{Trees}
 use Rattle.sqlite_wal.specs.Recovery.{Image}
 use Rattle.book_trees.proofs.FileParts.{clean_if_left}
-use Rattle.book_trees.specs.Left.{page_size, HoldsBooks, tables_at}
+use Rattle.book_trees.specs.LedgerFiles.{page_size, HoldsBooks, trees_held}
 use Rattle.book_trees.specs.Schema.{books_schema}
-use Rattle.book_trees.specs.Shown.{Shows}
+use Rattle.book_trees.specs.StoreView.{ShowsBooks}
 
 module _ {D : Type 0} {g : Ghosts D} (it : FileStore D g) (schema : schema_of it ≡ books_schema)
     (size : IsTrue (state it).is_clean → (state it).page_size ≡ page_size)
@@ -49,7 +49,7 @@ module _ {D : Type 0} {g : Ghosts D} (it : FileStore D g) (schema : schema_of it
 
   -- what a stop may leave holds books, with tables that the store counts
   pub left_by : (image : Image) → (state it).may_leave image
-      → ∥ ((held : HoldsBooks image) × recovers it (tables_at held)) ∥₁
+      → ∥ ((held : HoldsBooks image) × recovers it (trees_held held)) ∥₁
   unfolding held_at
   left_by image may =
       ∥∥₁_elim (every_image it image may) ∥∥₁_prop λ all.
@@ -61,7 +61,7 @@ module _ {D : Type 0} {g : Ghosts D} (it : FileStore D g) (schema : schema_of it
   -- and each outcome is what some such files hold
   pub each_found : (db : Trees) → recovers it db
       → ∥ ((image : Image) × (held : HoldsBooks image) × (state it).may_leave image
-      × (tables_at held ≡ db)) ∥₁
+      × (trees_held held ≡ db)) ∥₁
   unfolding held_at
   each_found db outcome =
       let image = outcome.0 in
@@ -78,7 +78,7 @@ module _ {D : Type 0} {g : Ghosts D} (it : FileStore D g) (schema : schema_of it
 
   -- what an open shows of files that it may have left is an outcome
   pub shown_outcome : (image : Image) → (state it).may_leave image
-      → {E : Type 0} {h : Ghosts E} (next : FileStore E h) → Shows image next
+      → {E : Type 0} {h : Ghosts E} (next : FileStore E h) → ShowsBooks image next
       → recovers it (view next).trees
   shown_outcome image may next shows =
       let here = sized image may in

@@ -10,7 +10,7 @@ use Rattle.sqlite_store.specs.declared.store.open.Unopened.{Unopened}
 use Rattle.sqlite_wal.specs.Files.{seen_image}
 use Rattle.sqlite_wal.specs.Reads.{are_clean, AreClean}
 use Rattle.sqlite_wal.specs.Recovery.{Image}
-use Rattle.book_trees.specs.Left.{image_of, page_size}
+use Rattle.book_trees.specs.LedgerFiles.{image_of, page_size}
 use Rattle.book_trees.proofs.Refused.{cause_for}
 use Rattle.book_trees.specs.Refusals.{faults_in, AreKept, HasCause, MayLeave}
 use Rattle.book_trees.specs.declared.faults.OpenFault.{OpenFault}

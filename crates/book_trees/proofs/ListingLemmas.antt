@@ -24,7 +24,7 @@ use Rattle.sqlite_store.specs.declared.catalog.Wanted.{Wanted}
 use Rattle.sqlite_value.specs.Order.{Row, column}
 use Rattle.sqlite_value.specs.declared.value.Value.{Value}
 use Rattle.sqlite_value.specs.declared.value.Value.TheVariants.{Int}
-use Rattle.book_trees.specs.Left.{page_size}
+use Rattle.book_trees.specs.LedgerFiles.{page_size}
 use Rattle.book_trees.specs.Listing.{has_no_pages, lists, lists_books, lists_exactly}
 use Rattle.book_trees.specs.Listing.{may_be_listed}
 use Rattle.book_trees.specs.Schema.{books_schema}

@@ -20,7 +20,7 @@ use Rattle.sqlite_value.specs.Order.{Row}
 use Rattle.sqlite_wal.specs.Recovery.{Image}
 use Rattle.sqlite_wal.specs.State.{State}
 use Rattle.book_trees.proofs.ListingLemmas.{books_listed}
-use Rattle.book_trees.specs.Left.{page_size, HoldsBooks, AreLeft}
+use Rattle.book_trees.specs.LedgerFiles.{page_size, HoldsBooks, AreLeft}
 use Rattle.book_trees.specs.Listing.{lists_books}
 use Rattle.book_trees.specs.Schema.{books_schema}
 

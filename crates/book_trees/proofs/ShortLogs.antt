@@ -4,7 +4,7 @@ use Rattle.std.proofs.Common.{inl, inr, sym, ◌∙◌}
 use Rattle.sqlite_wal.proofs.FileLemmas.{pages_without_frames}
 use Rattle.sqlite_wal.specs.Recovery as raw
 use Rattle.sqlite_wal.specs.Recovery.{Image, Pages, Replays, pages_after}
-use Rattle.book_trees.specs.Left.{shortest_log, without_log, HoldsBooks, tables_at}
+use Rattle.book_trees.specs.LedgerFiles.{shortest_log, without_log, HoldsBooks, trees_held}
 
 -- recovery takes none of its frames
 no_frames : (size : ℕ) (log : List ℕ) (k : ℕ) → length log < shortest_log → Replays size log k
@@ -30,7 +30,7 @@ recovers_alone size image pages short found =
 
 -- and holds the same books
 pub holds_alone : (image : Image) → length image.log < shortest_log → (held : HoldsBooks image)
-    → (alone : HoldsBooks (without_log image)) × (tables_at alone ≡ tables_at held)
+    → (alone : HoldsBooks (without_log image)) × (trees_held alone ≡ trees_held held)
 holds_alone image short held =
     let found = held.found in (
       record {

@@ -63,10 +63,10 @@ has_trees store schema unaltered =
       records = sorted 3 (omega arith);
       days = sorted 4 (omega arith);
       lines = sorted 5 (omega arith);
-      identities = sorted 6 (omega arith);
+      identity_index = sorted 6 (omega arith);
       marks = sorted 7 (omega arith);
       choices = sorted 8 (omega arith);
-      choice_names = sorted 9 (omega arith);
+      choice_name_index = sorted 9 (omega arith);
       committed = ap all_shapes kept;
     }
 
@@ -80,10 +80,10 @@ same_trees old new trees shape committed = record {
   records = ap (λ f. f 3) shape ∙ trees.records;
   days = ap (λ f. f 4) shape ∙ trees.days;
   lines = ap (λ f. f 5) shape ∙ trees.lines;
-  identities = ap (λ f. f 6) shape ∙ trees.identities;
+  identity_index = ap (λ f. f 6) shape ∙ trees.identity_index;
   marks = ap (λ f. f 7) shape ∙ trees.marks;
   choices = ap (λ f. f 8) shape ∙ trees.choices;
-  choice_names = ap (λ f. f 9) shape ∙ trees.choice_names;
+  choice_name_index = ap (λ f. f 9) shape ∙ trees.choice_name_index;
   committed = committed;
 }
 

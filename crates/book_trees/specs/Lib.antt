@@ -1,9 +1,9 @@
--- Read in this order: the text of each table and index; the list of them; the list that
--- a file has of itself; what a ledger leaves of its two files; what a store shows of files; why books
--- are not opened.
+-- Read in this order: the text of each table and index; the list of them; the list that a file has
+-- of itself; what a ledger leaves of its two files; what a store shows of files; why books are not
+-- opened.
 pub mod Texts
 pub mod Schema
 pub mod Listing
-pub mod Left
-pub mod Shown
+pub mod LedgerFiles
+pub mod StoreView
 pub mod Refusals

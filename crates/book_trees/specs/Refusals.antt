@@ -12,7 +12,7 @@ use Rattle.sqlite_store.specs.declared.store.open.Unopened.{Unopened}
 use Rattle.sqlite_wal.specs.Files.{outcomes}
 use Rattle.sqlite_wal.specs.Reads.{AreClean}
 use Rattle.sqlite_wal.specs.Recovery.{Image}
-use Rattle.book_trees.specs.Left.{image_of, page_size, HoldsNone}
+use Rattle.book_trees.specs.LedgerFiles.{image_of, page_size, HoldsNone}
 use Rattle.book_trees.specs.declared.faults.OpenFault.{OpenFault}
 use Rattle.book_trees.specs.declared.faults.OpenFault.TheVariants.{NotBooks, Memory, Store, Busy}
 use Rattle.book_trees.specs.declared.faults.OpenFault.TheVariants.{Path}

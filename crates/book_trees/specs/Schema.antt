@@ -17,24 +17,24 @@ sorted kind name table sql = record {
 }
 
 -- a table
-abbrev pub table_of : List ℕ → List ℕ → Wanted
-table_of name sql = sorted (codes "table") name name sql
+abbrev pub table_object : List ℕ → List ℕ → Wanted
+table_object name sql = sorted (codes "table") name name sql
 
 -- an index on a table
-abbrev pub index_of : List ℕ → List ℕ → List ℕ → Wanted
-index_of name table sql = sorted (codes "index") name table sql
+abbrev pub index_object : List ℕ → List ℕ → List ℕ → Wanted
+index_object name table sql = sorted (codes "index") name table sql
 
 -- The tables and indexes of books. The first is tree 0.
 unfoldable pub books_schema : List Wanted
 books_schema =
-    table_of (codes "book") book_text
-    ∷ table_of (codes "tariff") tariff_text
-    ∷ table_of (codes "closed") closed_text
-    ∷ table_of (codes "record") record_text
-    ∷ table_of (codes "day_sum") day_sum_text
-    ∷ table_of (codes "line") line_text
-    ∷ index_of (codes "record_ident") (codes "record") record_ident_text
-    ∷ index_of (codes "record_charged") (codes "record") record_charged_text
-    ∷ table_of (codes "choice") choice_text
-    ∷ index_of (codes "choice_name") (codes "choice") choice_name_text
+    table_object (codes "book") book_text
+    ∷ table_object (codes "tariff") tariff_text
+    ∷ table_object (codes "closed") closed_text
+    ∷ table_object (codes "record") record_text
+    ∷ table_object (codes "day_sum") day_sum_text
+    ∷ table_object (codes "line") line_text
+    ∷ index_object (codes "record_ident") (codes "record") record_ident_text
+    ∷ index_object (codes "record_charged") (codes "record") record_charged_text
+    ∷ table_object (codes "choice") choice_text
+    ∷ index_object (codes "choice_name") (codes "choice") choice_name_text
     ∷ []

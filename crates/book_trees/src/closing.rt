@@ -5,7 +5,7 @@ ghost use Rattle.sqlite_store.specs.FileStore.{view, recovers};
 ghost use Rattle.sqlite_trees.specs.Tree.{Trees};
 ghost use Rattle.sqlite_trees.specs.View.{doubt};
 ghost use Rattle.sqlite_wal.specs.Recovery.{Image};
-ghost use Rattle.book_trees.specs.Left.{shortest_log, without_log, HoldsBooks, tables_at};
+ghost use Rattle.book_trees.specs.LedgerFiles.{shortest_log, without_log, HoldsBooks, trees_held};
 
 use sqlite_disk::Disk;
 use sqlite_store::FileStore;
@@ -13,9 +13,9 @@ use sqlite_trees::error::StoreError;
 use sqlite_trees::store::Store;
 
 /// Rolls back what was not committed, and moves what the log holds into the file. What was
-/// committed is in one of the two all the while: however this ends, and wherever a stop comes within
-/// it, no trees can be found but those that might have been found before.
-pub fn shut<D: Disk>(store: &mut FileStore<D>) -> Result<(), StoreError>
+/// committed is in one of the two all the while: however this ends, and wherever a stop comes
+/// within it, no trees can be found but those that might have been found before.
+pub fn checkpoint_log<D: Disk>(store: &mut FileStore<D>) -> Result<(), StoreError>
     ensures outcomes { (trees : Trees) → recovers store.new trees → recovers store.old trees }
     ensures clean { doubt (view store.old).is_clean ≤ doubt (view store.new).is_clean }
 {
@@ -32,7 +32,7 @@ pub fn needs_no_log(len: u64) -> bool
     ensures short { IsTrue result ↔ (len < shortest_log) }
     ensures alone { IsTrue result → (image : Image) → length image.log ≡ len
         → (held : HoldsBooks image)
-        → (alone : HoldsBooks (without_log image)) × (tables_at alone ≡ tables_at held) }
+        → (alone : HoldsBooks (without_log image)) × (trees_held alone ≡ trees_held held) }
 {
     len < SHORTEST_LOG
 }

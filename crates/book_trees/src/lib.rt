@@ -5,8 +5,8 @@
 mod catalog;
 mod closing;
 mod faults;
-mod left;
-mod looking;
+mod integrity;
+mod ledger_files;
 mod new_books;
 mod opening;
 mod outcomes;
@@ -14,10 +14,10 @@ mod reopening;
 mod schema;
 mod unopened;
 
-pub use closing::{needs_no_log, shut};
+pub use closing::{checkpoint_log, needs_no_log};
 pub use faults::OpenFault;
-pub use left::LeftByLedger;
-pub use looking::{LookFault, look_through, look_through_at};
+pub use integrity::{LookFault, look_through, look_through_at};
+pub use ledger_files::LeftByLedger;
 pub use new_books::{create_at, create_files, open_new_books};
 pub use opening::{open_at, open_files, open_left};
 pub use outcomes::{finds_each, leaves_books};

@@ -5,15 +5,15 @@ ghost use Rattle.sqlite_store.specs.FileStore.{state, view, schema_of, IsReady};
 ghost use Rattle.sqlite_wal.specs.Files.{image_at};
 ghost use Rattle.sqlite_wal.specs.Reads.{AreClean};
 ghost use Rattle.sqlite_wal.specs.Recovery.{Image};
-ghost use Rattle.book_trees.specs.Left.{image_of, page_size, HoldsBooks, tables_at};
-ghost use Rattle.book_trees.specs.Left.{AreEmptyTables};
+ghost use Rattle.book_trees.specs.LedgerFiles.{image_of, page_size, HoldsBooks, trees_held};
+ghost use Rattle.book_trees.specs.LedgerFiles.{AreEmptyTables};
 ghost use Rattle.book_trees.specs.Refusals.{faults_in, AreKept, HasCause, HoldsNothing};
 ghost use Rattle.book_trees.specs.Refusals.{StopCreating};
 ghost use Rattle.book_trees.specs.Schema.{books_schema};
 ghost use Rattle.tree_tables.specs.Holds.{HasShapes};
 
 use crate::faults::{OpenFault, fault_at, fault_of};
-use crate::left::LeftByLedger;
+use crate::ledger_files::LeftByLedger;
 use crate::reopening::close_and_open;
 use crate::unopened::unopened;
 use sqlite_disk::{Disk, Files, Start};
@@ -44,7 +44,7 @@ pub fn create_files<D: Disk>(
         → AreEmptyTables (view store).committed) }
     ensures left { IfOk result (λ store. IsTrue (state store).is_clean
         → ∥ ((image : Image) × (held : HoldsBooks image) × (state store).may_leave image
-        × AreEmptyTables (tables_at held)) ∥₁) }
+        × AreEmptyTables (trees_held held)) ∥₁) }
 
     // Files that hold nothing are refused only because of memory and the disk.
     ensures cause { IfErr result (λ refusal. AreClean D.Disk refusal.1.log refusal.1.db
@@ -82,7 +82,7 @@ pub fn create_at<S: Start>(
         → AreEmptyTables (view store).committed) }
     ensures left { IfOk result (λ store. IsTrue (state store).is_clean
         → ∥ ((image : Image) × (held : HoldsBooks image) × (state store).may_leave image
-        × AreEmptyTables (tables_at held)) ∥₁) }
+        × AreEmptyTables (trees_held held)) ∥₁) }
 {
     let files = match open(rt, path, start) {
         Ok(files) => files,

@@ -6,15 +6,15 @@ ghost use Rattle.sqlite_store.specs.Unopened.{state_of, wanted_by, image, AreUsa
 ghost use Rattle.sqlite_store.specs.Unopened.{IsFullFile, Opens};
 ghost use Rattle.sqlite_wal.specs.Files.{image_at};
 ghost use Rattle.sqlite_wal.specs.Reads.{AreClean};
-ghost use Rattle.book_trees.specs.Left.{image_of, page_size, HoldsBooks, tables_at, AreLeft};
+ghost use Rattle.book_trees.specs.LedgerFiles.{image_of, page_size, HoldsBooks, trees_held, AreLeft};
 ghost use Rattle.book_trees.specs.Refusals.{faults_in, AreFull, AreKept, HasCause};
 ghost use Rattle.book_trees.specs.Schema.{books_schema};
-ghost use Rattle.book_trees.specs.Shown.{Shows};
+ghost use Rattle.book_trees.specs.StoreView.{ShowsBooks};
 ghost use Rattle.tree_tables.specs.Holds.{HasShapes};
 
 use crate::catalog::lists_books;
 use crate::faults::{OpenFault, fault_at, fault_of};
-use crate::left::LeftByLedger;
+use crate::ledger_files::LeftByLedger;
 use crate::unopened::unopened;
 use sqlite_disk::{Disk, Files};
 use sqlite_pager::Options;
@@ -34,9 +34,9 @@ pub fn open_left<D: Disk>(files: Unopened<D>) -> Result<FileStore<D>, (OpenFault
     ensures honest { IfOk result (λ store. IsTrue (state store).is_clean
         → IsTrue (state_of files).is_clean) }
     ensures found { IfOk result (λ store. IsTrue (state store).is_clean
-        → (held : HoldsBooks (image files)) → (view store).trees ≡ tables_at held) }
+        → (held : HoldsBooks (image files)) → (view store).trees ≡ trees_held held) }
     ensures read { IfOk result (λ store. IsTrue (state store).is_clean
-        → Shows (image files) store) }
+        → ShowsBooks (image files) store) }
     ensures kept { IfOk result (λ store. IsTrue (state store).is_clean
         → Opens files (state store)) }
 
@@ -81,9 +81,9 @@ pub fn open_files<D: Disk>(
     ensures honest { IfOk result (λ store. IsTrue (state store).is_clean
         → AreClean D.Disk files.log files.db) }
     ensures found { IfOk result (λ store. IsTrue (state store).is_clean
-        → (held : HoldsBooks (image_of D.Disk files)) → (view store).trees ≡ tables_at held) }
+        → (held : HoldsBooks (image_of D.Disk files)) → (view store).trees ≡ trees_held held) }
     ensures read { IfOk result (λ store. IsTrue (state store).is_clean
-        → Shows (image_of D.Disk files) store) }
+        → ShowsBooks (image_of D.Disk files) store) }
 
     // Files that hold books are refused only because of memory and the disk.
     ensures cause { IfErr result (λ refusal. AreClean D.Disk refusal.1.log refusal.1.db
@@ -116,9 +116,9 @@ pub fn open_at<S: LeftByLedger>(
     ensures size { IfOk result (λ store. IsTrue (state store).is_clean
         → (state store).page_size ≡ page_size) }
     ensures found { IfOk result (λ store. IsTrue (state store).is_clean
-        → (held : HoldsBooks (image_at S.Start)) → (view store).trees ≡ tables_at held) }
+        → (held : HoldsBooks (image_at S.Start)) → (view store).trees ≡ trees_held held) }
     ensures read { IfOk result (λ store. IsTrue (state store).is_clean
-        → Shows (image_at S.Start) store) }
+        → ShowsBooks (image_at S.Start) store) }
 {
     let files = match open(rt, path, start) {
         Ok(files) => files,

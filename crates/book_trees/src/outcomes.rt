@@ -4,7 +4,7 @@ ghost use Rattle.std.specs.Prelude.{◌≡◌, None, IsTrue};
 ghost use Rattle.sqlite_store.specs.FileStore.{state, schema_of, recovers};
 ghost use Rattle.sqlite_trees.specs.Tree.{Trees};
 ghost use Rattle.sqlite_wal.specs.Recovery.{Image};
-ghost use Rattle.book_trees.specs.Left.{page_size, HoldsBooks, tables_at};
+ghost use Rattle.book_trees.specs.LedgerFiles.{page_size, HoldsBooks, trees_held};
 ghost use Rattle.book_trees.specs.Schema.{books_schema};
 
 use sqlite_disk::Disk;
@@ -18,7 +18,7 @@ pub fn leaves_books<D: Disk>(_store: &FileStore<D>)
         → (state _store.now).page_size ≡ page_size }
     requires unaltered { _store.now.saved ≡ None }
     ensures { (image : Image) → (state _store.now).may_leave image
-        → ∥ ((held : HoldsBooks image) × recovers _store.now (tables_at held)) ∥₁ }
+        → ∥ ((held : HoldsBooks image) × recovers _store.now (trees_held held)) ∥₁ }
 {}
 
 /// Each outcome that the store counts is one that an open finds on files that a stop may leave.
@@ -30,5 +30,5 @@ pub fn finds_each<D: Disk>(_store: &FileStore<D>)
     requires unaltered { _store.now.saved ≡ None }
     ensures { (db : Trees) → recovers _store.now db
         → ∥ ((image : Image) × (held : HoldsBooks image) × (state _store.now).may_leave image
-        × (tables_at held ≡ db)) ∥₁ }
+        × (trees_held held ≡ db)) ∥₁ }
 {}

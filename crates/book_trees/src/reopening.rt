@@ -7,12 +7,12 @@ ghost use Rattle.sqlite_store.specs.FileStore.{faults, state, view, schema_of, r
 ghost use Rattle.sqlite_trees.specs.Tree.{Trees};
 ghost use Rattle.sqlite_trees.specs.View.{doubt, IsClean};
 ghost use Rattle.sqlite_wal.specs.Files.{image_at};
-ghost use Rattle.book_trees.specs.Left.{page_size};
+ghost use Rattle.book_trees.specs.LedgerFiles.{page_size};
 ghost use Rattle.book_trees.specs.Schema.{books_schema};
 ghost use Rattle.tree_tables.specs.Holds.{HasShapes};
 
 use crate::faults::OpenFault;
-use crate::left::LeftByLedger;
+use crate::ledger_files::LeftByLedger;
 use crate::opening::open_at;
 use crate::schema::books_objects;
 use crate::unopened::size_of_a_page;
@@ -23,8 +23,8 @@ use sqlite_trees::error::StoreError;
 use sqlite_trees::store::Reopen;
 use std::alloc::AllocError;
 
-/// Whether the store is one of books: with the pages and the list of tables of books, neither of which
-/// was changed in its transaction.
+/// Whether the store is one of books: with the pages and the list of tables of books, neither of
+/// which was changed in its transaction.
 pub fn keeps_books<D: Disk>(store: &FileStore<D>) -> Result<bool, AllocError>
     ensures { IfOk result (λ keeps. IsTrue keeps ↔ (((state store.now).page_size ≡ page_size)
         × (schema_of store.now ≡ books_schema) × (store.now.saved ≡ None))) }

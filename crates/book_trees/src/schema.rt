@@ -2,7 +2,7 @@
 
 ghost use Rattle.std.specs.Prelude.{◌≡◌, map};
 ghost use Rattle.sqlite_store.specs.Catalog.{wanted_of};
-ghost use Rattle.book_trees.specs.Schema.{books_schema, index_of, table_of};
+ghost use Rattle.book_trees.specs.Schema.{books_schema, index_object, table_object};
 
 use sqlite_trees::schema::Object;
 use sqlite_trees::store::Shape;
@@ -10,7 +10,7 @@ use sqlite_value::keys::Order;
 
 /// A table whose rows are sorted by its key.
 fn table(name: &'static str, sql: &'static str) -> Object<'static>
-    ensures { wanted_of result ≡ table_of name.now sql.now }
+    ensures { wanted_of result ≡ table_object name.now sql.now }
 {
     Object {
         shape: Shape::Index(Order::PLAIN),
@@ -24,7 +24,7 @@ fn table(name: &'static str, sql: &'static str) -> Object<'static>
 
 /// An index on a table.
 fn index(name: &'static str, table: &'static str, sql: &'static str) -> Object<'static>
-    ensures { wanted_of result ≡ index_of name.now table.now sql.now }
+    ensures { wanted_of result ≡ index_object name.now table.now sql.now }
 {
     Object {
         shape: Shape::Index(Order::PLAIN),

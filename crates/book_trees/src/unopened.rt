@@ -3,7 +3,7 @@
 ghost use Rattle.std.specs.Prelude.{◌≡◌, IfOk, IfErr};
 ghost use Rattle.sqlite_store.specs.Unopened.{files_of, state_of, wanted_by};
 ghost use Rattle.sqlite_wal.specs.PageSize.{bytes_of};
-ghost use Rattle.book_trees.specs.Left.{page_size};
+ghost use Rattle.book_trees.specs.LedgerFiles.{page_size};
 ghost use Rattle.book_trees.specs.Schema.{books_schema};
 
 use crate::schema::books_objects;

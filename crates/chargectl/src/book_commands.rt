@@ -1,17 +1,17 @@
 //! The commands on books. Faults are found in this order: a date or a name, the books, the file,
 //! what the books say, or the stop of an import, and then the output.
 
-ghost use Rattle.office.specs.Requests.{IsAskableAnew};
+ghost use Rattle.office.specs.Requests.{IsAskableUnread};
 ghost use Rattle.office.proofs.AskLemmas.{askable_once};
 
-use crate::progress::{Behind, Watched, WatchedRows};
-use crate::trouble::{Trouble, ended};
-use book_audit::{Audited, AuditedShelf, audit_text};
+use crate::command_fault::{CommandFault, ended};
+use crate::progress::{ClearingWriter, WatchedReader, WatchedRows};
+use book_audit::{Audited, AuditedRepository, audit_text};
 use book_core::{Ledger, LedgerFault, Sink, Source};
 use book_reports::ReportFault;
-use command_words::DumpFile;
-use office::{Answer, Asked, Reply, Report, Shelf, Visit, answer};
-use program_answers::name_of_text;
+use command_line::DumpFile;
+use office::{Answer, Asked, Reply, Report, Repository, Visit, answer};
+use program_output::name_of_text;
 use smf_text::day_of_text;
 use std::alloc::Global;
 use std::io::{IsTerminal, Read, Write};
@@ -23,19 +23,19 @@ const LATER_RULE: u8 = 2;
 
 /// A request to the office, with the reader of its dump and the writer of its answer.
 #[derive(Drop)]
-struct Question<R: Read + Drop, W: Write + Drop> {
+struct OfficeRequest<R: Read + Drop, W: Write + Drop> {
     alloc: Global,
     asked: Asked,
     input: R,
     output: W,
-    ghost askable: { IsAskableAnew asked } by { Prim.hlevel askable_once },
+    ghost askable: { IsAskableUnread asked } by { Prim.hlevel askable_once },
 }
 
-impl<R: Read + Drop, W: Write + Drop> Visit for Question<R, W> {
+impl<R: Read + Drop, W: Write + Drop> Visit for OfficeRequest<R, W> {
     /// What the books answered was written, or the first fault.
-    type Answer = Result<(), Trouble>;
+    type Answer = Result<(), CommandFault>;
 
-    fn visit<L: Ledger>(self, books: &mut L) -> Result<(), Trouble> {
+    fn visit<L: Ledger>(self, books: &mut L) -> Result<(), CommandFault> {
         let mut source = Source::new(self.input);
         let mut sink = Sink::new(self.output);
         let Reply { answer, told } = answer(self.alloc, books, &self.asked, &mut source, &mut sink);
@@ -49,46 +49,49 @@ impl<R: Read + Drop, W: Write + Drop> Visit for Question<R, W> {
 }
 
 /// The answer was written, and has left the program.
-fn flushed<W: Write + Drop>(told: Result<(), ReportFault>, mut output: W) -> Result<(), Trouble> {
+fn flushed<W: Write + Drop>(
+    told: Result<(), ReportFault>,
+    mut output: W,
+) -> Result<(), CommandFault> {
     told?;
     Ok(output.flush()?)
 }
 
 /// Asks the books of a name, and writes what they answer.
-fn ask_books<S: Shelf, R: Read + Drop, O: Write + Drop>(
+fn ask_books<S: Repository, R: Read + Drop, O: Write + Drop>(
     rt: &HostRuntime,
-    shelf: &S,
+    repository: &S,
     book: &str,
     asked: Asked,
     input: R,
     output: O,
-) -> Result<(), Trouble>
-    requires { IsAskableAnew asked }
+) -> Result<(), CommandFault>
+    requires { IsAskableUnread asked }
 {
-    let question = Question {
+    let office_request = OfficeRequest {
         alloc: rt.alloc(),
         asked,
         input,
         output,
     };
-    shelf.open(book, question)?
+    repository.open(book, office_request)?
 }
 
 /// Submits a tariff.
-pub(crate) fn tariff<S: Shelf, O: Write + Drop>(
+pub(crate) fn tariff<S: Repository, O: Write + Drop>(
     rt: &HostRuntime,
-    shelf: &S,
+    repository: &S,
     book: &str,
     file: &str,
     output: O,
-) -> Result<(), Trouble> {
-    shelf.expect(book)?;
+) -> Result<(), CommandFault> {
+    repository.expect(book)?;
     let asked = Asked::Tariff(tariff_text(rt, file)?);
-    ask_books(rt, shelf, book, asked, io::empty(), output)
+    ask_books(rt, repository, book, asked, io::empty(), output)
 }
 
 /// The text of a tariff file.
-fn tariff_text(rt: &HostRuntime, file: &str) -> Result<String, Trouble> {
+fn tariff_text(rt: &HostRuntime, file: &str) -> Result<String, CommandFault> {
     let mut bytes = Vec::new(rt.alloc());
     fs::open(rt, file)?
         .take(MAX_TEXT as u64 + 1)
@@ -99,106 +102,106 @@ fn tariff_text(rt: &HostRuntime, file: &str) -> Result<String, Trouble> {
     String::from_utf8(bytes).map_err(|_| refused(TariffFault::Syntax))
 }
 
-fn refused(fault: TariffFault) -> Trouble {
-    Trouble::Ledger(LedgerFault::TariffRefused(fault))
+fn refused(fault: TariffFault) -> CommandFault {
+    CommandFault::Ledger(LedgerFault::TariffRefused(fault))
 }
 
 /// Closes a period through a day.
-pub(crate) fn close<S: Shelf, O: Write + Drop>(
+pub(crate) fn close<S: Repository, O: Write + Drop>(
     rt: &HostRuntime,
-    shelf: &S,
+    repository: &S,
     book: &str,
     period: u16,
     date: &str,
     output: O,
-) -> Result<(), Trouble> {
+) -> Result<(), CommandFault> {
     let Some(through) = day_of_text(date) else {
-        return Err(Trouble::Word);
+        return Err(CommandFault::Argument);
     };
-    shelf.expect(book)?;
+    repository.expect(book)?;
     let asked = Asked::Close { period, through };
-    ask_books(rt, shelf, book, asked, io::empty(), output)
+    ask_books(rt, repository, book, asked, io::empty(), output)
 }
 
 /// Chooses the record of a name.
-pub(crate) fn choose<S: Shelf, O: Write + Drop>(
+pub(crate) fn choose<S: Repository, O: Write + Drop>(
     rt: &HostRuntime,
-    shelf: &S,
+    repository: &S,
     book: &str,
     name: &str,
     output: O,
-) -> Result<(), Trouble> {
+) -> Result<(), CommandFault> {
     let Some(name) = name_of_text(name) else {
-        return Err(Trouble::Word);
+        return Err(CommandFault::Argument);
     };
-    shelf.expect(book)?;
+    repository.expect(book)?;
     let asked = Asked::Choose(name);
-    ask_books(rt, shelf, book, asked, io::empty(), output)
+    ask_books(rt, repository, book, asked, io::empty(), output)
 }
 
 /// Adopts the later rule of identity.
-pub(crate) fn adopt<S: Shelf, O: Write + Drop>(
+pub(crate) fn adopt<S: Repository, O: Write + Drop>(
     rt: &HostRuntime,
-    shelf: &S,
+    repository: &S,
     book: &str,
     output: O,
-) -> Result<(), Trouble> {
-    shelf.expect(book)?;
+) -> Result<(), CommandFault> {
+    repository.expect(book)?;
     let asked = Asked::Adopt(LATER_RULE);
-    ask_books(rt, shelf, book, asked, io::empty(), output)
+    ask_books(rt, repository, book, asked, io::empty(), output)
 }
 
 /// Reads a dump into the books, and prints the receipt line, whatever stopped the import.
-pub(crate) fn import_dump<S: Shelf, O: Write + Drop>(
+pub(crate) fn import_dump<S: Repository, O: Write + Drop>(
     rt: &HostRuntime,
-    shelf: &S,
+    repository: &S,
     book: &str,
     dump: DumpFile<'_>,
     output: O,
-) -> Result<(), Trouble> {
-    shelf.expect(book)?;
+) -> Result<(), CommandFault> {
+    repository.expect(book)?;
     let asked = Asked::Import(dump.layout);
     let is_shown = !dump.quiet && rt.stderr().is_terminal();
-    let input = Watched::new(rt, fs::open(rt, dump.file)?, dump.layout, is_shown);
-    let output = Behind::new(rt, output, is_shown);
-    ask_books(rt, shelf, book, asked, input, output)
+    let input = WatchedReader::new(rt, fs::open(rt, dump.file)?, dump.layout, is_shown);
+    let output = ClearingWriter::new(rt, output, is_shown);
+    ask_books(rt, repository, book, asked, input, output)
 }
 
 /// Prints a report of the books.
-pub(crate) fn report<S: Shelf, O: Write + Drop>(
+pub(crate) fn report<S: Repository, O: Write + Drop>(
     rt: &HostRuntime,
-    shelf: &S,
+    repository: &S,
     book: &str,
     report: Report,
     output: O,
-) -> Result<(), Trouble> {
-    shelf.expect(book)?;
+) -> Result<(), CommandFault> {
+    repository.expect(book)?;
     let asked = Asked::Report(report);
-    ask_books(rt, shelf, book, asked, io::empty(), output)
+    ask_books(rt, repository, book, asked, io::empty(), output)
 }
 
 /// Audits the whole file of books, and prints the result.
-pub(crate) fn audit<S: AuditedShelf, O: Write + Drop>(
+pub(crate) fn audit<S: AuditedRepository, O: Write + Drop>(
     rt: &HostRuntime,
-    shelf: &S,
+    repository: &S,
     book: &str,
     quiet: bool,
     output: O,
-) -> Result<(), Trouble> {
-    shelf.expect(book)?;
+) -> Result<(), CommandFault> {
+    repository.expect(book)?;
     let mut rows = WatchedRows::new(rt, !quiet && rt.stderr().is_terminal());
-    let audited = shelf.audit(book, &mut rows);
+    let audited = repository.audit(book, &mut rows);
     rows.clear();
     let audited = audited?;
     let text = audit_text(rt.alloc(), &audited)?;
     let written = write_text(&text, output);
     match audited {
         Audited::Sound(_) => written,
-        Audited::Unsound(_) => Err(Trouble::Unsound),
+        Audited::Unsound(_) => Err(CommandFault::Unsound),
     }
 }
 
-fn write_text<O: Write + Drop>(text: &String, mut output: O) -> Result<(), Trouble> {
+fn write_text<O: Write + Drop>(text: &String, mut output: O) -> Result<(), CommandFault> {
     write!(output, "{text}")?;
     Ok(output.flush()?)
 }

@@ -6,10 +6,10 @@ use std::net::{Shutdown, TcpStream};
 use std::time::{Duration, Instant};
 
 /// How long a client may make no progress, in seconds.
-const IDLE: u64 = 10;
+const IDLE_SECONDS: u64 = 10;
 
 /// How long a connection may take in all, in seconds.
-const WHOLE: u64 = 60;
+const TOTAL_SECONDS: u64 = 60;
 
 /// How many reads are made of what comes after an answer, each of 65,536 bytes at most: twice the
 /// longest body.
@@ -34,17 +34,17 @@ impl<'a> Client<'a> {
     }
 
     /// How long it may take for the next step. An error means that its time is over.
-    fn patience(&self) -> io::Result<Duration> {
+    fn next_timeout(&self) -> io::Result<Duration> {
         let taken = self.begun.elapsed(self.rt)?;
-        match Duration::from_secs(WHOLE).checked_sub(taken) {
-            Some(left) if left > Duration::ZERO => Ok(left.min(Duration::from_secs(IDLE))),
+        match Duration::from_secs(TOTAL_SECONDS).checked_sub(taken) {
+            Some(left) if left > Duration::ZERO => Ok(left.min(Duration::from_secs(IDLE_SECONDS))),
             _ => Err(ErrorKind::TimedOut.into()),
         }
     }
 
     /// Shows the client that the answer is whole, and reads what it still sends, so that it can
     /// read the answer.
-    pub(crate) fn part(mut self) {
+    pub(crate) fn drain(mut self) {
         if self.stream.shutdown(Shutdown::Write).is_err() {
             return;
         }
@@ -60,7 +60,7 @@ impl<'a> Client<'a> {
 
 impl Read for Client<'_> {
     fn read(&mut self, buffer: &mut [u8]) -> io::Result<usize> {
-        self.stream.set_read_timeout(Some(self.patience()?))?;
+        self.stream.set_read_timeout(Some(self.next_timeout()?))?;
         let mut stream = self.stream;
         stream.read(buffer)
     }
@@ -68,7 +68,7 @@ impl Read for Client<'_> {
 
 impl Write for Client<'_> {
     fn write(&mut self, bytes: &[u8]) -> io::Result<usize> {
-        self.stream.set_write_timeout(Some(self.patience()?))?;
+        self.stream.set_write_timeout(Some(self.next_timeout()?))?;
         let mut stream = self.stream;
         stream.write(bytes)
     }

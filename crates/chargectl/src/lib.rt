@@ -2,13 +2,13 @@
 #![tactic(auto)]
 
 mod book_commands;
+mod command_fault;
 mod connection;
 mod program;
 mod progress;
 mod serve;
-mod trouble;
 
 pub use program::command;
-pub use program_answers::{
-    Status, check_list, report_failed, same_records_same_texts, stopped, trial, words_failed,
+pub use program_output::{
+    Status, arguments_failed, check_list, report_failed, same_records_same_texts, stopped, trial,
 };

@@ -1,15 +1,15 @@
 //! What the program does with its words and streams.
 
 use crate::book_commands::{adopt, audit, choose, close, import_dump, report, tariff};
-use crate::progress::Watched;
+use crate::command_fault::{CommandFault, ended};
+use crate::progress::WatchedReader;
 use crate::serve::serve;
-use crate::trouble::{Trouble, ended};
-use book_audit::AuditedShelf;
+use book_audit::AuditedRepository;
 use book_core::{Sink, Source};
 use book_import::MAX_READS;
-use command_words::{BookRequest, DumpFile, NumberKind, Request, WordFault, requested_by};
-use program_answers::{
-    Explanation, Numbered, PROGRAM, Status, check_list, explained, io_failed, out_of_memory, trial,
+use command_line::{ArgumentFault, BookRequest, DumpFile, NumberKind, Request, requested_by};
+use program_output::{
+    Explanation, FaultKind, PROGRAM, Status, check_list, explained, io_failed, out_of_memory, trial,
 };
 use smf_frames::Layout;
 use std::alloc::Global;
@@ -19,35 +19,35 @@ use tariff_rules::{MAX_RATE, Tariff};
 
 /// Does what the words ask for, the first of which is the program's name. Books are kept on a
 /// shelf.
-pub fn command<S: AuditedShelf, I: Read + Drop, O: Write + Drop, E: Write>(
+pub fn command<S: AuditedRepository, I: Read + Drop, O: Write + Drop, E: Write>(
     rt: &HostRuntime,
-    shelf: &S,
+    repository: &S,
     words: &[String],
     input: I,
     output: O,
     errors: &mut E,
 ) -> Status {
     match requested_by(rt.alloc(), PROGRAM, words, MAX_RATE as u32) {
-        Ok(request) => status_of(run(rt, shelf, request, input, output), errors),
+        Ok(request) => status_of(run(rt, repository, request, input, output), errors),
         Err(fault) => refuse(&fault, output, errors),
     }
 }
 
-fn status_of<E: Write>(ended: Result<(), Trouble>, errors: &mut E) -> Status {
+fn status_of<E: Write>(ended: Result<(), CommandFault>, errors: &mut E) -> Status {
     match ended {
         Ok(()) => Status::Done,
-        Err(trouble) => trouble.tell(errors),
+        Err(command_fault) => command_fault.write_to(errors),
     }
 }
 
 /// Does what is asked.
-fn run<S: AuditedShelf, I: Read + Drop, O: Write + Drop>(
+fn run<S: AuditedRepository, I: Read + Drop, O: Write + Drop>(
     rt: &HostRuntime,
-    shelf: &S,
+    repository: &S,
     request: Request<'_>,
     input: I,
     output: O,
-) -> Result<(), Trouble> {
+) -> Result<(), CommandFault> {
     match request {
         Request::Trial {
             layout,
@@ -60,40 +60,46 @@ fn run<S: AuditedShelf, I: Read + Drop, O: Write + Drop>(
         }
         Request::Check(dump) => check(rt, dump, output),
         Request::Explain { kind, number } => explain(kind, number, output),
-        Request::OfBooks { book, asked } => run_on_books(rt, shelf, book, asked, output),
+        Request::OfBooks { book, asked } => run_on_books(rt, repository, book, asked, output),
     }
 }
 
 /// Does what is asked of books.
-fn run_on_books<S: AuditedShelf, O: Write + Drop>(
+fn run_on_books<S: AuditedRepository, O: Write + Drop>(
     rt: &HostRuntime,
-    shelf: &S,
+    repository: &S,
     book: &str,
     asked: BookRequest<'_>,
     output: O,
-) -> Result<(), Trouble> {
+) -> Result<(), CommandFault> {
     match asked {
-        BookRequest::Init => Ok(shelf.make(book)?),
-        BookRequest::Tariff { file } => tariff(rt, shelf, book, file, output),
-        BookRequest::Import(dump) => import_dump(rt, shelf, book, dump, output),
-        BookRequest::Close { period, date } => close(rt, shelf, book, period, date, output),
-        BookRequest::Choose { name } => choose(rt, shelf, book, name, output),
-        BookRequest::Adopt => adopt(rt, shelf, book, output),
-        BookRequest::Print(asked) => report(rt, shelf, book, asked, output),
-        BookRequest::Audit { quiet } => audit(rt, shelf, book, quiet, output),
-        BookRequest::Serve { port, requests } => serve(rt, shelf, book, port, requests, output),
+        BookRequest::Init => Ok(repository.make(book)?),
+        BookRequest::Tariff { file } => tariff(rt, repository, book, file, output),
+        BookRequest::Import(dump) => import_dump(rt, repository, book, dump, output),
+        BookRequest::Close { period, date } => close(rt, repository, book, period, date, output),
+        BookRequest::Choose { name } => choose(rt, repository, book, name, output),
+        BookRequest::Adopt => adopt(rt, repository, book, output),
+        BookRequest::Print(asked) => report(rt, repository, book, asked, output),
+        BookRequest::Audit { quiet } => audit(rt, repository, book, quiet, output),
+        BookRequest::Serve { port, requests } => serve(
+            rt, repository, book, port, requests, output,
+        ),
     }
 }
 
 /// Says what was wrong with the words, or helps where help was asked for.
-fn refuse<O: Write + Drop, E: Write>(fault: &WordFault, mut output: O, errors: &mut E) -> Status {
+fn refuse<O: Write + Drop, E: Write>(
+    fault: &ArgumentFault,
+    mut output: O,
+    errors: &mut E,
+) -> Status {
     match fault {
-        WordFault::Memory => out_of_memory(errors),
-        WordFault::Wrong(text) => {
+        ArgumentFault::Memory => out_of_memory(errors),
+        ArgumentFault::Wrong(text) => {
             let _ = write!(errors, "{text}");
             Status::Usage
         }
-        WordFault::Help(text) => match write!(output, "{text}") {
+        ArgumentFault::Help(text) => match write!(output, "{text}") {
             Ok(()) => Status::Done,
             Err(_) => io_failed(errors),
         },
@@ -101,20 +107,24 @@ fn refuse<O: Write + Drop, E: Write>(fault: &WordFault, mut output: O, errors: &
 }
 
 /// Says what a number means.
-fn explain<O: Write + Drop>(kind: NumberKind, number: u16, mut output: O) -> Result<(), Trouble> {
+fn explain<O: Write + Drop>(
+    kind: NumberKind,
+    number: u16,
+    mut output: O,
+) -> Result<(), CommandFault> {
     let Some(Explanation { meaning, advice }) = explained(numbered(kind), number) else {
-        return Err(Trouble::Number);
+        return Err(CommandFault::Number);
     };
     writeln!(output, "{meaning}\n{advice}")?;
     Ok(output.flush()?)
 }
 
-fn numbered(kind: NumberKind) -> Numbered {
+fn numbered(kind: NumberKind) -> FaultKind {
     match kind {
-        NumberKind::Frame => Numbered::Frame,
-        NumberKind::Ledger => Numbered::Ledger,
-        NumberKind::Tariff => Numbered::Tariff,
-        NumberKind::Damaged => Numbered::Damage,
+        NumberKind::Frame => FaultKind::Frame,
+        NumberKind::Ledger => FaultKind::Ledger,
+        NumberKind::Tariff => FaultKind::Tariff,
+        NumberKind::Damaged => FaultKind::Damage,
     }
 }
 
@@ -125,8 +135,8 @@ fn run_trial<I: Read + Drop, O: Write + Drop>(
     tariff: Option<Tariff>,
     input: I,
     output: O,
-) -> Result<(), Trouble> {
-    let tariff = tariff.ok_or(Trouble::Usage)?;
+) -> Result<(), CommandFault> {
+    let tariff = tariff.ok_or(CommandFault::Usage)?;
     let mut source = Source::new(input);
     let mut sink = Sink::new(output);
     let receipt = trial(alloc, &mut source, layout, MAX_READS, tariff, &mut sink)?;
@@ -135,11 +145,15 @@ fn run_trial<I: Read + Drop, O: Write + Drop>(
 
 /// Says what each record of a file is. Where the list goes to a terminal, the list itself shows how
 /// far it is.
-fn check<O: Write + Drop>(rt: &HostRuntime, dump: DumpFile<'_>, output: O) -> Result<(), Trouble> {
+fn check<O: Write + Drop>(
+    rt: &HostRuntime,
+    dump: DumpFile<'_>,
+    output: O,
+) -> Result<(), CommandFault> {
     let layout = dump.layout;
     let is_shown = !dump.quiet && rt.stderr().is_terminal() && !rt.stdout().is_terminal();
     let input = fs::open(rt, dump.file)?;
-    let mut source = Source::new(Watched::new(rt, input, layout, is_shown));
+    let mut source = Source::new(WatchedReader::new(rt, input, layout, is_shown));
     let mut sink = Sink::new(output);
     let answer = check_list(rt.alloc(), &mut source, layout, MAX_READS, &mut sink);
     source.into_inner().clear();

@@ -7,36 +7,36 @@ use std::io::{Read, Write};
 use std::time::{Duration, Instant};
 
 /// How long a line stays at least, in milliseconds.
-const STANDING: u64 = 500;
+const LEAST_SHOWN: u64 = 500;
 
 /// Carriage return, and the terminal's order to clear the line.
-const CLEARED: &str = "\r\x1b[K";
+const CLEAR_LINE: &str = "\r\x1b[K";
 
 /// The line.
 #[derive(Drop)]
-struct Line<'a> {
+struct ProgressLine<'a> {
     rt: &'a HostRuntime,
     /// When it was last written.
     shown: Instant,
 }
 
-impl<'a> Line<'a> {
+impl<'a> ProgressLine<'a> {
     /// Not written yet. None where there is no clock: then nothing is shown.
-    fn started(rt: &'a HostRuntime) -> Option<Line<'a>> {
+    fn started(rt: &'a HostRuntime) -> Option<ProgressLine<'a>> {
         let shown = Instant::now(rt).ok()?;
-        Some(Line { rt, shown })
+        Some(ProgressLine { rt, shown })
     }
 
     /// It has stayed long enough.
     fn is_due(&self) -> bool {
         match self.shown.elapsed(self.rt) {
-            Ok(time) => time >= Duration::from_millis(STANDING),
+            Ok(time) => time >= Duration::from_millis(LEAST_SHOWN),
             Err(_) => false,
         }
     }
 
     /// It was written just now.
-    fn stand(&mut self) {
+    fn mark_shown(&mut self) {
         if let Ok(now) = Instant::now(self.rt) {
             self.shown = now;
         }
@@ -44,14 +44,14 @@ impl<'a> Line<'a> {
 
     /// Removes it.
     fn clear(&self) {
-        let _ = write!(self.rt.stderr(), "{CLEARED}");
+        let _ = write!(self.rt.stderr(), "{CLEAR_LINE}");
     }
 }
 
 /// What went through a reader.
 #[derive(Drop)]
 struct Progress<'a> {
-    line: Line<'a>,
+    line: ProgressLine<'a>,
     joiner: Joiner,
     bytes: u64,
     records: u64,
@@ -61,7 +61,7 @@ impl<'a> Progress<'a> {
     /// Nothing yet. None where there is no memory or no clock.
     fn started(rt: &'a HostRuntime, layout: Layout) -> Option<Progress<'a>> {
         Some(Progress {
-            line: Line::started(rt)?,
+            line: ProgressLine::started(rt)?,
             joiner: Joiner::new(rt.alloc(), layout).ok()?,
             bytes: 0,
             records: 0,
@@ -97,33 +97,33 @@ impl<'a> Progress<'a> {
         let (bytes, records) = (self.bytes, self.records);
         let _ = write!(
             self.line.rt.stderr(),
-            "{CLEARED}{bytes} bytes, {records} records"
+            "{CLEAR_LINE}{bytes} bytes, {records} records"
         );
-        self.line.stand();
+        self.line.mark_shown();
     }
 }
 
 /// A reader that shows how far it was read, up to its end or a failure.
 #[derive(Drop)]
-pub(crate) struct Watched<'a, R: Read + Drop> {
+pub(crate) struct WatchedReader<'a, R: Read + Drop> {
     inner: R,
     progress: Option<Progress<'a>>,
 }
 
-impl<'a, R: Read + Drop> Watched<'a, R> {
+impl<'a, R: Read + Drop> WatchedReader<'a, R> {
     /// A reader of a dump, whose progress is shown where that is asked for.
     pub(crate) fn new(
         rt: &'a HostRuntime,
         inner: R,
         layout: Layout,
         is_shown: bool,
-    ) -> Watched<'a, R> {
+    ) -> WatchedReader<'a, R> {
         let progress = if is_shown {
             Progress::started(rt, layout)
         } else {
             None
         };
-        Watched { inner, progress }
+        WatchedReader { inner, progress }
     }
 
     /// It is read no further.
@@ -134,7 +134,7 @@ impl<'a, R: Read + Drop> Watched<'a, R> {
     }
 }
 
-impl<R: Read + Drop> Read for Watched<'_, R> {
+impl<R: Read + Drop> Read for WatchedReader<'_, R> {
     fn read(&mut self, buffer: &mut [u8]) -> io::Result<usize> {
         let answer = self.inner.read(buffer);
         if let Some(progress) = &mut self.progress {
@@ -150,16 +150,16 @@ impl<R: Read + Drop> Read for Watched<'_, R> {
 /// A writer of what is said after a dump: before that, the line that shows how far the dump was
 /// read is removed, wherever the reading stopped.
 #[derive(Drop)]
-pub(crate) struct Behind<'a, W: Write + Drop> {
+pub(crate) struct ClearingWriter<'a, W: Write + Drop> {
     rt: &'a HostRuntime,
     is_shown: bool,
     inner: W,
 }
 
-impl<'a, W: Write + Drop> Behind<'a, W> {
+impl<'a, W: Write + Drop> ClearingWriter<'a, W> {
     /// After a dump whose progress is shown where that is asked for.
-    pub(crate) fn new(rt: &'a HostRuntime, inner: W, is_shown: bool) -> Behind<'a, W> {
-        Behind {
+    pub(crate) fn new(rt: &'a HostRuntime, inner: W, is_shown: bool) -> ClearingWriter<'a, W> {
+        ClearingWriter {
             rt,
             is_shown,
             inner,
@@ -167,11 +167,11 @@ impl<'a, W: Write + Drop> Behind<'a, W> {
     }
 }
 
-impl<W: Write + Drop> Write for Behind<'_, W> {
+impl<W: Write + Drop> Write for ClearingWriter<'_, W> {
     fn write(&mut self, bytes: &[u8]) -> io::Result<usize> {
         if self.is_shown {
             self.is_shown = false;
-            let _ = write!(self.rt.stderr(), "{CLEARED}");
+            let _ = write!(self.rt.stderr(), "{CLEAR_LINE}");
         }
         self.inner.write(bytes)
     }
@@ -187,7 +187,7 @@ const ROWS: u64 = 1_024;
 /// How far an audit is.
 #[derive(Drop)]
 pub(crate) struct WatchedRows<'a> {
-    line: Option<Line<'a>>,
+    line: Option<ProgressLine<'a>>,
 }
 
 impl<'a> WatchedRows<'a> {
@@ -197,9 +197,9 @@ impl<'a> WatchedRows<'a> {
         if !is_shown {
             return WatchedRows { line: None };
         }
-        let _ = write!(rt.stderr(), "{CLEARED}pages");
+        let _ = write!(rt.stderr(), "{CLEAR_LINE}pages");
         WatchedRows {
-            line: Line::started(rt),
+            line: ProgressLine::started(rt),
         }
     }
 
@@ -218,8 +218,8 @@ impl Watch for WatchedRows<'_> {
         };
         if rows % ROWS == 0 && line.is_due() {
             let table = tree.name();
-            let _ = write!(line.rt.stderr(), "{CLEARED}{table}, {rows} rows");
-            line.stand();
+            let _ = write!(line.rt.stderr(), "{CLEAR_LINE}{table}, {rows} rows");
+            line.mark_shown();
         }
     }
 }

@@ -2,11 +2,11 @@
 
 ghost use Rattle.std.specs.Prelude.{◌≡◌};
 
+use crate::command_fault::CommandFault;
 use crate::connection::Client;
-use crate::trouble::Trouble;
 use book_core::{Ledger, LedgerFault, Sink, Source};
 use book_http::{Served, serve_one};
-use office::{Shelf, Visit};
+use office::{Repository, Visit};
 use std::io;
 use std::io::Write;
 use std::net::{TcpListener, TcpStream};
@@ -16,22 +16,22 @@ const UNAVAILABLE: u16 = 503;
 
 /// Answers a given number of connections, one after the other, and says what became of each. After
 /// a fault of the books' store their file is closed and opened again.
-pub(crate) fn serve<S: Shelf, O: Write + Drop>(
+pub(crate) fn serve<S: Repository, O: Write + Drop>(
     rt: &HostRuntime,
-    shelf: &S,
+    repository: &S,
     book: &str,
     port: u16,
     requests: u32,
     mut output: O,
-) -> Result<(), Trouble> {
-    shelf.expect(book)?;
+) -> Result<(), CommandFault> {
+    repository.expect(book)?;
     let first = FirstSession {
         rt,
         port,
         requests,
         output: &mut output,
     };
-    let (listener, mut left) = shelf.open(book, first)??;
+    let (listener, mut left) = repository.open(book, first)??;
     // Each session but the last answers at least one connection.
     for _ in 0..requests {
         let Some(requests) = left else {
@@ -43,7 +43,7 @@ pub(crate) fn serve<S: Shelf, O: Write + Drop>(
             requests,
             output: &mut output,
         };
-        left = shelf.open(book, next)??;
+        left = repository.open(book, next)??;
     }
     Ok(())
 }
@@ -154,7 +154,7 @@ fn answer<L: Ledger>(rt: &HostRuntime, stream: &TcpStream, books: &mut L) -> Ser
     let mut sink = Sink::new(client);
     let served = serve_one(rt.alloc(), &mut source, &mut sink, books);
     if let Served::Answered(_) = served {
-        client.part();
+        client.drain();
     }
     served
 }

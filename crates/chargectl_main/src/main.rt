@@ -2,12 +2,12 @@
 #![tactic(auto)]
 
 use book_files::{Anything, Files};
-use chargectl::{command, words_failed};
+use chargectl::{arguments_failed, command};
 use std::process::ExitCode;
 use std::{env, io};
 
 fn main(rt: HostRuntime) -> ExitCode {
-    let status = match given_words(&rt) {
+    let status = match given_arguments(&rt) {
         Ok(words) => {
             let (input, output) = (rt.reader(), io::writer(&rt));
             command(
@@ -19,13 +19,13 @@ fn main(rt: HostRuntime) -> ExitCode {
                 &mut rt.stderr(),
             )
         }
-        Err(error) => words_failed(&mut rt.stderr(), &error),
+        Err(error) => arguments_failed(&mut rt.stderr(), &error),
     };
     ExitCode::from(status.code())
 }
 
 /// The words of the command line. An error means that memory ran out, or that one is not UTF-8.
-fn given_words(rt: &HostRuntime) -> io::Result<Vec<String>> {
+fn given_arguments(rt: &HostRuntime) -> io::Result<Vec<String>> {
     let mut words = Vec::new(rt.alloc());
     for word in env::args(rt)? {
         words.push(word)?;

@@ -4,7 +4,7 @@ use Rattle.std.proofs.Common.{inr, refl, sym, ap, subst}
 use Rattle.std.specs.Prelude.{string_bytes}
 use Rattle.book_model.specs.declared.fault.LedgerFault.{LedgerFault}
 use Rattle.book_model.specs.declared.fault.LedgerFault.TheVariants.{Memory, Store, Reopen}
-use Rattle.book_model.specs.Words.{front, IsAnswered, Book, new_book, Event, book_after}
+use Rattle.book_model.specs.Words.{front, IsMadeByCalls, Book, new_book, Event, book_after}
 use Rattle.book_model.specs.Words.{book_of, Outcome, tariff_outcome, close_outcome}
 use Rattle.book_model.specs.Words.{choose_outcome, adopt_outcome, Naming}
 use Rattle.book_model.proofs.OrderLemmas.{order_is_free}
@@ -13,8 +13,8 @@ use Rattle.book_core.specs.Calls.{Calls, listed}
 use Rattle.book_core.specs.Ledgers.{Seen, IsOpenAt}
 use Rattle.book_core.proofs.FollowLemmas.{MakesAnswered, calls_answered, tariff_answered}
 use Rattle.book_core.proofs.FollowLemmas.{adopt_answered, choose_answered, close_answered}
-use Rattle.book_core.proofs.WorkLemmas.{after_all-append}
-use Rattle.book_import.specs.Dumps.{stop_behind}
+use Rattle.book_core.proofs.TransitionLemmas.{after_all-append}
+use Rattle.book_import.specs.Dumps.{stop_after}
 use Rattle.book_import.proofs.RepeatLemmas.{is_whole}
 use Rattle.book_import.proofs.EventLemmas.{import_answered}
 use Rattle.book_reports.specs.declared.report.Report as report
@@ -22,9 +22,9 @@ use Rattle.book_reports.specs.BookTexts.{report_outcome}
 use Rattle.office.specs.declared.request.Asked.{Asked}
 use Rattle.office.specs.declared.request.Asked.TheVariants.{Tariff, Close, Choose, Adopt, Import}
 use Rattle.office.specs.declared.request.Asked.TheVariants.{ImportBytes, Report}
-use Rattle.office.specs.Requests.{Dump, Told, Ruling, Count, Text, told_by, telling}
+use Rattle.office.specs.Requests.{Dump, Response, Ruling, Count, Text, response_by, response_outcome}
 use Rattle.office.specs.Requests.{Receives, Asks}
-use Rattle.office.specs.Does.{Done, events_by, done_by, import_done, does, is_hindering, is_hindered}
+use Rattle.office.specs.Outcomes.{AskedOutcome, events_by, asked_outcome_by, import_asked_outcome, asked_outcome, is_hindering, is_hindered}
 use Rattle.office.specs.Laws.{Exchange, ledger_after, AreAnswered}
 use Rattle.office.specs.Laws.{AnswersFollowHistory, AnswersAreFree, IsStillOpen, DiffersAsAllowed}
 use Rattle.office.proofs.LeavingLemmas.{work_leaves, open_earlier}
@@ -32,38 +32,38 @@ use Rattle.office.proofs.LeavingLemmas.{work_leaves, open_earlier}
 -- the event of an outcome is answered, if calls with it make only answered events
 event_answered : {A : Type 0} (naming : Naming) (outcome : Book → Outcome A)
     → MakesAnswered naming (Calls {V = A} (λ value. value) outcome (Err Store))
-    → (history : List Event) → IsAnswered naming history
-    → IsAnswered naming (listed (outcome (book_after history)).event ++ history)
+    → (history : List Event) → IsMadeByCalls naming history
+    → IsMadeByCalls naming (listed (outcome (book_after history)).event ++ history)
 event_answered naming outcome makes history answered =
     makes history false (listed (outcome (book_after history)).event) true
     (record { makes = inr refl; reopens = record { reopen = refl; store = refl } }) answered
 
-told_answered : {A : Type 0} (naming : Naming) (say : A → Told) (outcome : Book → Outcome A)
-    (told : Result Told LedgerFault)
+told_answered : {A : Type 0} (naming : Naming) (say : A → Response) (outcome : Book → Outcome A)
+    (told : Result Response LedgerFault)
     → MakesAnswered naming (Calls {V = A} (λ value. value) outcome (Err Store))
-    → MakesAnswered naming (Calls (λ told. told) (telling say outcome) told)
+    → MakesAnswered naming (Calls (λ told. told) (response_outcome say outcome) told)
 told_answered naming say outcome told makes =
-    calls_answered naming (λ told. told) (telling say outcome) told
+    calls_answered naming (λ told. told) (response_outcome say outcome) told
     (event_answered naming outcome makes)
 
 -- a report is no event
-report_answered : (naming : Naming) (report : report.Report) (told : Result Told LedgerFault)
-    → MakesAnswered naming (Calls (λ told. told) (telling Text (report_outcome naming report)) told)
+report_answered : (naming : Naming) (report : report.Report) (told : Result Response LedgerFault)
+    → MakesAnswered naming (Calls (λ told. told) (response_outcome Text (report_outcome naming report)) told)
 report_answered naming report told =
-    calls_answered naming (λ told. told) (telling Text (report_outcome naming report)) told
+    calls_answered naming (λ told. told) (response_outcome Text (report_outcome naming report)) told
     (λ history answered. answered)
 
-pub receives_answered : (naming : Naming) (dump : Dump) (told : Result Told LedgerFault)
+pub receives_answered : (naming : Naming) (dump : Dump) (told : Result Response LedgerFault)
     → MakesAnswered naming (Receives naming dump told)
 receives_answered naming dump (Ok (Count receipt)) =
     let found = front dump.layout dump.bytes in
-    import_answered naming (stop_behind dump.cut found) found.records receipt
+    import_answered naming (stop_after dump.cut found) found.records receipt
 receives_answered naming dump (Ok (Ruling ruled)) = λ history was events is never. absurd never
 receives_answered naming dump (Ok (Text text)) = λ history was events is never. absurd never
 receives_answered naming dump (Err fault) = λ history was events is never. absurd never
 
 -- a request makes only events that the books answered
-pub asks_answered : (naming : Naming) (asked : Asked) (dump : Dump) (told : Result Told LedgerFault)
+pub asks_answered : (naming : Naming) (asked : Asked) (dump : Dump) (told : Result Response LedgerFault)
     → MakesAnswered naming (Asks naming asked dump told)
 asks_answered naming (Tariff text) dump told =
     told_answered naming Ruling (tariff_outcome (string_bytes text)) told
@@ -81,19 +81,19 @@ asks_answered naming (Import layout) dump told = receives_answered naming dump t
 asks_answered naming (ImportBytes layout bytes) dump told = receives_answered naming dump told
 asks_answered naming (Report report) dump told = report_answered naming report told
 
-same_done : (outcome : Book → Outcome Told) (told : Result Told LedgerFault) (book : Book)
+same_done : (outcome : Book → Outcome Response) (told : Result Response LedgerFault) (book : Book)
     (events : List Event) → (outcome book).answer ≡ told
     → events ≡ events_by told (outcome book).event
-    → done_by (outcome book) ≡ record { told = told; events = events }
+    → asked_outcome_by (outcome book) ≡ record { told = told; events = events }
 same_done outcome told book events is made =
     let events_are = ap (λ told. events_by told (outcome book).event) is ∙ sym made in
     λ i. record { told = is i; events = events_are i }
 
 -- a call on open books that leaves them open said what the definitions say, unless memory ran out
-calls_done : (outcome : Book → Outcome Told) (told : Result Told LedgerFault) (book : Book)
+calls_done : (outcome : Book → Outcome Response) (told : Result Response LedgerFault) (book : Book)
     (events : List Event) → Calls (λ told. told) outcome told false book events false
     → is_hindered told ≡ false
-    → done_by (outcome book) ≡ record { told = told; events = events }
+    → asked_outcome_by (outcome book) ≡ record { told = told; events = events }
 calls_done outcome (Ok value) book events called free =
     same_done outcome (Ok value) book events called.makes.0 called.makes.1
 calls_done outcome (Err Memory) book events called free = cc free
@@ -105,13 +105,13 @@ calls_done outcome (Err fault) book events called free =
 not_both : (told : Bool) → told ≡ true → told ≡ false → ⊥
 not_both told is_so is_not = cc
 
-receives_done : (naming : Naming) (dump : Dump) (told : Result Told LedgerFault) (book : Book)
+receives_done : (naming : Naming) (dump : Dump) (told : Result Response LedgerFault) (book : Book)
     (events : List Event) → Receives naming dump told false book events false
     → is_hindered told ≡ false
-    → import_done naming dump book ≡ record { told = told; events = events }
+    → import_asked_outcome naming dump book ≡ record { told = told; events = events }
 receives_done naming dump (Ok (Count receipt)) book events made free =
     let found = front dump.layout dump.bytes in
-    let all = is_whole naming (stop_behind dump.cut found) found.records book receipt events false
+    let all = is_whole naming (stop_after dump.cut found) found.records book receipt events false
     made (record {
       memory = λ same. not_both (is_hindering receipt.stop) (ap is_hindering same) free;
       store = λ same. not_both (is_hindering receipt.stop) (ap is_hindering same) free;
@@ -121,24 +121,24 @@ receives_done naming dump (Ok (Ruling ruled)) book events made free = absurd mad
 receives_done naming dump (Ok (Text text)) book events made free = absurd made
 receives_done naming dump (Err fault) book events made free = absurd made
 
-pub asks_done : (naming : Naming) (asked : Asked) (dump : Dump) (told : Result Told LedgerFault)
+pub asks_done : (naming : Naming) (asked : Asked) (dump : Dump) (told : Result Response LedgerFault)
     (book : Book) (events : List Event) → Asks naming asked dump told false book events false
     → is_hindered told ≡ false
-    → does naming asked dump book ≡ record { told = told; events = events }
+    → asked_outcome naming asked dump book ≡ record { told = told; events = events }
 asks_done naming (Tariff text) dump told book events made free =
-    calls_done (telling Ruling (tariff_outcome (string_bytes text))) told book events made free
+    calls_done (response_outcome Ruling (tariff_outcome (string_bytes text))) told book events made free
 asks_done naming (Close period through) dump told book events made free =
-    calls_done (telling Ruling (close_outcome period through)) told book events made free
+    calls_done (response_outcome Ruling (close_outcome period through)) told book events made free
 asks_done naming (Choose name) dump told book events made free =
-    calls_done (telling Ruling (choose_outcome naming name)) told book events made free
+    calls_done (response_outcome Ruling (choose_outcome naming name)) told book events made free
 asks_done naming (Adopt rule) dump told book events made free =
-    calls_done (telling Ruling (adopt_outcome rule)) told book events made free
+    calls_done (response_outcome Ruling (adopt_outcome rule)) told book events made free
 asks_done naming (Import layout) dump told book events made free =
     receives_done naming dump told book events made free
 asks_done naming (ImportBytes layout bytes) dump told book events made free =
     receives_done naming dump told book events made free
 asks_done naming (Report report) dump told book events made free =
-    calls_done (telling Text (report_outcome naming report)) told book events made free
+    calls_done (response_outcome Text (report_outcome naming report)) told book events made free
 
 -- a ledger that is open after requests was open before them
 open_at_first : {L : Type 0} (seen : L → Seen) (before : L) (exchanges : List (Exchange L))
@@ -154,7 +154,7 @@ answers_follow_history seen naming start before [] answered opened done still =
     record { end = start; told = refl; left = opened }
 answers_follow_history seen naming start before (exchange ∷ later) answered opened done still =
     let one = done.0 in
-    let told : Result Told LedgerFault = told_by exchange.reply.answer in
+    let told : Result Response LedgerFault = response_by exchange.reply.answer in
     let gone = work_leaves opened one.call.work
     (open_at_first seen exchange.after later done.1 still) in
     let first = subst (λ naming. Asks naming exchange.asked one.call.dump told false
@@ -198,7 +198,7 @@ answers_are_free seen seen_other naming history other one two made made_other fi
     asked dump free free_other =
     let is = first.is free in
     let is_other = second.is free_other in
-    ap (λ (done : Done). done.told)
+    ap (λ (done : AskedOutcome). done.told)
     (sym is
-    ∙ (λ i. does naming (asked i) (dump i) (same_book history other differs i))
+    ∙ (λ i. asked_outcome naming (asked i) (dump i) (same_book history other differs i))
     ∙ is_other)

@@ -1,27 +1,27 @@
 -- What work on an open ledger leaves of it, if it is still open.
 use Rattle.std.proofs.Common.{◌≡◌, ◌∙◌, Bool, true, false, List, refl, sym, ap, subst}
 use Rattle.book_model.specs.Words.{Book, Event, after_all, Naming}
-use Rattle.book_core.specs.Ledgers.{Seen, StandsAt, stands_by, IsOpenAt}
-use Rattle.book_core.specs.Work.{Work, IsWork}
+use Rattle.book_core.specs.Ledgers.{Seen, MayHave, may_have, IsOpenAt}
+use Rattle.book_core.specs.Transition.{Transition, IsTransition}
 use Rattle.office.specs.Laws.{IsStillOpen}
 
 -- an open ledger is at its own book, and at no other
-stands_open : (seen : Seen) → seen.must_reopen ≡ false → StandsAt seen seen.book
-stands_open seen is_open = subst (λ shut. stands_by shut seen seen.book) (sym is_open) refl
+stands_open : (seen : Seen) → seen.must_reopen ≡ false → MayHave seen seen.book
+stands_open seen is_open = subst (λ shut. may_have shut seen seen.book) (sym is_open) refl
 
 stood_open : {naming : Naming} {start : Book} {seen : Seen} → IsOpenAt naming start seen
-    → (book : Book) → StandsAt seen book → book ≡ start
+    → (book : Book) → MayHave seen book → book ≡ start
 stood_open {seen = seen} opened book stood =
-    subst (λ shut. stands_by shut seen book) opened.is_open stood ∙ opened.book
+    subst (λ shut. may_have shut seen book) opened.is_open stood ∙ opened.book
 
 -- the work made events of the book, and the ledger is open at the book after them
-pub record Leaves (naming : Naming) (Made : Work) (start : Book) (new : Seen) : Type 0 where
+pub record Leaves (naming : Naming) (Made : Transition) (start : Book) (new : Seen) : Type 0 where
   pub events : List Event
   pub made : Made false start events false
   pub left : IsOpenAt naming (after_all events start) new
 
-pub work_leaves : {naming : Naming} {start : Book} {old new : Seen} {Made : Work}
-    → IsOpenAt naming start old → IsWork old new Made → IsStillOpen new
+pub work_leaves : {naming : Naming} {start : Book} {old new : Seen} {Made : Transition}
+    → IsOpenAt naming start old → IsTransition old new Made → IsStillOpen new
     → Leaves naming Made start new
 work_leaves {start = start} {old = old} {new = new} {Made = Made} opened work still =
     let come = work.moves still.honest opened.books new.book (stands_open new still.is_open) in
@@ -41,7 +41,7 @@ work_leaves {start = start} {old = old} {new = new} {Made = Made} opened work st
     }
 
 -- a ledger that work left open was open before it
-pub open_earlier : {old new : Seen} {Made : Work} → IsWork old new Made → IsStillOpen new
+pub open_earlier : {old new : Seen} {Made : Transition} → IsTransition old new Made → IsStillOpen new
     → IsStillOpen old
 open_earlier {old = old} work still = record {
   is_open = not_shut old.must_reopen (λ shut.

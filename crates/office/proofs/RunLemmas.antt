@@ -1,23 +1,23 @@
 -- Requests that bring their dumps, one after another: their work, and the events that they make.
 use Rattle.std.proofs.Common.{◌≡◌, ◌∙◌, Bool, false, List, [], ◌∷◌, ◌++◌, None, Result, refl, sym}
 use Rattle.std.proofs.Common.{ap, subst, append_assoc, append-nil}
-use Rattle.book_model.specs.Words.{front, Naming, Book, Event, after_all, IsAnswered}
-use Rattle.book_core.specs.Work.{Work, NoEvent, Then}
-use Rattle.book_core.proofs.WorkLemmas.{after_all-append}
+use Rattle.book_model.specs.Words.{front, Naming, Book, Event, after_all, IsMadeByCalls}
+use Rattle.book_core.specs.Transition.{Transition, NoEvent, Then}
+use Rattle.book_core.proofs.TransitionLemmas.{after_all-append}
 use Rattle.book_model.specs.declared.fault.LedgerFault.{LedgerFault}
 use Rattle.book_core.proofs.FollowLemmas.{MakesAnswered, then_answered}
-use Rattle.book_import.specs.Dumps.{stop_behind}
+use Rattle.book_import.specs.Dumps.{stop_after}
 use Rattle.book_import.specs.Imports.{Handles}
 use Rattle.book_import.proofs.RepeatLemmas.{is_whole, twice_is_once}
 use Rattle.office.specs.declared.request.Asked.{Asked}
 use Rattle.office.specs.declared.request.Answer.{Answer}
 use Rattle.office.specs.Repeats.{RunTwiceIsOnce}
-use Rattle.office.specs.Requests.{told_by}
-use Rattle.office.specs.Runs.{AsksAlone, Runs, dump_here}
+use Rattle.office.specs.Requests.{response_by}
+use Rattle.office.specs.Runs.{AsksWithoutReader, Runs, dump_here}
 use Rattle.office.proofs.LawLemmas.{asks_answered}
 
 -- what was done to books that stayed as they were, and then other work
-none_then : (Next : Work) (was between : Bool) (before : Book) (early late : List Event) (is : Bool)
+none_then : (Next : Transition) (was between : Bool) (before : Book) (early late : List Event) (is : Bool)
     → NoEvent was before early between → Next between (after_all early before) late is
     → Next was before late is
 none_then Next was between before early late is none next =
@@ -28,13 +28,13 @@ none_then Next was between before early late is none next =
 runs_more : (naming : Naming) (requests : List Asked) (answers : List (Result Answer LedgerFault))
     (asked : Asked) (answer : Result Answer LedgerFault) (was : Bool) (before : Book)
     (events : List Event) (is : Bool)
-    → Then (Runs naming requests answers) (AsksAlone naming asked answer) was before events is
+    → Then (Runs naming requests answers) (AsksWithoutReader naming asked answer) was before events is
     → Runs naming (requests ++ asked ∷ []) (answers ++ answer ∷ []) was before events is
 runs_more naming [] [] asked answer was before events is both = record {
   between = is;
   early = both.late;
   late = [];
-  first = none_then (AsksAlone naming asked answer) was both.between before both.early both.late is
+  first = none_then (AsksWithoutReader naming asked answer) was both.between before both.early both.late is
       both.first both.next;
   next = record { none = refl; same = refl };
   all = both.all ∙ ap (λ early. both.late ++ early) both.first.none ∙ append-nil both.late;
@@ -56,7 +56,7 @@ runs_more naming (first ∷ requests) (answered ∷ answers) asked answer was be
             early = ran.late;
             late = both.late;
             first = ran.next;
-            next = subst (λ book. AsksAlone naming asked answer both.between book both.late is)
+            next = subst (λ book. AsksWithoutReader naming asked answer both.between book both.late is)
                 (ap (λ events. after_all events before) ran.all
                 ∙ after_all-append ran.late ran.early before) both.next;
             all = refl;
@@ -78,7 +78,7 @@ pub one_more_run : (naming : Naming) (requests all : List Asked)
     (answer : Result Answer LedgerFault) → requests ++ asked ∷ [] ≡ all
     → told ≡ answers ++ answer ∷ []
     → (was : Bool) (before : Book) (events : List Event) (is : Bool)
-    → Then (Runs naming requests answers) (AsksAlone naming asked answer) was before events is
+    → Then (Runs naming requests answers) (AsksWithoutReader naming asked answer) was before events is
     → Runs naming all told was before events is
 one_more_run naming requests all answers told asked answer more so was before events is both =
     subst (λ all. Runs naming all told was before events is) more
@@ -89,19 +89,19 @@ one_more_run naming requests all answers told asked answer more so was before ev
 pub runs_answered : (naming : Naming) (requests : List Asked)
     (answers : List (Result Answer LedgerFault)) → MakesAnswered naming (Runs naming requests answers)
 runs_answered naming [] [] = λ history was events is none answered.
-    subst (λ events. IsAnswered naming (events ++ history)) (sym none.none) answered
+    subst (λ events. IsMadeByCalls naming (events ++ history)) (sym none.none) answered
 runs_answered naming [] (answer ∷ answers) = λ history was events is never. absurd never
 runs_answered naming (asked ∷ requests) [] = λ history was events is never. absurd never
 runs_answered naming (asked ∷ requests) (answer ∷ answers) =
-    then_answered naming (AsksAlone naming asked answer) (Runs naming requests answers)
-    (asks_answered naming asked (dump_here asked) (told_by answer))
+    then_answered naming (AsksWithoutReader naming asked answer) (Runs naming requests answers)
+    (asks_answered naming asked (dump_here asked) (response_by answer))
     (runs_answered naming requests answers)
 
 -- the law of the same import twice in a row
 pub run_twice_is_once : RunTwiceIsOnce
 run_twice_is_once naming before layout bytes once twice events is ran unhindered =
     let dump = front layout bytes.items in
-    let stop = stop_behind None dump in
+    let stop = stop_after None dump in
     let again = ran.next in
     let all = is_whole naming stop dump.records before once ran.early ran.between ran.first
     unhindered in

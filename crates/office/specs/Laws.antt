@@ -1,15 +1,15 @@
 -- Requests, one after the other, on one ledger: each has the answer that the whole history before
 -- it defines.
 use Rattle.std.specs.Prelude.{◌≡◌, false, List, [], ◌∷◌, ◌++◌}
-use Rattle.streams.specs.Sides.{Input, Output}
-use Rattle.book_model.specs.Words.{IsAnswered, Event, book_after, book_of, Naming, rulings_in}
-use Rattle.book_model.specs.Words.{stretches}
+use Rattle.streams.specs.InputOutput.{Input, Output}
+use Rattle.book_model.specs.Words.{IsMadeByCalls, Event, book_after, book_of, Naming, rulings_in}
+use Rattle.book_model.specs.Words.{record_batches}
 use Rattle.book_core.specs.Ledgers.{Seen, IsOpenAt, books}
 use Rattle.office.specs.declared.request.Asked.{Asked}
 use Rattle.office.specs.declared.request.Reply.{Reply}
-use Rattle.office.specs.Requests.{Dump, Gives, Asks, told_by}
-use Rattle.office.specs.Answers.{Answers, IsTold}
-use Rattle.office.specs.Does.{does, is_hindered}
+use Rattle.office.specs.Requests.{Dump, Gives, Asks, response_by}
+use Rattle.office.specs.Answers.{Answers, WritesAnswer}
+use Rattle.office.specs.Outcomes.{asked_outcome, is_hindered}
 
 -- no store has failed, and what the ledger is stored on returned what was written
 pub record IsStillOpen (seen : Seen) : Type 0 where
@@ -20,7 +20,7 @@ pub record IsStillOpen (seen : Seen) : Type 0 where
 -- accepted records between neighbouring rulings.
 pub record DiffersAsAllowed (one other : List Event) : Type 0 where
   pub rulings : rulings_in one ≡ rulings_in other
-  pub between : stretches one ≡ stretches other
+  pub between : record_batches one ≡ record_batches other
 
 -- a request, its reader and writer, and the ledger after it
 pub record Exchange (L : Type 0) : Type 0 where
@@ -45,32 +45,32 @@ AreAnswered seen before (exchange ∷ later) =
 -- After a history this was asked, answered and written, and it made these events, the newest first.
 -- Unless a lack of memory or the store hindered it, the answer is what the definitions say of the
 -- history, looked at as a whole.
-pub record IsToldAfter {L : Type 0} (naming : Naming) (history : List Event)
+pub record IsAnsweredAfter {L : Type 0} (naming : Naming) (history : List Event)
     (exchange : Exchange L) (made : List Event) : Type 0 where
   pub dump : Dump
-  pub given : Gives exchange.asked dump (told_by exchange.reply.answer) exchange.input
+  pub given : Gives exchange.asked dump (response_by exchange.reply.answer) exchange.input
   pub work :
-      Asks naming exchange.asked dump (told_by exchange.reply.answer) false (book_of history) made
+      Asks naming exchange.asked dump (response_by exchange.reply.answer) false (book_of history) made
       false
-  pub is : is_hindered (told_by exchange.reply.answer) ≡ false
-      → does naming exchange.asked dump (book_of history)
-      ≡ record { told = told_by exchange.reply.answer; events = made }
-  pub told : IsTold exchange.reply.answer exchange.output exchange.reply.told
-  pub answered : IsAnswered naming (made ++ history)
+  pub is : is_hindered (response_by exchange.reply.answer) ≡ false
+      → asked_outcome naming exchange.asked dump (book_of history)
+      ≡ record { told = response_by exchange.reply.answer; events = made }
+  pub told : WritesAnswer exchange.reply.answer exchange.output exchange.reply.told
+  pub answered : IsMadeByCalls naming (made ++ history)
 
 -- so was each, after the history that goes on with what those before it made,
-abbrev pub AreToldAfter : {L : Type 0} → Naming → List Event → List (Exchange L) → List Event
+abbrev pub AreAnsweredAfter : {L : Type 0} → Naming → List Event → List (Exchange L) → List Event
     → Type 0
-AreToldAfter naming history [] end = end ≡ history
-AreToldAfter naming history (exchange ∷ later) end =
-    (made : List Event) × IsToldAfter naming history exchange made
-    × AreToldAfter naming (made ++ history) later end
+AreAnsweredAfter naming history [] end = end ≡ history
+AreAnsweredAfter naming history (exchange ∷ later) end =
+    (made : List Event) × IsAnsweredAfter naming history exchange made
+    × AreAnsweredAfter naming (made ++ history) later end
 
 -- and the ledger is open at the books of the history with all of it
 pub record FollowHistory {L : Type 0} (naming : Naming) (start : List Event)
     (exchanges : List (Exchange L)) (after : Seen) : Type 0 where
   pub end : List Event
-  pub told : AreToldAfter naming start exchanges end
+  pub told : AreAnsweredAfter naming start exchanges end
   pub left : IsOpenAt naming (book_after end) after
 
 -- The headline: whatever is asked of the books of a history that calls made, new books if that is
@@ -78,18 +78,18 @@ pub record FollowHistory {L : Type 0} (naming : Naming) (start : List Event)
 abbrev pub AnswersFollowHistory : {L : Type 0} → (L → Seen) → Type 0
 AnswersFollowHistory {L} seen =
     (naming : Naming) (start : List Event) (before : L) (exchanges : List (Exchange L))
-    → IsAnswered naming start → IsOpenAt naming (book_after start) (seen before)
+    → IsMadeByCalls naming start → IsOpenAt naming (book_after start) (seen before)
     → AreAnswered seen before exchanges → IsStillOpen (seen (ledger_after before exchanges))
     → FollowHistory naming start exchanges (seen (ledger_after before exchanges))
 
--- The same is asked of two ledgers, with the same dump, after histories that differ as allowed: both
--- give the same answer, unless something hindered one.
+-- The same is asked of two ledgers, with the same dump, after histories that differ as allowed:
+-- both give the same answer, unless something hindered one.
 abbrev pub AnswersAreFree : {L M : Type 0} → (L → Seen) → (M → Seen) → Type 0
 AnswersAreFree {L} {M} seen seen_other =
     (naming : Naming) (history other : List Event) (one : Exchange L) (two : Exchange M)
-    (made made_other : List Event) (first : IsToldAfter naming history one made)
-    (second : IsToldAfter naming other two made_other)
+    (made made_other : List Event) (first : IsAnsweredAfter naming history one made)
+    (second : IsAnsweredAfter naming other two made_other)
     → DiffersAsAllowed history other → one.asked ≡ two.asked → first.dump ≡ second.dump
-    → is_hindered (told_by one.reply.answer) ≡ false
-    → is_hindered (told_by two.reply.answer) ≡ false
-    → told_by one.reply.answer ≡ told_by two.reply.answer
+    → is_hindered (response_by one.reply.answer) ≡ false
+    → is_hindered (response_by two.reply.answer) ≡ false
+    → response_by one.reply.answer ≡ response_by two.reply.answer

@@ -3,6 +3,6 @@
 pub mod Requests
 pub mod Runs
 pub mod Answers
-pub mod Does
+pub mod Outcomes
 pub mod Laws
 pub mod Repeats

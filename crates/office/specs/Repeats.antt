@@ -3,7 +3,7 @@ use Rattle.std.specs.Prelude.{◌≡◌, ℕ, Bool, false, List, [], ◌∷◌, 
 use Rattle.std.specs.Global.{Global}
 use Rattle.smf_frames.specs.declared.dump.Layout.{Layout}
 use Rattle.book_model.specs.Words.{Naming, Book, Event, after_all}
-use Rattle.book_core.specs.Work.{Work}
+use Rattle.book_core.specs.Transition.{Transition}
 use Rattle.book_import.specs.declared.receipt.Receipt as receipt
 use Rattle.book_import.specs.Repeats.{IsUnhindered}
 use Rattle.office.specs.declared.request.Asked.TheVariants.{ImportBytes}
@@ -11,7 +11,7 @@ use Rattle.office.specs.declared.request.Answer.TheVariants.{Receipt}
 use Rattle.office.specs.Runs.{Runs}
 
 -- such work leaves open books open, with this book
-pub record Leaves (Made : Work) (before book : Book) : Type 0 where
+pub record LeavesBook (Made : Transition) (before book : Book) : Type 0 where
   pub events : List Event
   pub made : Made false before events false
   pub leads : book ≡ after_all events before
@@ -25,5 +25,5 @@ RunTwiceIsOnce =
     → Runs naming (ImportBytes layout bytes ∷ ImportBytes layout bytes ∷ [])
     (Ok (Receipt once) ∷ Ok (Receipt twice) ∷ []) false before events is
     → IsUnhindered once
-    → Leaves (Runs naming (ImportBytes layout bytes ∷ []) (Ok (Receipt once) ∷ [])) before
+    → LeavesBook (Runs naming (ImportBytes layout bytes ∷ []) (Ok (Receipt once) ∷ [])) before
     (after_all events before)

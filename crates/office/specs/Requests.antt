@@ -3,21 +3,21 @@ use Rattle.std.specs.Prelude.{◌≡◌, ℕ, ◌+◌, ◌≤◌, ◌^◌, false
 use Rattle.std.specs.Prelude.{Ok, if◌then◌else◌, string_bytes}
 use Rattle.smf_frames.specs.declared.dump.Layout.{Layout}
 use Rattle.smf_frames.specs.declared.dump.Layout.TheVariants.{Rdw}
-use Rattle.streams.specs.Marks.{NothingIsLeft}
-use Rattle.streams.specs.Sides.{ReaderSeen, Input}
+use Rattle.streams.specs.AnswerFlags.{NothingUnread}
+use Rattle.streams.specs.InputOutput.{ReaderSeen, Input}
 use Rattle.book_model.specs.declared.answer.Ruled as ruled
 use Rattle.book_model.specs.declared.fault.LedgerFault.{LedgerFault}
 use Rattle.book_model.specs.Words.{IsDay, Book, Outcome, tariff_outcome, close_outcome}
 use Rattle.book_model.specs.Words.{choose_outcome, adopt_outcome, Naming}
 use Rattle.book_core.specs.Calls.{Calls}
-use Rattle.book_core.specs.Work.{Work, IsWork}
+use Rattle.book_core.specs.Transition.{Transition, IsTransition}
 use Rattle.book_core.specs.Ledgers.{Books}
 use Rattle.book_import.specs.declared.receipt.Receipt as receipt
 use Rattle.book_import.specs.declared.receipt.Stop.{Stop}
 use Rattle.book_import.specs.declared.receipt.Stop.TheVariants.{Read, ReadLimit}
 use Rattle.book_import.specs.Imports.{Imports}
 use Rattle.book_import.specs.Reach.{IsReadFor}
-use Rattle.book_import.specs.Reading.{most_reads}
+use Rattle.book_import.specs.ReadLimits.{most_reads}
 use Rattle.book_reports.specs.BookTexts.{shown_by, report_outcome}
 use Rattle.office.specs.declared.request.Asked.{Asked}
 use Rattle.office.specs.declared.request.Asked.TheVariants.{Tariff, Close, Choose, Adopt, Import}
@@ -32,22 +32,23 @@ pub record Dump : Type 0 where
   pub bytes : List ℕ
 
 -- what the books answer: about a ruling, about a dump, or with a report's text
-pub data Told : Type 0 where
-  Ruling : ruled.Ruled → Told
-  Count : receipt.Receipt → Told
-  Text : List ℕ → Told
+pub data Response : Type 0 where
+  Ruling : ruled.Ruled → Response
+  Count : receipt.Receipt → Response
+  Text : List ℕ → Response
 
-abbrev pub told_of : Answer → Told
-told_of (answer.Ruled ruled) = Ruling ruled
-told_of (answer.Receipt receipt) = Count receipt
-told_of (answer.Text text) = Text text.items
+abbrev pub response_of : Answer → Response
+response_of (answer.Ruled ruled) = Ruling ruled
+response_of (answer.Receipt receipt) = Count receipt
+response_of (answer.Text text) = Text text.items
 
-abbrev pub told_by : Result Answer LedgerFault → Result Told LedgerFault
-told_by answer = shown_by told_of answer
+abbrev pub response_by : Result Answer LedgerFault → Result Response LedgerFault
+response_by answer = shown_by response_of answer
 
 -- the outcome of a call, as an answer
-abbrev pub telling : {A : Type 0} → (A → Told) → (Book → Outcome A) → Book → Outcome Told
-telling say outcome book =
+abbrev pub response_outcome : {A : Type 0} → (A → Response) → (Book → Outcome A) → Book
+    → Outcome Response
+response_outcome say outcome book =
     record { answer = shown_by say (outcome book).answer; event = (outcome book).event }
 
 -- a reader may be asked on
@@ -57,14 +58,14 @@ pub record IsReady (reader : ReaderSeen) : Type 0 where
   pub ended : reader.has_ended ≡ false
 
 -- What may be asked with a reader that has not been asked yet: a close is through a day.
-abbrev pub IsAskableAnew : Asked → Type 0
-IsAskableAnew (Close period through) = IsDay through
-IsAskableAnew asked = Unit {0}
+abbrev pub IsAskableUnread : Asked → Type 0
+IsAskableUnread (Close period through) = IsDay through
+IsAskableUnread asked = Unit {0}
 
 -- the same with any reader: a dump is read from one that may be asked
 abbrev pub IsAskable : Asked → ReaderSeen → Type 0
 IsAskable (Import layout) reader = IsReady reader
-IsAskable asked reader = IsAskableAnew asked
+IsAskable asked reader = IsAskableUnread asked
 
 -- what cut the reading short, if anything did
 abbrev pub cut_by : ReaderSeen → Option Stop
@@ -74,18 +75,18 @@ cut_by reader =
     else Some ReadLimit
 
 -- the bytes of a dump were taken for this receipt, and no more than it needed
-abbrev pub IsReadBy : Dump → Result Told LedgerFault → Input → Type 0
+abbrev pub IsReadBy : Dump → Result Response LedgerFault → Input → Type 0
 IsReadBy dump (Ok (Count receipt)) input =
     IsReadFor dump.layout most_reads dump.bytes receipt input
 IsReadBy dump told input = ⊥
 
 -- A dump was read from a reader, up to the stop of its receipt and no further.
-pub record IsReadOf (layout : Layout) (dump : Dump) (told : Result Told LedgerFault) (input : Input)
+pub record IsReadOf (layout : Layout) (dump : Dump) (told : Result Response LedgerFault) (input : Input)
     : Type 0 where
   pub form : dump.layout ≡ layout
   pub cut : dump.cut ≡ cut_by input.new
   pub read : IsReadBy dump told input
-  pub at_end : NothingIsLeft input.new.has_ended input.new.left
+  pub at_end : NothingUnread input.new.has_ended input.new.left
   pub reads : input.new.reads ≤ input.old.reads + most_reads
 
 -- nothing was read from the reader, and this is the dump
@@ -102,40 +103,40 @@ no_dump = whole_dump Rdw []
 
 -- The dump of what was asked, and what it took from the reader: only an import has one, and one
 -- that is here is not read.
-abbrev pub Gives : Asked → Dump → Result Told LedgerFault → Input → Type 0
+abbrev pub Gives : Asked → Dump → Result Response LedgerFault → Input → Type 0
 Gives (Import layout) dump told input = IsReadOf layout dump told input
 Gives (ImportBytes layout bytes) dump told input =
     IsUnread (whole_dump layout bytes.items) dump input
 Gives asked dump told input = IsUnread no_dump dump input
 
 -- no such work is done
-abbrev pub Never : Work
+abbrev pub Never : Transition
 Never was before events is = ⊥
 
 -- a dump was imported, and that is its receipt
-abbrev pub Receives : Naming → Dump → Result Told LedgerFault → Work
+abbrev pub Receives : Naming → Dump → Result Response LedgerFault → Transition
 Receives naming dump (Ok (Count receipt)) =
     Imports naming dump.layout dump.cut dump.bytes receipt
 Receives naming dump told = Never
 
 -- the books were asked, and answered this
-abbrev pub Asks : Naming → Asked → Dump → Result Told LedgerFault → Work
+abbrev pub Asks : Naming → Asked → Dump → Result Response LedgerFault → Transition
 Asks naming (Tariff text) dump told =
-    Calls (λ told. told) (telling Ruling (tariff_outcome (string_bytes text))) told
+    Calls (λ told. told) (response_outcome Ruling (tariff_outcome (string_bytes text))) told
 Asks naming (Close period through) dump told =
-    Calls (λ told. told) (telling Ruling (close_outcome period through)) told
+    Calls (λ told. told) (response_outcome Ruling (close_outcome period through)) told
 Asks naming (Choose name) dump told =
-    Calls (λ told. told) (telling Ruling (choose_outcome naming name)) told
+    Calls (λ told. told) (response_outcome Ruling (choose_outcome naming name)) told
 Asks naming (Adopt rule) dump told =
-    Calls (λ told. told) (telling Ruling (adopt_outcome rule)) told
+    Calls (λ told. told) (response_outcome Ruling (adopt_outcome rule)) told
 Asks naming (Import layout) dump told = Receives naming dump told
 Asks naming (ImportBytes layout bytes) dump told = Receives naming dump told
 Asks naming (Report report) dump told =
-    Calls (λ told. told) (telling Text (report_outcome naming report)) told
+    Calls (λ told. told) (response_outcome Text (report_outcome naming report)) told
 
 -- Something was asked of books, with a reader at hand, and this is their answer.
 pub record IsAsked (asked : Asked) (answer : Result Answer LedgerFault) (books : Books)
     (input : Input) : Type 0 where
   pub dump : Dump
-  pub given : Gives asked dump (told_by answer) input
-  pub work : IsWork books.old books.new (Asks books.old.naming asked dump (told_by answer))
+  pub given : Gives asked dump (response_by answer) input
+  pub work : IsTransition books.old books.new (Asks books.old.naming asked dump (response_by answer))

@@ -2,10 +2,10 @@
 
 ghost use Rattle.std.specs.Prelude.{◌≡◌, false};
 ghost use Rattle.streams.specs.Sinks.{has_failed};
-ghost use Rattle.office.specs.Answers.{Answers, Tells, text_of};
-ghost use Rattle.office.specs.Requests.{IsAskable, told_of};
+ghost use Rattle.office.specs.Answers.{Answers, WritesText, answer_text};
+ghost use Rattle.office.specs.Requests.{IsAskable, response_of};
 ghost use Rattle.book_core.specs.Ledgers.{books};
-ghost use Rattle.streams.specs.Sides.{input, output, reader_seen};
+ghost use Rattle.streams.specs.InputOutput.{input, output, reader_seen};
 
 use crate::asking::ask;
 use crate::request::{Answer, Asked, Reply};
@@ -15,9 +15,9 @@ use std::alloc::Global;
 use std::io::{Read, Write};
 
 /// Writes the text of an answer.
-fn tell<W: Write + Drop>(answer: &Answer, sink: &mut Sink<W>) -> Result<(), ReportFault>
+fn write_answer<W: Write + Drop>(answer: &Answer, sink: &mut Sink<W>) -> Result<(), ReportFault>
     requires { has_failed sink.old ≡ false }
-    ensures { Tells (text_of (told_of answer.now)) (output W.contents sink.old sink.new) result }
+    ensures { WritesText (answer_text (response_of answer.now)) (output W.contents sink.old sink.new) result }
 {
     match answer {
         Answer::Ruled(Ruled::Done) => write_text(sink, "DONE\n"),
@@ -43,7 +43,7 @@ pub fn answer<L: Ledger, R: Read + Drop, W: Write + Drop>(
 {
     let answer = ask(alloc, ledger, asked, source);
     let told = match &answer {
-        Ok(answer) => tell(answer, sink),
+        Ok(answer) => write_answer(answer, sink),
         Err(fault) => Err(ReportFault::from(*fault)),
     };
     Reply { answer, told }

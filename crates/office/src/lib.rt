@@ -4,14 +4,14 @@
 mod answering;
 mod asking;
 mod laws;
+mod repository;
 mod request;
 mod running;
-mod shelf;
 
 pub use answering::answer;
-pub use asking::{ask, ask_alone};
+pub use asking::{ask, ask_without_reader};
 pub use book_reports::Report;
 pub use laws::{answers_are_free, answers_follow_history, run_twice_is_once};
+pub use repository::{Repository, RepositoryFault, Visit};
 pub use request::{Answer, Asked, Reply};
 pub use running::run;
-pub use shelf::{Shelf, ShelfFault, Visit};

@@ -1,11 +1,11 @@
 //! Requests, one after the other.
 
 ghost use Rattle.std.specs.Prelude.{◌≡◌, All, IfOk, OnErr};
-ghost use Rattle.book_core.specs.Work.{IsWork};
+ghost use Rattle.book_core.specs.Transition.{IsTransition};
 ghost use Rattle.book_core.specs.Follow.{FollowsHistory};
-ghost use Rattle.office.specs.Runs.{IsAskableAlone, Runs};
+ghost use Rattle.office.specs.Runs.{IsAskableWithoutReader, Runs};
 
-use crate::asking::ask_alone;
+use crate::asking::ask_without_reader;
 use crate::request::{Answer, Asked};
 use book_core::{Ledger, LedgerFault};
 use std::alloc::{AllocError, Global};
@@ -17,9 +17,9 @@ pub fn run<L: Ledger>(
     ledger: &mut L,
     requests: &[Asked],
 ) -> Result<Vec<Result<Answer, LedgerFault>>, AllocError>
-    requires { All IsAskableAlone requests.now }
+    requires { All IsAskableWithoutReader requests.now }
     // Each answer is that of the definitions, and the books are those after it.
-    ensures runs { IfOk result (λ answers. IsWork (L.seen ledger.old) (L.seen ledger.new)
+    ensures runs { IfOk result (λ answers. IsTransition (L.seen ledger.old) (L.seen ledger.new)
         (Runs (L.seen ledger.old).naming requests.now answers.items)) }
     // These are the books that the whole history defines.
     ensures history { IfOk result (λ answers. FollowsHistory (L.seen ledger.old) (L.seen ledger.new)
@@ -29,7 +29,7 @@ pub fn run<L: Ledger>(
     // The room for all answers is taken first: if there is too little, the books stay as they were.
     let mut answers = Vec::with_capacity(alloc, requests.len())?;
     for asked in requests {
-        let answer = ask_alone(alloc, ledger, asked);
+        let answer = ask_without_reader(alloc, ledger, asked);
         answers.push(answer)?;
     }
     Ok(answers)

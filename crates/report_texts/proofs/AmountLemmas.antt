@@ -5,17 +5,17 @@ use Rattle.std.specs.Prelude.{if◌then◌else◌}
 use Rattle.std.specs.List.{sum_by}
 use Rattle.std.proofs.lemmas.Grind.{common_steps}
 use Rattle.book_model.specs.declared.line.Line.{Line}
-use Rattle.report_texts.specs.AdjustmentLists.{charged_by, taken_by}
+use Rattle.report_texts.specs.AdjustmentLists.{charged_amount, reversed_amount}
 
 -- a line charges no more than its amount, and reverses no more
-charged_within : (line : Line) → charged_by line ≤ line.priced.amount
+charged_within : (line : Line) → charged_amount line ≤ line.priced.amount
 charged_within line = either line.plus line.priced.amount
   where
     either : (plus : Bool) (amount : ℕ) → (if plus then amount else 0) ≤ amount
     either true amount = omega arith
     either false amount = omega arith
 
-taken_within : (line : Line) → taken_by line ≤ line.priced.amount
+taken_within : (line : Line) → reversed_amount line ≤ line.priced.amount
 taken_within line = either line.plus line.priced.amount
   where
     either : (plus : Bool) (amount : ℕ) → (if plus then 0 else amount) ≤ amount
@@ -38,11 +38,11 @@ below part within (line ∷ rest) (suc i) next inside =
     grind (arith, common_steps, one, others)
 
 pub charged_below : (lines : List Line) (i : ℕ) (next : Line) → i < length lines
-    → sum_by charged_by (take i lines) + charged_by (get_or lines i next)
+    → sum_by charged_amount (take i lines) + charged_amount (get_or lines i next)
     ≤ sum_by (λ line. line.priced.amount) lines
-charged_below = below charged_by charged_within
+charged_below = below charged_amount charged_within
 
 pub taken_below : (lines : List Line) (i : ℕ) (next : Line) → i < length lines
-    → sum_by taken_by (take i lines) + taken_by (get_or lines i next)
+    → sum_by reversed_amount (take i lines) + reversed_amount (get_or lines i next)
     ≤ sum_by (λ line. line.priced.amount) lines
-taken_below = below taken_by taken_within
+taken_below = below reversed_amount taken_within

@@ -5,7 +5,7 @@ use Rattle.std.specs.Prelude.{codes, flat_map, sum_by, Option, ℤ}
 use Rattle.hex.specs.Hex.{encode_lower}
 use Rattle.book_model.specs.Words.{show_text, day_text_of}
 use Rattle.book_model.specs.declared.line.Line.{Line}
-use Rattle.report_texts.specs.Columns.{line_end, left, right, amount_text}
+use Rattle.report_texts.specs.Columns.{newline, left_aligned, right_aligned, amount_text}
 use Rattle.report_texts.specs.Periods.{title_line}
 use Rattle.report_texts.specs.Statements.{key_columns}
 
@@ -16,12 +16,12 @@ signed_text charged taken =
     else amount_text (charged - taken)
 
 -- what a line charges
-abbrev pub charged_by : Line → ℕ
-charged_by line = if line.plus then line.priced.amount else 0
+abbrev pub charged_amount : Line → ℕ
+charged_amount line = if line.plus then line.priced.amount else 0
 
 -- what it reverses
-abbrev pub taken_by : Line → ℕ
-taken_by line = if line.plus then 0 else line.priced.amount
+abbrev pub reversed_amount : Line → ℕ
+reversed_amount line = if line.plus then 0 else line.priced.amount
 
 -- whether a line charges its record, or reverses the charge
 abbrev pub word_of : Bool → List ℕ
@@ -29,36 +29,36 @@ word_of true = codes "PLUS"
 word_of false = codes "MINUS"
 
 -- the columns that say what a line does, and where its record is charged
-unfoldable pub place_columns : List ℕ → List ℕ → List ℕ → List ℕ → List ℕ
-place_columns word day centre shift = left 5 word ++ codes " " ++ key_columns day centre shift
+unfoldable pub action_columns : List ℕ → List ℕ → List ℕ → List ℕ → List ℕ
+action_columns word day centre shift = left_aligned 5 word ++ codes " " ++ key_columns day centre shift
 
 -- the column of a signed amount
 unfoldable pub signed_column : ℕ → ℕ → List ℕ
-signed_column charged taken = right 21 (signed_text charged taken)
+signed_column charged taken = right_aligned 21 (signed_text charged taken)
 
 -- the record's name and job, and the end of the line
-unfoldable pub record_columns : Line → List ℕ
-record_columns line =
-    codes " " ++ encode_lower line.name ++ codes " " ++ show_text line.job ++ line_end
+unfoldable pub name_columns : Line → List ℕ
+name_columns line =
+    codes " " ++ encode_lower line.name ++ codes " " ++ show_text line.job ++ newline
 
 -- these columns of a line
 unfoldable pub line_place : Line → List ℕ
 line_place line =
-    place_columns (word_of line.plus)
+    action_columns (word_of line.plus)
     (day_text_of line.priced.day) line.priced.centre line.priced.shift
 
 -- the line of a record: what it does, and where; its amount; and which record it is
 unfoldable pub adjustment_line : Line → List ℕ
 adjustment_line line =
     line_place line
-    ++ signed_column (charged_by line) (taken_by line)
-    ++ record_columns line
+    ++ signed_column (charged_amount line) (reversed_amount line)
+    ++ name_columns line
 
 -- the line below the others
 unfoldable pub sum_line : List Line → List ℕ
 sum_line lines =
-    place_columns (codes "TOTAL") [] [] []
-    ++ signed_column (sum_by charged_by lines) (sum_by taken_by lines) ++ line_end
+    action_columns (codes "TOTAL") [] [] []
+    ++ signed_column (sum_by charged_amount lines) (sum_by reversed_amount lines) ++ newline
 
 -- the adjustments of a period, by its number, the day that it was closed through, if it was, and
 -- its lines

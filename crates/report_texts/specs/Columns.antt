@@ -3,20 +3,20 @@ use Rattle.std.specs.Prelude.{ℕ, ◌-◌, ◌/◌, ◌%◌, List, ◌++◌, le
 use Rattle.std.specs.Fmt.{decimal}
 use Rattle.std.specs.Str.{byte}
 
-abbrev pub line_end : List ℕ
-line_end = codes "\n"
+abbrev pub newline : List ℕ
+newline = codes "\n"
 
 -- a number of blanks
 abbrev pub blanks : ℕ → List ℕ
 blanks count = replicate count (byte " ")
 
 -- a text at the left of a column of that width, blanks after it
-abbrev pub left : ℕ → List ℕ → List ℕ
-left width text = text ++ blanks (width - length text)
+abbrev pub left_aligned : ℕ → List ℕ → List ℕ
+left_aligned width text = text ++ blanks (width - length text)
 
 -- a text at the right of a column of that width, blanks before it
-abbrev pub right : ℕ → List ℕ → List ℕ
-right width text = blanks (width - length text) ++ text
+abbrev pub right_aligned : ℕ → List ℕ → List ℕ
+right_aligned width text = blanks (width - length text) ++ text
 
 -- a number in a given count of digits, zeros before it
 abbrev pub digits_in : ℕ → ℕ → List ℕ

@@ -6,7 +6,7 @@ use Rattle.hex.specs.Hex.{encode_lower, encode_upper}
 use Rattle.book_model.specs.Words.{show_text, day_text_of, number, part, identity2_length}
 use Rattle.book_model.specs.Words.{Disputed}
 use Rattle.book_model.specs.declared.dispute.Variant.{Variant}
-use Rattle.report_texts.specs.Columns.{line_end, right, amount_text}
+use Rattle.report_texts.specs.Columns.{newline, right_aligned, amount_text}
 
 -- of an identity the system, its first 4 bytes, and the job, the next 8
 unfoldable pub job_text : List ℕ → List ℕ
@@ -36,7 +36,7 @@ start_text identity =
 unfoldable pub identity_line : List ℕ → List ℕ
 identity_line identity =
     job_text identity ++ reader_text identity ++ step_text identity
-    ++ (if length identity == identity2_length then start_text identity else []) ++ line_end
+    ++ (if length identity == identity2_length then start_text identity else []) ++ newline
 
 -- completion code and termination indicator, 2 bytes each, where the record has them
 unfoldable pub completion_text : Option (List ℕ) → List ℕ
@@ -49,11 +49,11 @@ unfoldable pub price_columns : Variant → List ℕ
 price_columns member =
     encode_lower member.name
     ++ codes " " ++ day_text_of member.priced.day
-    ++ codes " " ++ right 21 (amount_text member.priced.amount)
+    ++ codes " " ++ right_aligned 21 (amount_text member.priced.amount)
 
 -- how its work ended, under which job id, and in which program
-unfoldable pub work_columns : Variant → List ℕ
-work_columns member =
+unfoldable pub run_columns : Variant → List ℕ
+run_columns member =
     completion_text member.completion
     ++ codes " " ++ show_text member.job_id
     ++ codes " " ++ show_text member.program
@@ -61,7 +61,7 @@ work_columns member =
 -- the line of a record
 unfoldable pub member_line : Variant → List ℕ
 member_line member =
-    codes "  " ++ price_columns member ++ codes " " ++ work_columns member ++ line_end
+    codes "  " ++ price_columns member ++ codes " " ++ run_columns member ++ newline
 
 -- the line of an identity, and below it those of its records
 unfoldable pub dispute_lines : Disputed → List ℕ
@@ -70,4 +70,4 @@ dispute_lines dispute = identity_line dispute.identity ++ flat_map member_line d
 -- their number, and then the lines of each
 abbrev pub dispute_list_text : List Disputed → List ℕ
 dispute_list_text disputes =
-    codes "DISPUTES " ++ decimal (length disputes) ++ line_end ++ flat_map dispute_lines disputes
+    codes "DISPUTES " ++ decimal (length disputes) ++ newline ++ flat_map dispute_lines disputes

@@ -2,7 +2,7 @@
 use Rattle.std.specs.Prelude.{ℕ, List, ◌++◌, codes, Option, Some, None, ℤ}
 use Rattle.std.specs.Fmt.{decimal}
 use Rattle.book_model.specs.Words.{day_text_of}
-use Rattle.report_texts.specs.Columns.{line_end}
+use Rattle.report_texts.specs.Columns.{newline}
 
 -- a period is open, or was closed through a day
 unfoldable pub head_text : Option ℤ → List ℕ
@@ -12,4 +12,4 @@ head_text (Some through) = codes "CLOSED THROUGH " ++ day_text_of through
 -- the first line of a report on a period: what the report is, and the period's number and head
 unfoldable pub title_line : List ℕ → ℕ → Option ℤ → List ℕ
 title_line report period through =
-    report ++ codes " PERIOD " ++ decimal period ++ codes " " ++ head_text through ++ line_end
+    report ++ codes " PERIOD " ++ decimal period ++ codes " " ++ head_text through ++ newline

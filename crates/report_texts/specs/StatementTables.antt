@@ -3,15 +3,15 @@ use Rattle.std.specs.Prelude.{ℕ, List, [], ◌∷◌, ◌++◌, codes, flat_ma
 use Rattle.std.specs.Fmt.{decimal}
 use Rattle.book_model.specs.Words.{day_text_of}
 use Rattle.book_model.specs.declared.row.ChargeRow.{ChargeRow}
-use Rattle.report_texts.specs.Columns.{line_end, seconds_text, amount_text}
+use Rattle.report_texts.specs.Columns.{newline, seconds_text, amount_text}
 
 -- fields with a comma between each two, and the end of the line
 abbrev pub comma_line : List ℕ → List (List ℕ) → List ℕ
-comma_line first others = first ++ flat_map (λ field. codes "," ++ field) others ++ line_end
+comma_line first others = first ++ flat_map (λ field. codes "," ++ field) others ++ newline
 
 -- the names of the columns
 unfoldable pub table_heading : List ℕ
-table_heading = codes "period,day,centre,shift,count,cpu,blocks,amount" ++ line_end
+table_heading = codes "period,day,centre,shift,count,cpu,blocks,amount" ++ newline
 
 -- the line of a row of a period
 unfoldable pub table_line : ℕ → ChargeRow → List ℕ

@@ -3,22 +3,22 @@ use Rattle.std.specs.Prelude.{ℕ, List, [], ◌++◌, codes, flat_map, sum_by, 
 use Rattle.std.specs.Fmt.{decimal}
 use Rattle.book_model.specs.Words.{day_text_of}
 use Rattle.book_model.specs.declared.row.ChargeRow.{ChargeRow}
-use Rattle.report_texts.specs.Columns.{line_end, left, right, seconds_text, amount_text}
+use Rattle.report_texts.specs.Columns.{newline, left_aligned, right_aligned, seconds_text, amount_text}
 use Rattle.report_texts.specs.Periods.{title_line}
 
 -- the columns that say where work is charged: its day, its centre and its shift
 unfoldable pub key_columns : List ℕ → List ℕ → List ℕ → List ℕ
 key_columns day centre shift =
-    left 10 day ++ codes " " ++ left 16 centre ++ codes " " ++ left 16 shift ++ codes " "
+    left_aligned 10 day ++ codes " " ++ left_aligned 16 centre ++ codes " " ++ left_aligned 16 shift ++ codes " "
 
 -- the columns that say how much work it is: its records, its CPU time and its blocks
 abbrev pub work_columns : List ℕ → List ℕ → List ℕ → List ℕ
 work_columns count cpu blocks =
-    right 8 count ++ codes " " ++ right 19 cpu ++ codes " " ++ right 18 blocks ++ codes " "
+    right_aligned 8 count ++ codes " " ++ right_aligned 19 cpu ++ codes " " ++ right_aligned 18 blocks ++ codes " "
 
 -- the column that says what it costs, and the end of the line
 abbrev pub amount_column : List ℕ → List ℕ
-amount_column amount = right 21 amount ++ line_end
+amount_column amount = right_aligned 21 amount ++ newline
 
 -- the columns of numbers
 unfoldable pub number_columns : ℕ → ℕ → ℕ → ℕ → List ℕ

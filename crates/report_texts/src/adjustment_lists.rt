@@ -5,7 +5,7 @@ ghost use Rattle.std.specs.Option.{ForSome};
 ghost use Rattle.book_model.specs.Words.{IsDay, AreLines};
 ghost use Rattle.report_texts.specs.AdjustmentLists as spec;
 
-use crate::columns::{amount_text, push_left, push_right};
+use crate::columns::{amount_text, push_left_aligned, push_right_aligned};
 use crate::parts::{push_name, push_shown};
 use crate::periods::push_title;
 use crate::statements::push_key;
@@ -33,12 +33,12 @@ fn push_signed(alloc: Global, out: &mut String, charged: u64, taken: u64) -> Res
     ensures { OnOk result (string_bytes out.new
         ≡ string_bytes out.old ++ spec.signed_column charged taken) }
 {
-    push_right(out, 21, signed_text(alloc, charged, taken)?.as_str())
+    push_right_aligned(out, 21, signed_text(alloc, charged, taken)?.as_str())
 }
 
 /// Appends the columns that say what a line does, and where its record is charged.
-#[tactic(auto, unfolding(crate::specs::AdjustmentLists::place_columns))]
-fn push_place(
+#[tactic(auto, unfolding(crate::specs::AdjustmentLists::action_columns))]
+fn push_action(
     out: &mut String,
     word: &str,
     day: &str,
@@ -46,32 +46,32 @@ fn push_place(
     shift: &str,
 ) -> Result<(), AllocError>
     ensures { OnOk result (string_bytes out.new
-        ≡ string_bytes out.old ++ spec.place_columns word.now day.now centre.now shift.now) }
+        ≡ string_bytes out.old ++ spec.action_columns word.now day.now centre.now shift.now) }
 {
-    push_left(out, 5, word)?;
+    push_left_aligned(out, 5, word)?;
     out.push(' ')?;
     push_key(out, day, centre, shift)
 }
 
 /// What a line charges.
-fn charged_by(line: &Line) -> u64
-    ensures { result ≡ spec.charged_by line.now }
+fn charged_amount(line: &Line) -> u64
+    ensures { result ≡ spec.charged_amount line.now }
 {
     if line.plus { line.priced.amount } else { 0 }
 }
 
 /// What a line reverses.
-fn taken_by(line: &Line) -> u64
-    ensures { result ≡ spec.taken_by line.now }
+fn reversed_amount(line: &Line) -> u64
+    ensures { result ≡ spec.reversed_amount line.now }
 {
     if line.plus { 0 } else { line.priced.amount }
 }
 
 /// Appends which record a line is of, and ends the line.
-#[tactic(auto, unfolding(crate::specs::AdjustmentLists::record_columns))]
+#[tactic(auto, unfolding(crate::specs::AdjustmentLists::name_columns))]
 fn push_record(alloc: Global, out: &mut String, line: &Line) -> Result<(), AllocError>
     ensures { OnOk result (string_bytes out.new
-        ≡ string_bytes out.old ++ spec.record_columns line.now) }
+        ≡ string_bytes out.old ++ spec.name_columns line.now) }
 {
     out.push(' ')?;
     push_name(alloc, out, &line.name)?;
@@ -97,7 +97,7 @@ fn push_line_place(alloc: Global, out: &mut String, line: &Line) -> Result<(), A
     let day = day_text(alloc, line.priced.day)?;
     let centre = line.priced.centre.text();
     let shift = line.priced.shift.text();
-    push_place(out, word_of(line), day.as_str(), centre, shift)
+    push_action(out, word_of(line), day.as_str(), centre, shift)
 }
 
 /// Appends the line of a record.
@@ -108,7 +108,7 @@ fn push_line(alloc: Global, out: &mut String, line: &Line) -> Result<(), AllocEr
         ≡ string_bytes out.old ++ spec.adjustment_line line.now) }
 {
     push_line_place(alloc, out, line)?;
-    push_signed(alloc, out, charged_by(line), taken_by(line))?;
+    push_signed(alloc, out, charged_amount(line), reversed_amount(line))?;
     push_record(alloc, out, line)
 }
 
@@ -127,13 +127,13 @@ fn push_lines(alloc: Global, out: &mut String, lines: &[Line]) -> Result<(), All
 /// What lines charge, and what they reverse.
 fn sums(lines: &[Line]) -> (u64, u64)
     requires { AreLines lines.now }
-    ensures { result ≡ (sum_by spec.charged_by lines.now, sum_by spec.taken_by lines.now) }
+    ensures { result ≡ (sum_by spec.charged_amount lines.now, sum_by spec.reversed_amount lines.now) }
 {
     let mut charged = 0;
     let mut taken = 0;
     for line in lines {
-        charged += charged_by(line);
-        taken += taken_by(line);
+        charged += charged_amount(line);
+        taken += reversed_amount(line);
     }
     (charged, taken)
 }
@@ -145,7 +145,7 @@ fn push_sum(alloc: Global, out: &mut String, lines: &[Line]) -> Result<(), Alloc
     ensures { OnOk result (string_bytes out.new ≡ string_bytes out.old ++ spec.sum_line lines.now) }
 {
     let (charged, taken) = sums(lines);
-    push_place(out, "TOTAL", "", "", "")?;
+    push_action(out, "TOTAL", "", "", "")?;
     push_signed(alloc, out, charged, taken)?;
     out.push('\n')
 }

@@ -17,18 +17,26 @@ fn push_blanks(out: &mut String, count: usize) -> Result<(), AllocError>
 }
 
 /// Appends a text at the left of a column. A text that is wider than the column is kept whole.
-pub(crate) fn push_left(out: &mut String, width: usize, text: &str) -> Result<(), AllocError>
+pub(crate) fn push_left_aligned(
+    out: &mut String,
+    width: usize,
+    text: &str,
+) -> Result<(), AllocError>
     ensures { OnOk result (string_bytes out.new
-        ≡ string_bytes out.old ++ spec.left width text.now) }
+        ≡ string_bytes out.old ++ spec.left_aligned width text.now) }
 {
     out.push_str(text)?;
     push_blanks(out, width.saturating_sub(text.len()))
 }
 
 /// Appends a text at the right of a column. A text that is wider than the column is kept whole.
-pub(crate) fn push_right(out: &mut String, width: usize, text: &str) -> Result<(), AllocError>
+pub(crate) fn push_right_aligned(
+    out: &mut String,
+    width: usize,
+    text: &str,
+) -> Result<(), AllocError>
     ensures { OnOk result (string_bytes out.new
-        ≡ string_bytes out.old ++ spec.right width text.now) }
+        ≡ string_bytes out.old ++ spec.right_aligned width text.now) }
 {
     push_blanks(out, width.saturating_sub(text.len()))?;
     out.push_str(text)

@@ -14,7 +14,7 @@ use byteorder::{BigEndian, ByteOrder};
 use std::alloc::{AllocError, Global};
 
 /// The bytes of an identity by the second rule.
-const SECOND_RULE: usize = 32;
+const SECOND_LENGTH: usize = 32;
 
 /// The given number of bytes at an offset.
 fn part(bytes: &[u8], at: usize, count: usize) -> &[u8]
@@ -109,7 +109,7 @@ fn push_identity(alloc: Global, out: &mut String, identity: &[u8]) -> Result<(),
     push_job(alloc, out, identity)?;
     push_reader(alloc, out, identity)?;
     push_step(out, identity)?;
-    if identity.len() == SECOND_RULE {
+    if identity.len() == SECOND_LENGTH {
         push_start(alloc, out, identity)?;
     }
     out.push('\n')
@@ -150,10 +150,10 @@ fn push_price(alloc: Global, out: &mut String, member: &Variant) -> Result<(), A
 }
 
 /// Appends how the work of a record ended, and which work it was.
-#[tactic(auto, unfolding(crate::specs::DisputeLists::work_columns))]
+#[tactic(auto, unfolding(crate::specs::DisputeLists::run_columns))]
 fn push_work(alloc: Global, out: &mut String, member: &Variant) -> Result<(), AllocError>
     ensures { OnOk result (string_bytes out.new
-        ≡ string_bytes out.old ++ spec.work_columns member.now) }
+        ≡ string_bytes out.old ++ spec.run_columns member.now) }
 {
     push_completion(alloc, out, member.completion)?;
     out.push(' ')?;

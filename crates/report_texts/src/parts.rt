@@ -3,9 +3,9 @@
 ghost use Rattle.std.specs.Prelude.{◌≡◌, ◌++◌, OnOk, string_bytes};
 ghost use Rattle.hex.specs.Hex.{encode_lower, encode_upper};
 ghost use Rattle.book_model.specs.Words.{IsDay, day_text_of, show_text};
-ghost use Rattle.report_texts.specs.Columns.{amount_text, right};
+ghost use Rattle.report_texts.specs.Columns.{amount_text, right_aligned};
 
-use crate::columns::{amount_text, push_right};
+use crate::columns::{amount_text, push_right_aligned};
 use smf_text::{day_text, show};
 use std::alloc::{AllocError, Global};
 
@@ -48,7 +48,7 @@ pub(crate) fn push_money(
     amount: u64,
 ) -> Result<(), AllocError>
     ensures { OnOk result (string_bytes out.new
-        ≡ string_bytes out.old ++ right width (amount_text amount)) }
+        ≡ string_bytes out.old ++ right_aligned width (amount_text amount)) }
 {
-    push_right(out, width, amount_text(alloc, amount)?.as_str())
+    push_right_aligned(out, width, amount_text(alloc, amount)?.as_str())
 }

@@ -5,7 +5,7 @@ ghost use Rattle.std.specs.Option.{ForSome};
 ghost use Rattle.book_model.specs.Words.{IsDay, AreRows};
 ghost use Rattle.report_texts.specs.Statements as spec;
 
-use crate::columns::{amount_text, push_left, push_right, seconds_text};
+use crate::columns::{amount_text, push_left_aligned, push_right_aligned, seconds_text};
 use crate::periods::push_title;
 use book_model::ChargeRow;
 use smf_text::day_text;
@@ -22,11 +22,11 @@ pub(crate) fn push_key(
     ensures { OnOk result (string_bytes out.new
         ≡ string_bytes out.old ++ spec.key_columns day.now centre.now shift.now) }
 {
-    push_left(out, 10, day)?;
+    push_left_aligned(out, 10, day)?;
     out.push(' ')?;
-    push_left(out, 16, centre)?;
+    push_left_aligned(out, 16, centre)?;
     out.push(' ')?;
-    push_left(out, 16, shift)?;
+    push_left_aligned(out, 16, shift)?;
     out.push(' ')
 }
 
@@ -35,11 +35,11 @@ fn push_work(out: &mut String, count: &str, cpu: &str, blocks: &str) -> Result<(
     ensures { OnOk result (string_bytes out.new
         ≡ string_bytes out.old ++ spec.work_columns count.now cpu.now blocks.now) }
 {
-    push_right(out, 8, count)?;
+    push_right_aligned(out, 8, count)?;
     out.push(' ')?;
-    push_right(out, 19, cpu)?;
+    push_right_aligned(out, 19, cpu)?;
     out.push(' ')?;
-    push_right(out, 18, blocks)?;
+    push_right_aligned(out, 18, blocks)?;
     out.push(' ')
 }
 
@@ -48,7 +48,7 @@ fn push_amount(out: &mut String, amount: &str) -> Result<(), AllocError>
     ensures { OnOk result (string_bytes out.new
         ≡ string_bytes out.old ++ spec.amount_column amount.now) }
 {
-    push_right(out, 21, amount)?;
+    push_right_aligned(out, 21, amount)?;
     out.push('\n')
 }
 

@@ -15,7 +15,7 @@ use Rattle.smf_frames.specs.Segment.{kind_of, begins_record, goes_on}
 use Rattle.smf_frames.specs.Group.{AreWhole, alone, spanned, AreBegun, nothing, spanning, joined}
 use Rattle.smf_frames.specs.Group.{IsGroup, IsBegunGroup}
 use Rattle.smf_frames.specs.Front.{data_len, joined_with}
-use Rattle.smf_frames.proofs.Joins.{MayJoin, data_in}
+use Rattle.smf_frames.proofs.JoinedGroups.{MayJoin, data_in}
 
 -- the data of a group that is begun, or no data
 data_in_or : (segments : List (List ℕ)) → unwrap_or (data_in segments) [] ≡ joined segments

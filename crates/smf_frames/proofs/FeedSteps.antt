@@ -9,15 +9,15 @@ use Rattle.smf_frames.specs.declared.next.Next.TheVariants.{Stops}
 use Rattle.smf_frames.specs.Front.{data_len, next_of}
 use Rattle.smf_frames.specs.Joining.{Joining, next_held, fault_held}
 use Rattle.smf_frames.specs.JoinerSteps.{holding, Steps, over_block, over_segment, IsStep}
-use Rattle.smf_frames.proofs.Lasting.{descriptor_stays}
-use Rattle.smf_frames.proofs.Waits.{short_stops}
-use Rattle.smf_frames.proofs.Over.{GoesOver, goes_then, stepped}
+use Rattle.smf_frames.proofs.LastingFaults.{descriptor_stays}
+use Rattle.smf_frames.proofs.ReaderWaits.{short_stops}
+use Rattle.smf_frames.proofs.JoinerAdvance.{GoesOver, goes_then, stepped}
 
 -- a descriptor's fault is there with more bytes held
 pub still_fails : (joining : Joining) (bytes : List ℕ) (fault : FrameFault)
     → fault_held joining ≡ Some fault → fault_held (holding joining bytes) ≡ Some fault
 still_fails joining bytes fault fails =
-    descriptor_stays joining.layout (data_len joining.place.begun) joining.place.left joining.held
+    descriptor_stays joining.layout (data_len joining.position.begun) joining.position.left joining.held
     bytes (ap (λ f. is_some f) fails) ∙ fails
 
 -- so where it has none with more bytes, it has none
@@ -40,7 +40,7 @@ pub record Went (old : Joining) (piece rest : List ℕ) (now : Joining) : Type 0
   pub taken : ℕ
   pub within : taken ≤ length piece
   pub rest_is : rest ≡ drop taken piece
-  pub none : old.standing ≡ None
+  pub none : old.ready ≡ None
   pub passes : fault_held old ≡ None
   pub goes : GoesOver old (take taken piece) now
   pub empty : now.held ≡ []
@@ -51,9 +51,9 @@ Fed old piece rest now = ((rest ≡ piece) × (now ≡ old)) ⊎ Went old piece 
 
 -- where no record stands now, none stood where the piece began
 pub fed_none : (old now : Joining) (piece rest : List ℕ) → Fed old piece rest now
-    → now.standing ≡ None → old.standing ≡ None
+    → now.ready ≡ None → old.ready ≡ None
 fed_none old now piece rest (inl begins) none =
-    subst (λ (j : Joining). j.standing ≡ None) begins.1 none
+    subst (λ (j : Joining). j.ready ≡ None) begins.1 none
 fed_none old now piece rest (inr went) none = went.none
 
 -- and where the descriptor that is held now has no fault, none had one there
@@ -65,7 +65,7 @@ fed_passes old now piece rest more (inr went) passes = went.passes
 
 -- a step on from there
 pub fed_step : (old now new : Joining) (piece rest later : List ℕ) (n : ℕ)
-    → Fed old piece rest now → now.standing ≡ None → IsStep now rest (Some n) new
+    → Fed old piece rest now → now.ready ≡ None → IsStep now rest (Some n) new
     → later ≡ drop n rest → Went old piece later new
 fed_step old now new piece rest later n (inl begins) none step later_is =
     let one = stepped now (take n rest) new step.1 in
@@ -120,23 +120,23 @@ step_shrinks now new rest later n step later_is =
 -- a joiner that holds nothing waits
 pub empty_waits : (joining : Joining) → joining.held ≡ [] → next_held joining ≡ Stops
 empty_waits joining empty =
-    let begun = data_len joining.place.begun in
-    subst (λ held. next_of joining.layout begun joining.place.left held ≡ Stops) (sym empty)
-    (short_stops joining.layout begun joining.place.left [] (lit< tt))
+    let begun = data_len joining.position.begun in
+    subst (λ held. next_of joining.layout begun joining.position.left held ≡ Stops) (sym empty)
+    (short_stops joining.layout begun joining.position.left [] (lit< tt))
 
 -- what has to be true of a record that stands is true where none does
-pub none_if_some : (P : List ℕ → Type 0) (standing : Option (List ℕ)) → standing ≡ None
-    → IfSome standing P
+pub none_if_some : (P : List ℕ → Type 0) (ready : Option (List ℕ)) → ready ≡ None
+    → IfSome ready P
 none_if_some P None is = tt
 none_if_some P (Some one) is = absurd cc
 
 -- a record stands, or none does
-pub not_both : (standing : Option (List ℕ)) → IsSome standing → standing ≡ None → ⊥
+pub not_both : (ready : Option (List ℕ)) → IsSome ready → ready ≡ None → ⊥
 not_both None some is = absurd (let never = some in cc)
 not_both (Some one) some is = cc
 
 -- the code's answer that none stands
-pub none_stands : (standing : Option (List ℕ)) (stands : Bool) → stands ≡ is_some standing
-    → stands ≡ false → standing ≡ None
+pub none_stands : (ready : Option (List ℕ)) (stands : Bool) → stands ≡ is_some ready
+    → stands ≡ false → ready ≡ None
 none_stands None stands is none = refl
 none_stands (Some one) stands is none = absurd cc

@@ -9,12 +9,12 @@ use Rattle.std.proofs.lemmas.Bool.{cases_lt}
 use Rattle.std.proofs.lemmas.List.{take_all, take-take, take-append-drop, length-take-le}
 use Rattle.smf_frames.specs.declared.fault.FrameFault.{FrameFault}
 use Rattle.smf_frames.specs.declared.next.Next.TheVariants.{Stops}
-use Rattle.smf_frames.specs.Front.{Front, behind, front_from, front}
-use Rattle.smf_frames.specs.Joining.{Joining, StandsAfter, next_held, fault_held, broken_by}
+use Rattle.smf_frames.specs.Front.{Front, prepend, front_from, front}
+use Rattle.smf_frames.specs.Joining.{Joining, HasTaken, next_held, fault_held, broken_by}
 use Rattle.smf_frames.specs.Feeding.{Feeds}
 use Rattle.smf_frames.specs.JoinerSteps.{holding, IsStep}
-use Rattle.smf_frames.proofs.Over.{GoesOver, goes_less, goes_then, less_waits}
-use Rattle.smf_frames.proofs.Standing.{records_over, stands_over, soonest_over, unbroken_after}
+use Rattle.smf_frames.proofs.JoinerAdvance.{GoesOver, goes_less, goes_then, less_waits}
+use Rattle.smf_frames.proofs.JoinerStates.{records_over, stands_over, soonest_over, unbroken_after}
 use Rattle.smf_frames.proofs.FeedSteps.{Fed, fed_none, fed_passes, empty_waits, none_if_some}
 use Rattle.smf_frames.proofs.FeedSteps.{not_both}
 
@@ -32,28 +32,28 @@ longer records more one is =
 -- A joiner with no fault went over some bytes of a piece. It waits now; a record stands and nothing
 -- is held, or none stands, all is taken and no fault is held.
 record Takes (old : Joining) (piece : List ℕ) (n : ℕ) (new : Joining) : Type 0 where
-  none : old.standing ≡ None
+  none : old.ready ≡ None
   passes : fault_held old ≡ None
   within : n ≤ length piece
   goes : GoesOver old (take n piece) new
   waits : next_held new ≡ Stops
-  empty : IfSome new.standing (λ _. new.held ≡ [])
-  all : new.standing ≡ None → (n ≡ length piece) × (fault_held new ≡ None)
+  empty : IfSome new.ready (λ _. new.held ≡ [])
+  all : new.ready ≡ None → (n ≡ length piece) × (fault_held new ≡ None)
 
-module _ (text piece : List ℕ) (old new : Joining) (n : ℕ) (stands : StandsAfter text old)
+module _ (text piece : List ℕ) (old new : Joining) (n : ℕ) (stands : HasTaken text old)
     (takes : Takes old piece n new) where
   -- it stands after the text and those bytes
-  stands_behind : StandsAfter (text ++ take n piece) new
+  stands_behind : HasTaken (text ++ take n piece) new
   stands_behind =
       stands_over text (take n piece) old new stands takes.goes takes.waits takes.empty
 
   -- and the record that stands is the one that they complete
   completes : (front old.layout (text ++ take n piece)).records
-      ≡ (front old.layout text).records ++ option_to_list new.standing
+      ≡ (front old.layout text).records ++ option_to_list new.ready
   completes = records_over text (take n piece) old new stands takes.goes takes.waits
 
   -- where none stands then, the front is not broken
-  whole_is : new.standing ≡ None → (front old.layout (text ++ piece)).is_broken ≡ false
+  whole_is : new.ready ≡ None → (front old.layout (text ++ piece)).is_broken ≡ false
   whole_is none =
       ap (λ b. (front old.layout (text ++ b)).is_broken)
       (sym (take_all n piece (omega (arith, (takes.all none).0))))
@@ -61,9 +61,9 @@ module _ (text piece : List ℕ) (old new : Joining) (n : ℕ) (stands : StandsA
       ∙ unbroken_after (text ++ take n piece) new stands_behind (takes.all none).1
 
   -- where one does, bytes were taken
-  moved : (standing : Option (List ℕ)) → new.standing ≡ standing → IsSome standing
+  moved : (ready : Option (List ℕ)) → new.ready ≡ ready → IsSome ready
       → (0 < n) ⊎ (n ≤ 0) → 0 < n
-  moved standing is some (inl more) = more
+  moved ready is some (inl more) = more
   moved None is some (inr nothing) = absurd (let never = some in cc)
   moved (Some one) is some (inr nothing) =
       let records = (front old.layout text).records in
@@ -77,7 +77,7 @@ module _ (text piece : List ℕ) (old new : Joining) (n : ℕ) (stands : StandsA
       ∙ ap (λ b. (front old.layout b).records) (append-nil text))
 
   -- the front of all of the piece has the record that stands
-  has_more : (one : List ℕ) → new.standing ≡ Some one
+  has_more : (one : List ℕ) → new.ready ≡ Some one
       → (front old.layout (text ++ piece)).records ≡ (front old.layout text).records
       → {A : Type 0} → A
   has_more one is same =
@@ -89,9 +89,9 @@ module _ (text piece : List ℕ) (old new : Joining) (n : ℕ) (stands : StandsA
       append_assoc text (take n piece) (drop n piece)
       ∙ ap (λ b. text ++ b) (take-append-drop n piece) in
       let later = subst (λ l. (more : List ℕ) → front l (seen ++ more)
-      ≡ behind (front l seen).records (front_from l new.place (new.held ++ more)))
+      ≡ prepend (front l seen).records (front_from l new.position (new.held ++ more)))
       takes.goes.layout_is stands_behind.goes_on (drop n piece) in
-      let found = (front_from old.layout new.place (new.held ++ drop n piece)).records in
+      let found = (front_from old.layout new.position (new.held ++ drop n piece)).records in
       longer records found one
       (ap (λ r. r ++ found) (sym first)
       ∙ sym (ap (λ (f : Front). f.records) later)
@@ -101,7 +101,7 @@ module _ (text piece : List ℕ) (old new : Joining) (n : ℕ) (stands : StandsA
   -- so no fault breaks the front after the records of the text
   breaks_not : (fault : FrameFault)
       → front old.layout (text ++ piece) ≡ broken_by (front old.layout text).records fault
-      → (standing : Option (List ℕ)) → new.standing ≡ standing → ⊥
+      → (ready : Option (List ℕ)) → new.ready ≡ ready → ⊥
   breaks_not fault is None none_now =
       let here = whole_is none_now in
       let said = ap (λ (f : Front). f.is_broken) is in
@@ -113,7 +113,7 @@ module _ (text piece : List ℕ) (old new : Joining) (n : ℕ) (stands : StandsA
 takes_feeds : (old new : Joining) (piece : List ℕ) (n : ℕ) → Takes old piece n new
     → Feeds old piece (Ok n) new
 takes_feeds old new piece n takes = record {
-  waits = λ some. absurd (not_both old.standing some takes.none);
+  waits = λ some. absurd (not_both old.ready some takes.none);
   within = takes.within;
   layout_stays = takes.goes.layout_is;
   stands = λ text stands. stands_behind text piece old new n stands takes;
@@ -124,11 +124,11 @@ takes_feeds old new piece n takes = record {
       (omega (arith, length-take-le n piece takes.within));
   all = λ none_now. (takes.all none_now).0;
   moves = λ text stands _ some.
-      moved text piece old new n stands takes new.standing refl some (cases_lt 0 n);
+      moved text piece old new n stands takes new.ready refl some (cases_lt 0 n);
   unbroken = λ text stands none_now. whole_is text piece old new n stands takes none_now;
   fault = λ text fault stands _. (
     λ is. absurd cc,
-    λ is. absurd (breaks_not text piece old new n stands takes fault is new.standing refl),
+    λ is. absurd (breaks_not text piece old new n stands takes fault is new.ready refl),
   );
   lasting = tt;
   for_good = λ fault fails _. absurd (let never = sym takes.passes ∙ fails in cc);
@@ -137,14 +137,14 @@ takes_feeds old new piece n takes = record {
 
 -- where a record stands after the bytes, or stood before them
 pub feeds_standing : (old new : Joining) (piece rest : List ℕ) → Fed old piece rest new
-    → is_some new.standing ≡ true → Feeds old piece (Ok (length piece - length rest)) new
+    → is_some new.ready ≡ true → Feeds old piece (Ok (length piece - length rest)) new
 feeds_standing old new piece rest (inl begins) some =
     subst (λ n. Feeds old piece (Ok n) new) (omega (arith, ap length begins.0)) (record {
       waits = λ _. (refl, begins.1);
       within = omega arith;
       layout_stays = ap (λ (j : Joining). j.layout) begins.1;
-      stands = λ text stands. subst (λ b. StandsAfter b new) (sym (append-nil text))
-          (subst (StandsAfter text) (sym begins.1) stands);
+      stands = λ text stands. subst (λ b. HasTaken b new) (sym (append-nil text))
+          (subst (HasTaken text) (sym begins.1) stands);
       records = λ text stands none. absurd (stood none);
       soonest = λ text k stands below. absurd (omega arith);
       all = λ none. absurd (stands_now none);
@@ -156,11 +156,11 @@ feeds_standing old new piece rest (inl begins) some =
       broken = tt;
     })
   where
-    stands_now : new.standing ≡ None → ⊥
+    stands_now : new.ready ≡ None → ⊥
     stands_now none = let never = ap (λ s. is_some s) none in cc
 
-    stood : old.standing ≡ None → ⊥
-    stood none = stands_now (ap (λ (j : Joining). j.standing) begins.1 ∙ none)
+    stood : old.ready ≡ None → ⊥
+    stood none = stands_now (ap (λ (j : Joining). j.ready) begins.1 ∙ none)
 feeds_standing old new piece rest (inr went) some =
     subst (λ n. Feeds old piece (Ok n) new)
     (omega (arith, ap length went.rest_is, length-drop went.taken piece, went.within))
@@ -170,17 +170,17 @@ feeds_standing old new piece rest (inr went) some =
       within = went.within;
       goes = went.goes;
       waits = empty_waits new went.empty;
-      empty = if_some new.standing;
+      empty = if_some new.ready;
       all = λ none. absurd (let never = ap (λ s. is_some s) none in cc);
     }))
   where
-    if_some : (standing : Option (List ℕ)) → IfSome standing (λ _. new.held ≡ [])
+    if_some : (ready : Option (List ℕ)) → IfSome ready (λ _. new.held ≡ [])
     if_some None = tt
     if_some (Some one) = went.empty
 
 -- over all of the piece, where all of its rest is held
 over_all : (old now new : Joining) (piece rest : List ℕ) → Fed old piece rest now
-    → now.standing ≡ None → GoesOver now rest new → GoesOver old piece new
+    → now.ready ≡ None → GoesOver now rest new → GoesOver old piece new
 over_all old now new piece rest (inl begins) none here =
     subst (λ bytes. GoesOver old bytes new) begins.0
     (subst (λ j. GoesOver j rest new) begins.1 here)
@@ -191,7 +191,7 @@ over_all old now new piece rest (inr went) none here =
 
 -- where all is taken, and more is to come
 pub feeds_all : (old now new : Joining) (piece rest : List ℕ) → Fed old piece rest now
-    → now.standing ≡ None → IsStep now rest None new
+    → now.ready ≡ None → IsStep now rest None new
     → Feeds old piece (Ok (length piece)) new
 feeds_all old now new piece rest fed none step =
     takes_feeds old new piece (length piece) (record {
@@ -203,7 +203,7 @@ feeds_all old now new piece rest fed none step =
           (over_all old now new piece rest fed none
           (subst (GoesOver now rest) (sym step.0) (goes_less now rest none step.1)));
       waits = subst (λ j. next_held j ≡ Stops) (sym step.0) (less_waits (holding now rest) step.1);
-      empty = subst (λ (j : Joining). IfSome j.standing (λ _. j.held ≡ [])) (sym step.0)
-          (none_if_some _ now.standing none);
+      empty = subst (λ (j : Joining). IfSome j.ready (λ _. j.held ≡ [])) (sym step.0)
+          (none_if_some _ now.ready none);
       all = λ _. (refl, subst (λ j. fault_held j ≡ None) (sym step.0) step.1.passes);
     })

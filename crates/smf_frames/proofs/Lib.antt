@@ -3,25 +3,25 @@
 -- the reader so finds the front; and that a fault at a descriptor stays. Then a joiner, which gets
 -- the dump in pieces: where it waits, how it continues, after which bytes it stands; what its
 -- fields show; what it answers to a piece, step by step; and that this leaves it no choice.
-pub mod Numbers
+pub mod DescriptorNumbers
 pub mod Steps
-pub mod Ways
-pub mod SoFar
-pub mod Ends
-pub mod Joins
+pub mod ReaderWays
+pub mod SplitLoop
+pub mod WayEnds
+pub mod JoinedGroups
 pub mod BegunGroups
-pub mod Cuts
+pub mod GroupedTexts
 pub mod LongerTexts
-pub mod Grown
+pub mod TakenGroups
 pub mod Fronts
-pub mod Lasting
-pub mod Waits
-pub mod Over
-pub mod Standing
+pub mod LastingFaults
+pub mod ReaderWaits
+pub mod JoinerAdvance
+pub mod JoinerStates
 pub mod HeldFields
 pub mod PassedFields
-pub mod Stepping
+pub mod OneStep
 pub mod FeedSteps
 pub mod FeedTakes
 pub mod FeedFails
-pub mod Determined
+pub mod FeedDetermined

@@ -13,8 +13,8 @@ use Rattle.smf_frames.specs.Segment.{named_len, IsSegment}
 use Rattle.smf_frames.specs.Block.{IsBlock}
 use Rattle.smf_frames.specs.Layouts.{HasBlocks, no_block, begun_block, whole_block, HasSegments}
 use Rattle.smf_frames.specs.Front.{left_of_block, left_after}
-use Rattle.smf_frames.proofs.Numbers.{names_same}
-use Rattle.smf_frames.proofs.Cuts.{HasRoomFor, left_some}
+use Rattle.smf_frames.proofs.DescriptorNumbers.{names_same}
+use Rattle.smf_frames.proofs.GroupedTexts.{HasRoomFor, left_some}
 
 -- the descriptor of a block
 pub record IsDescriptor (bytes : List ℕ) : Type 0 where
@@ -43,7 +43,7 @@ block_push block segment segments left is more fits =
       descriptor = omega (arith, is.descriptor);
       plain = subst (λ n. n < 128) (sym same.first) is.plain;
       named = same.len ∙ named ∙ omega arith;
-      behind = drop-append-le 4 block segment is.descriptor ∙ ap (λ b. b ++ segment) is.behind
+      content = drop-append-le 4 block segment is.descriptor ∙ ap (λ b. b ++ segment) is.content
           ∙ sym (concat_push segments segment);
       whole = All-push IsSegment segments segment is.whole more;
     }
@@ -110,7 +110,7 @@ blocks_begin text descriptor segments left no_block is none =
       descriptor = omega (arith, is.four);
       plain = is.plain;
       named = omega (arith, is.four, is.long);
-      behind = drop_all 4 descriptor (omega (arith, is.four));
+      content = drop_all 4 descriptor (omega (arith, is.four));
       whole = All-nil IsSegment;
     })
 blocks_begin text descriptor segments left (begun_block block inside n some block_is) is none =

@@ -9,43 +9,43 @@ use Rattle.smf_frames.specs.Framed.{most_data, record_with}
 use Rattle.smf_frames.specs.Segment.{named_len, kind_of, goes_on}
 use Rattle.smf_frames.specs.Front.{data_len, joined_with, begun_after, left_after}
 use Rattle.smf_frames.specs.Joining.{Joining}
-use Rattle.smf_frames.specs.JoinerFields.{Fields, Keeps, begun_in, held_in, joining_in}
+use Rattle.smf_frames.specs.JoinerFields.{Fields, Invariant, begun_in, pending_bytes, joining_in}
 use Rattle.smf_frames.specs.JoinerSteps.{OnSegment, HoldsSegment, past_segment, made}
-use Rattle.smf_frames.proofs.Numbers.{names_same}
-use Rattle.smf_frames.proofs.Waits.{passes_shows}
+use Rattle.smf_frames.proofs.DescriptorNumbers.{names_same}
+use Rattle.smf_frames.proofs.ReaderWaits.{passes_shows}
 use Rattle.smf_frames.proofs.HeldFields.{held_len, four_held, not_standing}
 
 -- the data that is begun ends at the mark
-marked_len : (fields : Fields) → Keeps fields → fields.stands ≡ false
-    → unwrap_or (data_len (begun_in fields)) 0 + 4 ≡ fields.mark
+marked_len : (fields : Fields) → Invariant fields → fields.stands ≡ false
+    → unwrap_or (data_len (begun_in fields)) 0 + 4 ≡ fields.data_end
 marked_len fields keeps none = by fields.is_begun refl
   where
     by : (begun : Bool) → fields.is_begun ≡ begun
-        → unwrap_or (data_len (cond begun (Some (drop 4 (take fields.mark fields.joined))) None)) 0
-        + 4 ≡ fields.mark
+        → unwrap_or (data_len (cond begun (Some (drop 4 (take fields.data_end fields.joined))) None)) 0
+        + 4 ≡ fields.data_end
     by true is = omega (
       arith,
-      length-drop 4 (take fields.mark fields.joined),
-      length-take-le fields.mark fields.joined keeps.marked,
+      length-drop 4 (take fields.data_end fields.joined),
+      length-take-le fields.data_end fields.joined keeps.marked,
       keeps.behind,
     )
     by false is = omega (arith, keeps.fresh is none)
 
 -- there is room for what a segment lacks
-pub room_left : {fields : Fields} → Keeps fields → (joining : Joining)
-    → joining_in fields ≡ joining → joining.standing ≡ None → OnSegment joining
+pub room_left : {fields : Fields} → Invariant fields → (joining : Joining)
+    → joining_in fields ≡ joining → joining.ready ≡ None → OnSegment joining
     → (n : ℕ) → length joining.held + n ≤ named_len joining.held
     → length fields.joined + n ≤ most_data + 4
 room_left {fields} keeps joining is = subst HasRoom is here
   where
     HasRoom : Joining → Type 0
-    HasRoom j = j.standing ≡ None → OnSegment j
+    HasRoom j = j.ready ≡ None → OnSegment j
         → (n : ℕ) → length j.held + n ≤ named_len j.held
         → length fields.joined + n ≤ most_data + 4
 
     here : HasRoom (joining_in fields)
     here none on n fit =
-        let held : List ℕ = held_in fields in
+        let held : List ℕ = pending_bytes fields in
         let shows = passes_shows fields.layout (data_len (begun_in fields)) fields.left held
         on.passes on.four on.due in
         omega (
@@ -59,8 +59,8 @@ room_left {fields} keeps joining is = subst HasRoom is here
         )
 
 -- so all that is joined with a whole segment finds room
-pub room_of_segment : {fields : Fields} → Keeps fields → (joining : Joining)
-    → joining_in fields ≡ joining → joining.standing ≡ None → HoldsSegment joining
+pub room_of_segment : {fields : Fields} → Invariant fields → (joining : Joining)
+    → joining_in fields ≡ joining → joining.ready ≡ None → HoldsSegment joining
     → length fields.joined ≤ most_data + 4
 room_of_segment keeps joining is none holds =
     let room = room_left keeps joining is none holds.on 0 (omega (arith, holds.named)) in
@@ -68,12 +68,12 @@ room_of_segment keeps joining is none holds =
 
 -- what is held where the descriptor is whole: it names the same, and all that is joined is the data
 record SegmentHeld (fields : Fields) : Type 0 where
-  kind : kind_of (held_in fields) ≡ kind_of fields.descriptor
-  named : named_len (held_in fields) ≡ named_len fields.descriptor
-  inside : joined_with (begun_in fields) (held_in fields) ≡ drop 4 fields.joined
+  kind : kind_of (pending_bytes fields) ≡ kind_of fields.descriptor
+  named : named_len (pending_bytes fields) ≡ named_len fields.descriptor
+  inside : joined_with (begun_in fields) (pending_bytes fields) ≡ drop 4 fields.joined
 
-segment_held : (fields : Fields) → Keeps fields → fields.stands ≡ false
-    → 4 ≤ length (held_in fields) → SegmentHeld fields
+segment_held : (fields : Fields) → Invariant fields → fields.stands ≡ false
+    → 4 ≤ length (pending_bytes fields) → SegmentHeld fields
 segment_held fields keeps none four =
     let same = names_same fields.descriptor behind (omega (arith, keeps.four)) in
     record {
@@ -84,70 +84,70 @@ segment_held fields keeps none four =
     }
   where
     behind : List ℕ
-    behind = drop fields.mark fields.joined
+    behind = drop fields.data_end fields.joined
 
-    front_is : take fields.got fields.descriptor ≡ fields.descriptor
-    front_is = take_all fields.got fields.descriptor
+    front_is : take fields.received fields.descriptor ≡ fields.descriptor
+    front_is = take_all fields.received fields.descriptor
         (omega (arith, four_held keeps four, keeps.four))
 
-    behind_is : drop 4 (held_in fields) ≡ drop fields.mark fields.joined
-    behind_is = drop_at (take fields.got fields.descriptor) (drop fields.mark fields.joined) 4
+    behind_is : drop 4 (pending_bytes fields) ≡ drop fields.data_end fields.joined
+    behind_is = drop_at (take fields.received fields.descriptor) (drop fields.data_end fields.joined) 4
         (ap length front_is ∙ keeps.four)
 
     by : (begun : Bool) → fields.is_begun ≡ begun
-        → unwrap_or (cond begun (Some (drop 4 (take fields.mark fields.joined))) None) []
-        ++ drop fields.mark fields.joined ≡ drop 4 fields.joined
+        → unwrap_or (cond begun (Some (drop 4 (take fields.data_end fields.joined))) None) []
+        ++ drop fields.data_end fields.joined ≡ drop 4 fields.joined
     by true is =
-        sym (drop-append-le 4 (take fields.mark fields.joined) (drop fields.mark fields.joined)
-        (omega (arith, length-take-le fields.mark fields.joined keeps.marked, keeps.behind)))
-        ∙ ap (drop 4) (take-append-drop fields.mark fields.joined)
+        sym (drop-append-le 4 (take fields.data_end fields.joined) (drop fields.data_end fields.joined)
+        (omega (arith, length-take-le fields.data_end fields.joined keeps.marked, keeps.behind)))
+        ∙ ap (drop 4) (take-append-drop fields.data_end fields.joined)
     by false is = ap (λ n. drop n fields.joined) (keeps.fresh is none)
 
 -- the fields after a segment: nothing of a descriptor is there
 abbrev pub passed : Fields → Option ℕ → Bool → List ℕ → ℕ → Bool → Fields
-passed fields left is_begun joined mark stands = record {
+passed fields left is_begun joined data_end stands = record {
   layout = fields.layout;
   left = left;
   is_begun = is_begun;
   joined = joined;
-  mark = mark;
+  data_end = data_end;
   descriptor = fields.descriptor;
-  got = 0;
+  received = 0;
   stands = stands;
   room = fields.room;
 }
 
 -- what is true of all fields is true of these
-pub passed_keeps : {fields : Fields} → Keeps fields → length fields.joined ≤ most_data + 4
-    → (left : Option ℕ) (is_begun stands : Bool) (joined : List ℕ) (mark : ℕ)
-    → mark ≡ length fields.joined → length joined ≡ length fields.joined → is_begun ≡ not stands
-    → Keeps (passed fields left is_begun joined mark stands)
-passed_keeps keeps short left is_begun stands joined mark mark_is len_is begun_is = record {
+pub passed_keeps : {fields : Fields} → Invariant fields → length fields.joined ≤ most_data + 4
+    → (left : Option ℕ) (is_begun stands : Bool) (joined : List ℕ) (data_end : ℕ)
+    → data_end ≡ length fields.joined → length joined ≡ length fields.joined → is_begun ≡ not stands
+    → Invariant (passed fields left is_begun joined data_end stands)
+passed_keeps keeps short left is_begun stands joined data_end mark_is len_is begun_is = record {
   room = keeps.room;
   behind = omega (arith, keeps.behind, keeps.marked);
   marked = omega arith;
   short = omega arith;
   fresh = λ none not_standing. absurd (neither stands is_begun begun_is none not_standing);
   four = keeps.four;
-  got_four = omega arith;
+  received_four = omega arith;
   whole = λ more. absurd (omega arith);
   due = λ _. omega arith;
   fits = omega arith;
-  alone = λ standing. (begun_is ∙ ap not standing, omega arith, refl);
+  alone = λ ready. (begun_is ∙ ap not ready, omega arith, refl);
 }
   where
     neither : (s b : Bool) → b ≡ not s → b ≡ false → s ≡ false → ⊥
-    neither true b is none standing = cc
-    neither false b is none standing = cc
+    neither true b is none ready = cc
+    neither false b is none ready = cc
 
-module _ {fields : Fields} (keeps : Keeps fields) (holds : HoldsSegment (joining_in fields))
+module _ {fields : Fields} (keeps : Invariant fields) (holds : HoldsSegment (joining_in fields))
     (none : fields.stands ≡ false) where
   -- after a whole segment nothing is held, and what is left of the block is less
   behind_segment : (is_begun stands : Bool) (joined : List ℕ)
       → length joined ≡ length fields.joined
       → cond is_begun (Some (drop 4 (take (length fields.joined) joined))) None
-      ≡ begun_after (begun_in fields) (held_in fields)
-      → cond stands (Some joined) None ≡ made (begun_in fields) (held_in fields)
+      ≡ begun_after (begun_in fields) (pending_bytes fields)
+      → cond stands (Some joined) None ≡ made (begun_in fields) (pending_bytes fields)
       → joining_in (passed fields (left_after fields.left (named_len fields.descriptor)) is_begun
       joined (length fields.joined) stands)
       ≡ past_segment (joining_in fields)
@@ -155,12 +155,12 @@ module _ {fields : Fields} (keeps : Keeps fields) (holds : HoldsSegment (joining
       let held = segment_held fields keeps none holds.on.four in
       λ i. record {
         layout = fields.layout;
-        place = record {
+        position = record {
           begun = begun_is i;
           left = ap (left_after fields.left) (sym held.named ∙ sym holds.named) i;
         };
         held = drop_all (length fields.joined) joined (omega arith) i;
-        standing = made_is i;
+        ready = made_is i;
       }
 
   -- where its record continues, these are the fields of the joiner after the segment
@@ -170,9 +170,9 @@ module _ {fields : Fields} (keeps : Keeps fields) (holds : HoldsSegment (joining
       ≡ past_segment (joining_in fields)
   passed_on goes =
       let joined : List ℕ = fields.joined in
-      let all : List ℕ = joined_with (begun_in fields) (held_in fields) in
+      let all : List ℕ = joined_with (begun_in fields) (pending_bytes fields) in
       let is = segment_held fields keeps none holds.on.four in
-      let on : goes_on (kind_of (held_in fields)) ≡ true = ap goes_on is.kind ∙ goes in
+      let on : goes_on (kind_of (pending_bytes fields)) ≡ true = ap goes_on is.kind ∙ goes in
       behind_segment true false joined refl
       (ap (λ bytes. Some (drop 4 bytes)) (take_all (length joined) joined (omega arith))
       ∙ ap Some (sym is.inside) ∙ ap (λ b. cond b (Some all) None) (sym on))
@@ -186,9 +186,9 @@ module _ {fields : Fields} (keeps : Keeps fields) (holds : HoldsSegment (joining
       whole (length fields.joined) true)
       ≡ past_segment (joining_in fields)
   passed_whole goes whole whole_is same_len =
-      let all : List ℕ = joined_with (begun_in fields) (held_in fields) in
+      let all : List ℕ = joined_with (begun_in fields) (pending_bytes fields) in
       let is = segment_held fields keeps none holds.on.four in
-      let off : goes_on (kind_of (held_in fields)) ≡ false = ap goes_on is.kind ∙ goes in
+      let off : goes_on (kind_of (pending_bytes fields)) ≡ false = ap goes_on is.kind ∙ goes in
       behind_segment false true whole same_len
       (ap (λ b. cond b (Some all) None) (sym off))
       (ap Some (whole_is ∙ ap record_with (sym is.inside))

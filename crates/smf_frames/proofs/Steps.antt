@@ -20,7 +20,7 @@ use Rattle.smf_frames.specs.Segment.{named_len, kind_of, begins_record}
 use Rattle.smf_frames.specs.Faults.{is_block_due, lacks_room, crosses_block, is_too_long}
 use Rattle.smf_frames.specs.Faults.{block_fault, segment_fault, descriptor_fault}
 use Rattle.smf_frames.specs.Front.{next_of}
-use Rattle.smf_frames.proofs.Numbers.{names_same}
+use Rattle.smf_frames.proofs.DescriptorNumbers.{names_same}
 
 -- a segment of this length that a reader takes: no test speaks against it, and it is there
 pub record TakesSegment (layout : Layout) (begun left : Option ℕ) (bytes : List ℕ)

@@ -15,46 +15,46 @@ pub record Fields : Type 0 where
   pub left : Option ℕ
   pub is_begun : Bool
   pub joined : List ℕ
-  pub mark : ℕ
+  pub data_end : ℕ
   pub descriptor : List ℕ
-  pub got : ℕ
+  pub received : ℕ
   pub stands : Bool
   pub room : ℕ
 
 -- the data of the record that is begun, if one is
 abbrev pub begun_in : Fields → Option (List ℕ)
 begun_in fields =
-    if fields.is_begun then Some (data_of (take fields.mark fields.joined)) else None
+    if fields.is_begun then Some (data_of (take fields.data_end fields.joined)) else None
 
 -- the bytes of what is begun: those of its descriptor, and its data
-abbrev pub held_in : Fields → List ℕ
-held_in fields = take fields.got fields.descriptor ++ drop fields.mark fields.joined
+abbrev pub pending_bytes : Fields → List ℕ
+pending_bytes fields = take fields.received fields.descriptor ++ drop fields.data_end fields.joined
 
 -- what a joiner with these fields holds
 abbrev pub joining_in : Fields → Joining
 joining_in fields = record {
   layout = fields.layout;
-  place = record { begun = begun_in fields; left = fields.left };
-  held = held_in fields;
-  standing = if fields.stands then Some fields.joined else None;
+  position = record { begun = begun_in fields; left = fields.left };
+  held = pending_bytes fields;
+  ready = if fields.stands then Some fields.joined else None;
 }
 
 -- what is true of the fields of each joiner
-pub record Keeps (fields : Fields) : Type 0 where
+pub record Invariant (fields : Fields) : Type 0 where
   -- there is room for the longest record
   pub room : most_data + descriptor_len ≤ fields.room
   -- the data of the record that is begun ends at the mark; where none is begun, it has none
-  pub behind : descriptor_len ≤ fields.mark
-  pub marked : fields.mark ≤ length fields.joined
-  pub short : fields.mark ≤ most_data + descriptor_len
-  pub fresh : fields.is_begun ≡ false → fields.stands ≡ false → fields.mark ≡ descriptor_len
+  pub behind : descriptor_len ≤ fields.data_end
+  pub marked : fields.data_end ≤ length fields.joined
+  pub short : fields.data_end ≤ most_data + descriptor_len
+  pub fresh : fields.is_begun ≡ false → fields.stands ≡ false → fields.data_end ≡ descriptor_len
   pub four : length fields.descriptor ≡ descriptor_len
   -- data of a segment is there only after its descriptor, and no more than that names
-  pub got_four : fields.got ≤ descriptor_len
-  pub whole : fields.mark < length fields.joined → fields.got ≡ descriptor_len
-  pub due : is_block_due fields.layout fields.left ≡ true → fields.mark ≡ length fields.joined
+  pub received_four : fields.received ≤ descriptor_len
+  pub whole : fields.data_end < length fields.joined → fields.received ≡ descriptor_len
+  pub due : is_block_due fields.layout fields.left ≡ true → fields.data_end ≡ length fields.joined
   pub fits : length fields.joined
-      ≤ fields.mark + (named_len fields.descriptor - descriptor_len)
+      ≤ fields.data_end + (named_len fields.descriptor - descriptor_len)
   -- a record stands alone
   pub alone : fields.stands ≡ true
-      → (fields.is_begun ≡ false) × (fields.mark ≡ length fields.joined) × (fields.got ≡ 0)
+      → (fields.is_begun ≡ false) × (fields.data_end ≡ length fields.joined) × (fields.received ≡ 0)

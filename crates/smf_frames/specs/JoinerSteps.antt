@@ -21,31 +21,31 @@ made begun segment =
 abbrev pub past_block : Joining → Joining
 past_block joining = record {
   layout = joining.layout;
-  place = after_block joining.place (named_len joining.held);
+  position = after_block joining.position (named_len joining.held);
   held = [];
-  standing = None;
+  ready = None;
 }
 
 -- after the segment that is held
 abbrev pub past_segment : Joining → Joining
 past_segment joining = record {
   layout = joining.layout;
-  place = after_segment joining.place joining.held;
+  position = after_segment joining.position joining.held;
   held = [];
-  standing = made joining.place.begun joining.held;
+  ready = made joining.position.begun joining.held;
 }
 
 -- the descriptor of a block is held, and nothing after it
 pub record HoldsBlock (joining : Joining) : Type 0 where
   pub four : length joining.held ≡ descriptor_len
   pub passes : fault_held joining ≡ None
-  pub due : is_block_due joining.layout joining.place.left ≡ true
+  pub due : is_block_due joining.layout joining.position.left ≡ true
 
 -- a segment's descriptor is held that has no fault, and perhaps bytes after it
 pub record OnSegment (joining : Joining) : Type 0 where
   pub four : descriptor_len ≤ length joining.held
   pub passes : fault_held joining ≡ None
-  pub due : is_block_due joining.layout joining.place.left ≡ false
+  pub due : is_block_due joining.layout joining.position.left ≡ false
 
 -- a whole segment is held, and nothing after it
 pub record HoldsSegment (joining : Joining) : Type 0 where
@@ -56,7 +56,7 @@ pub record HoldsSegment (joining : Joining) : Type 0 where
 pub record HoldsLess (joining : Joining) : Type 0 where
   pub passes : fault_held joining ≡ None
   pub less : descriptor_len ≤ length joining.held
-      → (is_block_due joining.layout joining.place.left ≡ false)
+      → (is_block_due joining.layout joining.position.left ≡ false)
       × (length joining.held < named_len joining.held)
 
 -- a joiner with these bytes is this one, and is past a descriptor or a segment now

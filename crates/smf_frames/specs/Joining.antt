@@ -6,7 +6,7 @@ use Rattle.smf_frames.specs.declared.fault.FrameFault.{FrameFault}
 use Rattle.smf_frames.specs.declared.next.Next.{Next}
 use Rattle.smf_frames.specs.declared.next.Next.TheVariants.{Stops}
 use Rattle.smf_frames.specs.Faults.{descriptor_fault}
-use Rattle.smf_frames.specs.Front.{Front, Progress, start, data_len, next_of, behind, front_from}
+use Rattle.smf_frames.specs.Front.{Front, Progress, start, data_len, next_of, prepend, front_from}
 use Rattle.smf_frames.specs.Front.{front}
 
 -- What a joiner holds: the place where it is in the middle of a dump (the data of the record
@@ -15,38 +15,38 @@ use Rattle.smf_frames.specs.Front.{front}
 -- is released.
 pub record Joining : Type 0 where
   pub layout : Layout
-  pub place : Progress
+  pub position : Progress
   pub held : List ℕ
-  pub standing : Option (List ℕ)
+  pub ready : Option (List ℕ)
 
 -- nothing has come yet
 abbrev pub nothing_joined : Layout → Joining
-nothing_joined layout = record { layout = layout; place = start; held = []; standing = None }
+nothing_joined layout = record { layout = layout; position = start; held = []; ready = None }
 
 -- what comes at the start of the bytes held: where it stops, nothing of them is whole
 abbrev pub next_held : Joining → Next
 next_held joining =
-    next_of joining.layout (data_len joining.place.begun) joining.place.left joining.held
+    next_of joining.layout (data_len joining.position.begun) joining.position.left joining.held
 
 -- the fault at the descriptor that is held, if it has one: no bytes that follow could mend it
 abbrev pub fault_held : Joining → Option FrameFault
-fault_held joining = descriptor_fault joining.layout (data_len joining.place.begun)
-    joining.place.left joining.held
+fault_held joining = descriptor_fault joining.layout (data_len joining.position.begun)
+    joining.position.left joining.held
 
 -- a record that stands is the last of these, and nothing is held after it
-abbrev pub StandsLast : List (List ℕ) → Joining → Type 0
-StandsLast records joining = IfSome joining.standing (λ one.
+abbrev pub ReadyIsLast : List (List ℕ) → Joining → Type 0
+ReadyIsLast records joining = IfSome joining.ready (λ one.
     (joining.held ≡ []) × (earlier : List (List ℕ)) × (records ≡ earlier ++ one ∷ []))
 
 -- The joiner stands after this text. Whatever bytes follow, the records of the text come first, and
 -- then the front of what is held and what follows, from the place where the joiner stands. A record
 -- that stands is the last of the text's, and nothing is held after it.
-pub record StandsAfter (text : List ℕ) (joining : Joining) : Type 0 where
+pub record HasTaken (text : List ℕ) (joining : Joining) : Type 0 where
   pub goes_on : (more : List ℕ) → front joining.layout (text ++ more)
-      ≡ behind (front joining.layout text).records
-      (front_from joining.layout joining.place (joining.held ++ more))
+      ≡ prepend (front joining.layout text).records
+      (front_from joining.layout joining.position (joining.held ++ more))
   pub waits : next_held joining ≡ Stops
-  pub stands : StandsLast (front joining.layout text).records joining
+  pub stands : ReadyIsLast (front joining.layout text).records joining
 
 -- the front of nothing
 abbrev pub nothing_found : Front
@@ -67,5 +67,5 @@ bytes_seen (Ok n) piece = take n piece
 bytes_seen (Err fault) piece = piece
 
 -- the record that stands, if one does, has been released
-abbrev pub let_go : Joining → Joining
-let_go joining = record joining { standing = None }
+abbrev pub released : Joining → Joining
+released joining = record joining { ready = None }

@@ -5,5 +5,5 @@ pub mod DayOfTextLemmas
 pub mod EncodingLemmas
 pub mod NameLemmas
 pub mod ShowLemmas
-pub mod UnlikeLemmas
+pub mod InjectiveLemmas
 pub mod YearLemmas

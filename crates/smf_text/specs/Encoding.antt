@@ -21,6 +21,6 @@ encode_of text room =
     else Ok (length text)
 
 -- the number that reports and messages show
-abbrev pub number_of : TextFault → ℕ
-number_of NotInPage = 1
-number_of TooLong = 2
+abbrev pub text_number : TextFault → ℕ
+text_number NotInPage = 1
+text_number TooLong = 2

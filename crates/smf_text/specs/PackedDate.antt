@@ -88,8 +88,8 @@ unfoldable pub packed_day_of : List ℕ → Result ℤ DateFault
 packed_day_of bytes = day_of_halves (half_bytes bytes)
 
 -- the number that reports and messages show
-abbrev pub number_of : DateFault → ℕ
-number_of Digit = 1
-number_of Century = 2
-number_of DayOfYear = 3
-number_of Sign = 4
+abbrev pub date_number : DateFault → ℕ
+date_number Digit = 1
+date_number Century = 2
+date_number DayOfYear = 3
+date_number Sign = 4

@@ -33,7 +33,7 @@ pub fn character_of(byte: u8) -> Option<u8>
 }
 
 /// The place of the first such entry.
-fn place_of(entry: u8) -> Option<usize>
+fn position_of(entry: u8) -> Option<usize>
     ensures value { result ≡ position (λ other. other == entry) PAGE }
     ensures within { IfSome result (λ place. place < 256) }
 {
@@ -48,6 +48,6 @@ pub fn byte_of(character: u8) -> Option<u8>
     if character == 0 {
         return None;
     }
-    let place = place_of(character)?;
+    let place = position_of(character)?;
     Some(place as u8)
 }

@@ -22,7 +22,7 @@ pub enum TextFault {
 impl TextFault {
     /// The number that reports and messages show.
     pub fn number(self) -> u8
-        ensures { result ≡ spec.number_of self }
+        ensures { result ≡ spec.text_number self }
     {
         match self {
             TextFault::NotInPage => 1,

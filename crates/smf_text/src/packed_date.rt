@@ -53,7 +53,7 @@ pub enum DateFault {
 impl DateFault {
     /// The number that reports and messages show.
     pub fn number(self) -> u8
-        ensures { result ≡ spec.number_of self }
+        ensures { result ≡ spec.date_number self }
     {
         match self {
             DateFault::Digit => 1,

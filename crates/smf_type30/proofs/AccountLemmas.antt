@@ -8,14 +8,14 @@ use Rattle.std.proofs.lemmas.List.{take-append-drop, length-take-le}
 use Rattle.std.proofs.lemmas.Option.{same_Some}
 use Rattle.smf_type30.specs.Layout.{accounting}
 use Rattle.smf_type30.specs.Section.{count_of}
-use Rattle.smf_type30.specs.Accounts.{text_of, AreAccounts, IsAccount, fields_in, accounts_of}
+use Rattle.smf_type30.specs.Accounts.{fields_text, AreAccounts, IsAccount, fields_in, accounts_of}
 use Rattle.smf_type30.specs.Accounts.{account_of}
 
 -- a number of fields, with which a text begins
 record Begins (count : ℕ) (text : List ℕ) (fields : List (List ℕ)) : Type 0 where
   number : length fields ≡ count
   rest : List ℕ
-  begins : text ≡ text_of fields ++ rest
+  begins : text ≡ fields_text fields ++ rest
 
 -- what a walk that continues found: a field that lies inside the text, and others after it
 record GoesOn (len : ℕ) (text : List ℕ) (others : Option (List (List ℕ)))
@@ -37,12 +37,12 @@ goes_on false len text (Some behind) fields is e =
 
 -- a text begins with one more field where, after it, it begins with the others
 one_more : (len : ℕ) (text : List ℕ) (behind : List (List ℕ)) (rest : List ℕ) → len ≤ length text
-    → drop len text ≡ text_of behind ++ rest
-    → len ∷ text ≡ text_of (take len text ∷ behind) ++ rest
+    → drop len text ≡ fields_text behind ++ rest
+    → len ∷ text ≡ fields_text (take len text ∷ behind) ++ rest
 one_more len text behind rest within e =
     let field = take len text in
     let whole = sym (take-append-drop len text) ∙ ap (λ tail. field ++ tail) e in
-    let tail = whole ∙ sym (append_assoc field (text_of behind) rest) in
+    let tail = whole ∙ sym (append_assoc field (fields_text behind) rest) in
     rw (length-take-le len text within) (ap (λ list. len ∷ list) tail)
 
 -- the text begins with the fields that a walk finds
@@ -60,16 +60,16 @@ begins (suc count) (len ∷ text) fields e =
     record {
       number = ap length on.all ∙ ap suc later.number;
       rest = later.rest;
-      begins = more ∙ ap (λ list. text_of list ++ later.rest) (sym on.all);
+      begins = more ∙ ap (λ list. fields_text list ++ later.rest) (sym on.all);
     }
 
 -- a walk finds the fields with which a text begins
 found : (fields : List (List ℕ)) (rest : List ℕ)
-    → fields_in (length fields) (text_of fields ++ rest) ≡ Some fields
+    → fields_in (length fields) (fields_text fields ++ rest) ≡ Some fields
 found [] rest = refl
 found (field ∷ fields) rest =
-    let behind = text_of fields ++ rest in
-    let all = append_assoc field (text_of fields) rest in
+    let behind = fields_text fields ++ rest in
+    let all = append_assoc field (fields_text fields) rest in
     let inside : length field ≤ length (field ++ behind) = rw length-append (omega arith) in
     let fits = le-ltb (length (field ++ behind)) (length field) inside in
     rw (all, fits, take-append_seam field behind, drop-append_seam field behind, found fields rest)

@@ -5,7 +5,7 @@ use Rattle.std.proofs.Common.{IsSome, refl, sym, ap, ◌∙◌, arith}
 use Rattle.std.proofs.lemmas.List.{drop-drop}
 use Rattle.std.proofs.lemmas.Option.{same_Some}
 use Rattle.smf_type30.specs.Accounts.{fields_in, nth_of}
-use Rattle.smf_type30.specs.Walk.{BeginsWith, BeginsWithNone, EndsBefore, LeavesRest}
+use Rattle.smf_type30.specs.AccountWalk.{BeginsWith, BeginsWithNone, EndsBefore, LeavesRest}
 
 -- a list from which nothing can be dropped is not there
 option_map-none : {A B : Type 0} (f : A → B) (fields : Option A) → option_map f fields ≡ None

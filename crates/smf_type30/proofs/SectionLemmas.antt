@@ -9,7 +9,7 @@ use Rattle.std.specs.Array.{IsFirstChunk}
 use Rattle.smf_frames.specs.Number.{number, part}
 use Rattle.smf_type30.specs.declared.layout.Section.{Section}
 use Rattle.smf_type30.specs.Section.{fits, offset_of, length_of, count_of}
-use Rattle.smf_type30.specs.Lent.{Lends}
+use Rattle.smf_type30.specs.SectionBytes.{HasFields}
 
 -- a byte of a part is a byte of the whole
 get_or-part : (bytes : List ℕ) (offset len at : ℕ) → at < len
@@ -53,7 +53,7 @@ fits_there bytes section there fit = elim (or_cases _ _ fit) [
 -- the part of a record at a section's offset, of the section's length, lends the section
 pub lends : (bytes : List ℕ) (section : Section) (offset len : ℕ) → Fits bytes section
     → offset ≡ offset_of bytes section → len ≡ length_of bytes section
-    → Lends bytes section (part bytes offset len)
+    → HasFields bytes section (part bytes offset len)
 lends bytes section offset len fit at all =
     let least = fit.least in
     let inside = fit.inside in

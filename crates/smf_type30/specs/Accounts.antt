@@ -7,16 +7,16 @@ use Rattle.smf_type30.specs.Section.{offset_of, count_of}
 
 -- fields one after the other, each a byte that gives its length, and that many bytes (SMF30ACL,
 -- SMF30ACT)
-abbrev pub text_of : List (List ℕ) → List ℕ
-text_of [] = []
-text_of (field ∷ fields) = length field ∷ field ++ text_of fields
+abbrev pub fields_text : List (List ℕ) → List ℕ
+fields_text [] = []
+fields_text (field ∷ fields) = length field ∷ field ++ fields_text fields
 
 -- the accounting fields of a record: as many as the triplet counts, at the start of the text that
 -- begins at the triplet's offset
 pub record AreAccounts (bytes : List ℕ) (fields : List (List ℕ)) : Type 0 where
   pub number : length fields ≡ count_of bytes accounting
   pub rest : List ℕ
-  pub text : drop (offset_of bytes accounting) bytes ≡ text_of fields ++ rest
+  pub text : drop (offset_of bytes accounting) bytes ≡ fields_text fields ++ rest
 
 -- no fields are those of the record
 abbrev pub HasNoAccounts : List ℕ → Type 0

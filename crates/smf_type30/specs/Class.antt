@@ -8,9 +8,9 @@ use Rattle.smf_frames.specs.declared.header.Header.{Header}
 use Rattle.smf_type30.specs.Layout.{dump_header, dump_trailer, data_lost, work, step_end, job_end}
 use Rattle.smf_type30.specs.Layout.{subtype_end, triplets_end, hundredths_per_day, identification}
 use Rattle.smf_type30.specs.Layout.{processor, io_activity, completion}
-use Rattle.smf_type30.specs.declared.classes.Class.{Class}
-use Rattle.smf_type30.specs.declared.classes.Class.TheVariants.{DumpHeader, DumpTrailer, DataLost}
-use Rattle.smf_type30.specs.declared.classes.Class.TheVariants.{Other, Continuation, Usage, Damaged}
+use Rattle.smf_type30.specs.declared.record_class.Class.{Class}
+use Rattle.smf_type30.specs.declared.record_class.Class.TheVariants.{DumpHeader, DumpTrailer, DataLost}
+use Rattle.smf_type30.specs.declared.record_class.Class.TheVariants.{Other, Continuation, Usage, Damaged}
 use Rattle.smf_type30.specs.declared.damage.Damage.{Damage}
 use Rattle.smf_type30.specs.declared.damage.Damage.TheVariants.{Short, Date, Time, NoIdentification}
 use Rattle.smf_type30.specs.declared.damage.Damage.TheVariants.{Identification, Processor}

@@ -7,5 +7,5 @@ pub mod Accounts
 pub mod Usage
 pub mod Class
 pub mod Damage
-pub mod Lent
-pub mod Walk
+pub mod SectionBytes
+pub mod AccountWalk

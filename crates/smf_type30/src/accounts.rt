@@ -2,7 +2,7 @@ ghost use Rattle.std.specs.Prelude.{◌≡◌, ◌≤◌, length, drop, is_some,
 ghost use Rattle.smf_type30.specs.Layout.{triplets_end};
 ghost use Rattle.smf_type30.specs.Section.{HasTriplet, offset_of};
 ghost use Rattle.smf_type30.specs.Accounts.{fields_in, nth_of, accounts_of, account_of};
-ghost use Rattle.smf_type30.specs.Walk.{BeginsWith, BeginsWithNone, EndsBefore, LeavesRest};
+ghost use Rattle.smf_type30.specs.AccountWalk.{BeginsWith, BeginsWithNone, EndsBefore, LeavesRest};
 
 use crate::layout::{ACCOUNTING, Section};
 use crate::section::{count, offset};

@@ -3,14 +3,13 @@ ghost use Rattle.smf_text.specs.Day.{IsDay};
 ghost use Rattle.smf_text.specs.PackedDate.{packed_day_of};
 ghost use Rattle.smf_frames.specs.Header.{header_len};
 ghost use Rattle.smf_frames.specs.Header.{header_of};
-ghost use Rattle.smf_type30.specs.declared.classes.Class.TheVariants.{Usage, Damaged};
+ghost use Rattle.smf_type30.specs.declared.record_class.Class.TheVariants.{Usage, Damaged};
 ghost use Rattle.smf_type30.specs.declared.damage.Damage.TheVariants.{Accounting};
 ghost use Rattle.smf_type30.specs.Accounts.{HasNoAccounts};
 ghost use Rattle.smf_type30.specs.Layout.{triplets_end};
 ghost use Rattle.smf_type30.specs.Class as spec;
 
 use crate::accounts::has_accounts;
-use crate::classes::Class;
 use crate::damage::Damage;
 use crate::layout::{
     COMPLETION, DATA_LOST, DUMP_HEADER, DUMP_TRAILER, IDENTIFICATION, IO_ACTIVITY, JOB_END,
@@ -18,6 +17,7 @@ use crate::layout::{
 };
 use crate::moment::{Moment, moment_in};
 use crate::number::number2;
+use crate::record_class::Class;
 use crate::section::{count, fits};
 use smf_frames::Header;
 

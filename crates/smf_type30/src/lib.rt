@@ -3,17 +3,17 @@
 
 mod accounts;
 mod class_of;
-mod classes;
 mod damage;
 mod layout;
 mod moment;
 mod number;
+mod record_class;
 mod section;
 mod usage;
 
 pub use class_of::class;
-pub use classes::Class;
 pub use damage::Damage;
 pub use layout::{HUNDREDTHS_PER_DAY, JOB_END, STEP_END};
 pub use moment::Moment;
+pub use record_class::Class;
 pub use usage::Type30;

@@ -1,5 +1,5 @@
 ghost use Rattle.std.specs.Prelude.{◌≡◌, ◌≢◌, IsTrue};
-ghost use Rattle.smf_type30.specs.Lent.{Lends};
+ghost use Rattle.smf_type30.specs.SectionBytes.{HasFields};
 ghost use Rattle.smf_type30.specs.Section.{HasTriplet};
 ghost use Rattle.smf_type30.specs.Section as spec;
 
@@ -53,11 +53,11 @@ pub fn fits(bytes: &[u8], section: Section) -> bool
 }
 
 /// A section that is there, lent from its record.
-pub fn lend(bytes: &[u8], section: Section) -> &[u8]
+pub fn section_bytes(bytes: &[u8], section: Section) -> &[u8]
     requires triplet { HasTriplet bytes.now section }
     requires there { spec.count_of bytes.now section ≢ 0 }
     requires fits { IsTrue (spec.fits bytes.now section) }
-    ensures { Lends bytes.now section result.now }
+    ensures { HasFields bytes.now section result.now }
 {
     let start = offset(bytes, section);
     let end = start + len(bytes, section) as usize;

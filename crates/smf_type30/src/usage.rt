@@ -15,7 +15,7 @@ use crate::layout::{
 };
 use crate::moment::{Moment, moment_in};
 use crate::number::{number2, number4, part};
-use crate::section::{count, lend};
+use crate::section::{count, section_bytes};
 use smf_frames::Header;
 use std::marker::Model;
 use std::ops::Range;
@@ -30,7 +30,7 @@ pub struct Type30<'a> {
 
 impl<'a> Model for Type30<'a> {
     ghost use Rattle.std.specs.Prelude.{List, ℕ};
-    ghost use Rattle.smf_type30.specs.Lent.{IsRead};
+    ghost use Rattle.smf_type30.specs.SectionBytes.{IsRead};
 
     ghost Value = { List ℕ };
 
@@ -132,7 +132,7 @@ impl<'a> Type30<'a> {
         ensures value { result ≡ spec.cpu_of self.now }
         ensures bound { result < 2 ^ 33 }
     {
-        let processor = lend(self.bytes, PROCESSOR);
+        let processor = section_bytes(self.bytes, PROCESSOR);
         u64::from(number4(processor, TCB_TIME)) + u64::from(number4(processor, SRB_TIME))
     }
 
@@ -144,7 +144,7 @@ impl<'a> Type30<'a> {
         if count(self.bytes, IO_ACTIVITY) == 0 {
             return 0;
         }
-        number4(lend(self.bytes, IO_ACTIVITY), BLOCKS)
+        number4(section_bytes(self.bytes, IO_ACTIVITY), BLOCKS)
     }
 
     /// The name of the job, in EBCDIC.
@@ -191,7 +191,7 @@ impl<'a> Type30<'a> {
         if count(self.bytes, COMPLETION) == 0 {
             return None;
         }
-        lend(self.bytes, COMPLETION).first_chunk().copied()
+        section_bytes(self.bytes, COMPLETION).first_chunk().copied()
     }
 
     /// A field of the identification section.
@@ -201,7 +201,7 @@ impl<'a> Type30<'a> {
         ensures value { result.now ≡ part_in self.now identification field }
         ensures len { length result.now ≡ field.len }
     {
-        part(lend(self.bytes, IDENTIFICATION), field)
+        part(section_bytes(self.bytes, IDENTIFICATION), field)
     }
 
     /// The step number, 0 for a job.

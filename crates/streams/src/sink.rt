@@ -1,6 +1,6 @@
 ghost use Rattle.std.specs.Prelude.{◌≡◌, ◌≤◌, IfOk, false, length};
 ghost use Rattle.std.specs.Io.KnownBytes.{WriteAppends};
-ghost use Rattle.streams.specs.Marks.{is_failed_write};
+ghost use Rattle.streams.specs.AnswerFlags.{is_failed_write};
 ghost use Rattle.streams.specs.Sinks.{writer_of, has_failed};
 
 use crate::writer::Writer;

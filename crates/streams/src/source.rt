@@ -1,7 +1,7 @@
 ghost use Rattle.std.specs.Prelude.{◌≡◌, ◌+◌, ◌<◌, ◌^◌, false, length};
 ghost use Rattle.std.specs.Io.{ReadsAtMost};
 ghost use Rattle.std.specs.Io.KnownBytes.{ReadConsumes};
-ghost use Rattle.streams.specs.Marks.{is_failed_read, is_end, NothingIsLeft, at_end_once};
+ghost use Rattle.streams.specs.AnswerFlags.{is_failed_read, is_end, NothingUnread, at_end_once};
 
 use crate::reader::Reader;
 use std::io;
@@ -13,7 +13,7 @@ pub struct Source<R: Reader + Drop> {
     asked: u64,
     failed: bool,
     ended: bool,
-    ghost at_end: { NothingIsLeft ended (R.remaining inner) } by { Prim.hlevel at_end_once },
+    ghost at_end: { NothingUnread ended (R.remaining inner) } by { Prim.hlevel at_end_once },
 }
 
 impl<R: Reader + Drop> Source<R> {
@@ -51,7 +51,7 @@ impl<R: Reader + Drop> Source<R> {
     /// A read into one or more bytes gave none.
     pub fn ended(&self) -> bool
         ensures ended { result ≡ has_ended self.now }
-        ensures left { NothingIsLeft result (R.remaining (reader_of self.now)) }
+        ensures left { NothingUnread result (R.remaining (reader_of self.now)) }
     {
         self.ended
     }
@@ -59,7 +59,7 @@ impl<R: Reader + Drop> Source<R> {
     /// The reader, as the reads left it.
     pub fn into_inner(self) -> R
         ensures reader { result ≡ reader_of self }
-        ensures left { NothingIsLeft (has_ended self) (R.remaining result) }
+        ensures left { NothingUnread (has_ended self) (R.remaining result) }
     {
         self.inner
     }
@@ -79,7 +79,7 @@ impl<R: Reader + Drop> Source<R> {
         ensures asked { reads_of self.new ≡ reads_of self.old + 1 }
         ensures failed { has_failed self.new ≡ is_failed_read result }
         ensures ended { has_ended self.new ≡ is_end result (length buffer.old) }
-        ensures left { NothingIsLeft (has_ended self.new) (R.remaining (reader_of self.new)) }
+        ensures left { NothingUnread (has_ended self.new) (R.remaining (reader_of self.new)) }
     {
         self.asked += 1;
         let answer = self.inner.ask(buffer);

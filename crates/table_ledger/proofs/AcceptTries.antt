@@ -10,29 +10,29 @@ use Rattle.sqlite_trees.specs.declared.error.StoreError.{StoreError}
 use Rattle.book_model.specs.Words.{data_of, IsPriced, accept_answer, Book, RecordKept, keep}
 use Rattle.book_model.specs.Words.{most_held, most_cost, accept_outcome, accept_event, Naming}
 use Rattle.book_model.specs.Words.{IsUsageRecord, name_of, same_bytes, price_in, price_under}
-use Rattle.book_model.specs.Words.{Tariffed, Rulings}
+use Rattle.book_model.specs.Words.{AcceptedTerms, Rulings}
 use Rattle.tariff_rules.specs.declared.priced.Priced.{Priced}
 use Rattle.book_model.specs.declared.answer.Accepted.{Accepted}
 use Rattle.book_model.specs.declared.answer.Accepted.TheVariants.{Kept, Known, Unpriced}
 use Rattle.book_model.specs.declared.fault.LedgerFault.{LedgerFault}
 use Rattle.book_model.specs.declared.fault.LedgerFault.TheVariants.{Full, DigestClash}
 use Rattle.book_core.specs.Calls.{Makes}
-use Rattle.kept_tables.specs.Tables.{BookRow, RecordRow, Tables}
-use Rattle.kept_tables.specs.TablesOf.{tables_of}
-use Rattle.table_readings.specs.AcceptRead.{row_answer, new_answer, keep_read}
-use Rattle.table_readings.proofs.AcceptLemmas.{accept_follows}
-use Rattle.table_readings.proofs.CallsLemmas.{calls_stay}
-use Rattle.table_readings.proofs.ReadableLemmas.{calls_read}
-use Rattle.table_readings.proofs.RulingsReading.{closes_back}
+use Rattle.table_model.specs.Tables.{BookRow, RecordRow, Tables}
+use Rattle.table_model.specs.TablesOf.{tables_of}
+use Rattle.table_laws.specs.AcceptRead.{row_answer, new_answer, with_record_read}
+use Rattle.table_laws.proofs.AcceptLemmas.{accept_follows}
+use Rattle.table_laws.proofs.CallsLemmas.{calls_stay}
+use Rattle.table_laws.proofs.ReadableLemmas.{calls_read}
+use Rattle.table_laws.proofs.RulingsReading.{closes_back}
 use Rattle.tree_tables.specs.Answers.{FindsRecord}
 use Rattle.tree_tables.specs.Steps.{Looks}
 use Rattle.tree_tables.specs.Stored.{stored_entry}
 use Rattle.tree_tables.specs.declared.stored_record.StoredRecord.{StoredRecord}
 use Rattle.table_ledger.specs.Commits.{Saw, CommitsOne}
-use Rattle.table_ledger.specs.Entries.{AreRemembered, IsNew}
-use Rattle.table_ledger.specs.Keepings.{keep_as}
+use Rattle.table_ledger.specs.RecordWrites.{AreRemembered, IsNew}
+use Rattle.table_ledger.specs.NewRecords.{with_new_record}
 use Rattle.table_ledger.specs.Ready.{IsReadyAt, Remembers}
-use Rattle.table_ledger.specs.Tries.{IsPlain, Tries}
+use Rattle.table_ledger.specs.Attempts.{LeavesOpen, Attempts}
 use Rattle.table_ledger.specs.declared.summary.Summary.{Summary}
 use Rattle.table_ledger.proofs.Answering.{makes_answer, makes_refused}
 use Rattle.table_ledger.proofs.Remembered.{rulings_are}
@@ -47,7 +47,7 @@ abbrev by_data : Bool → Result Accepted LedgerFault
 by_data same = if same then Ok Known else Err DigestClash
 
 -- it leaves the books open
-data_plain : (same : Bool) → IsPlain (by_data same)
+data_plain : (same : Bool) → LeavesOpen (by_data same)
 data_plain true = record { stored = refl; served = refl }
 data_plain false = record { stored = refl; served = refl }
 
@@ -84,7 +84,7 @@ saw_as name is looks =
     (λ tables known. subst (FindsRecord name tables) is known)
 
 -- the price that was found is that of the tariffs, for the record's bytes
-pub price_is : {tariffs given : List Tariffed} {bytes own : List ℕ} {found shape : Option Priced}
+pub price_is : {tariffs given : List AcceptedTerms} {bytes own : List ℕ} {found shape : Option Priced}
     → found ≡ price_under given own → given ≡ tariffs → own ≡ bytes → found ≡ shape
     → price_under tariffs bytes ≡ shape
 price_is is same whose shape = sym (is ∙ (λ i. price_under (same i) (whose i))) ∙ shape
@@ -132,10 +132,10 @@ module _ (naming : Naming) (was : Summary) (bytes name : List ℕ) (usage : IsUs
 
   -- An answer other than that the record is kept, from looks alone.
   try_other : {old new : State} {Known : Tables → Type 0} (answer : Result Accepted LedgerFault)
-      → Saw old new Known → IsPlain answer → answer ≢ Ok Kept
+      → Saw old new Known → LeavesOpen answer → answer ≢ Ok Kept
       → ((book : Book) → IsReadyAt naming was old.view book → Known (tables_of naming book)
       → accept_answer naming book bytes ≡ answer)
-      → Tries (λ (accepted : Accepted). accepted) naming was was old new
+      → Attempts (λ (accepted : Accepted). accepted) naming was was old new
       (accept_outcome naming bytes) (Ok answer)
   try_other answer saw plain other is =
       try_answered (λ (accepted : Accepted). accepted) naming was (accept_outcome naming bytes)
@@ -146,7 +146,7 @@ module _ (naming : Naming) (was : Summary) (bytes name : List ℕ) (usage : IsUs
   pub try_unread : {old new : State} {error : StoreError}
       (tried : Result (Result Accepted LedgerFault) StoreError) → IsErr tried
       → Looks (Err error) old new (FindsRecord name)
-      → Tries (λ (accepted : Accepted). accepted) naming was was old new
+      → Attempts (λ (accepted : Accepted). accepted) naming was was old new
       (accept_outcome naming bytes) tried
   try_unread {old} (Err other) failed looks =
       try_refused (λ (accepted : Accepted). accepted) naming was (accept_outcome naming bytes)
@@ -157,11 +157,11 @@ module _ (naming : Naming) (was : Summary) (bytes name : List ℕ) (usage : IsUs
   pub try_known : {old new : State} (stored : StoredRecord) (answer : Result Accepted LedgerFault)
       → answer ≡ by_data (same_bytes stored.data_bytes.items (data_of bytes))
       → Saw old new (λ tables. FindsRecord name tables (Some stored))
-      → Tries (λ (accepted : Accepted). accepted) naming was was old new
+      → Attempts (λ (accepted : Accepted). accepted) naming was was old new
       (accept_outcome naming bytes) (Ok answer)
   try_known stored answer is saw =
       let same = same_bytes stored.data_bytes.items (data_of bytes) in
-      try_other answer saw (subst IsPlain (sym is) (data_plain same))
+      try_other answer saw (subst LeavesOpen (sym is) (data_plain same))
       (λ kept. data_other same (sym is ∙ kept))
       (λ book ready known. answer_by book ready
       ∙ row_answers (tables_of naming book).book bytes (price_under was.tariffs.items bytes) name
@@ -171,7 +171,7 @@ module _ (naming : Naming) (was : Summary) (bytes name : List ℕ) (usage : IsUs
   -- No tariff is in force on its day.
   pub try_unpriced : {old new : State} → price_under was.tariffs.items bytes ≡ None
       → Saw old new (λ tables. FindsRecord name tables None)
-      → Tries (λ (accepted : Accepted). accepted) naming was was old new
+      → Attempts (λ (accepted : Accepted). accepted) naming was was old new
       (accept_outcome naming bytes) (Ok (Ok Unpriced))
   try_unpriced none saw =
       try_other (Ok Unpriced) saw (record { stored = refl; served = refl }) (λ is. cc)
@@ -199,7 +199,7 @@ module _ (naming : Naming) (was : Summary) (bytes name : List ℕ) (usage : IsUs
       → price_under was.tariffs.items bytes ≡ Some priced
       → remembered_full priced.amount ≡ true
       → Saw old new (λ tables. FindsRecord name tables None)
-      → Tries (λ (accepted : Accepted). accepted) naming was was old new
+      → Attempts (λ (accepted : Accepted). accepted) naming was was old new
       (accept_outcome naming bytes) (Ok (Err Full))
   try_full priced price full saw =
       try_other (Err Full) saw (record { stored = refl; served = refl }) (λ is. cc)
@@ -225,7 +225,7 @@ module _ (naming : Naming) (was : Summary) (bytes name : List ℕ) (usage : IsUs
     tables_kept : (book : Book) {view : View} → IsReadyAt naming was view book
         → FindsRecord name (tables_of naming book) None
         → tables_of naming (keep bytes book)
-        ≡ keep_read naming book.rulings bytes priced (tables_of naming book)
+        ≡ with_record_read naming book.rulings bytes priced (tables_of naming book)
     tables_kept book ready known =
         accept_follows.kept naming book bytes priced (calls_read naming book ready.kept.calls)
         (accept_kept book ready known) (book_price book ready.remembers)
@@ -243,7 +243,7 @@ module _ (naming : Naming) (was : Summary) (bytes name : List ℕ) (usage : IsUs
         → IsReadyAt naming was view book → FindsRecord name (tables_of naming book) None
         → IsEvent (λ (accepted : Accepted). accepted) naming was (accept_outcome naming bytes)
         (λ tables. AreRemembered was tables × IsNew name tables)
-        (keep_as was name bytes priced) book
+        (with_new_record was name bytes priced) book
     accept_is_event is_priced book ready known =
         let kept = accept_kept book ready known in
         let cost = book_price book ready.remembers in
@@ -259,8 +259,8 @@ module _ (naming : Naming) (was : Summary) (bytes name : List ℕ) (usage : IsUs
                     subst (λ found. IfSome found IsPriced) (sym cost ∙ same) is_priced;
               }) kept;
           tables =
-              ap (λ name. keep_as was name bytes priced tables) named
-              ∙ ap (λ (rulings : Rulings). keep_read naming rulings bytes priced tables)
+              ap (λ name. with_new_record was name bytes priced tables) named
+              ∙ ap (λ (rulings : Rulings). with_record_read naming rulings bytes priced tables)
               (sym (rulings_are ready.remembers))
               ∙ sym (tables_kept book ready known);
         }
@@ -287,13 +287,13 @@ module _ (naming : Naming) (was : Summary) (bytes name : List ℕ) (usage : IsUs
         (tried : Result (Result Accepted LedgerFault) StoreError) → IsErr tried → IsPriced priced
         → Saw old middle (λ tables. FindsRecord name tables None)
         → CommitsOne {T = Unit {0}} (Err error) middle new
-        (λ tables. AreRemembered was tables × IsNew name tables) (keep_as was name bytes priced)
-        → Tries (λ (accepted : Accepted). accepted) naming was was old new
+        (λ tables. AreRemembered was tables × IsNew name tables) (with_new_record was name bytes priced)
+        → Attempts (λ (accepted : Accepted). accepted) naming was was old new
         (accept_outcome naming bytes) tried
     try_unkept {new = new} (Err other) failed is_priced saw commit =
         try_undone (λ (accepted : Accepted). accepted) naming was (accept_outcome naming bytes)
         new (λ tables. AreRemembered was tables × IsNew name tables)
-        (keep_as was name bytes priced) saw
+        (with_new_record was name bytes priced) saw
         (λ book ready known. accept_is_event is_priced book ready known)
         (commit_failed {U = Unit {0}} (Err other) refl commit)
     try_unkept (Ok answer) failed is_priced saw commit = absurd (true≢false (sym failed))
@@ -302,17 +302,17 @@ module _ (naming : Naming) (was : Summary) (bytes name : List ℕ) (usage : IsUs
     pub try_kept : {old middle new : State} (is : Summary) {done : Unit {0}} → IsPriced priced
         → Saw old middle (λ tables. FindsRecord name tables None)
         → CommitsOne (Ok done) middle new
-        (λ tables. AreRemembered was tables × IsNew name tables) (keep_as was name bytes priced)
+        (λ tables. AreRemembered was tables × IsNew name tables) (with_new_record was name bytes priced)
         → is.tariffs.items ≡ was.tariffs.items → is.closes.items ≡ was.closes.items
         → is.choices ≡ was.choices → is.adopted ≡ was.adopted → is.held ≡ was.held + 1
         → is.total ≡ was.total + priced.amount
-        → Tries (λ (accepted : Accepted). accepted) naming was is old new
+        → Attempts (λ (accepted : Accepted). accepted) naming was is old new
         (accept_outcome naming bytes) (Ok (Ok Kept))
     unfolding accept_is_event
     try_kept {new = new} is is_priced saw commit tariffs closes choices adopted held total =
         try_done (λ (accepted : Accepted). accepted) naming was (accept_outcome naming bytes)
         new (λ tables. AreRemembered was tables × IsNew name tables)
-        (keep_as was name bytes priced) saw
+        (with_new_record was name bytes priced) saw
         (λ book ready known. accept_is_event is_priced book ready known) commit
         (λ book ready known. accept_kept book ready known)
         (λ book ready known. accept_remembers is book ready known tariffs closes choices adopted held

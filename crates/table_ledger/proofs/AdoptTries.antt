@@ -13,17 +13,17 @@ use Rattle.book_model.specs.declared.answer.Ruled.{Ruled}
 use Rattle.book_model.specs.declared.answer.Ruled.TheVariants.{Done, Already}
 use Rattle.book_model.specs.declared.fault.LedgerFault.{LedgerFault}
 use Rattle.book_model.specs.declared.fault.LedgerFault.TheVariants.{OldRule}
-use Rattle.kept_tables.specs.Laws.{AdoptionIsSteps}
-use Rattle.kept_tables.specs.Steps.{adoption_by_steps}
-use Rattle.kept_tables.specs.TablesOf.{tables_of}
-use Rattle.kept_tables.specs.Views.{is_due_in}
-use Rattle.table_readings.proofs.AdoptionLemmas.{adoptions_follow}
-use Rattle.table_readings.proofs.CallsLemmas.{calls_stay}
-use Rattle.table_readings.proofs.ReadableLemmas.{calls_read}
+use Rattle.table_model.specs.Laws.{AdoptionIsSteps}
+use Rattle.table_model.specs.Steps.{adoption_by_steps}
+use Rattle.table_model.specs.TablesOf.{tables_of}
+use Rattle.table_model.specs.Views.{is_due_in}
+use Rattle.table_laws.proofs.AdoptionLemmas.{adoptions_follow}
+use Rattle.table_laws.proofs.CallsLemmas.{calls_stay}
+use Rattle.table_laws.proofs.ReadableLemmas.{calls_read}
 use Rattle.tree_tables.specs.Steps.{Always}
 use Rattle.table_ledger.specs.Ready.{IsReadyAt, Remembers}
 use Rattle.table_ledger.specs.Summaries.{book_ruled}
-use Rattle.table_ledger.specs.Tries.{IsPlain}
+use Rattle.table_ledger.specs.Attempts.{LeavesOpen}
 use Rattle.table_ledger.specs.declared.summary.Summary.{Summary}
 use Rattle.table_ledger.proofs.Answering.{ruled_makes}
 use Rattle.table_ledger.proofs.TryLemmas.{IsEvent}
@@ -33,12 +33,12 @@ abbrev by_tests : Bool → Bool → Result Ruled LedgerFault
 by_tests same second = if same then Ok Already else if second then Ok Done else Err OldRule
 
 -- it leaves the books open
-plain_by : (same second : Bool) → IsPlain (by_tests same second)
+plain_by : (same second : Bool) → LeavesOpen (by_tests same second)
 plain_by true second = record { stored = refl; served = refl }
 plain_by false true = record { stored = refl; served = refl }
 plain_by false false = record { stored = refl; served = refl }
 
-pub adopt_plain : (book : Book) (rule : ℕ) → IsPlain (adopt_answer book rule)
+pub adopt_plain : (book : Book) (rule : ℕ) → LeavesOpen (adopt_answer book rule)
 adopt_plain book rule = plain_by (rule == rule_by book.rulings) (rule == second_rule)
 
 -- it is the same by what is remembered

@@ -13,14 +13,14 @@ use Rattle.sqlite_trees.proofs.ListLemmas.{map-map}
 use Rattle.book_model.specs.Words.{AreLines, AreRows, Book, Naming, by_bytes, by_line, members, set_of}
 use Rattle.book_model.specs.declared.line.Line.{Line}
 use Rattle.book_model.specs.declared.row.ChargeRow.{ChargeRow}
-use Rattle.kept_tables.specs.Numbered.{rows_under}
-use Rattle.kept_tables.specs.Tables.{RecordRow, RecordTable}
-use Rattle.kept_tables.specs.TablesOf.{tables_of}
-use Rattle.table_readings.specs.ListsRead.{is_period}
-use Rattle.table_readings.specs.Readable.{IsReadable}
-use Rattle.table_readings.proofs.ListOrder.{all_so}
-use Rattle.table_readings.proofs.ReadableLemmas.{calls_read}
-use Rattle.table_readings.proofs.ShownDisputes.{lists_show}
+use Rattle.table_model.specs.PeriodRows.{rows_under}
+use Rattle.table_model.specs.Tables.{RecordRow, RecordTable}
+use Rattle.table_model.specs.TablesOf.{tables_of}
+use Rattle.table_laws.specs.ListsRead.{is_period}
+use Rattle.table_laws.specs.Readable.{IsReadable}
+use Rattle.table_laws.proofs.ListOrder.{all_so}
+use Rattle.table_laws.proofs.ReadableLemmas.{calls_read}
+use Rattle.table_laws.proofs.ShownDisputes.{lists_show}
 use Rattle.tree_tables.specs.Answers.{ListsDays, ListsLines, ListsUncharged}
 use Rattle.tree_tables.specs.Fits.{DaysFit, LinesFit}
 use Rattle.tree_tables.specs.Stored.{signed_name, stored_entry}

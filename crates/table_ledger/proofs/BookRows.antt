@@ -27,27 +27,27 @@ use Rattle.book_model.specs.Sets.{Set}
 use Rattle.book_model.specs.declared.row.ChargeRow.{ChargeRow}
 use Rattle.book_model.specs.declared.row.RowKey.{RowKey}
 use Rattle.book_model.proofs.RecordSets.{has_those, same_records}
-use Rattle.table_readings.proofs.IdentityLengths.{identity_by-long}
+use Rattle.table_laws.proofs.IdentityLengths.{identity_by-long}
 use Rattle.book_model.proofs.RowLemmas.{by_key_total}
 use Rattle.book_model.proofs.SetLemmas.{members-those}
 use Rattle.book_model.proofs.SumsAlike.{length-sum_by}
-use Rattle.kept_tables.specs.Numbered.{rows_under, under}
-use Rattle.kept_tables.specs.Tables.{RecordRow}
-use Rattle.kept_tables.specs.TablesOf.{line_entries, signed_names, tables_of}
-use Rattle.kept_tables.proofs.HeldPeriods.{all_held, one_of}
-use Rattle.kept_tables.proofs.PeriodPlaces.{at_place, slice_get-map}
-use Rattle.kept_tables.proofs.PeriodReading.{read-period}
-use Rattle.kept_tables.proofs.RowReading.{rows_follow}
-use Rattle.table_readings.specs.Fits.{DayFits}
-use Rattle.table_readings.specs.ListsRead.{is_period}
-use Rattle.table_readings.specs.Readable.{IsReadable}
-use Rattle.table_readings.proofs.DisputedRows.{each_entry}
-use Rattle.table_readings.proofs.Finding.{find_one}
-use Rattle.table_readings.proofs.FitsLemmas.{numbers_fit}
-use Rattle.table_readings.proofs.ListLemmas.{period_there}
-use Rattle.table_readings.proofs.ListOrder.{all_joined}
-use Rattle.table_readings.proofs.PriceSums.{costs, some_within}
-use Rattle.table_readings.proofs.RecordReading.{all_entries, all_permuted, entry, entry_at}
+use Rattle.table_model.specs.PeriodRows.{rows_under, under}
+use Rattle.table_model.specs.Tables.{RecordRow}
+use Rattle.table_model.specs.TablesOf.{line_entries, signed_names, tables_of}
+use Rattle.table_model.proofs.HeldPeriods.{all_held, one_of}
+use Rattle.table_model.proofs.PeriodPlaces.{at_place, slice_get-map}
+use Rattle.table_model.proofs.PeriodReading.{read-period}
+use Rattle.table_model.proofs.RowReading.{rows_follow}
+use Rattle.table_laws.specs.Fits.{DayFits}
+use Rattle.table_laws.specs.ListsRead.{is_period}
+use Rattle.table_laws.specs.Readable.{IsReadable}
+use Rattle.table_laws.proofs.DisputedRows.{each_entry}
+use Rattle.table_laws.proofs.Finding.{find_one}
+use Rattle.table_laws.proofs.FitsLemmas.{numbers_fit}
+use Rattle.table_laws.proofs.ListLemmas.{period_there}
+use Rattle.table_laws.proofs.ListOrder.{all_joined}
+use Rattle.table_laws.proofs.PriceSums.{costs, some_within}
+use Rattle.table_laws.proofs.RecordReading.{all_entries, all_permuted, entry, entry_at}
 use Rattle.tree_tables.specs.Answers.{ListsUncharged, is_uncharged}
 use Rattle.tree_tables.specs.Columns.{day_columns, line_columns, record_columns}
 use Rattle.tree_tables.specs.Fits.{ChargeFits, DaysFit, LineFits, LinesFit, RecordFits, RowsFit}

@@ -16,7 +16,7 @@ use Rattle.std.proofs.lemmas.Map.Lookups.{exact_bytes}
 use Rattle.sqlite_trees.specs.View.{View}
 use Rattle.book_core.specs.Calls.{Makes}
 use Rattle.book_core.specs.Effects.{choice_effects}
-use Rattle.book_core.specs.declared.effect_table.ChoiceEffects.{ChoiceEffects}
+use Rattle.book_core.specs.declared.effects.ChoiceEffects.{ChoiceEffects}
 use Rattle.book_model.specs.Words.{Book, Naming, RecordChosen, by_bytes, same_bytes, choose}
 use Rattle.book_model.specs.Words.{Choice, choose_answer, choose_event, name_of}
 use Rattle.book_model.specs.Words.{choose_outcome, chosen_answer, most_choices, record_named}
@@ -24,23 +24,23 @@ use Rattle.book_model.specs.declared.answer.Ruled.{Ruled}
 use Rattle.book_model.specs.declared.answer.Ruled.TheVariants.{Done, Already}
 use Rattle.book_model.specs.declared.fault.LedgerFault.{LedgerFault}
 use Rattle.book_model.specs.declared.fault.LedgerFault.TheVariants.{Full, NoSuchRecord, NotDisputed}
-use Rattle.kept_tables.specs.TableChanges.{put_choice}
-use Rattle.kept_tables.specs.Tables.{ChoiceRow, RecordRow, RecordTable, Tables}
-use Rattle.kept_tables.specs.TablesOf.{choice_entries, tables_of}
-use Rattle.kept_tables.specs.Views.{member_at, rows_with}
-use Rattle.table_readings.specs.Readable.{IsReadable}
-use Rattle.table_readings.specs.RulingsRead.{choices_made, choose_row}
-use Rattle.table_readings.specs.RulingsRead.{is_lone}
-use Rattle.table_readings.proofs.CallsLemmas.{calls_stay}
-use Rattle.table_readings.proofs.ChoiceLemmas.{choices_follow}
-use Rattle.table_readings.proofs.ChoiceReading.{choices_count}
-use Rattle.table_readings.proofs.Finding.{find_one}
-use Rattle.table_readings.proofs.ReadableLemmas.{calls_read}
-use Rattle.table_readings.proofs.RulingsReading.{closes_back}
+use Rattle.table_model.specs.TableChanges.{put_choice}
+use Rattle.table_model.specs.Tables.{ChoiceRow, RecordRow, RecordTable, Tables}
+use Rattle.table_model.specs.TablesOf.{choice_entries, tables_of}
+use Rattle.table_model.specs.Views.{member_at, rows_with}
+use Rattle.table_laws.specs.Readable.{IsReadable}
+use Rattle.table_laws.specs.RulingsRead.{choices_made, choose_row}
+use Rattle.table_laws.specs.RulingsRead.{is_lone_row}
+use Rattle.table_laws.proofs.CallsLemmas.{calls_stay}
+use Rattle.table_laws.proofs.ChoiceLemmas.{choices_follow}
+use Rattle.table_laws.proofs.ChoiceReading.{choices_count}
+use Rattle.table_laws.proofs.Finding.{find_one}
+use Rattle.table_laws.proofs.ReadableLemmas.{calls_read}
+use Rattle.table_laws.proofs.RulingsReading.{closes_back}
 use Rattle.tree_tables.specs.Answers.{FindsRecord, FindsSharing, charged_with}
 use Rattle.tree_tables.specs.States.{State}
 use Rattle.tree_tables.specs.Steps.{Looks}
-use Rattle.table_ledger.specs.Entries.{IsNext}
+use Rattle.table_ledger.specs.RecordWrites.{IsNext}
 use Rattle.tree_tables.specs.Stored.{stored_entry}
 use Rattle.tree_tables.specs.declared.stored_record.StoredRecord.{StoredRecord}
 use Rattle.table_ledger.specs.Ready.{IsReadyAt, Remembers}
@@ -192,14 +192,14 @@ module _ (naming : Naming) (was : Summary) (name : List ℕ) (view : View) (book
     there = (found_row name stored (get tables.records name) known).0
 
     -- the answer by the tests of its row
-    answer_by : (lone charged full : Bool) → is_lone tables.records row ≡ lone
+    answer_by : (lone charged full : Bool) → is_lone_row tables.records row ≡ lone
         → row.charged ≡ charged → nat_le most_choices (choices_made tables) ≡ full
         → choose_answer naming book name
         ≡ (if lone then Err NotDisputed else if charged then Ok Already
         else if full then Err Full else Ok Done)
-    answer_by lone charged full is_lone is_charged is_full =
+    answer_by lone charged full is_lone_row is_charged is_full =
         told (Some row) there
-        ∙ (λ i. if is_lone i then Err NotDisputed else if is_charged i then Ok Already
+        ∙ (λ i. if is_lone_row i then Err NotDisputed else if is_charged i then Ok Already
         else if is_full i then Err Full else Ok Done)
 
     -- the first two rows of its identity were found
@@ -215,7 +215,7 @@ module _ (naming : Naming) (was : Summary) (name : List ℕ) (view : View) (book
           (subst (λ n. n < 2) as_many few)) refl refl
 
       module _ (many : 2 ≤ length sharing) where
-        others : is_lone tables.records row ≡ false
+        others : is_lone_row tables.records row ≡ false
         others =
             choices_follow.lone tables.records row
             ∙ not_one (length (take 2 (rows_with row.identity tables.records)))

@@ -17,26 +17,26 @@ use Rattle.book_model.specs.declared.fault.LedgerFault.TheVariants.{Full, NotLat
 use Rattle.book_model.proofs.MapLemmas.{else_find, find-both}
 use Rattle.book_model.proofs.RowLemmas.{by_key_total}
 use Rattle.book_core.specs.Calls.{Makes}
-use Rattle.kept_tables.specs.MapChanges.{updated}
-use Rattle.kept_tables.specs.Numbered.{by_period, under, numbered}
-use Rattle.kept_tables.specs.TableChanges.{close_tables}
-use Rattle.kept_tables.specs.Tables.{RecordRow}
-use Rattle.kept_tables.specs.TablesOf.{tables_of, day_entries}
-use Rattle.kept_tables.proofs.CloseDays.{closed_open}
-use Rattle.kept_tables.proofs.MoveLemmas.{not_number}
-use Rattle.kept_tables.proofs.NumberedLemmas.{by_period_total, find-under, is_number}
-use Rattle.table_readings.specs.FromCalls.{IsFromCalls}
-use Rattle.table_readings.specs.RulingsRead.{post_changed}
-use Rattle.table_readings.proofs.CallsLemmas.{calls_stay}
-use Rattle.table_readings.proofs.ReadableLemmas.{calls_read}
-use Rattle.table_readings.proofs.RulingLemmas.{closing_follows}
-use Rattle.kept_tables.specs.Steps.{post_by}
+use Rattle.table_model.specs.MapChanges.{updated}
+use Rattle.table_model.specs.PeriodRows.{by_period, under, numbered}
+use Rattle.table_model.specs.TableChanges.{close_tables}
+use Rattle.table_model.specs.Tables.{RecordRow}
+use Rattle.table_model.specs.TablesOf.{tables_of, day_entries}
+use Rattle.table_model.proofs.CloseDays.{closed_open}
+use Rattle.table_model.proofs.MoveLemmas.{not_number}
+use Rattle.table_model.proofs.NumberedLemmas.{by_period_total, find-under, is_number}
+use Rattle.table_laws.specs.FromCalls.{IsFromCalls}
+use Rattle.table_laws.specs.RulingsRead.{post_changed}
+use Rattle.table_laws.proofs.CallsLemmas.{calls_stay}
+use Rattle.table_laws.proofs.ReadableLemmas.{calls_read}
+use Rattle.table_laws.proofs.RulingLemmas.{closing_follows}
+use Rattle.table_model.specs.Steps.{post_by}
 use Rattle.tree_tables.specs.Days.{NoneNext}
 use Rattle.sqlite_trees.specs.View.{View}
-use Rattle.table_ledger.specs.Closings.{close_written}
+use Rattle.table_ledger.specs.CloseWrites.{close_by_steps}
 use Rattle.table_ledger.specs.Ready.{IsReadyAt, Remembers}
 use Rattle.table_ledger.specs.Summaries.{book_ruled}
-use Rattle.table_ledger.specs.Tries.{IsPlain}
+use Rattle.table_ledger.specs.Attempts.{LeavesOpen}
 use Rattle.table_ledger.specs.declared.summary.Summary.{Summary}
 use Rattle.table_ledger.proofs.Answering.{ruled_makes}
 use Rattle.table_ledger.proofs.TryLemmas.{IsEvent}
@@ -54,14 +54,14 @@ by_tests open_one closed is_open early full =
 
 -- it leaves the books open
 plain_by : (open_one : ℕ) (closed is_open early full : Bool)
-    → IsPlain (by_tests open_one closed is_open early full)
+    → LeavesOpen (by_tests open_one closed is_open early full)
 plain_by open_one true is_open early full = record { stored = refl; served = refl }
 plain_by open_one false false early full = record { stored = refl; served = refl }
 plain_by open_one false true true full = record { stored = refl; served = refl }
 plain_by open_one false true false true = record { stored = refl; served = refl }
 plain_by open_one false true false false = record { stored = refl; served = refl }
 
-pub close_plain : (book : Book) (number : ℕ) (day : ℤ) → IsPlain (close_answer book number day)
+pub close_plain : (book : Book) (number : ℕ) (day : ℤ) → LeavesOpen (close_answer book number day)
 close_plain book number day =
     plain_by (open_number book) (is_closed number day book.rulings) (number == open_number book)
     (is_early day book.rulings) (number == last_period)
@@ -168,7 +168,7 @@ same_posted day row = post_cases row (int_lt day row.priced.day) row.charged row
 pub written_after : (naming : Naming) (book : Book) (number : ℕ) (day : ℤ)
     → IsFromCalls naming book
     → close_answer book number day ≡ Ok Done
-    → close_written number day (tables_of naming book) ≡ tables_of naming (close day book)
+    → close_by_steps number day (tables_of naming book) ≡ tables_of naming (close day book)
 written_after naming book number day calls done =
     let whole = calls_read naming book calls in
     let tables = tables_of naming book in
@@ -182,7 +182,7 @@ abbrev pub close_is_event : (naming : Naming) (was : Summary) (view : View) (num
     → IsDay day → close_answer (book_ruled was) number day ≡ Ok Done → (book : Book)
     → IsReadyAt naming was view book
     → IsEvent (λ (ruled : Ruled). ruled) naming was (close_outcome number day) (NoneNext number)
-    (close_written number day) book
+    (close_by_steps number day) book
 close_is_event naming was view number day is_day answer book ready =
     let done = sym (close_remembered was book number day ready.remembers) ∙ answer in
     let whole = calls_read naming book ready.kept.calls in

@@ -17,17 +17,17 @@ use Rattle.book_model.specs.declared.row.RowKey.{RowKey}
 use Rattle.book_model.specs.Words.{by_key, key_of, row_at}
 use Rattle.book_model.proofs.MapLemmas.{by_tie, get-inserted, insert-insert}
 use Rattle.book_model.proofs.RowLemmas.{by_key_total, by_key_exact}
-use Rattle.book_core.specs.declared.effect_table.DayChange.{DayChange}
-use Rattle.book_core.specs.declared.effect_table.DayChange.TheVariants.{Add, Take}
-use Rattle.kept_tables.specs.RowChanges.{with_price, less_price, take_at, add_price, take_price}
-use Rattle.kept_tables.specs.Numbered.{by_period}
-use Rattle.kept_tables.specs.Tables.{Tables}
-use Rattle.kept_tables.proofs.NumberedLemmas.{by_period_total, by_period_exact}
-use Rattle.kept_tables.specs.TablesOf.{place_of}
+use Rattle.book_core.specs.declared.effects.DayChange.{DayChange}
+use Rattle.book_core.specs.declared.effects.DayChange.TheVariants.{Add, Take}
+use Rattle.table_model.specs.RowChanges.{with_price, less_price, take_at, add_price, take_price}
+use Rattle.table_model.specs.PeriodRows.{by_period}
+use Rattle.table_model.specs.Tables.{Tables}
+use Rattle.table_model.proofs.NumberedLemmas.{by_period_total, by_period_exact}
+use Rattle.table_model.specs.TablesOf.{row_key}
 use Rattle.table_ledger.specs.Commits.{Saw}
 use Rattle.tree_tables.specs.Steps.{Looks}
-use Rattle.table_ledger.specs.DayRows.{IsAdded, IsTaken, IsTurned, lone_row}
-use Rattle.table_ledger.specs.DayWrites.{day_written, Turns, Writes}
+use Rattle.table_ledger.specs.DayRows.{IsAdded, IsTaken, IsPriceReplaced, lone_row}
+use Rattle.table_ledger.specs.DayWrites.{day_written, ReplacesPrice, WritesDayRows}
 use Rattle.table_ledger.specs.declared.day_write.DayWrite.{DayWrite}
 use Rattle.table_ledger.specs.declared.day_write.DayWrite.TheVariants.{Leave, Put, Drop}
 use Rattle.table_ledger.proofs.Refusals.{looks_told}
@@ -58,7 +58,7 @@ abbrev places_exact : IsAntisymmetric (by_period by_key)
 places_exact = by_period_exact by_key by_key_exact
 
 -- no change writes nothing
-pub writes_none : (period : ℕ) (tables : Tables) → Writes period None tables Leave
+pub writes_none : (period : ℕ) (tables : Tables) → WritesDayRows period None tables Leave
 writes_none period tables = refl
 
 module _ (period : ℕ) (priced : Priced) (tables : Tables) where
@@ -68,8 +68,8 @@ module _ (period : ℕ) (priced : Priced) (tables : Tables) where
 
   -- a price joins the row that was found
   pub writes_added : (found : Option ChargeRow) (write : DayWrite)
-      → found ≡ get tables.days (period, spot) → IfSome found (λ row. place_of row ≡ spot)
-      → IsAdded found priced write → Writes period (Some (Add priced)) tables write
+      → found ≡ get tables.days (period, spot) → IfSome found (λ row. row_key row ≡ spot)
+      → IsAdded found priced write → WritesDayRows period (Some (Add priced)) tables write
   writes_added None write is placed added =
       ap (λ write. day_written period write tables.days) added
       ∙ ap (λ (found : Option ChargeRow). insert tables.days (period, spot)
@@ -81,7 +81,7 @@ module _ (period : ℕ) (priced : Priced) (tables : Tables) where
       (with_price (unwrap_or found (row_at [] spot)) priced)) is
 
   -- the row that a price leaves, by whether it was its last
-  days_taken : (row : ChargeRow) (last : Bool) → place_of row ≡ spot
+  days_taken : (row : ChargeRow) (last : Bool) → row_key row ≡ spot
       → day_written period (if last then Drop spot else Put (less_price row priced)) tables.days
       ≡ (if last then remove tables.days (period, spot)
       else insert tables.days (period, spot) (less_price row priced))
@@ -91,8 +91,8 @@ module _ (period : ℕ) (priced : Priced) (tables : Tables) where
 
   -- a price leaves the row that was found
   pub writes_taken : (found : Option ChargeRow) (write : DayWrite)
-      → found ≡ get tables.days (period, spot) → IfSome found (λ row. place_of row ≡ spot)
-      → IsTaken found priced write → Writes period (Some (Take priced)) tables write
+      → found ≡ get tables.days (period, spot) → IfSome found (λ row. row_key row ≡ spot)
+      → IsTaken found priced write → WritesDayRows period (Some (Take priced)) tables write
   writes_taken None write is placed taken =
       ap (λ write. day_written period write tables.days) taken
       ∙ ap (λ found. take_at (period, spot) found priced tables.days) is
@@ -112,7 +112,7 @@ module _ (period : ℕ) (priced : Priced) (tables : Tables) where
         (sym one_place)
 
     -- the row of both, by whether the old price was its last
-    days_turned : (row : ChargeRow) (last : Bool) → place_of row ≡ spot
+    days_turned : (row : ChargeRow) (last : Bool) → row_key row ≡ spot
         → day_written period
         (Put (if last then lone_row priced else with_price (less_price row old) priced)) tables.days
         ≡ add_price period priced (if last then remove tables.days (period, spot)
@@ -132,8 +132,8 @@ module _ (period : ℕ) (priced : Priced) (tables : Tables) where
         (sym (get-inserted places_total places_exact tables.days (period, spot) less))
 
     pub turns_row : (found : Option ChargeRow) (write : DayWrite)
-        → found ≡ get tables.days (period, spot) → IfSome found (λ row. place_of row ≡ spot)
-        → IsTurned found old priced write → Turns period old priced tables write
+        → found ≡ get tables.days (period, spot) → IfSome found (λ row. row_key row ≡ spot)
+        → IsPriceReplaced found old priced write → ReplacesPrice period old priced tables write
     turns_row None write is placed turned =
         ap (λ write. day_written period write tables.days) turned
         ∙ ap (λ (found : Option ChargeRow). insert tables.days (period, spot)
@@ -150,14 +150,14 @@ module _ (period : ℕ) (change : Option DayChange) (write : Option DayWrite) (e
     (result : Result DayWrite StoreError) (told : result ≡ ok_or write error) where
   -- there is no change
   pub look_none : {old new : State} → change ≡ None → write ≡ Some Leave → new ≡ old
-      → Looks result old new (Writes period change)
+      → Looks result old new (WritesDayRows period change)
   look_none {old} none leave stays =
       looks_told write error result told
-      (subst (λ new. Saw old new (λ tables. IfSome write (Writes period change tables)))
+      (subst (λ new. Saw old new (λ tables. IfSome write (WritesDayRows period change tables)))
       (sym stays)
       (saw_so (saw_none {state = old}) (λ tables known.
-      subst (λ write. IfSome write (Writes period change tables)) (sym leave)
-      (subst (λ change. Writes period change tables Leave) (sym none)
+      subst (λ write. IfSome write (WritesDayRows period change tables)) (sym leave)
+      (subst (λ change. WritesDayRows period change tables Leave) (sym none)
       (writes_none period tables)))))
 
   -- the write that was made from the row
@@ -166,47 +166,47 @@ module _ (period : ℕ) (change : Option DayChange) (write : Option DayWrite) (e
       → write ≡ made → new ≡ middle
       → Looks (Ok found) old middle (λ tables found. found ≡ get tables.days (period, place))
       → ((tables : Tables) → found ≡ get tables.days (period, place)
-      → IfSome made (Writes period change tables))
-      → Looks result old new (Writes period change)
+      → IfSome made (WritesDayRows period change tables))
+      → Looks result old new (WritesDayRows period change)
   one_made {old} {middle} {new} place found made is stays looks writes =
       looks_told write error result told
-      (subst (λ new. Saw old new (λ tables. IfSome write (Writes period change tables)))
+      (subst (λ new. Saw old new (λ tables. IfSome write (WritesDayRows period change tables)))
       (sym stays)
       (saw_so (saw_found looks) (λ tables known.
-      subst (λ write. IfSome write (Writes period change tables)) (sym is) (writes tables known))))
+      subst (λ write. IfSome write (WritesDayRows period change tables)) (sym is) (writes tables known))))
 
   -- a price changes its row as the change says: what is made of the row that was found is written
   look_made : {old middle new : State} (turn : Priced → DayChange)
       (Says : Option ChargeRow → Priced → DayWrite → Type 0)
       → ((priced : Priced) (tables : Tables) (found : Option ChargeRow) (write : DayWrite)
       → found ≡ get tables.days (period, key_of priced)
-      → IfSome found (λ row. place_of row ≡ key_of priced) → Says found priced write
-      → Writes period (Some (turn priced)) tables write)
+      → IfSome found (λ row. row_key row ≡ key_of priced) → Says found priced write
+      → WritesDayRows period (Some (turn priced)) tables write)
       → (place : RowKey) (priced : Priced) (found : Option ChargeRow) (made : Option DayWrite)
       → change ≡ Some (turn priced) → place ≡ key_of priced → write ≡ made → new ≡ middle
       → Looks (Ok found) old middle (λ tables found. found ≡ get tables.days (period, place))
-      → IfSome found (λ row. place_of row ≡ place) → IfSome made (Says found priced)
-      → Looks result old new (Writes period change)
+      → IfSome found (λ row. row_key row ≡ place) → IfSome made (Says found priced)
+      → Looks result old new (WritesDayRows period change)
   look_made turn Says writes place priced found made turns at is stays looks placed says =
       one_made place found made is stays looks (λ tables known. by_made made tables known says)
     where
       by_made : (made : Option DayWrite) (tables : Tables)
           → found ≡ get tables.days (period, place) → IfSome made (Says found priced)
-          → IfSome made (Writes period change tables)
+          → IfSome made (WritesDayRows period change tables)
       by_made None tables known says = tt
       by_made (Some made) tables known says =
-          subst (λ change. Writes period change tables made) (sym turns)
+          subst (λ change. WritesDayRows period change tables made) (sym turns)
           (writes priced tables found made
           (known ∙ ap (λ place. get tables.days (period, place)) at)
-          (subst (λ place. IfSome found (λ row. place_of row ≡ place)) at placed) says)
+          (subst (λ place. IfSome found (λ row. row_key row ≡ place)) at placed) says)
 
   -- a price joins its row
   pub look_added : {old middle new : State} (place : RowKey) (priced : Priced)
       (found : Option ChargeRow) (made : Option DayWrite)
       → change ≡ Some (Add priced) → place ≡ key_of priced → write ≡ made → new ≡ middle
       → Looks (Ok found) old middle (λ tables found. found ≡ get tables.days (period, place))
-      → IfSome found (λ row. place_of row ≡ place) → IfSome made (IsAdded found priced)
-      → Looks result old new (Writes period change)
+      → IfSome found (λ row. row_key row ≡ place) → IfSome made (IsAdded found priced)
+      → Looks result old new (WritesDayRows period change)
   look_added = look_made Add IsAdded (writes_added period)
 
   -- a price leaves its row
@@ -214,8 +214,8 @@ module _ (period : ℕ) (change : Option DayChange) (write : Option DayWrite) (e
       (found : Option ChargeRow) (made : Option DayWrite)
       → change ≡ Some (Take priced) → place ≡ key_of priced → write ≡ made → new ≡ middle
       → Looks (Ok found) old middle (λ tables found. found ≡ get tables.days (period, place))
-      → IfSome found (λ row. place_of row ≡ place) → IfSome made (IsTaken found priced)
-      → Looks result old new (Writes period change)
+      → IfSome found (λ row. row_key row ≡ place) → IfSome made (IsTaken found priced)
+      → Looks result old new (WritesDayRows period change)
   look_taken = look_made Take IsTaken (writes_taken period)
 
 -- one price in the place of another: what is made of the row that was found is written
@@ -223,17 +223,17 @@ pub look_turned : (period : ℕ) (old priced : Priced) (write : Option DayWrite)
     (result : Result DayWrite StoreError) → result ≡ ok_or write error → {first last : State}
     (place : RowKey) (found : Option ChargeRow) → place ≡ key_of priced → key_of old ≡ key_of priced
     → Looks (Ok found) first last (λ tables found. found ≡ get tables.days (period, place))
-    → IfSome found (λ row. place_of row ≡ place) → IfSome write (IsTurned found old priced)
-    → Looks result first last (Turns period old priced)
+    → IfSome found (λ row. row_key row ≡ place) → IfSome write (IsPriceReplaced found old priced)
+    → Looks result first last (ReplacesPrice period old priced)
 look_turned period old priced write error result told place found at one_place looks placed says =
     looks_told write error result told
     (saw_so (saw_found looks) (λ tables known. by_write write tables known says))
   where
     by_write : (write : Option DayWrite) (tables : Tables)
-        → found ≡ get tables.days (period, place) → IfSome write (IsTurned found old priced)
-        → IfSome write (Turns period old priced tables)
+        → found ≡ get tables.days (period, place) → IfSome write (IsPriceReplaced found old priced)
+        → IfSome write (ReplacesPrice period old priced tables)
     by_write None tables known says = tt
     by_write (Some write) tables known says =
         turns_row period priced tables old one_place found write
         (known ∙ ap (λ place. get tables.days (period, place)) at)
-        (subst (λ place. IfSome found (λ row. place_of row ≡ place)) at placed) says
+        (subst (λ place. IfSome found (λ row. row_key row ≡ place)) at placed) says

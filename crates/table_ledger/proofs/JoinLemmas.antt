@@ -11,9 +11,9 @@ use Rattle.book_model.specs.Words.{IsDay, Disputed, IsDispute, AreDisputes, disp
 use Rattle.book_model.specs.Words.{same_bytes}
 use Rattle.book_model.specs.declared.dispute.Dispute.{Dispute}
 use Rattle.book_model.specs.declared.dispute.Variant.{Variant}
-use Rattle.table_readings.specs.DisputesRead.{NamedRow, grouped, join_last, of_one}
-use Rattle.table_readings.specs.DisputesRead.{variant_read}
-use Rattle.table_readings.proofs.GroupingLemmas.{grouped-push}
+use Rattle.table_laws.specs.DisputesRead.{NamedRow, grouped, join_last, dispute_of_one}
+use Rattle.table_laws.specs.DisputesRead.{variant_read}
+use Rattle.table_laws.proofs.GroupingLemmas.{grouped-push}
 use Rattle.tree_tables.specs.Stored.{stored_entry}
 use Rattle.tree_tables.specs.declared.stored_record.StoredRecord.{StoredRecord}
 use Rattle.table_ledger.specs.DisputeReads.{IsShownRow}
@@ -34,16 +34,16 @@ pub join_same : (last : Disputed) (row : NamedRow)
 join_same last row same =
     ap (λ (joins : Bool). if joins
     then record last { members = last.members ++ variant_read row ∷ [] } ∷ []
-    else last ∷ of_one row ∷ []) same
+    else last ∷ dispute_of_one row ∷ []) same
 
 -- one more dispute, if they differ
 pub join_other : (last : Disputed) (row : NamedRow)
     → same_bytes last.identity row.1.identity ≡ false
-    → join_last (last ∷ []) row ≡ last ∷ of_one row ∷ []
+    → join_last (last ∷ []) row ≡ last ∷ dispute_of_one row ∷ []
 join_other last row differ =
     ap (λ (joins : Bool). if joins
     then record last { members = last.members ++ variant_read row ∷ [] } ∷ []
-    else last ∷ of_one row ∷ []) differ
+    else last ∷ dispute_of_one row ∷ []) differ
 
 -- the last of some disputes gets one more row
 pub joined_same : (olds news : List Dispute) (last joined : Dispute) (row : NamedRow)
@@ -66,7 +66,7 @@ joined_same olds news last joined row is same made =
 pub joined_other : (olds news : List Dispute) (last one : Dispute) (row : NamedRow)
     → olds ≡ news ++ last ∷ []
     → same_bytes last.identity.items row.1.identity ≡ false
-    → dispute_shown one ≡ of_one row
+    → dispute_shown one ≡ dispute_of_one row
     → map dispute_shown ((news ++ last ∷ []) ++ one ∷ []) ≡ join_last (map dispute_shown olds) row
 joined_other olds news last one row is differ made =
     let front = map dispute_shown news in
@@ -80,7 +80,7 @@ joined_other olds news last one row is differ made =
     ∙ ap (λ (all : List Dispute). join_last (map dispute_shown all) row) (sym is)
 
 -- a dispute of one row that can be shown
-one_shows : (row : NamedRow) → IsShownRow row → IsDispute (of_one row)
+one_shows : (row : NamedRow) → IsShownRow row → IsDispute (dispute_of_one row)
 one_shows row shown = record {
   identity = shown.identity;
   days = All-from_recursion (λ (member : Variant). IsDay member.priced.day) (variant_read row ∷ [])
@@ -95,7 +95,7 @@ last_shows (last ∷ []) row shown all = by_test (same_bytes last.identity row.1
   where
     by_test : (joins : Bool) → AllByRecursion IsDispute (if joins
         then record last { members = last.members ++ variant_read row ∷ [] } ∷ []
-        else last ∷ of_one row ∷ [])
+        else last ∷ dispute_of_one row ∷ [])
     by_test true = (
       record {
         identity = all.0.identity;

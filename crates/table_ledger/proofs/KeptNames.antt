@@ -4,11 +4,11 @@ use Rattle.std.proofs.Common.{refl}
 use Rattle.std.specs.Prelude.{ℤ}
 use Rattle.std.specs.FinMap.{get, keys}
 use Rattle.book_core.specs.Effects.{charge_held}
-use Rattle.book_core.specs.declared.effect_table.Effects.{Effects}
-use Rattle.kept_tables.specs.RowChanges.{change_mark, mark_at}
-use Rattle.kept_tables.specs.TableChanges.{charge_in, settle_row, settle_step}
-use Rattle.kept_tables.specs.Tables.{RecordRow, RecordTable, Tables}
-use Rattle.kept_tables.specs.Views.{member_at}
+use Rattle.book_core.specs.declared.effects.Effects.{Effects}
+use Rattle.table_model.specs.RowChanges.{change_mark, mark_at}
+use Rattle.table_model.specs.TableChanges.{charge_in, charge_due_row, charge_due_step}
+use Rattle.table_model.specs.Tables.{RecordRow, RecordTable, Tables}
+use Rattle.table_model.specs.Views.{member_at}
 use Rattle.tree_tables.proofs.Layouts.{record_layout}
 use Rattle.tree_tables.proofs.WalkNames.{KeepsNames, keys_kept}
 
@@ -39,11 +39,11 @@ charged_names period name effects tables =
 
 -- nor a step of the walk that charges records
 pub settle_keeps : (period : ℕ) (last : Option ℤ) (is_due : List ℕ → Bool)
-    → KeepsNames (settle_step period last is_due)
+    → KeepsNames (charge_due_step period last is_due)
 settle_keeps period last is_due name tables = by_row (get tables.records name)
   where
     by_row : (found : Option RecordRow)
-        → keys (settle_row period last (is_due name) name found tables).records
+        → keys (charge_due_row period last (is_due name) name found tables).records
         ≡ keys tables.records
     by_row None = refl
     by_row (Some row) =

@@ -1,10 +1,10 @@
 -- The number of the last choice: it is their count.
 use Rattle.std.proofs.Common.{◌≡◌, ◌∙◌, length}
 use Rattle.book_model.specs.Words.{Book, Naming}
-use Rattle.kept_tables.specs.TablesOf.{tables_of}
-use Rattle.table_readings.specs.Readable.{IsReadable}
-use Rattle.table_readings.proofs.ChoiceLemmas.{choices_follow}
-use Rattle.table_readings.proofs.ChoiceReading.{choices_count}
+use Rattle.table_model.specs.TablesOf.{tables_of}
+use Rattle.table_laws.specs.Readable.{IsReadable}
+use Rattle.table_laws.proofs.ChoiceLemmas.{choices_follow}
+use Rattle.table_laws.proofs.ChoiceReading.{choices_count}
 use Rattle.tree_tables.specs.Answers.{last_number}
 
 -- in the tables of a book it is the number of its choices

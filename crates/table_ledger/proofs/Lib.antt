@@ -1,13 +1,13 @@
 -- The lemmas: what survives two calls, and what stays of a store after them; calls that are tried,
 -- refused, answered and settled; steps and their commit; and then one file for each subject.
 mod SurvivalLemmas
-mod Standing
+mod UnchangedStores
 mod TryLemmas
 mod Answering
 mod Refusals
 mod Remembered
 mod OneCall
-mod SettleLemmas
+mod FinishLemmas
 mod StepLemmas
 mod LastClose
 mod LastChoice
@@ -18,7 +18,7 @@ mod CloseTries
 mod ChoiceTries
 mod KeptNames
 mod WalksOf
-mod Settling
+mod DueCharges
 mod AdoptTries
 mod Inserting
 mod DayLooks
@@ -30,8 +30,8 @@ mod LineReadings
 mod RisingNames
 mod JoinLemmas
 mod OpenLemmas
-mod RecallLemmas
+mod LoadLemmas
 mod OwnBooks
 mod BookRows
 mod BookLists
-mod SettledLists
+mod FinishedLists

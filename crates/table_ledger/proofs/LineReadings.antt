@@ -10,16 +10,16 @@ use Rattle.tree_tables.specs.States.{State}
 use Rattle.sqlite_trees.specs.declared.error.StoreError.{StoreError}
 use Rattle.book_model.specs.Words.{record_with, job_of, by_line, members, set_of}
 use Rattle.book_model.specs.declared.line.Line.{Line}
-use Rattle.kept_tables.specs.Numbered.{rows_under}
-use Rattle.kept_tables.specs.Reading.{line_read, lines_read}
-use Rattle.kept_tables.specs.Tables.{RecordRow, RecordTable, Tables}
+use Rattle.table_model.specs.PeriodRows.{rows_under}
+use Rattle.table_model.specs.PeriodLists.{line_read, lines_read}
+use Rattle.table_model.specs.Tables.{RecordRow, RecordTable, Tables}
 use Rattle.tree_tables.specs.Answers.{ListsLines}
 use Rattle.tree_tables.specs.Answers.{FindsRecord}
 use Rattle.tree_tables.specs.Stored.{signed_name, stored_entry}
 use Rattle.tree_tables.specs.Steps.{Looks}
 use Rattle.tree_tables.specs.declared.line_rows.StoredLine.{StoredLine}
 use Rattle.tree_tables.specs.declared.stored_record.StoredRecord.{StoredRecord}
-use Rattle.table_readings.specs.DisputesRead.{NamedRow}
+use Rattle.table_laws.specs.DisputesRead.{NamedRow}
 use Rattle.table_ledger.specs.Commits.{Saw}
 use Rattle.table_ledger.specs.LineReads.{line_stored, lines_stored}
 use Rattle.table_ledger.proofs.ListReadings.{looks_err}

@@ -5,18 +5,18 @@ use Rattle.tree_tables.specs.States.{State}
 use Rattle.sqlite_trees.specs.declared.error.StoreError.{StoreError}
 use Rattle.book_model.specs.declared.fault.LedgerFault.{LedgerFault}
 use Rattle.book_model.specs.declared.fault.LedgerFault.TheVariants.{NoSuchPeriod}
-use Rattle.book_model.specs.Words.{Book, Outcome, reading, Naming, Rulings}
+use Rattle.book_model.specs.Words.{Book, Outcome, no_event, Naming, Rulings}
 use Rattle.book_core.specs.Calls.{Makes, listed}
-use Rattle.kept_tables.specs.Tables.{Tables}
-use Rattle.kept_tables.specs.TablesOf.{tables_of}
-use Rattle.table_readings.specs.ListsRead.{is_period, of_period}
-use Rattle.table_readings.specs.Readable.{IsReadable}
-use Rattle.table_readings.proofs.ReadableLemmas.{calls_read}
+use Rattle.table_model.specs.Tables.{Tables}
+use Rattle.table_model.specs.TablesOf.{tables_of}
+use Rattle.table_laws.specs.ListsRead.{is_period, of_period}
+use Rattle.table_laws.specs.Readable.{IsReadable}
+use Rattle.table_laws.proofs.ReadableLemmas.{calls_read}
 use Rattle.tree_tables.specs.Steps.{Looks}
 use Rattle.table_ledger.specs.Commits.{Saw}
 use Rattle.table_ledger.specs.Ready.{Remembers}
 use Rattle.table_ledger.specs.Summaries.{ruled_in}
-use Rattle.table_ledger.specs.Tries.{Tries}
+use Rattle.table_ledger.specs.Attempts.{Attempts}
 use Rattle.table_ledger.specs.declared.summary.Summary.{Summary}
 use Rattle.table_ledger.proofs.Remembered.{rulings_are}
 use Rattle.table_ledger.proofs.TryLemmas.{saw_none, try_answered, try_refused}
@@ -35,7 +35,7 @@ looks_err looks = record {
 pub first_refused : {V A B : Type 0} (view : V → A) (naming : Naming) (summary : Summary)
     (outcome : Book → Outcome A) {old new : State} {Answers : Tables → B → Type 0}
     {error other : StoreError} → Looks {A = B} (Err error) old new Answers
-    → Tries view naming summary summary old new outcome (Err other)
+    → Attempts view naming summary summary old new outcome (Err other)
 first_refused {B = B} view naming summary outcome {Answers = Answers} looks =
     try_refused view naming summary outcome {B = B} {Answers = Answers} saw_none
     (looks_err {A = B} {B = B} {Answers = Answers} {Others = Answers} looks)
@@ -45,14 +45,14 @@ pub later_refused : {V A B : Type 0} (view : V → A) (naming : Naming) (summary
     (outcome : Book → Outcome A) {old middle new : State} {Known : Tables → Type 0}
     {Answers : Tables → B → Type 0} {error other : StoreError} → Saw old middle Known
     → Looks {A = B} (Err error) middle new Answers
-    → Tries view naming summary summary old new outcome (Err other)
+    → Attempts view naming summary summary old new outcome (Err other)
 later_refused {B = B} view naming summary outcome {Answers = Answers} saw looks =
     try_refused view naming summary outcome {B = B} {Answers = Answers} saw
     (looks_err {A = B} {B = B} {Answers = Answers} {Others = Answers} looks)
 
 -- a list that was read makes no event
 read_makes : {V A : Type 0} (view : V → A) (outcome : Outcome A) (said : Result A LedgerFault)
-    (value : V) → outcome ≡ reading said → said ≡ Ok (view value) → Makes view outcome (Ok value) []
+    (value : V) → outcome ≡ no_event said → said ≡ Ok (view value) → Makes view outcome (Ok value) []
 read_makes view outcome said value is says = (
   ap (λ (of : Outcome _). of.answer) is ∙ says,
   sym (ap (λ (of : Outcome _). listed of.event) is),
@@ -62,11 +62,11 @@ read_makes view outcome said value is says = (
 pub list_read : {V A : Type 0} {view : V → A} {naming : Naming} {summary : Summary}
     {outcome : Book → Outcome A} {old new : State} {Known : Tables → Type 0} (read : Tables → A)
     → ((book : Book) → IsReadable naming book
-    → outcome book ≡ reading (Ok (read (tables_of naming book))))
+    → outcome book ≡ no_event (Ok (read (tables_of naming book))))
     → (value : V) → Saw old new Known
     → ((book : Book) → IsReadable naming book → Known (tables_of naming book)
     → read (tables_of naming book) ≡ view value)
-    → Tries view naming summary summary old new outcome (Ok (Ok value))
+    → Attempts view naming summary summary old new outcome (Ok (Ok value))
 list_read {view = view} {naming = naming} {summary = summary} {outcome = outcome} read law value saw says =
     try_answered view naming summary outcome saw (record { stored = refl; served = refl }) (λ book ready known.
     let whole = calls_read naming book ready.kept.calls in
@@ -84,10 +84,10 @@ answer_is number list found book is whole remembers =
 module _ {V A : Type 0} {view : V → A} {naming : Naming} {summary : Summary}
     {outcome : Book → Outcome A} (number : ℕ) (read : Tables → A)
     (law : (book : Book) → IsReadable naming book
-    → outcome book ≡ reading (of_period number book.rulings (read (tables_of naming book)))) where
+    → outcome book ≡ no_event (of_period number book.rulings (read (tables_of naming book)))) where
   -- A period that does not exist is answered so.
   pub no_period : {state : State} → is_period number (ruled_in summary) ≡ false
-      → Tries view naming summary summary state state outcome (Ok (Err NoSuchPeriod))
+      → Attempts view naming summary summary state state outcome (Ok (Err NoSuchPeriod))
   no_period absent = try_answered view naming summary outcome saw_none (record { stored = refl; served = refl })
       (λ book ready known. (
         ap (λ (of : Outcome A). of.answer) (law book (calls_read naming book ready.kept.calls))
@@ -100,7 +100,7 @@ module _ {V A : Type 0} {view : V → A} {naming : Naming} {summary : Summary}
   pub period_read : {old new : State} {Known : Tables → Type 0} (value : V)
       → is_period number (ruled_in summary) ≡ true → Saw old new Known
       → ((tables : Tables) → Known tables → read tables ≡ view value)
-      → Tries view naming summary summary old new outcome (Ok (Ok value))
+      → Attempts view naming summary summary old new outcome (Ok (Ok value))
   period_read value there saw says =
       try_answered view naming summary outcome saw (record { stored = refl; served = refl }) (λ book ready known.
       let whole = calls_read naming book ready.kept.calls in

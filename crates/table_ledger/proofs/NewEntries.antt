@@ -14,17 +14,17 @@ use Rattle.sqlite_trees.specs.declared.error.StoreError.{StoreError}
 use Rattle.book_model.specs.Words.{data_of, identity_by, last_close}
 use Rattle.tariff_rules.specs.declared.priced.Priced.{Priced}
 use Rattle.book_core.specs.Effects.{effects_of}
-use Rattle.book_core.specs.declared.effect_table.Effects.{Effects}
-use Rattle.kept_tables.specs.RowChanges.{change_day, change_line, change_mark, unmark_at}
-use Rattle.kept_tables.specs.Tables.{RecordRow, RecordTable, Tables}
-use Rattle.kept_tables.specs.Views.{rows_with}
-use Rattle.table_readings.specs.AcceptRead.{view_with}
-use Rattle.kept_tables.specs.Steps.{put_record_row, set_sums}
+use Rattle.book_core.specs.declared.effects.Effects.{Effects}
+use Rattle.table_model.specs.RowChanges.{change_day, change_line, change_mark, unmark_at}
+use Rattle.table_model.specs.Tables.{RecordRow, RecordTable, Tables}
+use Rattle.table_model.specs.Views.{rows_with}
+use Rattle.table_laws.specs.AcceptRead.{view_with}
+use Rattle.table_model.specs.Steps.{put_record_row, set_sums}
 use Rattle.tree_tables.specs.Holds.{Holds}
 use Rattle.table_ledger.specs.Commits.{CommitsOne, IsDone}
-use Rattle.table_ledger.specs.DayWrites.{Writes}
-use Rattle.table_ledger.specs.Entries.{AreRemembered, write_days, write_line, write_mark}
-use Rattle.table_ledger.specs.Keepings.{keep_as, keep_with}
+use Rattle.table_ledger.specs.DayWrites.{WritesDayRows}
+use Rattle.table_ledger.specs.RecordWrites.{AreRemembered, write_days, write_line, write_mark}
+use Rattle.table_ledger.specs.NewRecords.{with_new_record, with_record_effects}
 use Rattle.table_ledger.specs.Summaries.{ruled_in}
 use Rattle.table_ledger.specs.declared.day_write.DayWrite.{DayWrite}
 use Rattle.table_ledger.specs.declared.summary.Summary.{Summary}
@@ -53,7 +53,7 @@ pub entry_kept : (summary : Summary) (name bytes identity behind : List ℕ) (pr
     → period ≡ length summary.closes.items + 1 → AreRemembered summary tables
     → effects ≡ effects_of (view_with (last_close (ruled_in summary)) tables.choices
     (rows_with (identity_by (ruled_in summary) bytes) tables.records)) name priced
-    → Writes period effects.day tables day
+    → WritesDayRows period effects.day tables day
     → kept_by (
       name,
       record {
@@ -64,7 +64,7 @@ pub entry_kept : (summary : Summary) (name bytes identity behind : List ℕ) (pr
         posted = false;
       },
     ) (summary.held + 1) (summary.total + priced.amount) period effects day tables
-    ≡ keep_as summary name bytes priced tables
+    ≡ with_new_record summary name bytes priced tables
 entry_kept summary name bytes identity behind priced period effects day tables owner rest number
     remembered planned writes =
     let marked = change_mark effects.unmark tables.records in
@@ -98,7 +98,7 @@ entry_kept summary name bytes identity behind priced period effects day tables o
       days = change_day (number i) effects.day tables.days;
       lines = change_line (number i) effects.line tables.lines;
     })
-    ∙ ap (λ effects. keep_with summary name bytes priced effects tables)
+    ∙ ap (λ effects. with_record_effects summary name bytes priced effects tables)
     (planned
     ∙ ap (λ closes. effects_of (view_with (last_or None closes) tables.choices
     (rows_with (identity_by (ruled_in summary) bytes) tables.records)) name priced)

@@ -6,26 +6,26 @@ use Rattle.tree_tables.specs.States.{State, HasCleanDisk, Survives}
 use Rattle.book_model.specs.declared.fault.LedgerFault.{LedgerFault}
 use Rattle.book_model.specs.declared.fault.LedgerFault.TheVariants.{Store, Reopen}
 use Rattle.book_model.specs.Words.{Book, Event, after_any, after_all, Outcome, Naming}
-use Rattle.book_core.specs.Ledgers.{StandsAt, stands_by}
-use Rattle.book_core.specs.Work.{ComesFrom}
+use Rattle.book_core.specs.Ledgers.{MayHave, may_have}
+use Rattle.book_core.specs.Transition.{ComesFrom}
 use Rattle.book_core.specs.Calls.{Makes, Calls, IsCall, Reopens, is_store, listed}
-use Rattle.table_ledger.specs.Ready.{IsReadyAt, IsReady, KeepBooks}
-use Rattle.table_ledger.specs.Shelf.{Shelf, told_by, LeftIn, AreBooks, seen_on}
-use Rattle.table_ledger.specs.Tries.{MayKeep, Serves}
+use Rattle.table_ledger.specs.Ready.{IsReadyAt, IsReady, StoreSomeBook}
+use Rattle.table_ledger.specs.LedgerState.{LedgerState, book_of_trees, MayFind, AreBooks, seen_on}
+use Rattle.table_ledger.specs.Attempts.{MayKeep, Serves}
 use Rattle.table_ledger.specs.declared.summary.Summary.{Summary}
 use Rattle.table_ledger.proofs.SurvivalLemmas.{clean_before}
-use Rattle.table_ledger.specs.Told.{told_kept, told_ready, told_left, LeavesTheLast}
+use Rattle.table_ledger.specs.ReadyBooks.{book_of_stored, book_of_ready, book_of_left, LeavesTheLast}
 
 -- a crash in a call leaves the book as it was, or the one with the outcome's event
 left_by : {A : Type 0} {naming : Naming} {summary : Summary} (old new : State)
     (outcome : Book → Outcome A) (book : Book) → LeavesTheLast old.view old.may_leave → HasCleanDisk new
     → IsReadyAt naming summary old.view book
-    → Survives old new (MayKeep naming summary old.view outcome) → (found : Book) → LeftIn new.may_leave found
+    → Survives old new (MayKeep naming summary old.view outcome) → (found : Book) → MayFind new.may_leave found
     → (found ≡ book) ⊎ (found ≡ after_any (outcome book).event book)
 left_by old new outcome book last clean ready survives found left =
     elim (survives.crash clean left.0 left.1) [
-      | inl earlier ↦ inl (left.2 ∙ told_left old.view old.may_leave last ready left.0 earlier)
-      | inr later ↦ inr (left.2 ∙ told_kept (later book ready))
+      | inl earlier ↦ inl (left.2 ∙ book_of_left old.view old.may_leave last ready left.0 earlier)
+      | inr later ↦ inr (left.2 ∙ book_of_stored (later book ready))
     ]
 
 -- the event of an outcome as a list
@@ -39,11 +39,11 @@ is_the_store (Ok value) is = absurd (true≢false (sym is))
 is_the_store (Err Store) is = refl
 is_the_store (Err fault) is = absurd (true≢false (sym is))
 
-module _ {V A : Type 0} (view : V → A) (old new : Shelf) (outcome : Book → Outcome A)
+module _ {V A : Type 0} (view : V → A) (old new : LedgerState) (outcome : Book → Outcome A)
     (result : Result V LedgerFault) (is_open : old.must_reopen ≡ false)
     (last : LeavesTheLast old.state.view old.state.may_leave) (serves : Serves view old new outcome result) where
   -- the books of a shelf
-  abbrev AreBooksOn : Shelf → Type 0
+  abbrev AreBooksOn : LedgerState → Type 0
   AreBooksOn shelf =
       AreBooks shelf.naming shelf.state.view shelf.state.may_leave shelf.must_reopen shelf.summary
 
@@ -60,10 +60,10 @@ module _ {V A : Type 0} (view : V → A) (old new : Shelf) (outcome : Book → O
 
   -- whatever a stop may leave after the call are books that calls made
   books_left : HasCleanDisk new.state → AreBooksOn old → (trees : Trees) → new.state.may_leave trees
-      → KeepBooks new.naming trees
+      → StoreSomeBook new.naming trees
   books_left clean books trees left =
       let ready = books.ready is_open (was_clean clean) in
-      subst (λ naming. KeepBooks naming trees) (sym serves.naming)
+      subst (λ naming. StoreSomeBook naming trees) (sym serves.naming)
       (elim (serves.survives.crash clean trees left) [
         | inl earlier ↦ books.left (was_clean clean) trees earlier
         | inr later ↦ record {
@@ -92,9 +92,9 @@ module _ {V A : Type 0} (view : V → A) (old new : Shelf) (outcome : Book → O
   }
 
   -- it was at the book with which it was ready
-  stood : (ready : IsReady old.naming old.summary old.state.view) → StandsAt (seen_on old) ready.book
-  stood ready = subst (λ flag. stands_by flag (seen_on old) ready.book) (sym is_open)
-      (sym (told_ready ready.ready))
+  stood : (ready : IsReady old.naming old.summary old.state.view) → MayHave (seen_on old) ready.book
+  stood ready = subst (λ flag. may_have flag (seen_on old) ready.book) (sym is_open)
+      (sym (book_of_ready ready.ready))
 
   -- if the store failed, the next open finds the book before the call or the one after it
   moves_failed : (ready : IsReady old.naming old.summary old.state.view) → is_store result ≡ true
@@ -127,7 +127,7 @@ module _ {V A : Type 0} (view : V → A) (old new : Shelf) (outcome : Book → O
 
   -- if it did not, the book is the one that the call made
   moves_served : (ready : IsReady old.naming old.summary old.state.view) → is_store result ≡ false
-      → HasCleanDisk new.state → (book : Book) → book ≡ told_by new.state.view.trees
+      → HasCleanDisk new.state → (book : Book) → book ≡ book_of_trees new.state.view.trees
       → ComesFrom (seen_on old) (seen_on new) (Calls view outcome result) book
   moves_served ready open_now clean book is =
       let answered = serves.answered open_now clean ready.book ready.ready in
@@ -136,13 +136,13 @@ module _ {V A : Type 0} (view : V → A) (old new : Shelf) (outcome : Book → O
         events = answered.events;
         stood = stood ready;
         made = record { makes = answered.makes; reopens = reopens };
-        leads = is ∙ told_ready answered.ready;
+        leads = is ∙ book_of_ready answered.ready;
       }
 
   -- both
   moves_by : (failed : Bool) → is_store result ≡ failed → HasCleanDisk new.state
       → (ready : IsReady old.naming old.summary old.state.view) → (book : Book)
-      → stands_by failed (seen_on new) book
+      → may_have failed (seen_on new) book
       → ComesFrom (seen_on old) (seen_on new) (Calls view outcome result) book
   moves_by true failed clean ready book left =
       moves_failed ready failed book
@@ -159,14 +159,14 @@ module _ {V A : Type 0} (view : V → A) (old new : Shelf) (outcome : Book → O
       books = books_again;
       moves = λ clean books book stands. moves_by (is_store result) refl clean
           (books.ready is_open (was_clean clean)) book
-          (subst (λ flag. stands_by flag (seen_on new) book) serves.reopen stands);
+          (subst (λ flag. may_have flag (seen_on new) book) serves.reopen stands);
       alone = λ closed. absurd (true≢false (sym closed ∙ is_open));
     };
     reopens = reopens;
   }
 
 -- A call of a ledger that is to be reopened leaves it alone.
-pub call_reopen : {V A : Type 0} (view : V → A) (shelf : Shelf) (outcome : Book → Outcome A)
+pub call_reopen : {V A : Type 0} (view : V → A) (shelf : LedgerState) (outcome : Book → Outcome A)
     → shelf.must_reopen ≡ true → IsCall view (seen_on shelf) (seen_on shelf) (Err Reopen) outcome
 call_reopen view shelf outcome closed = record {
   work = record {

@@ -4,23 +4,23 @@ use Rattle.tree_tables.specs.States.{State, HasCleanDisk}
 use Rattle.book_model.specs.Words.{Book, new_book, Naming, no_rulings}
 use Rattle.book_model.proofs.SoundLemmas.{none_in}
 use Rattle.book_core.specs.Ledgers.{IsOpenAt}
-use Rattle.kept_tables.specs.Keeping.{new_tables}
-use Rattle.kept_tables.specs.Tables.{Tables}
-use Rattle.kept_tables.specs.TablesOf.{tables_of}
-use Rattle.kept_tables.proofs.KeepingLemmas.{tables_follow}
-use Rattle.table_readings.specs.FromCalls.{IsFromCalls}
-use Rattle.table_readings.proofs.CallsLemmas.{calls_stay}
-use Rattle.table_ledger.specs.Commits.{Keeping}
-use Rattle.table_ledger.specs.Ready.{IsKeptIn, IsReadyAt, Remembers}
-use Rattle.table_ledger.specs.Shelf.{seen_on}
+use Rattle.table_model.specs.TablesAfter.{new_tables}
+use Rattle.table_model.specs.Tables.{Tables}
+use Rattle.table_model.specs.TablesOf.{tables_of}
+use Rattle.table_model.proofs.KeepingLemmas.{tables_follow}
+use Rattle.table_laws.specs.FromCalls.{IsFromCalls}
+use Rattle.table_laws.proofs.CallsLemmas.{calls_stay}
+use Rattle.table_ledger.specs.Commits.{Stores}
+use Rattle.table_ledger.specs.Ready.{IsStoredIn, IsReadyAt, Remembers}
+use Rattle.table_ledger.specs.LedgerState.{seen_on}
 use Rattle.table_ledger.specs.Summaries.{ruled_in}
-use Rattle.table_ledger.specs.Told.{told_ready, LeavesTheLast}
+use Rattle.table_ledger.specs.ReadyBooks.{book_of_ready, LeavesTheLast}
 use Rattle.table_ledger.specs.declared.summary.Summary.{Summary}
 
 -- the ledger is open at the book
 pub opened : (naming : Naming) (state : State) (summary : Summary) (book : Book)
     → LeavesTheLast state.view state.may_leave → HasCleanDisk state → IsFromCalls naming book
-    → Keeping state.view (tables_of naming book) → Remembers summary book
+    → Stores state.view (tables_of naming book) → Remembers summary book
     → IsOpenAt naming book (seen_on (record {
       naming = naming;
       state = state;
@@ -29,7 +29,7 @@ pub opened : (naming : Naming) (state : State) (summary : Summary) (book : Book)
     }))
 opened naming state summary book last clean calls keeping remembers =
     let rest = keeping.rest in
-    let kept : IsKeptIn naming book state.view.trees =
+    let kept : IsStoredIn naming book state.view.trees =
     record { calls = calls; holds = keeping.holds } in
     let ready : IsReadyAt naming summary state.view book = record {
       rest = rest;
@@ -37,14 +37,14 @@ opened naming state summary book last clean calls keeping remembers =
       remembers = remembers;
     } in
     record {
-      book = told_ready ready;
+      book = book_of_ready ready;
       naming = refl;
       is_open = refl;
       honest = clean;
       books = record {
         left = λ clean_now trees left. record {
           book = book;
-          kept = subst (IsKeptIn naming book)
+          kept = subst (IsStoredIn naming book)
               (rest.settled ∙ sym (last trees rest.is_open left)) kept;
         };
         ready = λ open_now clean_now. record { book = book; ready = ready };
@@ -58,7 +58,7 @@ new_follow naming =
 
 -- new books are open, when nothing is remembered
 pub created : (naming : Naming) (state : State) (summary : Summary)
-    → LeavesTheLast state.view state.may_leave → HasCleanDisk state → Keeping state.view new_tables
+    → LeavesTheLast state.view state.may_leave → HasCleanDisk state → Stores state.view new_tables
     → ruled_in summary ≡ no_rulings → summary.choices ≡ 0 → summary.held ≡ 0 → summary.total ≡ 0
     → IsOpenAt naming new_book (seen_on (record {
       naming = naming;
@@ -68,7 +68,7 @@ pub created : (naming : Naming) (state : State) (summary : Summary)
     }))
 created naming state summary last clean keeping none choices held total =
     opened naming state summary new_book last clean (calls_stay.start naming)
-    (subst (Keeping state.view) (new_follow naming) keeping)
+    (subst (Stores state.view) (new_follow naming) keeping)
     (record {
       tariffs = ap (λ ruled. ruled.tariffs) none;
       closes = ap (λ ruled. ruled.closes) none;

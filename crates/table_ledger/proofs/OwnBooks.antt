@@ -13,27 +13,27 @@ use Rattle.sqlite_trees.specs.Tree.{Trees}
 use Rattle.sqlite_trees.specs.declared.error.StoreError.{StoreError}
 use Rattle.sqlite_trees.specs.declared.error.StoreError.TheVariants.{Broken, Corrupt, Full, Io}
 use Rattle.sqlite_trees.specs.declared.error.StoreError.TheVariants.{OutOfMemory, Unstorable}
-use Rattle.book_model.specs.Words.{Book, IsDay, Naming, Tariffed, are_rising, last_period}
+use Rattle.book_model.specs.Words.{Book, IsDay, Naming, AcceptedTerms, are_rising, last_period}
 use Rattle.book_model.proofs.RecordSets.{first_of, second_of}
 use Rattle.book_model.specs.declared.fault.LedgerFault.{LedgerFault}
 use Rattle.book_model.specs.declared.fault.LedgerFault.TheVariants.{Memory, Store}
-use Rattle.kept_tables.specs.Tables.{Tables}
-use Rattle.kept_tables.specs.TablesOf.{close_entries, tables_of, tariff_entries}
-use Rattle.table_readings.specs.FromCalls.{IsFromCalls}
-use Rattle.table_readings.specs.Readable.{IsTexted}
-use Rattle.table_readings.proofs.ReadableLemmas.{calls_read}
-use Rattle.table_readings.proofs.RulingsReading.{closes_kept, tariffs_kept}
+use Rattle.table_model.specs.Tables.{Tables}
+use Rattle.table_model.specs.TablesOf.{close_entries, tables_of, tariff_entries}
+use Rattle.table_laws.specs.FromCalls.{IsFromCalls}
+use Rattle.table_laws.specs.Readable.{IsTexted}
+use Rattle.table_laws.proofs.ReadableLemmas.{calls_read}
+use Rattle.table_laws.proofs.RulingsReading.{closes_kept, tariffs_kept}
 use Rattle.tree_rows.proofs.Failing.{caused_after}
-use Rattle.tree_tables.specs.Columns.{closed_columns, tariff_columns, text_of}
+use Rattle.tree_tables.specs.Columns.{closed_columns, tariff_columns, tariff_value}
 use Rattle.tree_tables.specs.Fits.{CloseFits, HasText, TariffFits}
 use Rattle.tree_tables.specs.Holds.{Holds}
 use Rattle.tree_tables.specs.States.{State, HasCleanDisk, Survives}
 use Rattle.tree_tables.specs.Steps.{IsCaused, Looks}
 use Rattle.table_ledger.specs.Commits.{IsAtRest, Saw}
-use Rattle.table_ledger.specs.Recalled.{CanBeListed, HasTexts, IsOpenCause, IsRecalled, ReadsItsOwn}
+use Rattle.table_ledger.specs.Loaded.{CanBeListed, HasTexts, IsOpenCause, IsLoaded, ReadsItsOwn}
 use Rattle.table_ledger.specs.declared.summary.Summary.{Summary}
 use Rattle.table_ledger.proofs.LastChoice.{last_counts}
-use Rattle.table_ledger.proofs.Standing.{holds_on}
+use Rattle.table_ledger.proofs.UnchangedStores.{holds_on}
 use Rattle.table_ledger.proofs.SurvivalLemmas.{clean_before, survives_then}
 
 -- what fails after looks at tables has a cause in the store as it was before them
@@ -51,16 +51,16 @@ fails_behind {old} {middle} {new} error saw survives cause clean tables holds wh
 
 -- a tariff's text that consists of characters
 text_fits : (found : Option (List ℕ)) (text : List ℕ) → found ≡ Some text → IsUtf8 text
-    → HasText (text_of found)
-text_fits found text is utf8 = (text, utf8, ap text_of is)
+    → HasText (tariff_value found)
+text_fits found text is utf8 = (text, utf8, ap tariff_value is)
 
 -- the rows of tariffs with texts fit
-tariffs_fit : (tariffs : List Tariffed) → All IsTexted tariffs
-    → All (λ (tariff : Tariffed). (text : List ℕ) → tariff.text ≡ Some text → IsUtf8 text) tariffs
+tariffs_fit : (tariffs : List AcceptedTerms) → All IsTexted tariffs
+    → All (λ (tariff : AcceptedTerms). (text : List ℕ) → tariff.text ≡ Some text → IsUtf8 text) tariffs
     → AllByRecursion TariffFits (map tariff_columns (tariff_entries tariffs))
 tariffs_fit [] texted texts = tt
 tariffs_fit (tariff ∷ tariffs) texted texts =
-    let Utf8 : Tariffed → Type 0 =
+    let Utf8 : AcceptedTerms → Type 0 =
     λ tariff. (text : List ℕ) → tariff.text ≡ Some text → IsUtf8 text in
     let one = All-head IsTexted tariff tariffs texted in (
       record {
@@ -91,13 +91,13 @@ closes_many number [] = refl
 closes_many number (day ∷ days) = ap suc (closes_many (suc number) days)
 
 -- and as many as tariffs
-tariffs_many : (tariffs : List Tariffed)
+tariffs_many : (tariffs : List AcceptedTerms)
     → length (map tariff_columns (tariff_entries tariffs)) ≡ length tariffs
 tariffs_many [] = refl
 tariffs_many (tariff ∷ tariffs) = ap suc (tariffs_many tariffs)
 
 -- rising tariffs are no more than the days from the first of them on,
-rising_few : (tariff : Tariffed) (tariffs : List Tariffed) → are_rising (tariff ∷ tariffs) ≡ true
+rising_few : (tariff : AcceptedTerms) (tariffs : List AcceptedTerms) → are_rising (tariff ∷ tariffs) ≡ true
     → All IsTexted (tariff ∷ tariffs)
     → (pos (length tariffs) +ℤ tariff.terms.effective) ≤ℤ pos 47481
 rising_few tariff [] rising texted =
@@ -119,7 +119,7 @@ rising_few tariff (next ∷ tariffs) rising texted =
         → (pos (suc n) +ℤ day) ≤ℤ pos 47481
     step n day later less few = grind (arith, ints)
 
-tariffs_few : (tariffs : List Tariffed) → are_rising tariffs ≡ true → All IsTexted tariffs
+tariffs_few : (tariffs : List AcceptedTerms) → are_rising tariffs ≡ true → All IsTexted tariffs
     → length tariffs ≤ 2 ^ 32
 tariffs_few [] rising texted = omega arith
 tariffs_few (tariff ∷ tariffs) rising texted =
@@ -200,7 +200,7 @@ cause_told old middle new Unstorable fault rest cause one two clean kind served 
 
 -- an answer of looks is no fault of the store, if calls made the tables
 pub own_answer : (old new : State) (answer : Result Summary LedgerFault)
-    → Looks (Ok answer) old new IsRecalled → ReadsItsOwn answer old new
+    → Looks (Ok answer) old new IsLoaded → ReadsItsOwn answer old new
 own_answer old new (Ok summary) looks = tt
 own_answer old new (Err fault) looks = λ clean naming book calls texts keeping.
     let known = (looks.found clean).known (tables_of naming book) keeping.holds in

@@ -3,13 +3,13 @@ use Rattle.std.proofs.Common.{◌≡◌, true≢false, sym, subst, Result, Ok, E
 use Rattle.std.specs.Prelude.{IsErr, IfSome}
 use Rattle.std.specs.Option.{ok_or}
 use Rattle.sqlite_trees.specs.declared.error.StoreError.{StoreError}
-use Rattle.kept_tables.specs.Tables.{Tables}
+use Rattle.table_model.specs.Tables.{Tables}
 use Rattle.tree_tables.specs.States.{State, Survives}
 use Rattle.tree_tables.specs.Steps.{Does, Looks}
 use Rattle.table_ledger.specs.Commits.{Saw, CommitsOne}
-use Rattle.table_ledger.specs.Making.{MakesNew}
+use Rattle.table_ledger.specs.NewBooks.{MakesNew}
 use Rattle.tree_tables.proofs.Looking.{kept_after, kept_behind}
-use Rattle.table_ledger.proofs.Standing.{stands_kept}
+use Rattle.table_ledger.proofs.UnchangedStores.{stands_kept}
 use Rattle.table_ledger.proofs.StepLemmas.{makes_none}
 use Rattle.table_ledger.proofs.SurvivalLemmas.{clean_before, survives_so, survives_then}
 use Rattle.table_ledger.proofs.TryLemmas.{looks_known, looks_stopped}

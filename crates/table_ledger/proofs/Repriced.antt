@@ -7,14 +7,14 @@ use Rattle.std.specs.FinMap.{get}
 use Rattle.tariff_rules.specs.declared.priced.Priced.{Priced}
 use Rattle.book_model.specs.Words.{Terms, most_cost, price_by, record_with}
 use Rattle.book_core.specs.Repricing.{if_room}
-use Rattle.book_core.specs.declared.effect_table.DayChange.TheVariants.{Add, Take}
-use Rattle.kept_tables.specs.Steps.{change_day_row, put_price_row}
-use Rattle.kept_tables.specs.TableChanges.{reprice, reprice_row, reprice_step}
-use Rattle.kept_tables.specs.Tables.{RecordRow, Tables}
-use Rattle.kept_tables.proofs.RepriceSteps.{reprice_is_steps}
+use Rattle.book_core.specs.declared.effects.DayChange.TheVariants.{Add, Take}
+use Rattle.table_model.specs.Steps.{change_day_row, put_price_row}
+use Rattle.table_model.specs.TableChanges.{reprice, reprice_row, reprice_step}
+use Rattle.table_model.specs.Tables.{RecordRow, Tables}
+use Rattle.table_model.proofs.RepriceSteps.{reprice_is_steps}
 use Rattle.tree_rows.proofs.Maps.{not_none}
 use Rattle.tree_rows.proofs.Taking.{some_is}
-use Rattle.table_ledger.specs.Repricing.{price_under}
+use Rattle.table_ledger.specs.Repricing.{tariff_price}
 
 module _ (period : ℕ) (name : List ℕ) (row : RecordRow) (priced : Priced) (tables : Tables)
     (there : get tables.records name ≡ Some row) where
@@ -41,7 +41,7 @@ module _ (period : ℕ) (name : List ℕ) (row : RecordRow) (priced : Priced) (t
       ∙ sym (reprice_is_steps period name row priced tables there)
 
   -- the step of a record that a tariff is for
-  pub step_priced : (terms : Terms) → price_under terms row ≡ Some priced
+  pub step_priced : (terms : Terms) → tariff_price terms row ≡ Some priced
       → reprice period name row priced tables ≡ reprice_step period terms name tables
   step_priced terms is =
       let costs : Priced = price_by terms (record_with row.data_bytes) in

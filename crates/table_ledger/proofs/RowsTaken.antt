@@ -12,24 +12,24 @@ use Rattle.std.specs.Ordering.{int_cmp}
 use Rattle.std.specs.declared.cmp.Ordering.TheVariants.{Less}
 use Rattle.std.proofs.lemmas.Int.{ints}
 use Rattle.std.proofs.lemmas.List.Elements.{All-head, All-tail}
-use Rattle.book_model.specs.Words.{IsDay, Tariffed, are_rising, Book, Naming, members, total_of}
+use Rattle.book_model.specs.Words.{IsDay, AcceptedTerms, are_rising, Book, Naming, members, total_of}
 use Rattle.book_model.specs.Words.{most_choices, most_cost, most_held, first_rule, second_rule}
 use Rattle.book_model.proofs.RecordSets.{first_of, second_of}
-use Rattle.kept_tables.specs.Tables.{BookRow, never_adopted}
-use Rattle.kept_tables.specs.TablesOf.{close_entries, tables_of, tariff_entries}
-use Rattle.table_readings.specs.BookIn.{tariff_read}
-use Rattle.table_readings.specs.FromCalls.{IsFromCalls}
-use Rattle.table_readings.specs.Readable.{IsTexted}
-use Rattle.table_readings.proofs.ReadableLemmas.{calls_read}
-use Rattle.table_readings.proofs.RulingsReading.{closes_kept, one_read, tariffs_kept}
+use Rattle.table_model.specs.Tables.{BookRow, never_adopted}
+use Rattle.table_model.specs.TablesOf.{close_entries, tables_of, tariff_entries}
+use Rattle.table_laws.specs.BookIn.{tariff_read}
+use Rattle.table_laws.specs.FromCalls.{IsFromCalls}
+use Rattle.table_laws.specs.Readable.{IsTexted}
+use Rattle.table_laws.proofs.ReadableLemmas.{calls_read}
+use Rattle.table_laws.proofs.RulingsReading.{closes_kept, one_read, tariffs_kept}
 use Rattle.tree_tables.specs.Answers.{last_number}
-use Rattle.tree_tables.specs.Stored.{book_of, close_of, tariff_of}
+use Rattle.tree_tables.specs.Stored.{book_entry, close_entry, tariff_of}
 use Rattle.tree_tables.specs.declared.book_row.StoredBook.{StoredBook as Stored}
 use Rattle.tree_tables.specs.declared.closed_rows.Close.{Close}
 use Rattle.tree_tables.specs.declared.tariff_rows.StoredTariff.{StoredTariff}
 use Rattle.table_ledger.proofs.LastChoice.{last_counts}
-use Rattle.table_ledger.specs.Recalled.{AreCloses, AreRowsOf, HasDay, IsNextClose, SaysRule}
-use Rattle.table_ledger.specs.Recalled.{SaysTariff, TellsTariff}
+use Rattle.table_ledger.specs.Loaded.{AreCloses, AreRowsOf, IsCloseDay, IsNextClose, SaysRule}
+use Rattle.table_ledger.specs.Loaded.{SaysTariff, TellsTariff}
 
 -- a place within a list has its element, whatever is returned otherwise
 pub index_again : {A : Type 0} (rows : List A) (at : ℕ) (row other : A) → at < length rows
@@ -53,14 +53,14 @@ zip_found Says (first ∷ rows) (suc at) (value ∷ values) row says below is =
     zip_found Says rows at values row says.1 rest is
 
 -- a row gives just one tariff
-one_tariff : (row : StoredTariff) (one other : Tariffed) → SaysTariff row one
+one_tariff : (row : StoredTariff) (one other : AcceptedTerms) → SaysTariff row one
     → SaysTariff row other → one ≡ other
 one_tariff row one other says too =
     let both : Some one ≡ Some other = sym says ∙ too in cc
 
 -- if all tariffs pass a test, so does that of a row
-passes_at : (test : Tariffed → Bool) (rows : List StoredTariff) (at : ℕ) (tariffs : List Tariffed)
-    (row : StoredTariff) (tariff : Tariffed) → AllZip TellsTariff rows tariffs
+passes_at : (test : AcceptedTerms → Bool) (rows : List StoredTariff) (at : ℕ) (tariffs : List AcceptedTerms)
+    (row : StoredTariff) (tariff : AcceptedTerms) → AllZip TellsTariff rows tariffs
     → list_all test tariffs ≡ true → at < length rows → row ≡ slice_index_or rows at row
     → SaysTariff row tariff → test tariff ≡ true
 passes_at test [] at tariffs row tariff tells all below is says = absurd (omega (arith, below))
@@ -75,12 +75,12 @@ passes_at test (first ∷ rows) (suc at) (other ∷ tariffs) row tariff tells al
     (second_of (test other) (list_all test tariffs) all) rest is says
 
 -- the first tariff begins before the other
-abbrev precedes : Tariffed → Tariffed → Bool
+abbrev precedes : AcceptedTerms → AcceptedTerms → Bool
 precedes one other = int_lt one.terms.effective other.terms.effective
 
 -- the tariffs of the rows before one begin before its own, where those of all rows rise
-pub before_at : (rows : List StoredTariff) (at : ℕ) (so_far tariffs : List Tariffed)
-    (row : StoredTariff) (tariff : Tariffed) → AllZip SaysTariff (take at rows) so_far
+pub before_at : (rows : List StoredTariff) (at : ℕ) (so_far tariffs : List AcceptedTerms)
+    (row : StoredTariff) (tariff : AcceptedTerms) → AllZip SaysTariff (take at rows) so_far
     → AllZip TellsTariff rows tariffs → are_rising tariffs ≡ true → at < length rows
     → row ≡ slice_index_or rows at row → SaysTariff row tariff
     → list_all (λ one. precedes one tariff) so_far ≡ true
@@ -119,7 +119,7 @@ late_first (Some last) day days behind =
 
 -- a row of closes is that of the next close after those before it,
 next_from : (number at : ℕ) (last : Option ℤ) (rows : List Close) (so_far days : List ℤ)
-    (row : Close) → AllZip HasDay (take at rows) so_far → map close_of rows ≡ close_entries number days
+    (row : Close) → AllZip IsCloseDay (take at rows) so_far → map close_entry rows ≡ close_entries number days
     → All IsDay days → IsStrictlySortedBy int_cmp days → Behind last days → at < length rows
     → row ≡ slice_index_or rows at row
     → (row.period ≡ length so_far + number)
@@ -136,7 +136,7 @@ next_from number zero last (first ∷ rows) (one ∷ so_far) (day ∷ days) row 
 next_from number zero last (first ∷ rows) [] (day ∷ days) row had same dated rising behind below
     is =
     let itself : row ≡ first = is in
-    let its : close_of first ≡ (number, day) = (let e = same in cc) in
+    let its : close_entry first ≡ (number, day) = (let e = same in cc) in
     let its_number : first.period ≡ number = ap (λ (close : ℕ × ℤ). close.0) its in
     let its_day : first.through ≡ day = ap (λ (close : ℕ × ℤ). close.1) its in
     let through : row.through ≡ day = ap (λ (row : Close). row.through) itself ∙ its_day in
@@ -152,8 +152,8 @@ next_from number (suc at) last (first ∷ rows) [] (day ∷ days) row had same d
 next_from number (suc at) last (first ∷ rows) (one ∷ so_far) (day ∷ days) row had same dated rising
     behind below is =
     let rest : at < length rows = omega (arith, below) in
-    let others : map close_of rows ≡ close_entries (suc number) days = (let e = same in cc) in
-    let its : close_of first ≡ (number, day) = (let e = same in cc) in
+    let others : map close_entry rows ≡ close_entries (suc number) days = (let e = same in cc) in
+    let its : close_entry first ≡ (number, day) = (let e = same in cc) in
     let its_day : first.through ≡ day = ap (λ (close : ℕ × ℤ). close.1) its in
     let one_day : one ≡ day = had.0.0 ∙ its_day in
     let next = next_from (suc number) at (Some one) rows so_far days row had.1 others
@@ -164,7 +164,7 @@ next_from number (suc at) last (first ∷ rows) (one ∷ so_far) (day ∷ days) 
 
 -- so is the row at a place, of rows of closes
 pub next_at : (at : ℕ) (rows : List Close) (so_far days : List ℤ) (other : Close)
-    → AllZip HasDay (take at rows) so_far → AreCloses rows days → at < length rows
+    → AllZip IsCloseDay (take at rows) so_far → AreCloses rows days → at < length rows
     → IsNextClose so_far (slice_index_or rows at other)
 next_at at rows so_far days other had closes below =
     let row = slice_index_or rows at other in
@@ -174,15 +174,15 @@ next_at at rows so_far days other had closes below =
 
 -- there are as many closes as rows, and as days
 closes_count : (number : ℕ) (rows : List Close) (closes : List ℤ)
-    → map close_of rows ≡ close_entries number closes → length rows ≡ length closes
+    → map close_entry rows ≡ close_entries number closes → length rows ≡ length closes
 closes_count number [] [] same = refl
 closes_count number [] (day ∷ closes) same = absurd (let e = same in cc)
 closes_count number (row ∷ rows) [] same = absurd (let e = same in cc)
 closes_count number (row ∷ rows) (day ∷ closes) same =
-    let others : map close_of rows ≡ close_entries (suc number) closes = (let e = same in cc) in
+    let others : map close_entry rows ≡ close_entries (suc number) closes = (let e = same in cc) in
     ap suc (closes_count (suc number) rows closes others)
 
-days_count : (rows : List Close) (days : List ℤ) → AllZip HasDay rows days
+days_count : (rows : List Close) (days : List ℤ) → AllZip IsCloseDay rows days
     → length rows ≡ length days
 days_count [] [] had = refl
 days_count [] (day ∷ days) had = absurd had
@@ -190,13 +190,13 @@ days_count (row ∷ rows) [] had = absurd had
 days_count (row ∷ rows) (day ∷ days) had = ap suc (days_count rows days had.1)
 
 -- so the days that are read are as many as the closes of the rulings
-pub as_many : (rows : List Close) (days closes : List ℤ) → AllZip HasDay rows days
+pub as_many : (rows : List Close) (days closes : List ℤ) → AllZip IsCloseDay rows days
     → AreCloses rows closes → length days ≡ length closes
 as_many rows days closes had are =
     sym (days_count rows days had) ∙ closes_count 1 rows closes are.numbered
 
 -- rows that hold tariffs with texts give them
-texts_tell : (rows : List StoredTariff) (tariffs : List Tariffed) → All IsTexted tariffs
+texts_tell : (rows : List StoredTariff) (tariffs : List AcceptedTerms) → All IsTexted tariffs
     → map tariff_of rows ≡ tariff_entries tariffs → AllZip TellsTariff rows tariffs
 texts_tell [] [] texted same = tt
 texts_tell [] (tariff ∷ tariffs) texted same = absurd (let e = same in cc)
@@ -225,9 +225,9 @@ rule_said row (Some period) closes rule since begun =
 -- rows of the tables of a book that calls made are those of its rulings, within the limits
 pub rows_of : (naming : Naming) (book : Book) (row : Stored) (texts : List StoredTariff)
     (days : List Close) (choices : ℕ) → IsFromCalls naming book
-    → book_of row ≡ (tables_of naming book).book
+    → book_entry row ≡ (tables_of naming book).book
     → map tariff_of texts ≡ entries (tables_of naming book).tariffs
-    → map close_of days ≡ entries (tables_of naming book).closes
+    → map close_entry days ≡ entries (tables_of naming book).closes
     → choices ≡ last_number (tables_of naming book).choices
     → AreRowsOf row texts days choices book.rulings
 rows_of naming book row texts days choices calls kept said had last =

@@ -4,17 +4,17 @@ use Rattle.std.specs.Prelude.{OnErr, OnOk}
 use Rattle.sqlite_trees.specs.Tree.{Trees}
 use Rattle.sqlite_trees.specs.View.{View, Commits, OnlyWrites}
 use Rattle.sqlite_trees.specs.declared.error.StoreError.{StoreError}
-use Rattle.kept_tables.specs.Keeping.{new_tables}
-use Rattle.kept_tables.specs.Tables.{Tables}
+use Rattle.table_model.specs.TablesAfter.{new_tables}
+use Rattle.table_model.specs.Tables.{Tables}
 use Rattle.tree_rows.specs.Rows.{IsUnchanged}
 use Rattle.tree_tables.specs.Holds.{Holds}
 use Rattle.tree_tables.specs.States.{State, HasCleanDisk, Survives}
 use Rattle.tree_tables.specs.Steps.{Always, Changes, Does, HasNoRows, IsUndone, Makes, MayCommit}
-use Rattle.tree_tables.specs.Steps.{Stands}
+use Rattle.tree_tables.specs.Steps.{KeepsLastCommit}
 use Rattle.tree_tables.proofs.Looking.{kept_after}
-use Rattle.table_ledger.specs.Commits.{IsAtRest, CommitsOne, IsDone, Keeping, Saw}
-use Rattle.table_ledger.specs.Making.{MakesNew}
-use Rattle.table_ledger.proofs.Standing.{rest_on, stands_kept, stands_then, trees_same}
+use Rattle.table_ledger.specs.Commits.{IsAtRest, CommitsOne, IsDone, Stores, Saw}
+use Rattle.table_ledger.specs.NewBooks.{MakesNew}
+use Rattle.table_ledger.proofs.UnchangedStores.{rest_on, stands_kept, stands_then, trees_same}
 use Rattle.table_ledger.proofs.SurvivalLemmas.{clean_before, survives_both, survives_none}
 use Rattle.table_ledger.proofs.SurvivalLemmas.{survives_so, survives_then}
 
@@ -97,7 +97,7 @@ commit_unwritten does = record {
 }
 
 -- the last commit stays after steps
-stands_only : (old new : View) → OnlyWrites old new → Stands old new
+stands_only : (old new : View) → OnlyWrites old new → KeepsLastCommit old new
 stands_only old new only = record {
   was_open = λ is_open. sym (ap (λ (v : View). v.is_open) only) ∙ is_open;
   committed = λ is_open. ap (λ (v : View). v.committed) only;
@@ -195,7 +195,7 @@ makes_all {T} {first = first} {old = old} {middle = middle} {last = last} result
     ended : (result : Result T StoreError)
         → OnOk result (HasCleanDisk last → Commits middle.view last.view)
         → HasCleanDisk last → IsAtRest first.view → HasNoRows first.view.trees
-        → OnOk result (Keeping last.view new_tables)
+        → OnOk result (Stores last.view new_tables)
     ended (Ok value) commits clean rest none = record {
       holds = subst (λ (found : Trees). Holds found new_tables)
           (sym (ap (λ (v : View). v.trees) (commits clean).is)) (holds clean none);

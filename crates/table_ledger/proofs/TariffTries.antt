@@ -16,24 +16,24 @@ use Rattle.book_model.proofs.CallLemmas.{by_tests}
 use Rattle.book_model.proofs.LatestLemmas.{later-before, rising-behind}
 use Rattle.book_core.specs.Repricing.{if_room}
 use Rattle.book_core.specs.Calls.{Makes}
-use Rattle.kept_tables.specs.Tables.{Tables}
-use Rattle.kept_tables.specs.TablesOf.{tables_of}
-use Rattle.table_readings.proofs.CallsLemmas.{calls_stay}
-use Rattle.table_readings.proofs.ReadableLemmas.{calls_read}
-use Rattle.table_readings.proofs.RulingLemmas.{terms_follow}
-use Rattle.table_readings.specs.Readable.{IsReadable}
-use Rattle.kept_tables.proofs.RepriceSteps.{tariff_is_steps}
-use Rattle.kept_tables.proofs.SumRead.{sum_is_read}
-use Rattle.kept_tables.specs.Steps.{tariff_by_steps}
-use Rattle.kept_tables.specs.TableChanges.{amount_under, put_tariff}
+use Rattle.table_model.specs.Tables.{Tables}
+use Rattle.table_model.specs.TablesOf.{tables_of}
+use Rattle.table_laws.proofs.CallsLemmas.{calls_stay}
+use Rattle.table_laws.proofs.ReadableLemmas.{calls_read}
+use Rattle.table_laws.proofs.RulingLemmas.{terms_follow}
+use Rattle.table_laws.specs.Readable.{IsReadable}
+use Rattle.table_model.proofs.RepriceSteps.{tariff_is_steps}
+use Rattle.table_model.proofs.SumRead.{sum_is_read}
+use Rattle.table_model.specs.Steps.{tariff_by_steps}
+use Rattle.table_model.specs.TableChanges.{amount_under, put_tariff}
 use Rattle.std.specs.FinMap.{values}
 use Rattle.tree_rows.proofs.Maps.{not_none}
 use Rattle.tree_rows.proofs.Taking.{some_is}
-use Rattle.table_ledger.specs.Repricing.{CostUnder, Counts}
+use Rattle.table_ledger.specs.Repricing.{CostUnder, CountsRecords}
 use Rattle.table_ledger.specs.Ready.{IsReadyAt, Remembers}
 use Rattle.table_ledger.specs.Summaries.{ruled_in, terms_ruled}
-use Rattle.table_ledger.specs.Tries.{IsPlain}
-use Rattle.table_ledger.specs.Unread.{IsUnread}
+use Rattle.table_ledger.specs.Attempts.{LeavesOpen}
+use Rattle.table_ledger.specs.TariffRefusals.{IsNoTariff}
 use Rattle.table_ledger.specs.declared.summary.Summary.{Summary}
 use Rattle.table_ledger.proofs.Answering.{makes_refused, ruled_makes}
 use Rattle.table_ledger.proofs.Remembered.{rulings_are}
@@ -41,16 +41,16 @@ use Rattle.table_ledger.proofs.TryLemmas.{IsEvent}
 
 -- ---- a text that is no tariff
 
-pub unread_plain : {V : Type 0} (text : List ℕ) (fault : LedgerFault) → IsUnread text fault
-    → IsPlain {V = V} (Err fault)
+pub unread_plain : {V : Type 0} (text : List ℕ) (fault : LedgerFault) → IsNoTariff text fault
+    → LeavesOpen {V = V} (Err fault)
 unread_plain {V} text fault (inl wanting) =
-    subst (λ fault. IsPlain {V = V} (Err fault)) (sym wanting)
+    subst (λ fault. LeavesOpen {V = V} (Err fault)) (sym wanting)
     (record { stored = refl; served = refl })
 unread_plain {V} text fault (inr refused) =
-    subst (λ fault. IsPlain {V = V} (Err fault)) (sym refused.1)
+    subst (λ fault. LeavesOpen {V = V} (Err fault)) (sym refused.1)
     (record { stored = refl; served = refl })
 
-pub unread_makes : (text : List ℕ) (fault : LedgerFault) → IsUnread text fault → (book : Book)
+pub unread_makes : (text : List ℕ) (fault : LedgerFault) → IsNoTariff text fault → (book : Book)
     → Makes (λ (ruled : Ruled). ruled) (tariff_outcome text book) (Err fault) []
 unread_makes text fault (inl wanting) book =
     subst (λ fault. Makes (λ (ruled : Ruled). ruled) (tariff_outcome text book) (Err fault) [])
@@ -61,7 +61,7 @@ unread_makes text fault (inr refused) book =
 
 -- ---- the tests
 
-plain_by : (told there later much : Bool) → IsPlain (by_tests told there later much)
+plain_by : (told there later much : Bool) → LeavesOpen (by_tests told there later much)
 plain_by true there later much = record { stored = refl; served = refl }
 plain_by false true later much = record { stored = refl; served = refl }
 plain_by false false false much = record { stored = refl; served = refl }
@@ -117,7 +117,7 @@ module _ (summary : Summary) (text : List ℕ) (terms : Terms) where
       (is_later terms.effective rulings) much
 
   -- an answer without a look at the records leaves the books open
-  pub tariff_plain : IsPlain (terms_ruled (ruled_in summary) text terms)
+  pub tariff_plain : LeavesOpen (terms_ruled (ruled_in summary) text terms)
   tariff_plain =
       plain_by (list_any (has_text text) summary.tariffs.items)
       (list_any (is_effective terms.effective) summary.tariffs.items)
@@ -226,7 +226,7 @@ module _ (summary : Summary) (text : List ℕ) (terms : Terms) where
       abbrev pub tariff_is_event : IsDay terms.effective → (period held : ℕ)
           → period ≡ length summary.closes.items + 1 → held ≡ summary.held
           → IsEvent (λ (ruled : Ruled). ruled) naming summary (tariff_outcome text)
-          (Counts held) (tariff_by_steps period text terms amount) book
+          (CountsRecords held) (tariff_by_steps period text terms amount) book
       tariff_is_event day period held number_is same_held = record {
         event = TariffAccepted (Some text) terms;
         is = ap (λ said. tariff_event text said (tariff_answer book text (terms_in text))) said

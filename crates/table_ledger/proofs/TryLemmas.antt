@@ -8,20 +8,20 @@ use Rattle.sqlite_trees.specs.declared.error.StoreError.{StoreError}
 use Rattle.book_model.specs.declared.fault.LedgerFault.{LedgerFault}
 use Rattle.book_model.specs.Words.{Book, Event, after, after_any, Outcome, Naming}
 use Rattle.book_core.specs.Calls.{Makes, listed}
-use Rattle.kept_tables.specs.Tables.{Tables}
-use Rattle.kept_tables.specs.TablesOf.{tables_of}
-use Rattle.table_readings.specs.FromCalls.{IsFromCalls}
+use Rattle.table_model.specs.Tables.{Tables}
+use Rattle.table_model.specs.TablesOf.{tables_of}
+use Rattle.table_laws.specs.FromCalls.{IsFromCalls}
 use Rattle.tree_rows.specs.Rows.{IsUnchanged}
 use Rattle.tree_tables.specs.Holds.{Holds}
 use Rattle.tree_tables.specs.States.{State, HasCleanDisk, Survives}
 use Rattle.tree_tables.specs.Steps.{Looks}
 use Rattle.tree_tables.proofs.Looking.{kept_behind}
 use Rattle.table_ledger.specs.Commits.{Saw, MayWrite, IsDone, CommitsOne}
-use Rattle.table_ledger.specs.Ready.{IsReadyAt, IsKeptIn, Remembers}
-use Rattle.table_ledger.specs.Tries.{MayKeep, IsPlain, Found, Tries}
+use Rattle.table_ledger.specs.Ready.{IsReadyAt, IsStoredIn, Remembers}
+use Rattle.table_ledger.specs.Attempts.{MayKeep, LeavesOpen, AnsweredOrRefused, Attempts}
 use Rattle.table_ledger.specs.declared.summary.Summary.{Summary}
-use Rattle.table_ledger.proofs.Standing.{holds_on, kept_same, rest_on, stands_kept, stands_same}
-use Rattle.table_ledger.proofs.Standing.{stands_then, trees_same, unchanged_none, unchanged_then}
+use Rattle.table_ledger.proofs.UnchangedStores.{holds_on, kept_same, rest_on, stands_kept, stands_same}
+use Rattle.table_ledger.proofs.UnchangedStores.{stands_then, trees_same, unchanged_none, unchanged_then}
 use Rattle.table_ledger.proofs.SurvivalLemmas.{clean_before, survives_both, survives_none}
 use Rattle.table_ledger.proofs.SurvivalLemmas.{survives_so}
 
@@ -152,7 +152,7 @@ pub ready_same : {naming : Naming} {was : Summary} {book : Book} (old new : View
     → IsUnchanged old new → IsReadyAt naming was old book → IsReadyAt naming was new book
 ready_same {naming} {was} {book} old new same ready = record {
   rest = rest_on old new same ready.rest;
-  kept = subst (IsKeptIn naming book) (sym (trees_same old new same)) ready.kept;
+  kept = subst (IsStoredIn naming book) (sym (trees_same old new same)) ready.kept;
   remembers = ready.remembers;
 }
 
@@ -160,10 +160,10 @@ module _ {V A : Type 0} (view : V → A) (naming : Naming) (was : Summary)
     (outcome : Book → Outcome A) where
   -- The call is answered by looks alone.
   pub try_answered : {old new : State} {Known : Tables → Type 0} {answer : Result V LedgerFault}
-      → Saw old new Known → IsPlain answer
+      → Saw old new Known → LeavesOpen answer
       → ((book : Book) → IsReadyAt naming was old.view book → Known (tables_of naming book)
       → Makes view (outcome book) answer [])
-      → Tries view naming was was old new outcome (Ok answer)
+      → Attempts view naming was was old new outcome (Ok answer)
   try_answered {old} {new} saw plain makes = record {
     plain = plain;
     survives = survives_so saw.survives (λ clean trees none. absurd none);
@@ -178,7 +178,7 @@ module _ {V A : Type 0} (view : V → A) (naming : Naming) (was : Summary)
 
   -- The call stops after looks, because memory ran out or a row is ill-formed.
   pub try_stopped : {old new : State} {Known : Tables → Type 0} {error : StoreError}
-      → Saw old new Known → Tries view naming was was old new outcome (Err error)
+      → Saw old new Known → Attempts view naming was was old new outcome (Err error)
   try_stopped {old} {new} saw = record {
     plain = tt;
     survives = survives_so saw.survives (λ clean trees none. absurd none);
@@ -192,7 +192,7 @@ module _ {V A : Type 0} (view : V → A) (naming : Naming) (was : Summary)
   pub try_refused : {B : Type 0} {old middle new : State} {Known : Tables → Type 0}
       {Answers : Tables → B → Type 0} {error : StoreError} → Saw old middle Known
       → Looks {A = B} (Err error) middle new Answers
-      → Tries view naming was was old new outcome (Err error)
+      → Attempts view naming was was old new outcome (Err error)
   try_refused {B} {old} {middle} saw looks = record {
     plain = tt;
     survives = survives_both saw.survives looks.survives (λ clean trees none. absurd none)
@@ -217,9 +217,9 @@ module _ {V A : Type 0} (view : V → A) (naming : Naming) (was : Summary)
   keep_event : (When : Tables → Type 0) (change : Tables → Tables) (middle : View) (trees : Trees)
       (book : Book) → IsEvent When change book → Holds middle.trees (tables_of naming book)
       → MayWrite middle When change trees
-      → IsKeptIn naming (after_any (outcome book).event book) trees
+      → IsStoredIn naming (after_any (outcome book).event book) trees
   keep_event When change middle trees book event holds made =
-      subst (λ found. IsKeptIn naming (after_any found book) trees) (sym event.is)
+      subst (λ found. IsStoredIn naming (after_any found book) trees) (sym event.is)
       (record {
         calls = event.calls;
         holds = subst (Holds trees) event.tables (made (tables_of naming book) holds event.when);
@@ -250,7 +250,7 @@ module _ {V A : Type 0} (view : V → A) (naming : Naming) (was : Summary)
         → ((book : Book) (ready : IsReadyAt naming was old.view book)
         (known : Known (tables_of naming book))
         → Remembers is (after (events book ready known).event book))
-        → Tries view naming was is old new outcome (Ok (Ok value))
+        → Attempts view naming was is old new outcome (Ok (Ok value))
     try_done commit answers remembers = record {
       plain = record { stored = refl; served = refl };
       survives = keeps_survive commit;
@@ -278,7 +278,7 @@ module _ {V A : Type 0} (view : V → A) (naming : Naming) (was : Summary)
     -- The commit is refused.
     pub try_undone : {T : Type 0} {error : StoreError}
         → CommitsOne {T = T} (Err error) middle new When change
-        → Tries view naming was was old new outcome (Err error)
+        → Attempts view naming was was old new outcome (Err error)
     try_undone commit = record {
       plain = tt;
       survives = keeps_survive commit;
@@ -298,9 +298,9 @@ module _ {V A : Type 0} (view : V → A) (naming : Naming) (was : Summary)
   -- What the ledger remembers may be described in other words.
   pub tries_so : {is other : Summary} {old new : State}
       {tried : Result (Result V LedgerFault) StoreError}
-      → Tries view naming was is old new outcome tried
+      → Attempts view naming was is old new outcome tried
       → ((book : Book) → Remembers is book → Remembers other book)
-      → Tries view naming was other old new outcome tried
+      → Attempts view naming was other old new outcome tried
   tries_so {is} {other} {old} {new} {tried} tries so = record {
     plain = tries.plain;
     survives = tries.survives;
@@ -308,8 +308,8 @@ module _ {V A : Type 0} (view : V → A) (naming : Naming) (was : Summary)
   }
     where
       by_tried : (tried : Result (Result V LedgerFault) StoreError) (book : Book)
-          → Found view naming is old.view new.view (outcome book) book tried
-          → Found view naming other old.view new.view (outcome book) book tried
+          → AnsweredOrRefused view naming is old.view new.view (outcome book) book tried
+          → AnsweredOrRefused view naming other old.view new.view (outcome book) book tried
       by_tried (Ok answer) book found = record {
         events = found.events;
         makes = found.makes;
@@ -326,14 +326,14 @@ module _ {V A : Type 0} (view : V → A) (naming : Naming) (was : Summary)
 
   -- The error may be described in other words.
   pub tries_told : {is : Summary} {old new : State} {error told : StoreError}
-      → Tries view naming was is old new outcome (Err error)
-      → Tries view naming was is old new outcome (Err told)
+      → Attempts view naming was is old new outcome (Err error)
+      → Attempts view naming was is old new outcome (Err told)
   tries_told tries = record { plain = tt; survives = tries.survives; found = tries.found }
 
   -- A call whose result is an error, whichever it is.
   pub tries_err : {is : Summary} {old new : State}
       (tried : Result (Result V LedgerFault) StoreError) → IsErr tried
-      → ((error : StoreError) → Tries view naming was is old new outcome (Err error))
-      → Tries view naming was is old new outcome tried
+      → ((error : StoreError) → Attempts view naming was is old new outcome (Err error))
+      → Attempts view naming was is old new outcome tried
   tries_err (Err error) failed tries = tries error
   tries_err (Ok answer) failed tries = absurd (true≢false (sym failed))

@@ -8,8 +8,8 @@ use Rattle.std.specs.Ordering.{is_lt}
 use Rattle.book_model.specs.Words.{by_bytes}
 use Rattle.sqlite_trees.specs.View.{KeepsCommitted, OnlyWrites}
 use Rattle.sqlite_trees.specs.declared.error.StoreError.{StoreError}
-use Rattle.kept_tables.specs.TableChanges.{walk}
-use Rattle.kept_tables.specs.Tables.{Tables}
+use Rattle.table_model.specs.TableChanges.{walk}
+use Rattle.table_model.specs.Tables.{Tables}
 use Rattle.tree_tables.specs.Answers.{FindsNext}
 use Rattle.tree_tables.specs.Holds.{Holds}
 use Rattle.tree_tables.specs.States.{HasCleanDisk, State, Survives}

@@ -3,10 +3,10 @@ use Rattle.std.specs.Prelude.{◌≡◌, false, IsTrue, Result, Ok, Err}
 use Rattle.sqlite_trees.specs.Tree.{Trees}
 use Rattle.sqlite_trees.specs.View.{View}
 use Rattle.sqlite_trees.specs.declared.error.StoreError.{StoreError}
-use Rattle.kept_tables.specs.Tables.{Tables}
+use Rattle.table_model.specs.Tables.{Tables}
 use Rattle.tree_tables.specs.Holds.{Holds}
 use Rattle.tree_tables.specs.States.{State, HasCleanDisk, Survives}
-use Rattle.tree_tables.specs.Steps.{Sees, Stands}
+use Rattle.tree_tables.specs.Steps.{Sees, KeepsLastCommit}
 
 -- the store is open between two transactions
 pub record IsAtRest (view : View) : Type 0 where
@@ -25,14 +25,14 @@ MayWrite old When change trees =
     (tables : Tables) → Holds old.trees tables → When tables → Holds trees (change tables)
 
 -- the store keeps these tables, and they are committed
-pub record Keeping (view : View) (tables : Tables) : Type 0 where
+pub record Stores (view : View) (tables : Tables) : Type 0 where
   pub holds : Holds view.trees tables
   pub rest : IsAtRest view
 
 -- the tables are changed and committed; or the last commit stays
 abbrev pub IsDone : {T : Type 0} → View → View → Tables → Result T StoreError → Type 0
-IsDone old new after (Ok value) = Keeping new after
-IsDone old new after (Err error) = Stands old new
+IsDone old new after (Ok value) = Stores new after
+IsDone old new after (Err error) = KeepsLastCommit old new
 
 -- A change of the tables is tried as one commit, if the premise is true of them.
 pub record CommitsOne {T : Type 0} (result : Result T StoreError) (old new : State)

@@ -3,7 +3,7 @@ use Rattle.std.specs.Prelude.{◌≡◌, ◌==◌, if◌then◌else◌, Option, 
 use Rattle.tariff_rules.specs.declared.priced.Priced.{Priced}
 use Rattle.book_model.specs.declared.row.ChargeRow.{ChargeRow}
 use Rattle.book_model.specs.Words.{key_of, row_at}
-use Rattle.kept_tables.specs.RowChanges.{with_price, less_price}
+use Rattle.table_model.specs.RowChanges.{with_price, less_price}
 use Rattle.table_ledger.specs.declared.day_write.DayWrite.{DayWrite}
 use Rattle.table_ledger.specs.declared.day_write.DayWrite.TheVariants.{Leave, Put, Drop}
 
@@ -25,10 +25,10 @@ abbrev pub lone_row : Priced → ChargeRow
 lone_row priced = with_price (row_at [] (key_of priced)) priced
 
 -- one price leaves the row that was found, and another one joins what is left of it
-abbrev pub turned_row : ChargeRow → Priced → Priced → ChargeRow
-turned_row row old new =
+abbrev pub price_replaced : ChargeRow → Priced → Priced → ChargeRow
+price_replaced row old new =
     if row.count == 1 then lone_row new else with_price (less_price row old) new
 
-abbrev pub IsTurned : Option ChargeRow → Priced → Priced → DayWrite → Type 0
-IsTurned None old new write = write ≡ Put (lone_row new)
-IsTurned (Some row) old new write = write ≡ Put (turned_row row old new)
+abbrev pub IsPriceReplaced : Option ChargeRow → Priced → Priced → DayWrite → Type 0
+IsPriceReplaced None old new write = write ≡ Put (lone_row new)
+IsPriceReplaced (Some row) old new write = write ≡ Put (price_replaced row old new)

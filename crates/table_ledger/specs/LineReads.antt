@@ -4,8 +4,8 @@ use Rattle.std.specs.List.{filter_map}
 use Rattle.std.specs.List.Sorted.{IsStrictlySortedBy}
 use Rattle.book_model.specs.Words.{by_bytes}
 use Rattle.book_model.specs.declared.line.Line.{Line}
-use Rattle.kept_tables.specs.Reading.{line_read}
-use Rattle.kept_tables.specs.Tables.{RecordTable}
+use Rattle.table_model.specs.PeriodLists.{line_read}
+use Rattle.table_model.specs.Tables.{RecordTable}
 use Rattle.tree_tables.specs.declared.line_rows.StoredLine.{StoredLine}
 
 -- a stored line of a period, with what the row of its record says

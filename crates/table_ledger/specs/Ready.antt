@@ -4,8 +4,8 @@ use Rattle.std.specs.Prelude.{◌≡◌, length}
 use Rattle.sqlite_trees.specs.Tree.{Trees}
 use Rattle.sqlite_trees.specs.View.{View}
 use Rattle.book_model.specs.Words.{total_of, Book, Naming, members}
-use Rattle.kept_tables.specs.TablesOf.{tables_of}
-use Rattle.table_readings.specs.FromCalls.{IsFromCalls}
+use Rattle.table_model.specs.TablesOf.{tables_of}
+use Rattle.table_laws.specs.FromCalls.{IsFromCalls}
 use Rattle.tree_tables.specs.Holds.{Holds}
 use Rattle.table_ledger.specs.Commits.{IsAtRest}
 use Rattle.table_ledger.specs.declared.summary.Summary.{Summary}
@@ -20,21 +20,21 @@ pub record Remembers (summary : Summary) (book : Book) : Type 0 where
   pub total : summary.total ≡ total_of book.rulings book.held
 
 -- the trees hold the book, which calls made
-pub record IsKeptIn (naming : Naming) (book : Book) (trees : Trees) : Type 0 where
+pub record IsStoredIn (naming : Naming) (book : Book) (trees : Trees) : Type 0 where
   pub calls : IsFromCalls naming book
   pub holds : Holds trees (tables_of naming book)
 
 -- this holds for some book
-pub record KeepBooks (naming : Naming) (trees : Trees) : Type 0 where
+pub record StoreSomeBook (naming : Naming) (trees : Trees) : Type 0 where
   pub book : Book
-  pub kept : IsKeptIn naming book trees
+  pub kept : IsStoredIn naming book trees
 
 -- The store is open between two transactions, and keeps the book, which calls made; and the summary
 -- is that of the book.
 pub record IsReadyAt (naming : Naming) (summary : Summary) (view : View) (book : Book) : Type 0
   where
     pub rest : IsAtRest view
-    pub kept : IsKeptIn naming book view.trees
+    pub kept : IsStoredIn naming book view.trees
     pub remembers : Remembers summary book
 
 -- this holds for some book

@@ -2,7 +2,7 @@
 use Rattle.std.specs.Prelude.{◌≡◌, ℕ, List, Some, length}
 use Rattle.std.specs.FinMap.{get}
 use Rattle.book_model.specs.Words.{Naming}
-use Rattle.kept_tables.specs.Tables.{RecordRow, Tables}
+use Rattle.table_model.specs.Tables.{RecordRow, Tables}
 use Rattle.tree_tables.specs.Fits.{RecordsFit}
 use Rattle.tree_tables.specs.UsageData.{IsUsageData}
 

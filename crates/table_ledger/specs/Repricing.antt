@@ -5,12 +5,12 @@ use Rattle.std.specs.FinMap.{get, values}
 use Rattle.tariff_rules.specs.declared.priced.Priced.{Priced}
 use Rattle.book_model.specs.Words.{IsPriced, Terms, price_by, record_with}
 use Rattle.book_core.specs.Repricing.{if_room}
-use Rattle.kept_tables.specs.TableChanges.{amount_under}
-use Rattle.kept_tables.specs.Tables.{RecordRow, Tables}
+use Rattle.table_model.specs.TableChanges.{amount_under}
+use Rattle.table_model.specs.Tables.{RecordRow, Tables}
 
 -- what a row's record costs by a tariff, if it is dated on the first day or later
-abbrev pub price_under : Terms → RecordRow → Option Priced
-price_under terms row =
+abbrev pub tariff_price : Terms → RecordRow → Option Priced
+tariff_price terms row =
     if int_lt row.priced.day terms.effective then None
     else Some (price_by terms (record_with row.data_bytes))
 
@@ -27,5 +27,5 @@ pub record CostUnder (terms : Terms) (tables : Tables) (found : Option ℕ) : Ty
       → get tables.records name ≡ Some row → CanCost terms row
 
 -- the book counts this many records
-abbrev pub Counts : ℕ → Tables → Type 0
-Counts held tables = tables.book.held ≡ held
+abbrev pub CountsRecords : ℕ → Tables → Type 0
+CountsRecords held tables = tables.book.held ≡ held

@@ -8,35 +8,35 @@ use Rattle.sqlite_value.specs.declared.value.Value.{Value}
 use Rattle.sqlite_value.specs.declared.value.Value.TheVariants.{Int, Text}
 use Rattle.book_model.specs.declared.row.ChargeRow.{ChargeRow}
 use Rattle.book_model.specs.declared.row.RowKey.{RowKey}
-use Rattle.kept_tables.specs.Tables.{BookRow, ChoiceRow, RecordRow, Tables}
+use Rattle.table_model.specs.Tables.{BookRow, ChoiceRow, RecordRow, Tables}
 
 -- the number that a value is
-abbrev pub number_of : Value → ℤ
-number_of (Int n) = n
-number_of value = pos 0
+abbrev pub int_value : Value → ℤ
+int_value (Int n) = n
+int_value value = pos 0
 
 -- the number in a column, unless it is below 0
-abbrev pub count_of : ℤ → ℕ
-count_of (pos n) = n
-count_of (negsuc n) = 0
+abbrev pub count_value : ℤ → ℕ
+count_value (pos n) = n
+count_value (negsuc n) = 0
 
 abbrev pub count_in : Row → ℕ → ℕ
-count_in row at = count_of (number_of (column row at))
+count_in row at = count_value (int_value (column row at))
 
 -- a mark is any number but 0
 abbrev pub mark_in : Row → ℕ → Bool
 mark_in row at = not (count_in row at == 0)
 
 -- the text that a value is
-abbrev pub text_in : Value → Option (List ℕ)
-text_in (Text text) = Some text
-text_in value = None
+abbrev pub text_value : Value → Option (List ℕ)
+text_value (Text text) = Some text
+text_value value = None
 
 abbrev pub tariff_in : Row → ℤ × Option (List ℕ)
-tariff_in row = (number_of (column row 0), text_in (column row 1))
+tariff_in row = (int_value (column row 0), text_value (column row 1))
 
 abbrev pub closed_in : Row → ℕ × ℤ
-closed_in row = (count_in row 0, number_of (column row 1))
+closed_in row = (count_in row 0, int_value (column row 1))
 
 abbrev pub record_in : Row → List ℕ × RecordRow
 record_in row = (
@@ -45,7 +45,7 @@ record_in row = (
     identity = bytes (column row 1);
     data_bytes = bytes (column row 2);
     priced = record {
-      day = number_of (column row 3);
+      day = int_value (column row 3);
       shift = bytes (column row 4);
       centre = bytes (column row 5);
       cpu = count_in row 6;
@@ -59,7 +59,7 @@ record_in row = (
 
 abbrev pub day_in : Row → (ℕ × RowKey) × ChargeRow
 day_in row =
-    let day = number_of (column row 1) in
+    let day = int_value (column row 1) in
     let centre = bytes (column row 2) in
     let shift = bytes (column row 3) in (
       (count_in row 0, record { day = day; centre = centre; shift = shift }),

@@ -17,13 +17,13 @@ use Rattle.book_model.specs.Words.{by_bytes, by_key}
 use Rattle.book_model.specs.declared.row.ChargeRow.{ChargeRow}
 use Rattle.book_model.specs.declared.row.RowKey.{RowKey}
 use Rattle.book_model.proofs.RowLemmas.{by_key_total, by_key_exact}
-use Rattle.kept_tables.specs.Numbered.{by_period}
-use Rattle.kept_tables.specs.TablesOf.{place_of}
-use Rattle.kept_tables.specs.Tables.{DayTable, RecordRow, Tables}
-use Rattle.kept_tables.proofs.NumberedLemmas.{by_period_total, by_period_exact}
+use Rattle.table_model.specs.PeriodRows.{by_period}
+use Rattle.table_model.specs.TablesOf.{row_key}
+use Rattle.table_model.specs.Tables.{DayTable, RecordRow, Tables}
+use Rattle.table_model.proofs.NumberedLemmas.{by_period_total, by_period_exact}
 use Rattle.tree_tables.specs.Columns.{tariff_columns, closed_columns, record_columns}
 use Rattle.tree_tables.specs.Columns.{choice_columns, day_columns, line_columns, flag}
-use Rattle.tree_tables.specs.Holds.{ArePlaced, Holds}
+use Rattle.tree_tables.specs.Holds.{AreUnderOwnKeys, Holds}
 use Rattle.table_ledger.specs.TablesIn.{tables_in, tariff_in, closed_in, record_in, day_in, line_in}
 use Rattle.table_ledger.specs.TablesIn.{book_row_in, choice_in}
 
@@ -88,7 +88,7 @@ find_placed q (e ∷ es) =
     ] refl
 
 -- a row at its own place stays as it is,
-stays : (q : ℕ × RowKey) (row : ChargeRow) → place_of row ≡ q.1 → at_place q row ≡ row
+stays : (q : ℕ × RowKey) (row : ChargeRow) → row_key row ≡ q.1 → at_place q row ≡ row
 unfolding at_place
 stays q row placed = λ i. record row {
   day = (sym placed i).day;
@@ -96,14 +96,14 @@ stays q row placed = λ i. record row {
   shift = (sym placed i).shift;
 }
 
-found_placed : (days : DayTable) (q : ℕ × RowKey) (found : Option ChargeRow) → ArePlaced days
+found_placed : (days : DayTable) (q : ℕ × RowKey) (found : Option ChargeRow) → AreUnderOwnKeys days
     → get days q ≡ found → option_map (at_place q) (get days q) ≡ get days q
 found_placed days q None placed is = ap (option_map (at_place q)) is ∙ sym is
 found_placed days q (Some row) placed is =
     ap (option_map (at_place q)) is ∙ ap Some (stays q row (placed q row is)) ∙ sym is
 
 -- rows that are stored under their own places are read back,
-days_back : (days : DayTable) → ArePlaced days
+days_back : (days : DayTable) → AreUnderOwnKeys days
     → from_entries (map day_in (map day_columns (entries days))) ≡ days
 days_back days placed =
     same_map (by_period_total by_key by_key_total) (by_period_exact by_key by_key_exact)

@@ -6,9 +6,9 @@ ghost use Rattle.tree_tables.specs.States.{state};
 ghost use Rattle.book_model.specs.Words.{data_of, IsPriced, accept_outcome, IsUsageRecord};
 ghost use Rattle.book_model.specs.Words.{same_bytes};
 ghost use Rattle.table_ledger.specs.Commits.{CommitsOne};
-ghost use Rattle.table_ledger.specs.Entries.{AreRemembered, IsNew};
-ghost use Rattle.table_ledger.specs.Keepings.{keep_as};
-ghost use Rattle.table_ledger.specs.Tries.{Tries};
+ghost use Rattle.table_ledger.specs.RecordWrites.{AreRemembered, IsNew};
+ghost use Rattle.table_ledger.specs.NewRecords.{with_new_record};
+ghost use Rattle.table_ledger.specs.Attempts.{Attempts};
 
 use crate::commits::{Entry, keep_entry};
 use crate::day_write::look_for_day;
@@ -38,7 +38,11 @@ fn known_or_clash(stored: &StoredRecord, bytes: &[u8]) -> Result<Accepted, Ledge
 
 /// Whose work a record measures by the rule in force, given the identities by the first and by the
 /// second rule.
-fn in_force<'a>(adopted: Option<u16>, first: &'a [u8; 24], second: &'a [u8; 32]) -> &'a [u8]
+fn identity_in_force<'a>(
+    adopted: Option<u16>,
+    first: &'a [u8; 24],
+    second: &'a [u8; 32],
+) -> &'a [u8]
     ensures { result.now ≡ option_map_or (λ period. second.now) adopted first.now }
 {
     match adopted {
@@ -59,11 +63,11 @@ fn keep_new<S: Store>(
     requires usage { IsUsageRecord bytes.now }
     requires priced { IsPriced priced.now }
     ensures commits { CommitsOne result (state S.Store tables.old.store) (state S.Store tables.new.store)
-        (λ tables. AreRemembered summary.now tables × IsNew name tables) (keep_as summary.now name bytes.now priced.now) }
+        (λ tables. AreRemembered summary.now tables × IsNew name tables) (with_new_record summary.now name bytes.now priced.now) }
 {
     let usage = Type30::of_usage(bytes);
     let (first, second) = (usage.identity(), usage.identity2());
-    let identity = in_force(summary.adopted, &first, &second);
+    let identity = identity_in_force(summary.adopted, &first, &second);
     let period = summary.open_number();
     let effects = look_for_effects(tables, alloc, summary.last_close(), identity, name, priced)?;
     let day = look_for_day(tables, period, &effects.day)?;
@@ -98,7 +102,7 @@ pub(crate) fn try_accept<S: Store, N: Naming>(
     bytes: &[u8],
 ) -> Result<Result<Accepted, LedgerFault>, StoreError>
     requires usage { IsUsageRecord bytes.now }
-    ensures tries { Tries (λ accepted. accepted) (N.name_of naming.now) summary.old summary.new
+    ensures tries { Attempts (λ accepted. accepted) (N.name_of naming.now) summary.old summary.new
         (state S.Store tables.old.store) (state S.Store tables.new.store)
         (accept_outcome (N.name_of naming.now) bytes.now) result }
 {

@@ -3,15 +3,15 @@
 ghost use Rattle.std.specs.Prelude.{◌≡◌};
 ghost use Rattle.std.specs.FinMap.{keys};
 ghost use Rattle.book_model.specs.Words.{Naming, adopt_outcome};
-ghost use Rattle.kept_tables.specs.Steps as step;
-ghost use Rattle.kept_tables.specs.TableChanges as change;
-ghost use Rattle.kept_tables.specs.Views.{is_due_in};
+ghost use Rattle.table_model.specs.Steps as step;
+ghost use Rattle.table_model.specs.TableChanges as change;
+ghost use Rattle.table_model.specs.Views.{is_due_in};
 ghost use Rattle.tree_tables.specs.States.{state};
 ghost use Rattle.tree_tables.specs.Steps.{Always, Does, Looks};
 ghost use Rattle.tree_tables.specs.Stored.{IsAsRead};
 ghost use Rattle.table_ledger.specs.Adoptions.{IsLast};
 ghost use Rattle.table_ledger.specs.Commits.{CommitsOne};
-ghost use Rattle.table_ledger.specs.Tries.{Tries};
+ghost use Rattle.table_ledger.specs.Attempts.{Attempts};
 
 use crate::choices::charge;
 use crate::chosen::{Chosen, look_for_chosen};
@@ -48,7 +48,7 @@ fn is_due<S: Store>(
 }
 
 /// Charges a record that is not charged, if it is to be.
-fn settle_record<S: Store>(
+fn charge_due_record<S: Store>(
     tables: &mut TreeTables<S>,
     alloc: Global,
     period: u16,
@@ -58,7 +58,7 @@ fn settle_record<S: Store>(
 ) -> Result<(), StoreError>
     ensures does { Does result (state S.Store tables.old.store) (state S.Store tables.new.store)
         (λ tables. IsAsRead stored.now tables × IsLast chosen.now tables)
-        (λ tables. change.settle_step period through (is_due_in tables) stored.now.name tables) }
+        (λ tables. change.charge_due_step period through (is_due_in tables) stored.now.name tables) }
 {
     if stored.charged {
         return Ok(());
@@ -71,7 +71,7 @@ fn settle_record<S: Store>(
 }
 
 /// Charges each record that is not charged and is to be.
-fn settle_all<S: Store>(
+fn charge_all_due<S: Store>(
     tables: &mut TreeTables<S>,
     alloc: Global,
     period: u16,
@@ -80,7 +80,7 @@ fn settle_all<S: Store>(
 ) -> Result<(), StoreError>
     ensures does { Does result (state S.Store tables.old.store) (state S.Store tables.new.store)
         (IsLast chosen.now)
-        (λ tables. change.walk (change.settle_step period through (is_due_in tables))
+        (λ tables. change.walk (change.charge_due_step period through (is_due_in tables))
         (keys tables.records) tables) }
 {
     let mut last = None;
@@ -88,7 +88,7 @@ fn settle_all<S: Store>(
         let Some(stored) = tables.find_next(alloc, last)? else {
             return Ok(());
         };
-        settle_record(tables, alloc, period, through, chosen, &stored)?;
+        charge_due_record(tables, alloc, period, through, chosen, &stored)?;
         last = Some(stored.name);
     }
     // Only a disk that lies has more rows.
@@ -103,11 +103,11 @@ fn charge_due<S: Store>(
     through: Option<i32>,
 ) -> Result<(), StoreError>
     ensures does { Does result (state S.Store tables.old.store) (state S.Store tables.new.store)
-        Always (λ tables. change.walk (change.settle_step period through (is_due_in tables))
+        Always (λ tables. change.walk (change.charge_due_step period through (is_due_in tables))
         (keys tables.records) tables) }
 {
     let chosen = look_for_chosen(tables, alloc)?;
-    settle_all(tables, alloc, period, through, &chosen)
+    charge_all_due(tables, alloc, period, through, &chosen)
 }
 
 /// Writes the second rule: the identities, what is charged by them, and the row of the book.
@@ -147,7 +147,7 @@ pub(crate) fn try_adopt<S: Store>(
     summary: &mut Summary,
     rule: u8,
 ) -> Result<Result<Ruled, LedgerFault>, StoreError>
-    ensures tries { (naming : Naming) → Tries (λ ruled. ruled) naming summary.old summary.new
+    ensures tries { (naming : Naming) → Attempts (λ ruled. ruled) naming summary.old summary.new
         (state S.Store tables.old.store) (state S.Store tables.new.store)
         (adopt_outcome rule) result }
 {

@@ -4,15 +4,15 @@ ghost use Rattle.std.specs.Prelude.{◌≡◌, slice_get};
 ghost use Rattle.std.specs.Option.{option_map, option_map_or};
 ghost use Rattle.book_core.specs.Effects.{choice_effects};
 ghost use Rattle.book_model.specs.Words.{choose_outcome, Naming};
-ghost use Rattle.kept_tables.specs.TableChanges as change;
-ghost use Rattle.kept_tables.specs.Views.{member_at};
+ghost use Rattle.table_model.specs.TableChanges as change;
+ghost use Rattle.table_model.specs.Views.{member_at};
 ghost use Rattle.tree_tables.specs.Answers.{charged_with};
 ghost use Rattle.tree_tables.specs.States.{state};
 ghost use Rattle.tree_tables.specs.Steps.{Always, Does, Looks};
 ghost use Rattle.tree_tables.specs.Stored.{stored_entry};
 ghost use Rattle.table_ledger.specs.Commits.{CommitsOne};
-ghost use Rattle.table_ledger.specs.Entries.{IsNext};
-ghost use Rattle.table_ledger.specs.Tries.{Tries};
+ghost use Rattle.table_ledger.specs.RecordWrites.{IsNext};
+ghost use Rattle.table_ledger.specs.Attempts.{Attempts};
 
 use crate::commits::{change_day, write_line, write_mark};
 use crate::effects::member_of;
@@ -127,7 +127,7 @@ pub(crate) fn try_choose<S: Store>(
     summary: &mut Summary,
     name: [u8; 32],
 ) -> Result<Result<Ruled, LedgerFault>, StoreError>
-    ensures tries { (naming : Naming) → Tries (λ ruled. ruled) naming summary.old summary.new
+    ensures tries { (naming : Naming) → Attempts (λ ruled. ruled) naming summary.old summary.new
         (state S.Store tables.old.store) (state S.Store tables.new.store)
         (choose_outcome naming name) result }
 {

@@ -1,8 +1,8 @@
 //! The records that were chosen last, by identity, as the choices of the tables say.
 
 ghost use Rattle.std.specs.Prelude.{◌≡◌, ℕ, List, Some, if◌then◌else◌, map};
-ghost use Rattle.kept_tables.specs.Views.{has_identity};
-ghost use Rattle.table_ledger.specs.Adoptions.{IsLast, IsLastOf, name_of};
+ghost use Rattle.table_model.specs.Views.{name_has_identity};
+ghost use Rattle.table_ledger.specs.Adoptions.{IsLast, IsLastOf, last_chosen};
 ghost use Rattle.tree_tables.specs.States.{state};
 ghost use Rattle.tree_tables.specs.Steps.{Looks};
 
@@ -22,11 +22,11 @@ pub(crate) struct Chosen {
 impl Chosen {
     ghost use Rattle.std.specs.Prelude.{◌≡◌, ℕ, List, None, OnOk, Some, if◌then◌else◌};
     ghost use Rattle.book_model.specs.Words.{same_bytes};
-    ghost use Rattle.table_ledger.specs.Adoptions.{is_last, name_of};
+    ghost use Rattle.table_ledger.specs.Adoptions.{is_last, last_chosen};
 
     /// None yet.
     fn new(alloc: Global) -> Chosen
-        ensures { (identity : List ℕ) → name_of result identity ≡ None }
+        ensures { (identity : List ℕ) → last_chosen result identity ≡ None }
     {
         Chosen {
             names: BTreeMap::new(alloc),
@@ -35,8 +35,8 @@ impl Chosen {
 
     /// Makes a record the last chosen of its identity.
     fn put(&mut self, identity: Vec<u8>, name: [u8; 32]) -> Result<(), AllocError>
-        ensures { OnOk result ((other : List ℕ) → name_of self.new other
-            ≡ if same_bytes other identity.items then Some name else name_of self.old other) }
+        ensures { OnOk result ((other : List ℕ) → last_chosen self.new other
+            ≡ if same_bytes other identity.items then Some name else last_chosen self.old other) }
     {
         self.names.insert(identity, name)?;
         Ok(())
@@ -61,9 +61,9 @@ fn join<S: Store>(
     choice: &StoredChoice,
 ) -> Result<(), StoreError>
     ensures looks { Looks result (state S.Store tables.old.store) (state S.Store tables.new.store)
-        (λ tables joined. (identity : List ℕ) → name_of chosen.new identity
-        ≡ if has_identity tables.records identity choice.now.name then Some choice.now.name
-        else name_of chosen.old identity) }
+        (λ tables joined. (identity : List ℕ) → last_chosen chosen.new identity
+        ≡ if name_has_identity tables.records identity choice.now.name then Some choice.now.name
+        else last_chosen chosen.old identity) }
 {
     if let Some(stored) = tables.find_record(alloc, &choice.name)? {
         chosen.put(stored.identity, choice.name)?;

@@ -5,9 +5,9 @@ ghost use Rattle.book_model.specs.Words.{IsDay, close_outcome, Naming};
 ghost use Rattle.tree_tables.specs.Days.{NoneNext};
 ghost use Rattle.tree_tables.specs.States.{state};
 ghost use Rattle.tree_tables.specs.Steps.{Does};
-ghost use Rattle.table_ledger.specs.Closings.{close_written};
+ghost use Rattle.table_ledger.specs.CloseWrites.{close_by_steps};
 ghost use Rattle.table_ledger.specs.Commits.{CommitsOne};
-ghost use Rattle.table_ledger.specs.Tries.{Tries};
+ghost use Rattle.table_ledger.specs.Attempts.{Attempts};
 
 use crate::summary::{Summary, is_done};
 use book_core::{LedgerFault, Ruled};
@@ -20,7 +20,7 @@ use tree_tables::{Close, TreeTables};
 fn write_close<S: Store>(tables: &mut TreeTables<S>, close: &Close) -> Result<(), StoreError>
     requires { IsDay close.now.through }
     ensures does { Does result (state S.Store tables.old.store) (state S.Store tables.new.store)
-        (NoneNext close.now.period) (close_written close.now.period close.now.through) }
+        (NoneNext close.now.period) (close_by_steps close.now.period close.now.through) }
 {
     tables.put_close(close)?;
     tables.post_records(close.through)?;
@@ -32,7 +32,7 @@ fn keep_close<S: Store>(tables: &mut TreeTables<S>, close: &Close) -> Result<(),
     requires { IsDay close.now.through }
     ensures commits { CommitsOne result (state S.Store tables.old.store)
         (state S.Store tables.new.store) (NoneNext close.now.period)
-        (close_written close.now.period close.now.through) }
+        (close_by_steps close.now.period close.now.through) }
 {
     write_close(tables, close)?;
     tables.commit()
@@ -46,7 +46,7 @@ pub(crate) fn try_close<S: Store>(
     close: &Close,
 ) -> Result<Result<Ruled, LedgerFault>, StoreError>
     requires day { IsDay close.now.through }
-    ensures tries { (naming : Naming) → Tries (λ ruled. ruled) naming summary.old summary.new
+    ensures tries { (naming : Naming) → Attempts (λ ruled. ruled) naming summary.old summary.new
         (state S.Store tables.old.store) (state S.Store tables.new.store)
         (close_outcome close.now.period close.now.through) result }
 {

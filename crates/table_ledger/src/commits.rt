@@ -2,19 +2,19 @@
 
 ghost use Rattle.std.specs.Prelude.{◌≡◌, ◌<◌, ◌^◌, None};
 ghost use Rattle.book_model.specs.Words.{IsPriced};
-ghost use Rattle.kept_tables.specs.Steps as step;
+ghost use Rattle.table_model.specs.Steps as step;
 ghost use Rattle.tree_tables.specs.States.{state};
 ghost use Rattle.tree_tables.specs.Steps.{Always, Does};
 ghost use Rattle.table_ledger.specs.Commits.{CommitsOne};
 ghost use Rattle.table_ledger.specs.DayWrites.{WriteFits};
-ghost use Rattle.table_ledger.specs.Entries as entry_spec;
-ghost use Rattle.table_ledger.specs.Entries.{IsNew};
+ghost use Rattle.table_ledger.specs.RecordWrites as entry_spec;
+ghost use Rattle.table_ledger.specs.RecordWrites.{IsNew};
 
 use crate::day_write::{DayWrite, look_for_day};
 use book_core::{DayChange, Effects, LineChange};
 use sqlite_trees::error::StoreError;
 use sqlite_trees::store::Store;
-use tree_tables::{DayPlace, DayRow, LinePlace, NewRecord, Sums, TreeTables};
+use tree_tables::{DayKey, DayRow, LineKey, NewRecord, Sums, TreeTables};
 
 /// A new record, what the book counts with it, and what it changes in the open period.
 #[derive(Clone, Copy)]
@@ -39,7 +39,7 @@ pub(crate) fn write_day<S: Store>(
     match *write {
         DayWrite::Leave => Ok(()),
         DayWrite::Put(row) => tables.put_day(&DayRow { period, row }),
-        DayWrite::Drop(place) => tables.drop_day(&DayPlace { period, place }),
+        DayWrite::Drop(place) => tables.drop_day(&DayKey { period, place }),
     }
 }
 
@@ -67,11 +67,11 @@ pub(crate) fn write_line<S: Store>(
 {
     match change {
         None => Ok(()),
-        Some(LineChange::AddPlus(name)) => tables.put_line(&LinePlace { period, name }, true),
+        Some(LineChange::AddPlus(name)) => tables.put_line(&LineKey { period, name }, true),
         Some(LineChange::DropPlus(name) | LineChange::DropMinus(name)) => {
-            tables.drop_line(&LinePlace { period, name })
+            tables.drop_line(&LineKey { period, name })
         }
-        Some(LineChange::AddMinus(name)) => tables.put_line(&LinePlace { period, name }, false),
+        Some(LineChange::AddMinus(name)) => tables.put_line(&LineKey { period, name }, false),
     }
 }
 

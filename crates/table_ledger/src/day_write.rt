@@ -4,19 +4,19 @@ ghost use Rattle.std.specs.Prelude.{◌≡◌, ◌<◌, ◌^◌, [], IfSome, IsT
 ghost use Rattle.std.specs.FinMap.{get};
 ghost use Rattle.tree_tables.specs.States.{state};
 ghost use Rattle.book_model.specs.Rows as rows;
-ghost use Rattle.kept_tables.specs.RowChanges as changed;
-ghost use Rattle.kept_tables.specs.TablesOf.{place_of};
+ghost use Rattle.table_model.specs.RowChanges as changed;
+ghost use Rattle.table_model.specs.TablesOf.{row_key};
 ghost use Rattle.tree_tables.specs.Steps.{Looks};
 ghost use Rattle.tree_tables.specs.Days.{RowFits};
-ghost use Rattle.table_ledger.specs.DayWrites.{Turns, Writes, WriteFits};
-ghost use Rattle.table_ledger.specs.DayRows.{IsAdded, IsTaken, IsTurned};
+ghost use Rattle.table_ledger.specs.DayWrites.{ReplacesPrice, WritesDayRows, WriteFits};
+ghost use Rattle.table_ledger.specs.DayRows.{IsAdded, IsTaken, IsPriceReplaced};
 ghost use Rattle.table_ledger.specs.declared.day_write.DayWrite.TheVariants.{Put};
 
 use book_core::{ChargeRow, DayChange, RowKey};
 use sqlite_trees::error::StoreError;
 use sqlite_trees::store::Store;
 use tariff_rules::Priced;
-use tree_tables::{DayPlace, TreeTables};
+use tree_tables::{DayKey, TreeTables};
 
 /// What is written to the charge rows.
 #[derive(Clone, Copy)]
@@ -134,7 +134,7 @@ fn taken(found: Option<ChargeRow>, priced: &Priced) -> Option<DayWrite>
 
 /// A price leaves the row of its place, and another one joins it.
 fn turned(found: Option<ChargeRow>, old: &Priced, new: &Priced) -> Option<DayWrite>
-    ensures turned { IfSome result (IsTurned found old.now new.now) }
+    ensures turned { IfSome result (IsPriceReplaced found old.now new.now) }
     ensures fits { IfSome result WriteFits }
 {
     match &found {
@@ -152,9 +152,9 @@ fn find_row<S: Store>(
 ) -> Result<Option<ChargeRow>, StoreError>
     ensures looks { Looks result (state S.Store tables.old.store) (state S.Store tables.new.store)
         (λ tables found. found ≡ get tables.days (period, place)) }
-    ensures placed { IfOk result (λ found. IfSome found (λ row. place_of row ≡ place)) }
+    ensures placed { IfOk result (λ found. IfSome found (λ row. row_key row ≡ place)) }
 {
-    let found = tables.find_day(&DayPlace { period, place })?;
+    let found = tables.find_day(&DayKey { period, place })?;
     if let Some(row) = &found
         && key_at(row) != place
     {
@@ -165,7 +165,7 @@ fn find_row<S: Store>(
 
 /// Where a row is stored.
 fn key_at(row: &ChargeRow) -> RowKey
-    ensures { result ≡ place_of row.now }
+    ensures { result ≡ row_key row.now }
 {
     RowKey {
         day: row.day,
@@ -181,7 +181,7 @@ pub(crate) fn look_for_day<S: Store>(
     change: &Option<DayChange>,
 ) -> Result<DayWrite, StoreError>
     ensures looks { Looks result (state S.Store tables.old.store) (state S.Store tables.new.store)
-        (Writes period change.now) }
+        (WritesDayRows period change.now) }
     ensures fits { IfOk result WriteFits }
 {
     let write = match change {
@@ -193,7 +193,7 @@ pub(crate) fn look_for_day<S: Store>(
 }
 
 /// What replacing one price by another writes, if both are charged in one row.
-pub(crate) fn look_for_turn<S: Store>(
+pub(crate) fn look_for_replacement<S: Store>(
     tables: &mut TreeTables<S>,
     period: u16,
     old: &Priced,
@@ -201,7 +201,7 @@ pub(crate) fn look_for_turn<S: Store>(
 ) -> Result<DayWrite, StoreError>
     requires { rows.key_of old.now ≡ rows.key_of new.now }
     ensures looks { Looks result (state S.Store tables.old.store) (state S.Store tables.new.store)
-        (Turns period old.now new.now) }
+        (ReplacesPrice period old.now new.now) }
     ensures fits { IfOk result WriteFits }
 {
     let found = find_row(tables, period, key_of(new))?;

@@ -4,13 +4,13 @@ ghost use Rattle.std.specs.Prelude.{◌≡◌, All, IfErr, IfOk, IsTrue, false, 
 ghost use Rattle.tree_tables.specs.States.{state};
 ghost use Rattle.book_model.specs.Words.{AreDisputes, dispute_shown, disputes_outcome, Naming};
 ghost use Rattle.tree_tables.specs.Stored.{stored_entry};
-ghost use Rattle.table_readings.specs.DisputesRead as reading;
-ghost use Rattle.table_readings.specs.DisputesRead.{join_last, of_one, variant_read};
+ghost use Rattle.table_laws.specs.DisputesRead as reading;
+ghost use Rattle.table_laws.specs.DisputesRead.{join_last, dispute_of_one, variant_read};
 ghost use Rattle.tree_tables.specs.Steps.{FailsByStore, Looks};
 ghost use Rattle.table_ledger.specs.DisputeReads.{IsShownRow};
 ghost use Rattle.table_ledger.specs.RecordReads.{HasWideNames};
 ghost use Rattle.tree_tables.specs.UsageData.{IsUsageData};
-ghost use Rattle.table_ledger.specs.Tries.{Tries, TriesItsOwn};
+ghost use Rattle.table_ledger.specs.Attempts.{Attempts, TriesItsOwn};
 
 use crate::days::is_day;
 use crate::summary::Summary;
@@ -27,8 +27,8 @@ const IDENTITY_LENGTH: usize = 24;
 /// The bytes of an identity by the second rule.
 const IDENTITY2_LENGTH: usize = 32;
 
-/// The record can be shown: its identity has the length that its parts need by one of the two rules,
-/// and it is dated on a day.
+/// The record can be shown: its identity has the length that its parts need by one of the two
+/// rules, and it is dated on a day.
 fn is_shown(row: &StoredRecord) -> bool
     ensures shown { IsTrue result → IsShownRow (stored_entry row.now) }
     ensures refused { result ≡ false → ¬ IsShownRow (stored_entry row.now) }
@@ -63,8 +63,8 @@ fn variant(alloc: Global, stored: &StoredRecord) -> Result<Variant, StoreError>
 }
 
 /// A dispute of one record.
-fn alone(alloc: Global, stored: &StoredRecord) -> Result<Dispute, StoreError>
-    ensures made { IfOk result (λ made. dispute_shown made ≡ of_one (stored_entry stored.now)) }
+fn single_dispute(alloc: Global, stored: &StoredRecord) -> Result<Dispute, StoreError>
+    ensures made { IfOk result (λ made. dispute_shown made ≡ dispute_of_one (stored_entry stored.now)) }
     ensures taken { IfErr result (λ error. IsUsageData stored.now.data_bytes.items
         → error ≡ StoreError.OutOfMemory) }
 {
@@ -86,7 +86,7 @@ fn join(alloc: Global, found: &mut Vec<Dispute>, stored: &StoredRecord) -> Resul
         → error ≡ StoreError.OutOfMemory) }
 {
     let Some(mut last) = found.pop() else {
-        found.push(alone(alloc, stored)?)?;
+        found.push(single_dispute(alloc, stored)?)?;
         return Ok(());
     };
     if last.identity.as_slice() == stored.identity.as_slice() {
@@ -94,13 +94,13 @@ fn join(alloc: Global, found: &mut Vec<Dispute>, stored: &StoredRecord) -> Resul
         found.push(last)?;
     } else {
         found.push(last)?;
-        found.push(alone(alloc, stored)?)?;
+        found.push(single_dispute(alloc, stored)?)?;
     }
     Ok(())
 }
 
-/// Records that are not charged and in order, in groups: neighbours of one identity are one dispute.
-/// If another of the identity is charged, that one was chosen, and they are left out.
+/// Records that are not charged and in order, in groups: neighbours of one identity are one
+/// dispute. If another of the identity is charged, that one was chosen, and they are left out.
 fn grouped<S: Store>(
     tables: &mut TreeTables<S>,
     alloc: Global,
@@ -109,7 +109,7 @@ fn grouped<S: Store>(
     requires shown { All (λ row. IsShownRow (stored_entry row)) rows.now }
     ensures looks { Looks result (state S.Store tables.old.store) (state S.Store tables.new.store)
         (λ tables found. map dispute_shown found.items ≡ reading.grouped
-        (filter (reading.is_unsettled tables.records) (map stored_entry rows.now))) }
+        (filter (reading.has_none_charged tables.records) (map stored_entry rows.now))) }
     ensures shown { IfOk result (λ found. AreDisputes (map dispute_shown found.items)) }
     ensures cause { FailsByStore result (state S.Store tables.old.store)
         (state S.Store tables.new.store)
@@ -131,7 +131,7 @@ pub(crate) fn try_disputes<S: Store>(
     summary: &Summary,
     alloc: Global,
 ) -> Result<Result<Vec<Dispute>, LedgerFault>, StoreError>
-    ensures tries { (naming : Naming) → Tries (λ found. map dispute_shown found.items) naming
+    ensures tries { (naming : Naming) → Attempts (λ found. map dispute_shown found.items) naming
         summary.now summary.now (state S.Store tables.old.store) (state S.Store tables.new.store)
         (disputes_outcome naming) result }
     ensures shown { IfOk result (λ answer.

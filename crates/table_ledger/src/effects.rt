@@ -4,8 +4,8 @@ ghost use Rattle.std.specs.Prelude.{◌≡◌, IfOk, map};
 ghost use Rattle.tree_tables.specs.States.{state};
 ghost use Rattle.book_core.specs.Effects.{HasOnly, effects_of};
 ghost use Rattle.tree_tables.specs.Stored.{stored_entry};
-ghost use Rattle.kept_tables.specs.Views.{member_at, rows_with};
-ghost use Rattle.table_readings.specs.AcceptRead.{view_with};
+ghost use Rattle.table_model.specs.Views.{member_at, rows_with};
+ghost use Rattle.table_laws.specs.AcceptRead.{view_with};
 ghost use Rattle.tree_tables.specs.Steps.{Looks};
 
 use book_core::{Effects, Member, View, plan};
@@ -48,7 +48,7 @@ fn look_for_view<S: Store>(
             only: None,
         });
     };
-    if tables.is_named(&member.name)? {
+    if tables.has_choice(&member.name)? {
         return Ok(View {
             through,
             members: CHOSEN_MEMBERS,

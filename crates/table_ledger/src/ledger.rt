@@ -10,8 +10,8 @@ use crate::charges::try_charges;
 use crate::choices::try_choose;
 use crate::close::try_close;
 use crate::disputes::try_disputes;
+use crate::finish::finish;
 use crate::periods::try_periods;
-use crate::settle::settle;
 use crate::summary::Summary;
 use crate::tariff::try_tariff;
 use book_core::{Accepted, ChargeRow, Dispute, Ledger, LedgerFault, Line, Naming, Ruled};
@@ -36,9 +36,9 @@ impl<S: Store, N: Naming + Drop> Ledger for TableLedger<S, N> {
     ghost use Rattle.book_model.specs.Words.{adjustments_outcome, charges_outcome, dispute_shown};
     ghost use Rattle.book_model.specs.Words.{disputes_outcome, periods_outcome};
     ghost use Rattle.book_core.specs.Calls.{IsCall};
-    ghost use Rattle.table_ledger.specs.Recalled.{FailsAsItsOwn};
-    ghost use Rattle.table_ledger.specs.Shelf.{seen_in, shelf_of};
-    ghost use Rattle.table_ledger.specs.Told.{settled_on};
+    ghost use Rattle.table_ledger.specs.Loaded.{FailsAsItsOwn};
+    ghost use Rattle.table_ledger.specs.LedgerState.{seen_in, ledger_state};
+    ghost use Rattle.table_ledger.specs.ReadyBooks.{settled_on};
 
     ghost seen = { seen_in S.Store N.name_of };
 
@@ -47,7 +47,7 @@ impl<S: Store, N: Naming + Drop> Ledger for TableLedger<S, N> {
             return Err(LedgerFault::Reopen);
         }
         let tried = try_tariff(&mut self.tables, &mut self.summary, self.alloc, text);
-        settle(&mut self.tables, &mut self.must_reopen, tried)
+        finish(&mut self.tables, &mut self.must_reopen, tried)
     }
 
     fn close(&mut self, period: u16, through: i32) -> Result<Ruled, LedgerFault> {
@@ -59,7 +59,7 @@ impl<S: Store, N: Naming + Drop> Ledger for TableLedger<S, N> {
             &mut self.summary,
             &Close { period, through },
         );
-        settle(&mut self.tables, &mut self.must_reopen, tried)
+        finish(&mut self.tables, &mut self.must_reopen, tried)
     }
 
     fn choose(&mut self, name: [u8; 32]) -> Result<Ruled, LedgerFault> {
@@ -67,7 +67,7 @@ impl<S: Store, N: Naming + Drop> Ledger for TableLedger<S, N> {
             return Err(LedgerFault::Reopen);
         }
         let tried = try_choose(&mut self.tables, self.alloc, &mut self.summary, name);
-        settle(&mut self.tables, &mut self.must_reopen, tried)
+        finish(&mut self.tables, &mut self.must_reopen, tried)
     }
 
     fn adopt_identity(&mut self, rule: u8) -> Result<Ruled, LedgerFault> {
@@ -75,7 +75,7 @@ impl<S: Store, N: Naming + Drop> Ledger for TableLedger<S, N> {
             return Err(LedgerFault::Reopen);
         }
         let tried = try_adopt(&mut self.tables, self.alloc, &mut self.summary, rule);
-        settle(&mut self.tables, &mut self.must_reopen, tried)
+        finish(&mut self.tables, &mut self.must_reopen, tried)
     }
 
     fn accept(&mut self, bytes: &[u8]) -> Result<Accepted, LedgerFault> {
@@ -89,7 +89,7 @@ impl<S: Store, N: Naming + Drop> Ledger for TableLedger<S, N> {
             &mut self.summary,
             bytes,
         );
-        settle(&mut self.tables, &mut self.must_reopen, tried)
+        finish(&mut self.tables, &mut self.must_reopen, tried)
     }
 
     fn charges(&mut self, period: u16) -> Result<Vec<ChargeRow>, LedgerFault>
@@ -98,14 +98,14 @@ impl<S: Store, N: Naming + Drop> Ledger for TableLedger<S, N> {
         ensures shown { IfOk result (λ rows. AreRows rows.items) }
 
         // What fails in books that calls made is the store's own.
-        ensures own { FailsAsItsOwn result (shelf_of S.Store N.name_of self.old)
-            (shelf_of S.Store N.name_of self.new) }
+        ensures own { FailsAsItsOwn result (ledger_state S.Store N.name_of self.old)
+            (ledger_state S.Store N.name_of self.new) }
     {
         if self.must_reopen {
             return Err(LedgerFault::Reopen);
         }
         let tried = try_charges(&mut self.tables, self.alloc, &self.summary, period);
-        settle(&mut self.tables, &mut self.must_reopen, tried)
+        finish(&mut self.tables, &mut self.must_reopen, tried)
     }
 
     fn adjustments(&mut self, period: u16) -> Result<Vec<Line>, LedgerFault>
@@ -113,14 +113,14 @@ impl<S: Store, N: Naming + Drop> Ledger for TableLedger<S, N> {
             (seen_in S.Store N.name_of self.new) result
             (adjustments_outcome (N.name_of self.old.naming) period) }
         ensures shown { IfOk result (λ lines. AreLines lines.items) }
-        ensures own { FailsAsItsOwn result (shelf_of S.Store N.name_of self.old)
-            (shelf_of S.Store N.name_of self.new) }
+        ensures own { FailsAsItsOwn result (ledger_state S.Store N.name_of self.old)
+            (ledger_state S.Store N.name_of self.new) }
     {
         if self.must_reopen {
             return Err(LedgerFault::Reopen);
         }
         let tried = try_adjustments(&mut self.tables, &self.summary, self.alloc, period);
-        settle(&mut self.tables, &mut self.must_reopen, tried)
+        finish(&mut self.tables, &mut self.must_reopen, tried)
     }
 
     fn disputes(&mut self) -> Result<Vec<Dispute>, LedgerFault>
@@ -128,28 +128,28 @@ impl<S: Store, N: Naming + Drop> Ledger for TableLedger<S, N> {
             (seen_in S.Store N.name_of self.old) (seen_in S.Store N.name_of self.new) result
             (disputes_outcome (N.name_of self.old.naming)) }
         ensures shown { IfOk result (λ found. AreDisputes (map dispute_shown found.items)) }
-        ensures own { FailsAsItsOwn result (shelf_of S.Store N.name_of self.old)
-            (shelf_of S.Store N.name_of self.new) }
+        ensures own { FailsAsItsOwn result (ledger_state S.Store N.name_of self.old)
+            (ledger_state S.Store N.name_of self.new) }
     {
         if self.must_reopen {
             return Err(LedgerFault::Reopen);
         }
         let tried = try_disputes(&mut self.tables, &self.summary, self.alloc);
-        settle(&mut self.tables, &mut self.must_reopen, tried)
+        finish(&mut self.tables, &mut self.must_reopen, tried)
     }
 
     fn periods(&mut self) -> Result<Vec<i32>, LedgerFault>
         ensures days { IsCall (λ days. days.items) (seen_in S.Store N.name_of self.old)
             (seen_in S.Store N.name_of self.new) result periods_outcome }
         ensures shown { IfOk result (λ days. All IsDay days.items) }
-        ensures own { FailsAsItsOwn result (shelf_of S.Store N.name_of self.old)
-            (shelf_of S.Store N.name_of self.new) }
+        ensures own { FailsAsItsOwn result (ledger_state S.Store N.name_of self.old)
+            (ledger_state S.Store N.name_of self.new) }
     {
         if self.must_reopen {
             return Err(LedgerFault::Reopen);
         }
         let tried = try_periods(&self.tables, &self.summary, self.alloc);
-        settle(&mut self.tables, &mut self.must_reopen, tried)
+        finish(&mut self.tables, &mut self.must_reopen, tried)
     }
 
     ghost settled = { λ ledger clean books. settled_on _ _ _ _ _ (λ trees is_open left.

@@ -1,5 +1,5 @@
-//! A ledger that keeps its books in the sorted trees of a store: each call is at most one commit, and
-//! what a stop leaves is the book before the call or the one after it.
+//! A ledger that keeps its books in the sorted trees of a store: each call is at most one commit,
+//! and what a stop leaves is the book before the call or the one after it.
 #![tactic(auto)]
 
 mod accept;
@@ -14,11 +14,11 @@ mod day_write;
 mod days;
 mod disputes;
 mod effects;
+mod finish;
 mod ledger;
+mod load;
 mod periods;
-mod recall;
 mod repricing;
-mod settle;
 mod summary;
 mod tariff;
 

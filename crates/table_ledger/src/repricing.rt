@@ -1,18 +1,18 @@
 //! Records that a tariff is for, and their new prices: one at a time, in walks by name.
 
 ghost use Rattle.std.specs.Prelude.{◌≡◌, ◌≤◌, IfOk, IfSome, Some};
-ghost use Rattle.book_core.specs.declared.effect_table.DayChange.TheVariants.{Add, Take};
+ghost use Rattle.book_core.specs.declared.effects.DayChange.TheVariants.{Add, Take};
 ghost use Rattle.book_model.specs.Words.{most_cost};
 ghost use Rattle.std.specs.FinMap.{keys};
-ghost use Rattle.kept_tables.specs.Steps as step;
-ghost use Rattle.kept_tables.specs.TableChanges as change;
+ghost use Rattle.table_model.specs.Steps as step;
+ghost use Rattle.table_model.specs.TableChanges as change;
 ghost use Rattle.tree_tables.specs.States.{state};
 ghost use Rattle.tree_tables.specs.Steps.{Always, Does, Looks};
 ghost use Rattle.tree_tables.specs.Stored.{IsAsRead, stored_entry};
-ghost use Rattle.table_ledger.specs.Repricing.{CanCost, CostUnder, price_under};
+ghost use Rattle.table_ledger.specs.Repricing.{CanCost, CostUnder, tariff_price};
 
 use crate::commits::{change_day, write_day};
-use crate::day_write::{key_of, look_for_turn};
+use crate::day_write::{key_of, look_for_replacement};
 use book_core::{DayChange, MAX_COST};
 use smf_type30::Type30;
 use sqlite_trees::error::StoreError;
@@ -31,7 +31,7 @@ fn new_price(
     stored: &StoredRecord,
 ) -> Result<Option<Priced>, StoreError>
     ensures price { IfOk result (λ priced.
-        priced ≡ price_under tariff.now (stored_entry stored.now).1) }
+        priced ≡ tariff_price tariff.now (stored_entry stored.now).1) }
     ensures can { IfOk result (λ priced. CanCost tariff.now (stored_entry stored.now).1) }
 {
     if stored.priced.day < tariff.effective() {
@@ -97,7 +97,7 @@ fn change_price<S: Store>(
         (step.change_day_row period (Some (Take old.now)) tables)) }
 {
     if key_of(old) == key_of(new) {
-        let write = look_for_turn(tables, period, old, new)?;
+        let write = look_for_replacement(tables, period, old, new)?;
         return write_day(tables, period, &write);
     }
     change_day(tables, period, &Some(DayChange::Take(*old)))?;

@@ -55,7 +55,7 @@ impl Summary {
     ghost use Rattle.book_model.specs.Words.{IsDay, rule_by};
     ghost use Rattle.book_model.specs.RulingAnswers as answer;
     ghost use Rattle.book_model.specs.Rulings as ruling;
-    ghost use Rattle.table_readings.specs.ListsRead.{is_period};
+    ghost use Rattle.table_laws.specs.ListsRead.{is_period};
     ghost use Rattle.table_ledger.specs.Summaries.{book_ruled, ruled_in, terms_ruled};
 
     /// The day of the last close, if there was one.

@@ -3,12 +3,12 @@
 ghost use Rattle.std.specs.Prelude.{◌≡◌, ◌<◌, ◌^◌, IfErr, IfOk, Ok};
 ghost use Rattle.tree_tables.specs.States.{state};
 ghost use Rattle.book_model.specs.Words.{terms_in, tariff_outcome, Naming};
-ghost use Rattle.kept_tables.specs.Steps.{tariff_by_steps};
+ghost use Rattle.table_model.specs.Steps.{tariff_by_steps};
 ghost use Rattle.tree_tables.specs.Steps.{Does};
 ghost use Rattle.table_ledger.specs.Commits.{CommitsOne};
-ghost use Rattle.table_ledger.specs.Repricing.{Counts};
-ghost use Rattle.table_ledger.specs.Unread.{IsUnread};
-ghost use Rattle.table_ledger.specs.Tries.{Tries};
+ghost use Rattle.table_ledger.specs.Repricing.{CountsRecords};
+ghost use Rattle.table_ledger.specs.TariffRefusals.{IsNoTariff};
+ghost use Rattle.table_ledger.specs.Attempts.{Attempts};
 
 use crate::repricing::{cost_under, reprice_all};
 use crate::summary::{Summary, is_done};
@@ -19,7 +19,8 @@ use std::alloc::Global;
 use tariff_rules::{Tariff, TariffFault};
 use tree_tables::{Sums, TariffText, TreeTables};
 
-/// Writes a tariff: the prices of the records that it is for, its text, and what the book counts then.
+/// Writes a tariff: the prices of the records that it is for, its text, and what the book counts
+/// then.
 fn write_tariff<S: Store>(
     tables: &mut TreeTables<S>,
     alloc: Global,
@@ -31,7 +32,7 @@ fn write_tariff<S: Store>(
     requires held { sums.now.held < 2 ^ 63 }
     requires amount { sums.now.amount < 2 ^ 63 }
     ensures does { Does result (state S.Store tables.old.store) (state S.Store tables.new.store)
-        (Counts sums.now.held)
+        (CountsRecords sums.now.held)
         (tariff_by_steps period text.now tariff.now sums.now.amount) }
 {
     reprice_all(tables, alloc, period, tariff)?;
@@ -54,7 +55,7 @@ fn keep_tariff<S: Store>(
     requires held { sums.now.held < 2 ^ 63 }
     requires amount { sums.now.amount < 2 ^ 63 }
     ensures commits { CommitsOne result (state S.Store tables.old.store)
-        (state S.Store tables.new.store) (Counts sums.now.held)
+        (state S.Store tables.new.store) (CountsRecords sums.now.held)
         (tariff_by_steps period text.now tariff.now sums.now.amount) }
 {
     write_tariff(tables, alloc, period, text, tariff, sums)?;
@@ -64,7 +65,7 @@ fn keep_tariff<S: Store>(
 /// The tariff of a text.
 fn tariff_of(alloc: Global, text: &str) -> Result<Tariff, LedgerFault>
     ensures said { IfOk result (λ tariff. terms_in text.now ≡ Ok tariff) }
-    ensures refused { IfErr result (IsUnread text.now) }
+    ensures refused { IfErr result (IsNoTariff text.now) }
 {
     match Tariff::parse(alloc, text) {
         Ok(tariff) => Ok(tariff),
@@ -81,7 +82,7 @@ pub(crate) fn try_tariff<S: Store>(
     alloc: Global,
     text: &str,
 ) -> Result<Result<Ruled, LedgerFault>, StoreError>
-    ensures tries { (naming : Naming) → Tries (λ ruled. ruled) naming summary.old summary.new
+    ensures tries { (naming : Naming) → Attempts (λ ruled. ruled) naming summary.old summary.new
         (state S.Store tables.old.store) (state S.Store tables.new.store) (tariff_outcome text.now) result }
 {
     let tariff = match tariff_of(alloc, text) {

@@ -1,2 +1,2 @@
-pub mod EachLemmas
+pub mod ReadEachLemmas
 pub mod EntryLemmas

@@ -2,7 +2,7 @@
 use Rattle.std.specs.Prelude.{ℕ, List, Option, Some, None, Result, Ok, Err}
 use Rattle.std.specs.Option.{ok_or}
 use Rattle.toml.specs.Data.{as_table, Data, Members}
-use Rattle.tariff_rules.specs.Document.{◌>>=◌, name_at, text_at, value_at, whole_in}
+use Rattle.tariff_rules.specs.Document.{◌>>=◌, name_at, text_at, value_at, integer_in}
 use Rattle.tariff_rules.specs.Limits.{last_account, most_account_prefix, most_job_prefix}
 use Rattle.tariff_rules.specs.Prefix.{prefix_of}
 use Rattle.tariff_rules.specs.Terms.{CentreRule}
@@ -16,7 +16,7 @@ use Rattle.tariff_rules.specs.declared.key.Key.TheVariants as key
 -- an accounting field where there is one, whatever the job is; else the job's name
 abbrev pub field_of : Option Data → Option Data → Result Field TariffFault
 field_of (Some account) job = do
-  n ← ok_or (whole_in 1 last_account account) (Range key.Account)
+  n ← ok_or (integer_in 1 last_account account) (Range key.Account)
   Ok (Account n)
 field_of None (Some job) = Ok Job
 field_of None None = Err (Missing key.Account)

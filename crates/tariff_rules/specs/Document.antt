@@ -21,16 +21,16 @@ Ok value >>= next = next value
 Err fault >>= next = Err fault
 
 -- the answer is the expected one, unless memory runs out
-abbrev pub Answers : {A : Type 0} → Result A TariffFault → Result A TariffFault → Type 0
-Answers result wanted =
+abbrev pub IsUnlessMemory : {A : Type 0} → Result A TariffFault → Result A TariffFault → Type 0
+IsUnlessMemory result wanted =
     MatchResult result
     (λ value. wanted ≡ Ok value)
     (λ fault. fault ≢ Memory → wanted ≡ Err fault)
 
 -- the same of a list
-abbrev pub AnswersItems : {A : Type 0}
+abbrev pub AreUnlessMemory : {A : Type 0}
     → Result (Vec A Global) TariffFault → Result (List A) TariffFault → Type 0
-AnswersItems result wanted =
+AreUnlessMemory result wanted =
     MatchResult result
     (λ values. wanted ≡ Ok values.items)
     (λ fault. fault ≢ Memory → wanted ≡ Err fault)
@@ -50,17 +50,17 @@ read_at table key read = do
   ok_or (read value) (Range key)
 
 -- a whole number, if it lies in the range
-abbrev pub whole_between : ℕ → ℕ → Option ℤ → Option ℕ
-whole_between least most (Some (pos n)) = if nat_le least n && nat_le n most then Some n else None
-whole_between least most _ = None
+abbrev pub integer_between : ℕ → ℕ → Option ℤ → Option ℕ
+integer_between least most (Some (pos n)) = if nat_le least n && nat_le n most then Some n else None
+integer_between least most _ = None
 
 -- what a value says as a whole number in a range
-abbrev pub whole_in : ℕ → ℕ → Data → Option ℕ
-whole_in least most value = whole_between least most (as_integer value)
+abbrev pub integer_in : ℕ → ℕ → Data → Option ℕ
+integer_in least most value = integer_between least most (as_integer value)
 
 -- the whole number at a key
-abbrev pub whole_at : Members → Key → ℕ → ℕ → Result ℕ TariffFault
-whole_at table key least most = read_at table key (whole_in least most)
+abbrev pub integer_at : Members → Key → ℕ → ℕ → Result ℕ TariffFault
+integer_at table key least most = read_at table key (integer_in least most)
 
 -- the text at a key
 abbrev pub text_at : Members → Key → Result (List ℕ) TariffFault

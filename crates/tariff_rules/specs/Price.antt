@@ -52,9 +52,9 @@ abbrev pub shift_at : List ShiftRule → ℤ → ℕ → Shift
 shift_at rules day time = shift_by (find (has_moment (weekday_of day) (minute_of time)) rules)
 
 -- the text that a centre rule looks at
-abbrev pub text_of : List ℕ → Field → Option (List ℕ)
-text_of bytes (Account n) = account_of bytes n
-text_of bytes Job = Some (job_of bytes)
+abbrev pub field_text : List ℕ → Field → Option (List ℕ)
+field_text bytes (Account n) = account_of bytes n
+field_text bytes Job = Some (job_of bytes)
 
 -- the text is there, and begins with the prefix
 abbrev pub begins_with : List ℕ → Option (List ℕ) → Bool
@@ -63,7 +63,7 @@ begins_with prefix (Some text) = starts_with nat_eq text prefix
 
 -- the centre may pay for the record
 abbrev pub applies_to : List ℕ → CentreRule → Bool
-applies_to bytes rule = begins_with rule.prefix (text_of bytes rule.field)
+applies_to bytes rule = begins_with rule.prefix (field_text bytes rule.field)
 
 -- the centre of the records that no rule applies to
 abbrev pub unassigned : List ℕ

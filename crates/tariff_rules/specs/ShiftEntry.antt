@@ -6,7 +6,7 @@ use Rattle.std.specs.Option.{ok_or}
 use Rattle.toml.specs.Data.{as_table, Data, Members}
 use Rattle.tariff_rules.specs.Clock.{minute_of_text}
 use Rattle.tariff_rules.specs.Document.{◌>>=◌, entries_in, name_at, read_at, text_at}
-use Rattle.tariff_rules.specs.Document.{whole_at, whole_in}
+use Rattle.tariff_rules.specs.Document.{integer_at, integer_in}
 use Rattle.tariff_rules.specs.Limits.{days_per_week, most_percent}
 use Rattle.tariff_rules.specs.Terms.{ShiftRule}
 use Rattle.tariff_rules.specs.declared.fault.TariffFault.{TariffFault}
@@ -16,7 +16,7 @@ use Rattle.tariff_rules.specs.declared.key.Key.TheVariants as key
 
 -- a weekday, Monday 1 to Sunday 7
 abbrev pub weekday_in : Data → Option ℕ
-weekday_in value = whole_in 1 days_per_week value
+weekday_in value = integer_in 1 days_per_week value
 
 abbrev pub is_weekday : Data → Bool
 is_weekday value = is_some (weekday_in value)
@@ -56,7 +56,7 @@ shift_rule_of table = do
   days ← days_at table
   from ← minute_at table key.From
   to ← to_at table from
-  percent ← whole_at table key.Percent 0 most_percent
+  percent ← integer_at table key.Percent 0 most_percent
   Ok (record {
     shift = record { name = name; percent = percent };
     days = days;

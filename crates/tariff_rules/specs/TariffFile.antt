@@ -7,7 +7,7 @@ use Rattle.smf_text.specs.Day.{day_of_text_of}
 use Rattle.toml.specs.Data.{as_table, Members}
 use Rattle.toml.specs.Parse.{parse_document}
 use Rattle.tariff_rules.specs.CentreEntry.{centre_rule_in}
-use Rattle.tariff_rules.specs.Document.{◌>>=◌, read_at, rules_at, text_at, whole_at}
+use Rattle.tariff_rules.specs.Document.{◌>>=◌, read_at, rules_at, text_at, integer_at}
 use Rattle.tariff_rules.specs.Limits.{most_centres, most_rate, most_shifts, most_text}
 use Rattle.tariff_rules.specs.ShiftConflict.{has_conflict}
 use Rattle.tariff_rules.specs.ShiftEntry.{shift_rule_in}
@@ -21,9 +21,9 @@ use Rattle.tariff_rules.specs.declared.key.Key.TheVariants as key
 -- the rates of one kind of record, by their keys
 unfoldable pub rates_at : Members → Key → Key → Key → Result RatesOf TariffFault
 rates_at table cpu_key excp_key record_key = do
-  cpu ← whole_at table cpu_key 0 most_rate
-  excp ← whole_at table excp_key 0 most_rate
-  record_fee ← whole_at table record_key 0 most_rate
+  cpu ← integer_at table cpu_key 0 most_rate
+  excp ← integer_at table excp_key 0 most_rate
+  record_fee ← integer_at table record_key 0 most_rate
   Ok (rates_of cpu excp record_fee)
 
 -- the first day

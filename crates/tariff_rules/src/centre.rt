@@ -22,8 +22,8 @@ pub(crate) enum Field {
 
 impl Field {
     /// What the record has in the field, if it is there.
-    fn text_of<'a>(self, usage: &Type30<'a>) -> Option<&'a [u8]>
-        ensures { option_copied result ≡ spec.text_of usage.now self }
+    fn field_text<'a>(self, usage: &Type30<'a>) -> Option<&'a [u8]>
+        ensures { option_copied result ≡ spec.field_text usage.now self }
     {
         match self {
             Field::Account(n) => usage.account(n),
@@ -57,7 +57,7 @@ impl CentreRule {
     fn applies_to(&self, usage: &Type30<'_>) -> bool
         ensures { result ≡ spec.applies_to usage.now self.now }
     {
-        match self.field.text_of(usage) {
+        match self.field.field_text(usage) {
             None => false,
             Some(text) => text.starts_with(&self.prefix),
         }

@@ -64,12 +64,12 @@ pub(crate) fn entries_at<'a>(table: &'a Table, key: Key) -> Result<&'a [Value], 
 
 /// The whole number at a key that has to be there.
 #[tactic(auto, unfolding(crate::specs::Document::read_at))]
-pub(crate) fn whole_at(table: &Table, key: Key, least: u64, most: u64) -> Result<u64, TariffFault>
-    ensures value { result ≡ spec.whole_at (table_view table.now) key least most }
+pub(crate) fn integer_at(table: &Table, key: Key, least: u64, most: u64) -> Result<u64, TariffFault>
+    ensures value { result ≡ spec.integer_at (table_view table.now) key least most }
     ensures bound { IfOk result (λ n. n ≤ most) }
 {
     let value = required_at(table, key)?;
-    whole_in(value, least, most).ok_or(TariffFault::Range(key))
+    integer_in(value, least, most).ok_or(TariffFault::Range(key))
 }
 
 /// The name of a shift or a centre.
@@ -83,8 +83,8 @@ pub(crate) fn name_at(table: &Table) -> Result<Name, TariffFault>
 }
 
 /// A whole number within its range.
-pub(crate) fn whole_in(value: &Value, least: u64, most: u64) -> Option<u64>
-    ensures value { result ≡ spec.whole_in least most (view value.now) }
+pub(crate) fn integer_in(value: &Value, least: u64, most: u64) -> Option<u64>
+    ensures value { result ≡ spec.integer_in least most (view value.now) }
     ensures bound { IfSome result (λ n. n ≤ most) }
 {
     match value.as_integer() {

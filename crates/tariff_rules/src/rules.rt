@@ -4,7 +4,7 @@ ghost use Rattle.std.specs.Prelude.{◌≡◌, map, Result};
 ghost use Rattle.toml.specs.Data.{Data};
 ghost use Rattle.toml.specs.View.{table_view, view};
 ghost use Rattle.tariff_rules.specs.Document as spec;
-ghost use Rattle.tariff_rules.specs.Document.{Answers, AnswersItems};
+ghost use Rattle.tariff_rules.specs.Document.{IsUnlessMemory, AreUnlessMemory};
 ghost use Rattle.tariff_rules.specs.declared.fault.TariffFault.{TariffFault};
 
 use crate::document::{entries_in, value_at};
@@ -20,12 +20,12 @@ pub(crate) trait Rule: Drop {
 
     /// The rule of an entry.
     fn read(alloc: Global, value: &Value) -> Result<Self, TariffFault>
-        ensures { Answers result (rule_in (view value.now)) };
+        ensures { IsUnlessMemory result (rule_in (view value.now)) };
 }
 
 /// The rules of the entries, in order.
 fn read_each<R: Rule>(alloc: Global, entries: &[Value]) -> Result<Vec<R>, TariffFault>
-    ensures { AnswersItems result (spec.read_each R.rule_in (map view entries.now)) }
+    ensures { AreUnlessMemory result (spec.read_each R.rule_in (map view entries.now)) }
 {
     let mut rules = Vec::new(alloc);
     for entry in entries {
@@ -42,7 +42,7 @@ pub(crate) fn rules_at<R: Rule>(
     key: Key,
     most: usize,
 ) -> Result<Vec<R>, TariffFault>
-    ensures { AnswersItems result (spec.rules_at (table_view table.now) key most R.rule_in) }
+    ensures { AreUnlessMemory result (spec.rules_at (table_view table.now) key most R.rule_in) }
 {
     let Some(value) = value_at(table, key) else {
         return Ok(Vec::new(alloc));

@@ -1,11 +1,11 @@
-//! The rows of sorted trees, below SQL, as maps by their keys: how they are looked up, walked, listed
-//! and changed in any store.
+//! The rows of sorted trees, below SQL, as maps by their keys: how they are looked up, walked,
+//! listed and changed in any store.
 #![tactic(auto)]
 
 mod listing;
-mod reading;
+mod lookup;
 mod writing;
 
 pub use listing::{MOST_ROWS, ReadRow, list_first, list_run};
-pub use reading::{find_row, first_after, first_from, has_key, last_row};
+pub use lookup::{find_row, first_after, first_from, has_key, last_row};
 pub use writing::{add_row, change_row, drop_row, put_row};

@@ -9,7 +9,7 @@ ghost use Rattle.sqlite_value.specs.Order.{Row as Columns};
 ghost use Rattle.tree_rows.specs.Rows.{IsUnchanged};
 ghost use Rattle.tree_rows.specs.Runs.{run_of};
 
-use crate::reading::has_key;
+use crate::lookup::has_key;
 use sqlite_trees::error::StoreError;
 use sqlite_trees::store::{Direction, Shape, Store};
 use sqlite_value::row::Row;

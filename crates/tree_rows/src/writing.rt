@@ -6,13 +6,13 @@ ghost use Rattle.sqlite_trees.specs.View.{IsClean, IsQuiet, KeepsCommitted, Keep
 ghost use Rattle.sqlite_value.specs.Keys.{plain};
 ghost use Rattle.tree_rows.specs.Rows.{Drops, Puts, Rewrites};
 
-use crate::reading::find_row;
+use crate::lookup::find_row;
 use sqlite_trees::error::StoreError;
 use sqlite_trees::store::{Shape, Store};
 use sqlite_value::row::Row;
 
-/// Puts a row beside the others; one that is there already is left as it is. Nothing is committed; an
-/// error is the store's own.
+/// Puts a row beside the others; one that is there already is left as it is. Nothing is committed;
+/// an error is the store's own.
 pub fn add_row<S: Store>(store: &mut S, tree: u32, row: &Row) -> Result<(), StoreError>
     requires { IsClean (S.Store.view store.old)
         → (S.Store.view store.old).shape tree ≡ Shape.Index plain }
@@ -81,8 +81,8 @@ pub fn put_row<S: Store>(
     store.insert(tree, row)
 }
 
-/// Takes the row that has the key, if one has; `found` is where it is read to. Nothing is committed;
-/// an error is the store's own.
+/// Takes the row that has the key, if one has; `found` is where it is read to. Nothing is
+/// committed; an error is the store's own.
 pub fn drop_row<S: Store>(
     store: &mut S,
     tree: u32,

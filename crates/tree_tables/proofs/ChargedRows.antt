@@ -22,8 +22,8 @@ use Rattle.sqlite_value.specs.Order.{Row, column, row_cmp}
 use Rattle.sqlite_value.specs.declared.value.Value.TheVariants.{Blob, Int}
 use Rattle.book_model.specs.Words.{same_bytes}
 use Rattle.book_model.proofs.SetLemmas.{same_bytes-by_cmp}
-use Rattle.kept_tables.specs.Tables.{RecordRow, RecordTable, Tables}
-use Rattle.kept_tables.specs.Views.{rows_with}
+use Rattle.table_model.specs.Tables.{RecordRow, RecordTable, Tables}
+use Rattle.table_model.specs.Views.{rows_with}
 use Rattle.tree_rows.specs.Indexes.{by_bytes, by_mark, by_parts, indexed_by}
 use Rattle.tree_rows.specs.Rows.{Finds, IsFirst, IsUnchanged}
 use Rattle.tree_rows.specs.Runs.{run_of}

@@ -20,16 +20,16 @@ use Rattle.sqlite_value.specs.declared.value.Value.TheVariants.{Int}
 use Rattle.book_model.specs.Words.{Choice, Naming}
 use Rattle.book_model.proofs.FilterLemmas.{entries-sorted}
 use Rattle.book_model.proofs.ListLemmas.{last_or-behind}
-use Rattle.kept_tables.specs.Steps.{put_choice_row}
-use Rattle.kept_tables.specs.Tables.{ChoiceRow, ChoiceTable, Tables}
-use Rattle.kept_tables.specs.TablesOf.{choice_entries}
-use Rattle.kept_tables.proofs.ViewLemmas.{choices_rise}
+use Rattle.table_model.specs.Steps.{put_choice_row}
+use Rattle.table_model.specs.Tables.{ChoiceRow, ChoiceTable, Tables}
+use Rattle.table_model.specs.TablesOf.{choice_entries}
+use Rattle.table_model.proofs.ViewLemmas.{choices_rise}
 use Rattle.tree_rows.specs.Indexes.{IsIndexKey}
 use Rattle.tree_rows.specs.Rows.{IsFirst, Rewrites}
 use Rattle.tree_rows.proofs.Maps.{inserted}
 use Rattle.tree_tables.specs.Answers.{last_number}
 use Rattle.tree_tables.specs.Columns.{choice_columns, choice_name_columns}
-use Rattle.tree_tables.specs.Fits.{HasNumber}
+use Rattle.tree_tables.specs.Fits.{HasChoiceNumber}
 use Rattle.tree_tables.specs.Holds.{Holds, by_chosen, choice_name_key}
 use Rattle.tree_tables.proofs.Holding.{apart, with_choices}
 use Rattle.tree_tables.proofs.Layouts.{by_chosen_exact, by_chosen_total}
@@ -65,7 +65,7 @@ choice_added {old} {mid} {new} {tables} number name period first second made_is 
     ∙ ap₂ (insert_entry plain) made_is holds.choices
     ∙ inserted choice_layout tables.choices number choice none)
     (second.rows_now
-    ∙ ap₂ (insert_entry plain) found_is (first.others 9 (apart 9 8 refl) ∙ holds.choice_names)
+    ∙ ap₂ (insert_entry plain) found_is (first.others 9 (apart 9 8 refl) ∙ holds.choice_name_index)
     ∙ index_row_added chosen_named choice_name_layout tables.choices number choice none)
 
 -- what is made of the last is the last of what is made
@@ -126,7 +126,7 @@ module _ (choices : ChoiceTable) (rows : List Row) (row : Row)
 
   -- and where that is small it can be read
   pub number_fits : IsFirst (reverse rows) row true → last_number choices < 2 ^ 32
-      → HasNumber (column row 0)
+      → HasChoiceNumber (column row 0)
   number_fits first small = (last_number choices, small, number_shown first)
 
   -- where there is no row, there is no number

@@ -14,8 +14,8 @@ use Rattle.sqlite_trees.specs.Tree.{Trees}
 use Rattle.sqlite_value.specs.Order.{Row}
 use Rattle.sqlite_value.specs.declared.value.Value.TheVariants.{Blob, Int}
 use Rattle.book_model.proofs.SetLemmas.{same_bytes-by_cmp}
-use Rattle.kept_tables.specs.Tables.{ChoiceRow, ChoiceTable, Tables}
-use Rattle.kept_tables.specs.Views.{is_named}
+use Rattle.table_model.specs.Tables.{ChoiceRow, ChoiceTable, Tables}
+use Rattle.table_model.specs.Views.{has_choice}
 use Rattle.tree_rows.specs.Indexes.{by_bytes, indexed_by}
 use Rattle.tree_rows.specs.Rows.{Finds, IsFirst}
 use Rattle.tree_rows.specs.Runs.{run_of}
@@ -23,10 +23,10 @@ use Rattle.tree_rows.proofs.IndexLists.{both, index_in_order}
 use Rattle.tree_rows.proofs.IndexOrders.{by_bytes_exact}
 use Rattle.tree_rows.proofs.Maps.{first, second}
 use Rattle.tree_rows.proofs.Runs.{finds_run, run_all, run_named}
-use Rattle.tree_tables.specs.Answers.{IsNamed}
+use Rattle.tree_tables.specs.Answers.{HasChoice}
 use Rattle.tree_tables.specs.Columns.{choice_columns, choice_name_columns}
-use Rattle.tree_tables.specs.Holds.{Holds, by_chosen, choice_name_key, choice_names}
-use Rattle.tree_tables.specs.Stored.{SaysChoice, choice_of}
+use Rattle.tree_tables.specs.Holds.{Holds, by_chosen, choice_name_key, choice_name_index}
+use Rattle.tree_tables.specs.Stored.{SaysChoice, choice_entry}
 use Rattle.tree_tables.specs.declared.choice_rows.StoredChoice.{StoredChoice}
 use Rattle.tree_tables.proofs.ChoiceRows.{chosen_named}
 use Rattle.tree_tables.proofs.Layouts.{choice_layout, choice_name_layout}
@@ -41,7 +41,7 @@ Key = List ℕ × ℕ
 
 -- the rows of the tree
 abbrev name_rows : ChoiceTable → List Row
-name_rows choices = map choice_name_columns (entries (choice_names choices))
+name_rows choices = map choice_name_columns (entries (choice_name_index choices))
 
 -- whether a list has an element
 abbrev has_one : {X : Type 0} → List X → Bool
@@ -134,13 +134,13 @@ module _ (name : List ℕ) where
       ≡ map choice_name_columns (keys_with (entries choices))
   name_run choices =
       run_named nat_cmp choice_name_layout (λ number. Int (pos number) ∷ [])
-      (λ one number. refl) name (choice_names choices)
+      (λ one number. refl) name (choice_name_index choices)
       ∙ ap (map choice_name_columns) (index_in_order chosen_named has_name choices
       (names_rise (entries choices) (entries_sorted choices)))
 
   -- a choice names the record where one has the name
   named_has : (choices : ChoiceTable)
-      → is_named choices name ≡ has_one (with_name (entries choices))
+      → has_choice choices name ≡ has_one (with_name (entries choices))
   named_has choices =
       ap (λ (same : List ℕ → List ℕ → Bool).
       list_any (λ (choice : ChoiceRow). same choice.name name) (values choices))
@@ -150,7 +150,7 @@ module _ (name : List ℕ) where
   -- So a look-up of the name in the tree shows whether a choice names the record.
   pub named_found : (tables : Tables) {rows : List Row} {key row : Row} (hit : Bool)
       → rows ≡ name_rows tables.choices → key ≡ Blob name ∷ [] → Finds key rows row hit
-      → IsNamed name tables hit
+      → HasChoice name tables hit
   named_found tables {rows} {key} {row} hit held key_is finds =
       let es = with_name (entries tables.choices) in
       first_has (map choice_name_columns (keys_with (entries tables.choices))) row hit
@@ -169,7 +169,7 @@ same_name one other e = cc
 
 -- a choice that a row says is the one that the row is made of
 choice_said : (choice : Entry) (stored : StoredChoice) → SaysChoice (choice_columns choice) stored
-    → choice_of stored ≡ choice
+    → choice_entry stored ≡ choice
 choice_said choice stored says =
     let number = same_number choice.0 stored.number says.number in
     let name = same_name choice.1.name stored.name says.name in
@@ -177,7 +177,7 @@ choice_said choice stored says =
     λ i. (number i, record { name = name i; period = period i })
 
 choices_said : (choices : List Entry) (list : List StoredChoice)
-    → AllZip SaysChoice (map choice_columns choices) list → map choice_of list ≡ choices
+    → AllZip SaysChoice (map choice_columns choices) list → map choice_entry list ≡ choices
 choices_said [] [] says = λ i. []
 choices_said [] (stored ∷ list) says = absurd says
 choices_said (choice ∷ choices) [] says = absurd says
@@ -196,7 +196,7 @@ choices_run trees tables part holds whole =
 -- the choices that are read of it are those of the table
 pub all_choices : (trees : Trees) (tables : Tables) (part : Row) (list : List StoredChoice)
     → Holds trees tables → part ≡ [] → AllZip SaysChoice (run_of part (trees 8)) list
-    → map choice_of list ≡ entries tables.choices
+    → map choice_entry list ≡ entries tables.choices
 all_choices trees tables part list holds whole says =
     choices_said (entries tables.choices) list
     (subst (λ rows. AllZip SaysChoice rows list) (choices_run trees tables part holds whole) says)

@@ -14,10 +14,10 @@ use Rattle.std.specs.Prelude.{◌==◌}
 use Rattle.book_model.specs.Words.{by_key}
 use Rattle.book_model.specs.declared.row.ChargeRow.{ChargeRow}
 use Rattle.book_model.specs.declared.row.RowKey.{RowKey}
-use Rattle.kept_tables.specs.Numbered.{by_period, rows_under}
-use Rattle.kept_tables.specs.Steps.{drop_day_row, put_day_row}
-use Rattle.kept_tables.specs.Tables.{DayTable, Tables}
-use Rattle.kept_tables.specs.TablesOf.{place_of}
+use Rattle.table_model.specs.PeriodRows.{by_period, rows_under}
+use Rattle.table_model.specs.Steps.{drop_day_row, put_day_row}
+use Rattle.table_model.specs.Tables.{DayTable, Tables}
+use Rattle.table_model.specs.TablesOf.{row_key}
 use Rattle.tree_rows.specs.Layouts.{Answers}
 use Rattle.tree_rows.specs.Rows.{Drops, Finds, Puts}
 use Rattle.tree_rows.specs.Runs.{run_of}
@@ -26,9 +26,9 @@ use Rattle.tree_rows.proofs.Maps.{not_none}
 use Rattle.tree_rows.proofs.Runs.{run_numbered}
 use Rattle.tree_rows.proofs.Taking.{some_is}
 use Rattle.tree_tables.specs.Answers.{FindsDay, ListsDays}
-use Rattle.tree_tables.specs.Columns.{day_columns, place_columns}
+use Rattle.tree_tables.specs.Columns.{day_columns, day_key_columns}
 use Rattle.tree_tables.specs.Days.{SaysDay}
-use Rattle.tree_tables.specs.Holds.{ArePlaced}
+use Rattle.tree_tables.specs.Holds.{AreUnderOwnKeys}
 use Rattle.tree_tables.specs.Steps.{Always, Changes}
 use Rattle.tree_tables.specs.declared.day_rows.StoredDay.{StoredDay}
 use Rattle.tree_tables.proofs.Holding.{with_days}
@@ -40,44 +40,44 @@ abbrev by_spot : ℕ × RowKey → ℕ × RowKey → Ordering
 by_spot = by_period by_key
 
 -- a row at its own place leaves the others at theirs
-pub placed_put : (days : DayTable) (key : ℕ × RowKey) (row : ChargeRow) → place_of row ≡ key.1
-    → ArePlaced days → ArePlaced (insert days key row)
+pub placed_put : (days : DayTable) (key : ℕ × RowKey) (row : ChargeRow) → row_key row ≡ key.1
+    → AreUnderOwnKeys days → AreUnderOwnKeys (insert days key row)
 placed_put days key row own placed other found there =
     elim (eq_by_cmp by_spot other key) as (λ b. eq_by_cmp by_spot other key ≡ b
-    → cond b (Some row) (get days other) ≡ Some found → place_of found ≡ other.1) [
+    → cond b (Some row) (get days other) ≡ Some found → row_key found ≡ other.1) [
       | true ↦ λ tie is.
-          ap place_of (sym (some_is row found is)) ∙ own
+          ap row_key (sym (some_is row found is)) ∙ own
           ∙ ap (λ spot. spot.1) (sym (tells_apart day_layout.exact other key tie))
       | false ↦ λ tie is. placed other found is
     ] refl (sym (get-insert day_layout.total days key row other) ∙ there)
 
 -- and so does one that goes
-pub placed_drop : (days : DayTable) (key : ℕ × RowKey) → ArePlaced days
-    → ArePlaced (remove days key)
+pub placed_drop : (days : DayTable) (key : ℕ × RowKey) → AreUnderOwnKeys days
+    → AreUnderOwnKeys (remove days key)
 placed_drop days key placed other found there =
     elim (eq_by_cmp by_spot other key) as (λ b. cond b None (get days other) ≡ Some found
-    → place_of found ≡ other.1) [
+    → row_key found ≡ other.1) [
       | true ↦ λ is. absurd (not_none found (sym is))
       | false ↦ λ is. placed other found is
     ] (sym (get-remove day_layout.total days key other) ∙ there)
 
 -- a row that is put at its place is put into the table
 pub day_put : {old new : View} {key columns : Row} (period : ℕ) (row : ChargeRow)
-    → Puts old new 4 key columns → key ≡ place_columns (period, place_of row)
-    → columns ≡ day_columns ((period, place_of row), row)
+    → Puts old new 4 key columns → key ≡ day_key_columns (period, row_key row)
+    → columns ≡ day_columns ((period, row_key row), row)
     → Changes old new Always (put_day_row period row)
 day_put period row puts key_is row_is = record {
   only = puts.rewrites.only;
   made = λ tables holds when.
-      with_days holds (insert tables.days (period, place_of row) row)
-      (placed_put tables.days (period, place_of row) row refl holds.placed)
+      with_days holds (insert tables.days (period, row_key row) row)
+      (placed_put tables.days (period, row_key row) row refl holds.placed)
       puts.rewrites.others
-      (rows_put day_layout tables.days (period, place_of row) row puts holds.days key_is row_is);
+      (rows_put day_layout tables.days (period, row_key row) row puts holds.days key_is row_is);
 }
 
 -- a row that is dropped by its place is gone from the table
 pub day_dropped : {old new : View} {key : Row} (period : ℕ) (place : RowKey)
-    → Drops old new 4 key → key ≡ place_columns (period, place)
+    → Drops old new 4 key → key ≡ day_key_columns (period, place)
     → Changes old new Always (drop_day_row period place)
 day_dropped period place drops key_is = record {
   only = drops.rewrites.only;
@@ -99,7 +99,7 @@ same_text one other same = cc
 
 -- what is read of the row of a charge row at its place is the charge row
 pub day_said : (charge : ChargeRow) (entry : (ℕ × RowKey) × ChargeRow) (columns : Row)
-    → place_of entry.1 ≡ entry.0.1 → columns ≡ day_columns entry → SaysDay columns charge
+    → row_key entry.1 ≡ entry.0.1 → columns ≡ day_columns entry → SaysDay columns charge
     → charge ≡ entry.1
 day_said charge entry columns own is says =
     let day : charge.day ≡ entry.1.day =
@@ -132,7 +132,7 @@ day_said charge entry columns own is says =
 module _ (period : ℕ) (place : RowKey) (tables : Tables) {rows : List Row} {key columns : Row}
     {hit : Bool} (finds : Finds key rows columns hit)
     (held : rows ≡ map day_columns (entries tables.days))
-    (key_is : key ≡ place_columns (period, place)) where
+    (key_is : key ≡ day_key_columns (period, place)) where
   -- where no row has the place, the table has none
   pub day_missing : hit ≡ false → FindsDay period place tables None
   day_missing missed =
@@ -145,7 +145,7 @@ module _ (period : ℕ) (place : RowKey) (tables : Tables) {rows : List Row} {ke
       by_answer false missed answer = sym answer
 
   -- and where one has, what is read of it is the table's
-  pub day_found : (charge : ChargeRow) → ArePlaced tables.days → hit ≡ true
+  pub day_found : (charge : ChargeRow) → AreUnderOwnKeys tables.days → hit ≡ true
       → SaysDay columns charge → FindsDay period place tables (Some charge)
   day_found charge placed found says =
       by_answer hit found (row_found day_layout tables.days (period, place) finds held key_is)
@@ -171,17 +171,17 @@ days_run period tables rows key held key_is =
 -- the charge rows of a period are those that are read of the rows of its number
 pub days_read : (period : ℕ) (tables : Tables) (rows : List Row) (key : Row)
     (days : List StoredDay) → rows ≡ map day_columns (entries tables.days)
-    → ArePlaced tables.days → key ≡ Int (pos period) ∷ []
+    → AreUnderOwnKeys tables.days → key ≡ Int (pos period) ∷ []
     → AllZip (λ columns day. SaysDay columns day.charge) (run_of key rows) days
     → ListsDays period tables (map (λ day. day.charge) days)
 days_read period tables rows key days held placed key_is says =
     told_of_all day_columns (λ columns (day : StoredDay). SaysDay columns day.charge)
     (λ (day : StoredDay). day.charge) (λ (row : (ℕ × RowKey) × ChargeRow). row.1)
-    (λ (row : (ℕ × RowKey) × ChargeRow). place_of row.1 ≡ row.0.1)
+    (λ (row : (ℕ × RowKey) × ChargeRow). row_key row.1 ≡ row.0.1)
     (λ day entry columns own is said. day_said day.charge entry columns own is said)
     (run_of key rows) days (rows_under period tables.days)
-    (all-filter (λ (row : (ℕ × RowKey) × ChargeRow). place_of row.1 ≡ row.0.1)
+    (all-filter (λ (row : (ℕ × RowKey) × ChargeRow). row_key row.1 ≡ row.0.1)
     (λ row. row.0.0 == period) (entries tables.days)
     (all_entries day_layout.total day_layout.exact
-    (λ (row : (ℕ × RowKey) × ChargeRow). place_of row.1 ≡ row.0.1) tables.days placed)) says
+    (λ (row : (ℕ × RowKey) × ChargeRow). row_key row.1 ≡ row.0.1) tables.days placed)) says
     (days_run period tables rows key held key_is)

@@ -7,14 +7,14 @@ use Rattle.std.specs.FinMap.{get, insert, remove}
 use Rattle.tariff_rules.specs.declared.priced.Priced.{Priced}
 use Rattle.book_model.specs.declared.row.ChargeRow.{ChargeRow}
 use Rattle.book_model.specs.Words.{key_of, row_at}
-use Rattle.book_core.specs.declared.effect_table.DayChange.TheVariants.{Add, Take}
-use Rattle.kept_tables.specs.RowChanges.{less_price, take_at, with_price}
-use Rattle.kept_tables.specs.Steps.{change_day_row, drop_day_row, put_day_row}
-use Rattle.kept_tables.specs.Tables.{Tables}
-use Rattle.kept_tables.specs.TablesOf.{place_of}
-use Rattle.tree_tables.specs.Holds.{ArePlaced}
+use Rattle.book_core.specs.declared.effects.DayChange.TheVariants.{Add, Take}
+use Rattle.table_model.specs.RowChanges.{less_price, take_at, with_price}
+use Rattle.table_model.specs.Steps.{change_day_row, drop_day_row, put_day_row}
+use Rattle.table_model.specs.Tables.{Tables}
+use Rattle.table_model.specs.TablesOf.{row_key}
+use Rattle.tree_tables.specs.Holds.{AreUnderOwnKeys}
 
-module _ (period : ℕ) (priced : Priced) (tables : Tables) (placed : ArePlaced tables.days) where
+module _ (period : ℕ) (priced : Priced) (tables : Tables) (placed : AreUnderOwnKeys tables.days) where
   -- what is at the place of the price
   abbrev there : Option ChargeRow
   there = get tables.days (period, key_of priced)
@@ -25,7 +25,7 @@ module _ (period : ℕ) (priced : Priced) (tables : Tables) (placed : ArePlaced 
 
   -- it is under its own place
   here_placed : (found : Option ChargeRow) → there ≡ found
-      → place_of (here found) ≡ key_of priced
+      → row_key (here found) ≡ key_of priced
   here_placed None is = refl
   here_placed (Some row) is = placed (period, key_of priced) row is
 

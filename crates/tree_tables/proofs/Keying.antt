@@ -17,9 +17,9 @@ use Rattle.sqlite_value.specs.Order.{Row, column}
 use Rattle.sqlite_value.specs.declared.value.Value.{Value}
 use Rattle.sqlite_value.specs.declared.value.Value.TheVariants.{Blob}
 use Rattle.book_model.specs.Words.{by_bytes}
-use Rattle.kept_tables.specs.Steps.{rename_rows}
-use Rattle.kept_tables.specs.TableChanges.{by_second_rule}
-use Rattle.kept_tables.specs.Tables.{RecordRow, RecordTable, Tables}
+use Rattle.table_model.specs.Steps.{rename_rows}
+use Rattle.table_model.specs.TableChanges.{by_second_rule}
+use Rattle.table_model.specs.Tables.{RecordRow, RecordTable, Tables}
 use Rattle.tree_rows.specs.Changes.{above, is_above, updated, FindsAbove}
 use Rattle.tree_rows.specs.Indexes.{by_both}
 use Rattle.tree_rows.specs.Layouts.{row_of, rows_of}
@@ -35,9 +35,9 @@ use Rattle.tree_tables.proofs.RecordIndexes.{identity_named, index_row_changed, 
 use Rattle.tree_tables.proofs.Records.{record_there}
 use Rattle.tree_tables.proofs.Renewing.{held_by_same}
 use Rattle.tree_tables.specs.Columns.{identity_columns, mark_columns, record_columns}
-use Rattle.tree_tables.specs.Holds.{Holds, identities, identity_key, mark_key, marks}
+use Rattle.tree_tables.specs.Holds.{Holds, identity_index, identity_key, mark_key, marks}
 use Rattle.tree_tables.specs.Walks.{HoldsFoundBy, IsKeying, KeysNext, MovesKeys, entry_key}
-use Rattle.tree_tables.specs.Walks.{rows_behind, with_rows_of}
+use Rattle.tree_tables.specs.Walks.{rows_past, with_rows_of}
 
 -- before its first step a walk has passed nothing
 pub keying_starts : (trees : Trees) (tables : Tables) (key : Row) → key ≡ []
@@ -60,15 +60,15 @@ bytes_in value = []
 -- the first entry after a walk's key is the first that is still to come
 next_entry : (last : Option (List ℕ × List ℕ)) (m : RecordTable) (key : Row) (rows : List Row)
     (row : Row) (there : Bool) → key ≡ entry_key last
-    → rows ≡ map identity_columns (entries (identities m))
-    → IsFirst (rows_behind key rows) row there
-    → FindsAbove identity_layout last (identities m) row there
+    → rows ≡ map identity_columns (entries (identity_index m))
+    → IsFirst (rows_past key rows) row there
+    → FindsAbove identity_layout last (identity_index m) row there
 next_entry None m key rows row there place held begins =
-    walk_start identity_layout (identities m) row there
-    (subst (λ some. IsFirst some row there) (ap₂ rows_behind place held) begins)
+    walk_start identity_layout (identity_index m) row there
+    (subst (λ some. IsFirst some row there) (ap₂ rows_past place held) begins)
 next_entry (Some entry) m key rows row there place held begins =
-    walk_step identity_layout (identities m) entry row there
-    (subst (λ some. IsFirst some row there) (ap₂ rows_behind place held) begins)
+    walk_step identity_layout (identity_index m) entry row there
+    (subst (λ some. IsFirst some row there) (ap₂ rows_past place held) begins)
 
 -- trees that differ in those of the records alone still do, where the records' own have other rows
 but_records : {old new : Trees} (keyed others : RecordTable)
@@ -83,31 +83,31 @@ but_records {old} {new} keyed others same other not_rows not_identities not_mark
 -- A walk has come to a key, and looks at the first entry after it.
 module _ (tables : Tables) {old : Trees} {key : Row} (so_far : IsKeying tables old key) where
   -- where there is none, all records are found by what their rows say
-  keying_ends : (row : Row) → IsFirst (rows_behind key (old 6)) row false → Holds old tables
+  keying_ends : (row : Row) → IsFirst (rows_past key (old 6)) row false → Holds old tables
   keying_ends row begins =
-      let none : above so_far.last (identities so_far.keyed) ≡ [] =
+      let none : above so_far.last (identity_index so_far.keyed) ≡ [] =
       next_entry so_far.last so_far.keyed key (old 6) row false so_far.place
-      so_far.holds.rest.identities begins in
+      so_far.holds.rest.identity_index begins in
       let all : (name : List ℕ) (row : RecordRow) → get so_far.keyed name ≡ Some row
       → by_second_rule row ≡ row =
       λ name row there. so_far.done name row there
       (all_passed identity_layout.total identity_layout.exact so_far.last
-      (identities so_far.keyed) none (row.identity, name) tt
+      (identity_index so_far.keyed) none (row.identity, name) tt
       (index_has identity_named so_far.keyed name row there)) in
       let same : so_far.keyed ≡ tables.records =
       sym (updated_done record_layout.total record_layout.exact by_second_rule so_far.keyed all)
       ∙ so_far.whole in
-      held_by_same so_far.holds (ap identities same) (ap marks same)
+      held_by_same so_far.holds (ap identity_index same) (ap marks same)
 
   -- An entry, and the row of the record that it names.
   module _ {named : Row} (entry : Row) {row : Row} {hit : Bool}
-      (begins : IsFirst (rows_behind key (old 6)) entry true)
+      (begins : IsFirst (rows_past key (old 6)) entry true)
       (named_is : named ≡ column entry 1 ∷ []) (finds : Finds named (old 3) row hit)
       (there : hit ≡ true)
     where
-      abbrev it : FindsAbove identity_layout so_far.last (identities so_far.keyed) entry true
+      abbrev it : FindsAbove identity_layout so_far.last (identity_index so_far.keyed) entry true
       it = next_entry so_far.last so_far.keyed key (old 6) entry true so_far.place
-          so_far.holds.rest.identities begins
+          so_far.holds.rest.identity_index begins
 
       -- the key of the entry
       abbrev at : List ℕ × List ℕ
@@ -116,9 +116,9 @@ module _ (tables : Tables) {old : Trees} {key : Row} (so_far : IsKeying tables o
       -- it stands for a record
       names : (v : RecordRow) × (get so_far.keyed at.1 ≡ Some v) × (identity_key (at.1, v) ≡ at)
       names = index_names identity_named so_far.keyed at
-          (sym (get-entries (identities so_far.keyed) at)
+          (sym (get-entries (identity_index so_far.keyed) at)
           ∙ first_there identity_layout.total identity_layout.exact so_far.last
-          (identities so_far.keyed) at tt it.2 it.3)
+          (identity_index so_far.keyed) at tt it.2 it.3)
 
       abbrev was : RecordRow
       was = names.0
@@ -148,7 +148,7 @@ module _ (tables : Tables) {old : Trees} {key : Row} (so_far : IsKeying tables o
           → by_second_rule was ≡ was → by_second_rule one ≡ one
       passed name one is behind kept =
           elim (passed_with identity_layout.total identity_layout.exact so_far.last
-          (identities so_far.keyed) at tt it.2 it.3 (one.identity, name) tt
+          (identity_index so_far.keyed) at tt it.2 it.3 (one.identity, name) tt
           (index_has identity_named so_far.keyed name one is) behind) [
             | inl same ↦
                 let value : was ≡ one = some_is was one (sym names.1
@@ -188,14 +188,14 @@ module _ (tables : Tables) {old : Trees} {key : Row} (so_far : IsKeying tables o
           let keyed = insert so_far.keyed at.1 (by_second_rule was) in
           let place : next ≡ entry_key (Some at) = next_is next is in
           let id : at.0 ≡ was.identity = sym (ap (λ (p : List ℕ × List ℕ). p.0) names.2) in
-          let identity_rows : new 6 ≡ map identity_columns (entries (identities keyed)) =
+          let identity_rows : new 6 ≡ map identity_columns (entries (identity_index keyed)) =
           identities_now
           ∙ ap₂ (λ one other. insert_entry plain (column one 1 ∷ column other 1 ∷ [])
           (remove_entry plain other (old 6))) row_is (place ∙ ap (λ i. Blob i ∷ Blob at.1 ∷ []) id)
           ∙ ap (λ rows. insert_entry plain
           (identity_columns (identity_key (at.1, by_second_rule was), tt))
           (remove_entry plain (identity_columns (identity_key (at.1, was), tt)) rows))
-          so_far.holds.rest.identities
+          so_far.holds.rest.identity_index
           ∙ index_row_changed identity_named identity_layout so_far.keyed at.1 was
           (by_second_rule was) names.1 in
           let mark_rows : new 7 ≡ map mark_columns (entries (marks keyed)) =
@@ -229,7 +229,7 @@ module _ (tables : Tables) {old : Trees} {key : Row} (so_far : IsKeying tables o
                       some_is (by_second_rule was) one now in
                       ap by_second_rule (sym value) ∙ value
                   | false ↦ λ now tie. elim (passed_with identity_layout.total
-                      identity_layout.exact so_far.last (identities so_far.keyed) at tt it.2 it.3
+                      identity_layout.exact so_far.last (identity_index so_far.keyed) at tt it.2 it.3
                       (one.identity, name) tt (index_has identity_named so_far.keyed name one now)
                       behind) [
                         | inl here ↦ absurd (true≢false
@@ -248,7 +248,7 @@ module _ (old mid : View) (key entry : Row) (looked : IsUnchanged old mid) where
   same_trees = ap (λ (v : View). v.trees) looked
 
   -- no entry is left
-  pub keys_none : (next : Row) → IsFirst (rows_behind key (old.trees 6)) entry false
+  pub keys_none : (next : Row) → IsFirst (rows_past key (old.trees 6)) entry false
       → KeysNext old mid key next false
   keys_none next begins = record {
     only = only_looks old looked;
@@ -258,7 +258,7 @@ module _ (old mid : View) (key entry : Row) (looked : IsUnchanged old mid) where
   }
 
   module _ {named row : Row} {hit : Bool} (next : Row)
-      (begins : IsFirst (rows_behind key (old.trees 6)) entry true)
+      (begins : IsFirst (rows_past key (old.trees 6)) entry true)
       (next_is : next ≡ column entry 0 ∷ column entry 1 ∷ [])
       (named_is : named ≡ column entry 1 ∷ []) (finds : Finds named (old.trees 3) row hit)
       (there : hit ≡ true)

@@ -16,21 +16,21 @@ use Rattle.book_model.specs.Words.{by_bytes, by_key}
 use Rattle.book_model.specs.declared.row.ChargeRow.{ChargeRow}
 use Rattle.book_model.specs.declared.row.RowKey.{RowKey}
 use Rattle.book_model.proofs.RowLemmas.{by_key_total, by_key_exact}
-use Rattle.kept_tables.specs.Numbered.{by_period}
-use Rattle.kept_tables.specs.Tables.{ChoiceRow, RecordRow}
-use Rattle.kept_tables.proofs.NumberedLemmas.{by_period_total, by_period_exact}
+use Rattle.table_model.specs.PeriodRows.{by_period}
+use Rattle.table_model.specs.Tables.{ChoiceRow, RecordRow}
+use Rattle.table_model.proofs.NumberedLemmas.{by_period_total, by_period_exact}
 use Rattle.tree_rows.specs.Indexes.{by_both, by_mark}
 use Rattle.tree_rows.specs.Layouts.{Layout}
 use Rattle.tree_rows.proofs.IndexOrders.{by_both_total, by_both_exact, by_mark_total, by_mark_exact}
 use Rattle.tree_rows.proofs.IndexOrders.{by_bytes_exact, parts_exact, parts_total}
-use Rattle.tree_tables.specs.Columns.{flag, text_of, place_columns}
+use Rattle.tree_tables.specs.Columns.{flag, tariff_value, day_key_columns}
 use Rattle.tree_tables.specs.Holds.{by_chosen}
 
 -- tariffs by their first days
 abbrev pub tariff_layout : Layout ℤ (Option (List ℕ)) int_cmp
 tariff_layout = record {
   key = λ day. Int day ∷ [];
-  rest = λ text. text_of text ∷ [];
+  rest = λ text. tariff_value text ∷ [];
   total = int_cmp_total;
   exact = int_cmp-IsAntisymmetric;
   alike = λ k l. refl;
@@ -75,7 +75,7 @@ by_place k l = refl
 -- charge rows by their periods and places
 abbrev pub day_layout : Layout (ℕ × RowKey) ChargeRow (by_period by_key)
 day_layout = record {
-  key = place_columns;
+  key = day_key_columns;
   rest = λ row. Int (pos row.count) ∷ Int (pos row.cpu) ∷ Int (pos row.blocks)
       ∷ Int (pos row.amount) ∷ [];
   total = by_period_total by_key by_key_total;

@@ -7,9 +7,9 @@ use Rattle.sqlite_trees.specs.View.{View}
 use Rattle.sqlite_value.specs.Order.{Row, column}
 use Rattle.sqlite_value.specs.declared.value.Value.TheVariants.{Blob, Int}
 use Rattle.book_model.specs.Words.{by_bytes}
-use Rattle.kept_tables.specs.Numbered.{rows_under}
-use Rattle.kept_tables.specs.Steps.{drop_line_row, put_line_row}
-use Rattle.kept_tables.specs.Tables.{Tables}
+use Rattle.table_model.specs.PeriodRows.{rows_under}
+use Rattle.table_model.specs.Steps.{drop_line_row, put_line_row}
+use Rattle.table_model.specs.Tables.{Tables}
 use Rattle.tree_rows.specs.Rows.{Drops, Puts}
 use Rattle.tree_rows.specs.Runs.{run_of}
 use Rattle.tree_rows.proofs.Keyed.{rows_dropped, rows_put}

@@ -30,9 +30,9 @@ has_shapes one (Ok store) sorted shape clean = record {
   records = ap (λ s. s 3) shape ∙ sorted;
   days = ap (λ s. s 4) shape ∙ sorted;
   lines = ap (λ s. s 5) shape ∙ sorted;
-  identities = ap (λ s. s 6) shape ∙ sorted;
+  identity_index = ap (λ s. s 6) shape ∙ sorted;
   marks = ap (λ s. s 7) shape ∙ sorted;
   choices = ap (λ s. s 8) shape ∙ sorted;
-  choice_names = ap (λ s. s 9) shape ∙ sorted;
+  choice_name_index = ap (λ s. s 9) shape ∙ sorted;
   committed = sym (memory_is_unaltered store (ap (λ (t : Trees). t catalog_tree) clean)).0;
 }

@@ -19,12 +19,12 @@ use Rattle.sqlite_value.specs.declared.value.Value.TheVariants.{Int, Text}
 use Rattle.book_model.specs.Words.{by_key}
 use Rattle.book_model.specs.declared.row.ChargeRow.{ChargeRow}
 use Rattle.book_model.specs.declared.row.RowKey.{RowKey}
-use Rattle.kept_tables.specs.MapChanges.{moved}
-use Rattle.kept_tables.specs.Numbered.{by_period}
-use Rattle.kept_tables.specs.Steps.{move_day_rows}
-use Rattle.kept_tables.specs.TableChanges.{move_on}
-use Rattle.kept_tables.specs.Tables.{DayTable, Tables}
-use Rattle.kept_tables.specs.TablesOf.{place_of}
+use Rattle.table_model.specs.MapChanges.{moved}
+use Rattle.table_model.specs.PeriodRows.{by_period}
+use Rattle.table_model.specs.Steps.{move_day_rows}
+use Rattle.table_model.specs.TableChanges.{move_on}
+use Rattle.table_model.specs.Tables.{DayTable, Tables}
+use Rattle.table_model.specs.TablesOf.{row_key}
 use Rattle.tree_rows.specs.Changes.{MovesApart}
 use Rattle.tree_rows.specs.Layouts.{row_of, rows_of}
 use Rattle.tree_rows.specs.Rows.{IsFirst, IsUnchanged, Rewrites}
@@ -299,7 +299,7 @@ module _ (n : ℕ) (day : ℤ) where
     -- the row that it found goes to the next period
     pub one_moved : {new : View} (charge : ChargeRow) (columns : Row) → there ≡ true
         → ((m : ℕ) → column row 0 ≡ Int (pos m) → (m == n) ≡ true) → SaysDay row charge
-        → columns ≡ day_columns ((suc n, place_of charge), charge)
+        → columns ≡ day_columns ((suc n, row_key charge), charge)
         → Rewrites mid new 4 (insert_entry plain columns (remove_entry plain row (mid.trees 4)))
         → MovesSome mid new n day
     one_moved charge columns found one says columns_is rewrites = record {
@@ -311,7 +311,7 @@ module _ (n : ℕ) (day : ℤ) where
           let charge_is = day_said charge (it.0, it.1) row own it.3 says in
           let put : columns ≡ day_columns ((suc n, it.0.1), it.1) =
           columns_is
-          ∙ ap (λ (c : ChargeRow). day_columns ((suc n, place_of c), c)) charge_is
+          ∙ ap (λ (c : ChargeRow). day_columns ((suc n, row_key c), c)) charge_is
           ∙ ap (λ (place : RowKey). day_columns ((suc n, place), it.1)) own in (
             after tables.days it.0 it.1 it.2 is apart,
             with_days holds (after tables.days it.0 it.1 it.2 is apart)

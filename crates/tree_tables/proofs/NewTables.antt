@@ -12,7 +12,7 @@ use Rattle.sqlite_trees.specs.declared.error.StoreError.{StoreError}
 use Rattle.sqlite_trees.specs.declared.store.Store.{Ghosts}
 use Rattle.sqlite_value.specs.Order.{Row}
 use Rattle.sqlite_value.specs.declared.keys.Order.{Order}
-use Rattle.kept_tables.specs.Keeping.{new_tables}
+use Rattle.table_model.specs.TablesAfter.{new_tables}
 use Rattle.tree_rows.specs.Indexes.{index_of, indexed_by}
 use Rattle.tree_rows.proofs.IndexOrders.{by_both_total, by_both_exact, by_mark_total, by_mark_exact}
 use Rattle.tree_tables.specs.Columns.{book_columns, tariff_columns, closed_columns, record_columns}
@@ -69,14 +69,14 @@ module _ {old new : Trees} (order : Order) (row : Row) (none : HasNoRows old)
     days = still 4 (omega arith) refl ∙ sym (no_rows _ day_columns);
     placed = λ key row there. absurd (no_value row (sym there ∙ get-empty _ key));
     lines = still 5 (omega arith) refl ∙ sym (no_rows _ line_columns);
-    identities = still 6 (omega arith) refl
+    identity_index = still 6 (omega arith) refl
         ∙ sym (ap (λ m. map identity_columns (entries m))
         (no_index _ _ by_both_total by_both_exact identity_key) ∙ no_rows _ identity_columns);
     marks = still 7 (omega arith) refl
         ∙ sym (ap (λ m. map mark_columns (entries m))
         (no_index _ _ by_mark_total by_mark_exact mark_key) ∙ no_rows _ mark_columns);
     choices = still 8 (omega arith) refl ∙ sym (no_rows _ choice_columns);
-    choice_names = still 9 (omega arith) refl
+    choice_name_index = still 9 (omega arith) refl
         ∙ sym (ap (λ m. map choice_name_columns (entries m))
         (no_index _ _ by_chosen_total by_chosen_exact choice_name_key)
         ∙ no_rows _ choice_name_columns);

@@ -8,9 +8,9 @@ use Rattle.sqlite_trees.specs.View.{View}
 use Rattle.sqlite_value.specs.Keys.{plain}
 use Rattle.sqlite_value.specs.Order.{Row}
 use Rattle.tariff_rules.specs.declared.priced.Priced.{Priced}
-use Rattle.kept_tables.specs.RowChanges.{price_at}
-use Rattle.kept_tables.specs.Steps.{put_price_row}
-use Rattle.kept_tables.specs.Tables.{RecordRow, Tables}
+use Rattle.table_model.specs.RowChanges.{price_at}
+use Rattle.table_model.specs.Steps.{put_price_row}
+use Rattle.table_model.specs.Tables.{RecordRow, Tables}
 use Rattle.tree_rows.specs.Layouts.{row_of, rows_of}
 use Rattle.tree_rows.specs.Rows.{IsFirst, Rewrites}
 use Rattle.tree_rows.proofs.Indexes.{index_same}
@@ -24,21 +24,21 @@ use Rattle.tree_tables.specs.Columns.{record_columns}
 use Rattle.tree_tables.specs.Fits.{EachFits, RecordFits}
 use Rattle.tree_tables.specs.Holds.{Holds}
 use Rattle.tree_tables.specs.Stored.{IsAsRead, priced_entry, stored_entry}
-use Rattle.tree_tables.specs.Walks.{place_key, rows_behind}
+use Rattle.tree_tables.specs.Walks.{last_name_key, rows_past}
 use Rattle.tree_tables.specs.declared.stored_record.StoredRecord.{StoredRecord}
 
 -- The first row after the key of a name that a walk has come to.
 module _ (tables : Tables) (last : Option (List ℕ)) {rows : List Row} {key : Row} (row : Row)
-    (held : rows ≡ map record_columns (entries tables.records)) (key_is : key ≡ place_key last)
+    (held : rows ≡ map record_columns (entries tables.records)) (key_is : key ≡ last_name_key last)
   where
     -- where there is none, no record is left
-    pub next_none : IsFirst (rows_behind key rows) row false → FindsNext last tables None
+    pub next_none : IsFirst (rows_past key rows) row false → FindsNext last tables None
     next_none begins =
         ap (λ left. slice_get left 0)
         (sym (finds_next last tables.records key rows row false key_is held begins))
 
     -- what is read of it is the next record
-    pub next_some : (stored : StoredRecord) → IsFirst (rows_behind key rows) row true
+    pub next_some : (stored : StoredRecord) → IsFirst (rows_past key rows) row true
         → ((entry : List ℕ × RecordRow) → row ≡ record_columns entry
         → stored_entry stored ≡ entry)
         → FindsNext last tables (Some stored)
@@ -47,7 +47,7 @@ module _ (tables : Tables) (last : Option (List ℕ)) {rows : List Row} {key : R
         ap Some (says (it.0, it.1) it.4) ∙ ap (λ left. slice_get left 0) (sym it.3)
 
     -- it fits where each record does
-    pub next_fits : IsFirst (rows_behind key rows) row true → EachFits tables → RecordFits row
+    pub next_fits : IsFirst (rows_past key rows) row true → EachFits tables → RecordFits row
     next_fits begins fits =
         let it = finds_next last tables.records key rows row true key_is held begins in
         subst RecordFits (sym it.4) (fits it.0 it.1

@@ -6,7 +6,7 @@ use Rattle.std.specs.Ordering.{eq_by_cmp}
 use Rattle.std.specs.declared.cmp.Ordering.{Ordering}
 use Rattle.sqlite_trees.specs.Tree.{insert_entry, remove_entry}
 use Rattle.sqlite_value.specs.Keys.{plain}
-use Rattle.kept_tables.specs.Tables.{RecordRow}
+use Rattle.table_model.specs.Tables.{RecordRow}
 use Rattle.tree_rows.specs.Indexes.{IsIndexKey, index_of, index_answer, by_bytes, by_both, by_mark}
 use Rattle.tree_rows.specs.Layouts.{Layout, row_of, rows_of}
 use Rattle.tree_rows.proofs.IndexOrders.{by_bytes_exact, by_mark_total, by_mark_exact}

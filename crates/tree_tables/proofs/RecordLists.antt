@@ -23,8 +23,8 @@ use Rattle.sqlite_value.specs.Order.{Row, column}
 use Rattle.sqlite_value.specs.declared.value.Value.TheVariants.{Blob, Int}
 use Rattle.book_model.specs.Words.{same_bytes}
 use Rattle.book_model.proofs.SetLemmas.{same_bytes-by_cmp}
-use Rattle.kept_tables.specs.Tables.{RecordRow, RecordTable, Tables}
-use Rattle.kept_tables.specs.Views.{rows_with}
+use Rattle.table_model.specs.Tables.{RecordRow, RecordTable, Tables}
+use Rattle.table_model.specs.Views.{rows_with}
 use Rattle.tree_rows.specs.Indexes.{IsKeyOf, by_both, by_bytes, by_mark}
 use Rattle.tree_rows.specs.Runs.{run_of}
 use Rattle.tree_rows.proofs.IndexLists.{index_names_all, index_permutes}
@@ -40,14 +40,14 @@ use Rattle.tree_tables.specs.Answers.{FindsNamed, FindsSharing, ListsUncharged, 
 use Rattle.tree_tables.specs.Answers.{is_uncharged}
 use Rattle.tree_tables.specs.Columns.{flag, identity_columns, mark_columns}
 use Rattle.tree_tables.specs.Fits.{AllNamed, EndsInName, RecordsFit, RowsFit}
-use Rattle.tree_tables.specs.Holds.{identities, mark_key, marks}
+use Rattle.tree_tables.specs.Holds.{identity_index, mark_key, marks}
 use Rattle.tree_tables.specs.Stored.{stored_entry}
 use Rattle.tree_tables.specs.declared.found_names.FoundName.{FoundName}
 use Rattle.tree_tables.specs.declared.stored_record.StoredRecord.{StoredRecord}
 
 -- the rows of the two trees that find records
 abbrev pub identity_rows : RecordTable → List Row
-identity_rows records = map identity_columns (entries (identities records))
+identity_rows records = map identity_columns (entries (identity_index records))
 
 abbrev pub mark_rows : RecordTable → List Row
 mark_rows records = map mark_columns (entries (marks records))
@@ -72,7 +72,7 @@ had_with records identity =
 -- the names that the tree gives for an identity are those of the records that have it
 names_with : (records : RecordTable) (identity : List ℕ)
     → map (λ e. e.0.1)
-    (filter (λ e. eq_by_cmp by_bytes e.0.0 identity) (entries (identities records)))
+    (filter (λ e. eq_by_cmp by_bytes e.0.0 identity) (entries (identity_index records)))
     ≡ map (λ (e : Entry). e.0) (rows_with identity records)
 names_with records identity =
     part_names (λ (row : RecordRow). row.identity) identity
@@ -91,11 +91,11 @@ pub sharing_found : (tables : Tables) (identity : List ℕ) (part : Row) (names 
     → FindsNamed names tables found → FindsSharing identity tables found
 sharing_found tables identity part names found part_is ends all =
     let records = tables.records in
-    let keys = filter (λ e. eq_by_cmp by_bytes e.0.0 identity) (entries (identities records)) in
+    let keys = filter (λ e. eq_by_cmp by_bytes e.0.0 identity) (entries (identity_index records)) in
     let run : take 2 (run_of part (identity_rows records)) ≡ map identity_columns (take 2 keys) =
     ap (take 2) (ap (λ key. run_of key (identity_rows records)) part_is
     ∙ run_named by_bytes identity_layout (λ name. Blob name ∷ []) (λ identity name. refl) identity
-    (identities records)) ∙ take-map identity_columns 2 keys in
+    (identity_index records)) ∙ take-map identity_columns 2 keys in
     let read : names_of names ≡ map (λ e. e.0.1) (take 2 keys) =
     names_read identity_columns (λ e. e.0.1) (λ e. refl) (take 2 keys) names
     (subst (λ some. EndIn some names) run ends) in

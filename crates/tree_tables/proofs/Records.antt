@@ -8,9 +8,9 @@ use Rattle.sqlite_trees.specs.View.{View}
 use Rattle.sqlite_value.specs.Keys.{plain}
 use Rattle.sqlite_value.specs.Order.{Row, column}
 use Rattle.sqlite_value.specs.declared.value.Value.TheVariants.{Blob, Int}
-use Rattle.kept_tables.specs.RowChanges.{mark_at}
-use Rattle.kept_tables.specs.Steps.{put_record_row, set_mark_row}
-use Rattle.kept_tables.specs.Tables.{RecordRow, Tables}
+use Rattle.table_model.specs.RowChanges.{mark_at}
+use Rattle.table_model.specs.Steps.{put_record_row, set_mark_row}
+use Rattle.table_model.specs.Tables.{RecordRow, Tables}
 use Rattle.tree_rows.specs.Layouts.{Answers}
 use Rattle.tree_rows.specs.Rows.{Finds, IsUnchanged, Rewrites}
 use Rattle.tree_rows.proofs.Indexes.{index_same}
@@ -76,13 +76,13 @@ pub record_added : {old one two new : View} {tables : Tables} (name : List ℕ) 
 record_added {old} {one} {two} {new} {tables} name row first second third made_is identity_is
     mark_is holds none =
     with_records holds (insert tables.records name row)
-    (λ other records identities marks.
-    third.others other marks ∙ second.others other identities ∙ first.others other records)
+    (λ other records identity_index marks.
+    third.others other marks ∙ second.others other identity_index ∙ first.others other records)
     (third.others 3 (apart 3 7 refl) ∙ second.others 3 (apart 3 6 refl) ∙ first.rows_now
     ∙ ap₂ (insert_entry plain) made_is holds.records
     ∙ inserted record_layout tables.records name row none)
     (third.others 6 (apart 6 7 refl) ∙ second.rows_now
-    ∙ ap₂ (insert_entry plain) identity_is (first.others 6 (apart 6 3 refl) ∙ holds.identities)
+    ∙ ap₂ (insert_entry plain) identity_is (first.others 6 (apart 6 3 refl) ∙ holds.identity_index)
     ∙ index_row_added identity_named identity_layout tables.records name row none)
     (third.rows_now
     ∙ ap₂ (insert_entry plain) mark_is (second.others 7 (apart 7 6 refl)
@@ -125,7 +125,7 @@ record_marked old {look} {mid} {new} tables name mark row {before} {made} {from}
     ∙ ap (λ one. insert_entry plain (record_columns (name, now))
     (remove_entry plain one (map record_columns (entries records)))) before_is
     ∙ changed record_layout records name row now some)
-    (second.others 6 (apart 6 7 refl) ∙ behind.others 6 (apart 6 3 refl) ∙ holds.identities
+    (second.others 6 (apart 6 7 refl) ∙ behind.others 6 (apart 6 3 refl) ∙ holds.identity_index
     ∙ ap (λ keys. map identity_columns (entries keys))
     (sym (index_same identity_named records name row now some refl)))
     (second.rows_now

@@ -11,8 +11,8 @@ use Rattle.sqlite_trees.specs.Tree.{Trees, from_key, insert_entry, remove_entry}
 use Rattle.sqlite_trees.specs.View.{View}
 use Rattle.sqlite_value.specs.Keys.{plain}
 use Rattle.sqlite_value.specs.Order.{Row, column}
-use Rattle.kept_tables.specs.Steps.{post_by, post_rows}
-use Rattle.kept_tables.specs.Tables.{RecordRow, RecordTable, Tables}
+use Rattle.table_model.specs.Steps.{post_by, post_rows}
+use Rattle.table_model.specs.Tables.{RecordRow, RecordTable, Tables}
 use Rattle.tree_rows.specs.Changes.{above, updated, FindsAbove}
 use Rattle.tree_rows.specs.Indexes.{IsIndexKey, index_answer, index_of}
 use Rattle.tree_rows.specs.Layouts.{row_of, rows_of}
@@ -27,9 +27,9 @@ use Rattle.tree_tables.proofs.Layouts.{record_layout}
 use Rattle.tree_tables.proofs.Looking.{only_looks, rewrites_behind}
 use Rattle.tree_tables.proofs.RecordIndexes.{identity_named, mark_named}
 use Rattle.tree_tables.specs.Columns.{record_columns, identity_columns, mark_columns}
-use Rattle.tree_tables.specs.Holds.{Holds, identity_key, identities, mark_key, marks}
+use Rattle.tree_tables.specs.Holds.{Holds, identity_key, identity_index, mark_key, marks}
 use Rattle.tree_tables.specs.Walks.{HoldsFoundBy, IsRenewing, Renews, RenewsNext, RenewsRow}
-use Rattle.tree_tables.specs.Walks.{place_key, renewed, rows_behind}
+use Rattle.tree_tables.specs.Walks.{last_name_key, renewed, rows_past}
 
 -- Trees that hold tables find their records by what these say,
 pub found_by_own : {trees : Trees} {tables : Tables} → Holds trees tables
@@ -44,16 +44,16 @@ found_by_own holds = record {
     days = holds.days;
     placed = holds.placed;
     lines = holds.lines;
-    identities = holds.identities;
+    identity_index = holds.identity_index;
     marks = holds.marks;
     choices = holds.choices;
-    choice_names = holds.choice_names;
+    choice_name_index = holds.choice_name_index;
   };
 }
 
 -- and trees hold tables where they find their records by others that have the same keys.
 pub held_by_same : {trees : Trees} {tables : Tables} {keyed : RecordTable}
-    → HoldsFoundBy trees tables keyed → identities keyed ≡ identities tables.records
+    → HoldsFoundBy trees tables keyed → identity_index keyed ≡ identity_index tables.records
     → marks keyed ≡ marks tables.records → Holds trees tables
 held_by_same found same_identities same_marks = record {
   book = found.rest.book;
@@ -63,11 +63,11 @@ held_by_same found same_identities same_marks = record {
   days = found.rest.days;
   placed = found.rest.placed;
   lines = found.rest.lines;
-  identities = found.rest.identities
+  identity_index = found.rest.identity_index
       ∙ ap (λ places. map identity_columns (entries places)) same_identities;
   marks = found.rest.marks ∙ ap (λ places. map mark_columns (entries places)) same_marks;
   choices = found.rest.choices;
-  choice_names = found.rest.choice_names;
+  choice_name_index = found.rest.choice_name_index;
 }
 
 -- other rows of the same records
@@ -85,17 +85,17 @@ found_rows records found same now = record {
     days = same 4 (apart 4 3 refl) ∙ found.rest.days;
     placed = found.rest.placed;
     lines = same 5 (apart 5 3 refl) ∙ found.rest.lines;
-    identities = same 6 (apart 6 3 refl) ∙ found.rest.identities;
+    identity_index = same 6 (apart 6 3 refl) ∙ found.rest.identity_index;
     marks = same 7 (apart 7 3 refl) ∙ found.rest.marks;
     choices = same 8 (apart 8 3 refl) ∙ found.rest.choices;
-    choice_names = same 9 (apart 9 3 refl) ∙ found.rest.choice_names;
+    choice_name_index = same 9 (apart 9 3 refl) ∙ found.rest.choice_name_index;
   };
 }
 
 -- other rows of the same records, which have the same keys
 pub with_indexed : {old new : Trees} {tables : Tables} → Holds old tables → (rows : RecordTable)
     → SameBut old new 3 → new 3 ≡ map record_columns (entries rows)
-    → identities rows ≡ identities tables.records → marks rows ≡ marks tables.records
+    → identity_index rows ≡ identity_index tables.records → marks rows ≡ marks tables.records
     → Holds new (record tables { records = rows })
 with_indexed holds rows same now same_identities same_marks =
     held_by_same (found_rows rows (found_by_own holds) same now) (sym same_identities)
@@ -103,14 +103,14 @@ with_indexed holds rows same now same_identities same_marks =
 
 -- the first row after a walk's key is that of the first entry that is still to come
 pub finds_next : (last : Option (List ℕ)) (m : RecordTable) (key : Row) (rows : List Row) (row : Row)
-    (there : Bool) → key ≡ place_key last → rows ≡ rows_of record_layout m
-    → IsFirst (rows_behind key rows) row there → FindsAbove record_layout last m row there
+    (there : Bool) → key ≡ last_name_key last → rows ≡ rows_of record_layout m
+    → IsFirst (rows_past key rows) row there → FindsAbove record_layout last m row there
 finds_next None m key rows row there place held begins =
     walk_start record_layout m row there
-    (subst (λ some. IsFirst some row there) (ap₂ rows_behind place held) begins)
+    (subst (λ some. IsFirst some row there) (ap₂ rows_past place held) begins)
 finds_next (Some name) m key rows row there place held begins =
     walk_step record_layout m name row there
-    (subst (λ some. IsFirst some row there) (ap₂ rows_behind place held) begins)
+    (subst (λ some. IsFirst some row there) (ap₂ rows_past place held) begins)
 
 -- a look-up of the key with no columns begins with the first row of all
 pub from_none : (rows : List Row) → from_key plain [] rows ≡ rows
@@ -119,10 +119,10 @@ from_none (row ∷ rows) = refl
 
 -- and so does a walk
 pub from_is_behind : (key : Row) (rows : List Row) → key ≡ []
-    → from_key plain key rows ≡ rows_behind key rows
+    → from_key plain key rows ≡ rows_past key rows
 from_is_behind key rows empty =
     ap (λ one. from_key plain one rows) empty ∙ from_none rows
-    ∙ ap (λ one. rows_behind one rows) (sym empty)
+    ∙ ap (λ one. rows_past one rows) (sym empty)
 
 -- before its first step a walk has changed nothing
 pub renewing_starts : (change : RecordRow → RecordRow) (trees : Trees) (tables : Tables) (key : Row)
@@ -145,7 +145,7 @@ module _ (change : RecordRow → RecordRow)
         (so_far : IsRenewing change tables old key)
       where
         -- where there is none, all rows are changed
-        renewing_ends : IsFirst (rows_behind key (old 3)) row false
+        renewing_ends : IsFirst (rows_past key (old 3)) row false
             → HoldsFoundBy old (renewed change tables) tables.records
         renewing_ends begins =
             let none : above so_far.last so_far.records ≡ [] =
@@ -158,7 +158,7 @@ module _ (change : RecordRow → RecordRow)
             (sym all ∙ so_far.whole) so_far.holds
 
         -- where it is already as it is changed, it is passed
-        renewing_passes : (next made : Row) → IsFirst (rows_behind key (old 3)) row true
+        renewing_passes : (next made : Row) → IsFirst (rows_past key (old 3)) row true
             → next ≡ column row 0 ∷ [] → RenewsRow change row made false
             → IsRenewing change tables old next
         renewing_passes next made begins named stands =
@@ -176,7 +176,7 @@ module _ (change : RecordRow → RecordRow)
 
         -- where it is changed, so are all that are passed
         renewing_goes_on : {new : Trees} (next made : Row)
-            → IsFirst (rows_behind key (old 3)) row true
+            → IsFirst (rows_past key (old 3)) row true
             → next ≡ column row 0 ∷ [] → RenewsRow change row made true → SameBut old new 3
             → new 3 ≡ insert_entry plain made (remove_entry plain row (old 3))
             → IsRenewing change tables new next
@@ -210,7 +210,7 @@ module _ (change : RecordRow → RecordRow)
       same_trees = ap (λ (v : View). v.trees) looked
 
       -- no row is left
-      pub renews_none : (next : Row) → IsFirst (rows_behind key (old.trees 3)) row false
+      pub renews_none : (next : Row) → IsFirst (rows_past key (old.trees 3)) row false
           → RenewsNext change old mid key next false
       renews_none next begins = record {
         only = only_looks old looked;
@@ -220,7 +220,7 @@ module _ (change : RecordRow → RecordRow)
       }
 
       -- the row stays
-      pub renews_kept : (next made : Row) → IsFirst (rows_behind key (old.trees 3)) row true
+      pub renews_kept : (next made : Row) → IsFirst (rows_past key (old.trees 3)) row true
           → next ≡ column row 0 ∷ [] → RenewsRow change row made false
           → RenewsNext change old mid key next true
       renews_kept next made begins named stands = record {
@@ -232,7 +232,7 @@ module _ (change : RecordRow → RecordRow)
 
       -- the row is changed
       pub renews_one : (new : View) (next made : Row)
-          → IsFirst (rows_behind key (old.trees 3)) row true
+          → IsFirst (rows_past key (old.trees 3)) row true
           → next ≡ column row 0 ∷ [] → RenewsRow change row made true
           → Rewrites mid new 3 (insert_entry plain made (remove_entry plain row (mid.trees 3)))
           → RenewsNext change old new key next true

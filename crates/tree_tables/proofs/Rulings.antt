@@ -5,12 +5,12 @@ use Rattle.std.specs.List.{AllZip}
 use Rattle.std.specs.FinMap.{entries}
 use Rattle.sqlite_value.specs.Order.{Row, column}
 use Rattle.sqlite_value.specs.declared.value.Value.TheVariants.{Int, Text}
-use Rattle.kept_tables.specs.Tables.{Tables}
+use Rattle.table_model.specs.Tables.{Tables}
 use Rattle.tree_rows.specs.Runs.{run_of}
 use Rattle.tree_rows.proofs.Runs.{run_all}
-use Rattle.tree_tables.specs.Columns.{closed_columns, tariff_columns, text_of}
+use Rattle.tree_tables.specs.Columns.{closed_columns, tariff_columns, tariff_value}
 use Rattle.tree_tables.specs.Holds.{Holds}
-use Rattle.tree_tables.specs.Stored.{close_of, tariff_of}
+use Rattle.tree_tables.specs.Stored.{close_entry, tariff_of}
 use Rattle.tree_tables.specs.declared.closed_rows.Close.{Close}
 use Rattle.tree_tables.specs.declared.tariff_rows.StoredTariff.{StoredTariff}
 use Rattle.tree_tables.proofs.Layouts.{closed_layout, tariff_layout}
@@ -28,7 +28,7 @@ same_day m n e = cc
 same_number : (m n : ℕ) → Int (pos m) ≡ Int (pos n) → n ≡ m
 same_number m n e = cc
 
-same_text : (found : Option (List ℕ)) (text : List ℕ) → text_of found ≡ Text text → Some text ≡ found
+same_text : (found : Option (List ℕ)) (text : List ℕ) → tariff_value found ≡ Text text → Some text ≡ found
 same_text None text e = cc
 same_text (Some found) text e = cc
 
@@ -56,7 +56,7 @@ SaysClose row close =
     (column row 0 ≡ Int (pos close.period)) × (column row 1 ≡ Int close.through)
 
 closes_said : (closes : List (ℕ × ℤ)) (list : List Close)
-    → AllZip SaysClose (map closed_columns closes) list → map close_of list ≡ closes
+    → AllZip SaysClose (map closed_columns closes) list → map close_entry list ≡ closes
 closes_said [] [] says = λ i. []
 closes_said [] (stored ∷ list) says = absurd says
 closes_said (close ∷ closes) [] says = absurd says
@@ -91,7 +91,7 @@ all_tariffs trees tables part list holds whole says =
 -- and so are the closes
 pub all_closes : (trees : Trees) (tables : Tables) (part : Row) (list : List Close)
     → Holds trees tables → part ≡ [] → AllZip SaysClose (run_of part (trees 2)) list
-    → map close_of list ≡ entries tables.closes
+    → map close_entry list ≡ entries tables.closes
 all_closes trees tables part list holds whole says =
     closes_said (entries tables.closes) list
     (subst (λ rows. AllZip SaysClose rows list) (closes_run trees tables part holds whole) says)

@@ -10,12 +10,12 @@ use Rattle.sqlite_value.proofs.OrderLemmas.{row_cmp_total}
 use Rattle.sqlite_value.specs.Keys.{plain, prefix_cmp}
 use Rattle.sqlite_value.specs.Order.{Row, column}
 use Rattle.sqlite_value.specs.declared.value.Value.TheVariants.{Int}
-use Rattle.kept_tables.specs.Tables.{BookRow}
+use Rattle.table_model.specs.Tables.{BookRow}
 use Rattle.tree_rows.specs.Rows.{Finds, IsFirst}
 use Rattle.tree_rows.proofs.Maps.{begins_with, prefix_of}
 use Rattle.tree_tables.specs.Columns.{book_columns}
 use Rattle.tree_tables.specs.Fits.{BookFits}
-use Rattle.tree_tables.specs.Stored.{book_of}
+use Rattle.tree_tables.specs.Stored.{book_entry}
 use Rattle.tree_tables.specs.declared.book_row.StoredBook.{StoredBook}
 
 -- it has its key
@@ -83,7 +83,7 @@ sums_said row book held amount is one two = (
 
 -- the row of a book that says these numbers
 pub book_row_is : (row : Row) (one : BookRow) (other : StoredBook) (held amount : ℕ)
-    → row ≡ book_columns (book_of other) → other.rule ≡ one.rule → other.adopted ≡ one.adopted
+    → row ≡ book_columns (book_entry other) → other.rule ≡ one.rule → other.adopted ≡ one.adopted
     → other.held ≡ held → other.amount ≡ amount
     → row ≡ book_columns (record one { held = held; amount = amount })
 book_row_is row one other held amount is rule adopted held_is amount_is =
@@ -92,7 +92,7 @@ book_row_is row one other held amount is rule adopted held_is amount_is =
 
 -- the row of a book under another rule
 pub book_ruled : (row : Row) (one : BookRow) (other : StoredBook) (rule adopted : ℕ)
-    → row ≡ book_columns (book_of other) → other.rule ≡ rule → other.adopted ≡ adopted
+    → row ≡ book_columns (book_entry other) → other.rule ≡ rule → other.adopted ≡ adopted
     → other.held ≡ one.held → other.amount ≡ one.amount
     → row ≡ book_columns (record one { rule = rule; adopted = adopted })
 book_ruled row one other rule adopted is rule_is adopted_is held amount =

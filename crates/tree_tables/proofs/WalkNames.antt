@@ -13,8 +13,8 @@ use Rattle.std.proofs.lemmas.List.Sums.{sum_by-cons}
 use Rattle.sqlite_trees.specs.Tree.{Trees}
 use Rattle.book_model.specs.Words.{Terms, by_bytes, price_by, record_with}
 use Rattle.tariff_rules.specs.declared.priced.Priced.{Priced}
-use Rattle.kept_tables.specs.TableChanges.{reprice, reprice_row, reprice_step, walk}
-use Rattle.kept_tables.specs.Tables.{RecordRow, Tables}
+use Rattle.table_model.specs.TableChanges.{reprice, reprice_row, reprice_step, walk}
+use Rattle.table_model.specs.Tables.{RecordRow, Tables}
 use Rattle.tree_rows.specs.Changes.{above, is_above}
 use Rattle.tree_rows.proofs.Maps.{find_below, first, less, not_none, second}
 use Rattle.tree_rows.proofs.Passing.{above_sorted, all_passed, find_come, find_front, first_there}

@@ -6,8 +6,8 @@ use Rattle.std.specs.Prelude.{IsErr, sum_by}
 use Rattle.std.specs.FinMap.{get, keys, values}
 use Rattle.sqlite_trees.specs.View.{KeepsCommitted, OnlyWrites}
 use Rattle.sqlite_trees.specs.declared.error.StoreError.{StoreError}
-use Rattle.kept_tables.specs.TableChanges.{walk}
-use Rattle.kept_tables.specs.Tables.{RecordRow, Tables}
+use Rattle.table_model.specs.TableChanges.{walk}
+use Rattle.table_model.specs.Tables.{RecordRow, Tables}
 use Rattle.book_model.specs.Words.{by_bytes}
 use Rattle.tree_rows.specs.Changes.{is_above}
 use Rattle.tree_rows.specs.Rows.{IsUnchanged}

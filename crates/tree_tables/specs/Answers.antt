@@ -10,12 +10,12 @@ use Rattle.std.specs.declared.cmp.Ordering.{Ordering}
 use Rattle.book_model.specs.Words.{by_bytes}
 use Rattle.book_model.specs.declared.row.ChargeRow.{ChargeRow}
 use Rattle.book_model.specs.declared.row.RowKey.{RowKey}
-use Rattle.kept_tables.specs.Numbered.{rows_under}
-use Rattle.kept_tables.specs.Reading.{rows_read}
-use Rattle.kept_tables.specs.Tables.{ChoiceTable, RecordRow, RecordTable, Tables}
-use Rattle.kept_tables.specs.Views.{is_named, rows_with}
+use Rattle.table_model.specs.PeriodRows.{rows_under}
+use Rattle.table_model.specs.PeriodLists.{rows_read}
+use Rattle.table_model.specs.Tables.{ChoiceTable, RecordRow, RecordTable, Tables}
+use Rattle.table_model.specs.Views.{has_choice, rows_with}
 use Rattle.tree_rows.specs.Changes.{above}
-use Rattle.tree_tables.specs.Stored.{book_of, choice_of, close_of, signed_name, stored_entry}
+use Rattle.tree_tables.specs.Stored.{book_entry, choice_entry, close_entry, signed_name, stored_entry}
 use Rattle.tree_tables.specs.Stored.{tariff_of}
 use Rattle.tree_tables.specs.declared.book_row.StoredBook.{StoredBook}
 use Rattle.tree_tables.specs.declared.choice_rows.StoredChoice.{StoredChoice}
@@ -27,7 +27,7 @@ use Rattle.tree_tables.specs.declared.tariff_rows.StoredTariff.{StoredTariff}
 
 -- the row of the book
 abbrev pub FindsBook : Tables → Option StoredBook → Type 0
-FindsBook tables found = option_map book_of found ≡ Some tables.book
+FindsBook tables found = option_map book_entry found ≡ Some tables.book
 
 -- all tariffs, by their first days
 abbrev pub ListsTariffs : Tables → List StoredTariff → Type 0
@@ -35,7 +35,7 @@ ListsTariffs tables list = map tariff_of list ≡ entries tables.tariffs
 
 -- all closes, by their periods
 abbrev pub ListsCloses : Tables → List Close → Type 0
-ListsCloses tables list = map close_of list ≡ entries tables.closes
+ListsCloses tables list = map close_entry list ≡ entries tables.closes
 
 -- the record of a name, if there is one
 abbrev pub FindsRecord : List ℕ → Tables → Option StoredRecord → Type 0
@@ -94,12 +94,12 @@ abbrev pub last_number : ChoiceTable → ℕ
 last_number choices = unwrap_or (last_or None (keys choices)) 0
 
 -- whether some choice names the record
-abbrev pub IsNamed : List ℕ → Tables → Bool → Type 0
-IsNamed name tables found = found ≡ is_named tables.choices name
+abbrev pub HasChoice : List ℕ → Tables → Bool → Type 0
+HasChoice name tables found = found ≡ has_choice tables.choices name
 
 -- all choices, by their numbers
 abbrev pub ListsChoices : Tables → List StoredChoice → Type 0
-ListsChoices tables list = map choice_of list ≡ entries tables.choices
+ListsChoices tables list = map choice_entry list ≡ entries tables.choices
 
 -- the charge row of a period at a place, if there is one
 abbrev pub FindsDay : ℕ → RowKey → Tables → Option ChargeRow → Type 0

@@ -6,7 +6,7 @@ use Rattle.sqlite_value.specs.declared.value.Value.{Value}
 use Rattle.sqlite_value.specs.declared.value.Value.TheVariants.{Null, Int, Text, Blob}
 use Rattle.book_model.specs.declared.row.ChargeRow.{ChargeRow}
 use Rattle.book_model.specs.declared.row.RowKey.{RowKey}
-use Rattle.kept_tables.specs.Tables.{BookRow, ChoiceRow, RecordRow}
+use Rattle.table_model.specs.Tables.{BookRow, ChoiceRow, RecordRow}
 
 -- a mark is 1 or 0
 abbrev pub flag : Bool → ℕ
@@ -19,13 +19,13 @@ book_columns row =
     ∷ Int (pos row.amount) ∷ []
 
 -- the text of a tariff, which came with one
-abbrev pub text_of : Option (List ℕ) → Value
-text_of None = Null
-text_of (Some text) = Text text
+abbrev pub tariff_value : Option (List ℕ) → Value
+tariff_value None = Null
+tariff_value (Some text) = Text text
 
 -- a tariff: its first day, and its text
 abbrev pub tariff_columns : ℤ × Option (List ℕ) → Row
-tariff_columns tariff = Int tariff.0 ∷ text_of tariff.1 ∷ []
+tariff_columns tariff = Int tariff.0 ∷ tariff_value tariff.1 ∷ []
 
 -- a period, and the day through which it was closed
 abbrev pub closed_columns : ℕ × ℤ → Row
@@ -41,8 +41,8 @@ record_columns entry =
     ∷ []
 
 -- the columns of a charge row's key: its period, and its place there
-abbrev pub place_columns : ℕ × RowKey → Row
-place_columns place =
+abbrev pub day_key_columns : ℕ × RowKey → Row
+day_key_columns place =
     Int (pos place.0) ∷ Int place.1.day ∷ Text place.1.centre ∷ Text place.1.shift ∷ []
 
 -- a charge row under its period and place

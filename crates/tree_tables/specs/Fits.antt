@@ -7,8 +7,8 @@ use Rattle.sqlite_value.specs.Order.{Row, column}
 use Rattle.sqlite_value.specs.declared.value.Value.{Value}
 use Rattle.sqlite_value.specs.declared.value.Value.TheVariants.{Blob, Int, Text}
 use Rattle.book_model.specs.Words.{IsDay, IsName}
-use Rattle.kept_tables.specs.Numbered.{rows_under}
-use Rattle.kept_tables.specs.Tables.{RecordRow, Tables}
+use Rattle.table_model.specs.PeriodRows.{rows_under}
+use Rattle.table_model.specs.Tables.{RecordRow, Tables}
 use Rattle.tree_tables.specs.Columns.{choice_columns, day_columns, flag, line_columns}
 use Rattle.tree_tables.specs.Columns.{record_columns}
 use Rattle.tree_tables.specs.declared.found_names.FoundName.{FoundName}
@@ -22,8 +22,8 @@ abbrev pub HasPeriod : Value → Type 0
 HasPeriod value = (n : ℕ) × (n < 2 ^ 16) × (value ≡ Int (pos n))
 
 -- the number of a choice, in 32 bits
-abbrev pub HasNumber : Value → Type 0
-HasNumber value = (n : ℕ) × (n < 2 ^ 32) × (value ≡ Int (pos n))
+abbrev pub HasChoiceNumber : Value → Type 0
+HasChoiceNumber value = (n : ℕ) × (n < 2 ^ 32) × (value ≡ Int (pos n))
 
 -- a day
 abbrev pub HasDay : Value → Type 0
@@ -68,7 +68,7 @@ pub record CloseFits (row : Row) : Type 0 where
 
 -- a row has the number, the name and the period of a choice
 pub record ChoiceFits (row : Row) : Type 0 where
-  pub number : HasNumber (column row 0)
+  pub number : HasChoiceNumber (column row 0)
   pub name : HasHash (column row 1)
   pub period : HasPeriod (column row 2)
 

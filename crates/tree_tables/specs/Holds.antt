@@ -11,9 +11,9 @@ use Rattle.sqlite_trees.specs.declared.store.Shape.TheVariants.{Index}
 use Rattle.sqlite_value.specs.Keys.{plain}
 use Rattle.book_model.specs.declared.row.ChargeRow.{ChargeRow}
 use Rattle.book_model.specs.declared.row.RowKey.{RowKey}
-use Rattle.kept_tables.specs.Tables.{ChoiceRow, ChoiceTable, DayTable, RecordRow, RecordTable}
-use Rattle.kept_tables.specs.Tables.{Tables}
-use Rattle.kept_tables.specs.TablesOf.{place_of}
+use Rattle.table_model.specs.Tables.{ChoiceRow, ChoiceTable, DayTable, RecordRow, RecordTable}
+use Rattle.table_model.specs.Tables.{Tables}
+use Rattle.table_model.specs.TablesOf.{row_key}
 use Rattle.tree_rows.specs.Indexes.{index_of, by_both, by_bytes, by_mark, by_parts}
 use Rattle.tree_tables.specs.Columns.{flag, book_columns, tariff_columns, closed_columns}
 use Rattle.tree_tables.specs.Columns.{record_columns, day_columns, line_columns}
@@ -24,8 +24,8 @@ use Rattle.tree_tables.specs.Columns.{choice_name_columns}
 abbrev pub identity_key : List ℕ × RecordRow → List ℕ × List ℕ
 identity_key entry = (entry.1.identity, entry.0)
 
-abbrev pub identities : RecordTable → FinMap by_both (Unit {0})
-identities records = index_of identity_key records
+abbrev pub identity_index : RecordTable → FinMap by_both (Unit {0})
+identity_index records = index_of identity_key records
 
 -- a mark, with an identity and a name of a record that has the mark
 abbrev pub mark_key : List ℕ × RecordRow → ℕ × (List ℕ × List ℕ)
@@ -42,13 +42,13 @@ by_chosen = by_parts by_bytes nat_cmp
 abbrev pub choice_name_key : ℕ × ChoiceRow → List ℕ × ℕ
 choice_name_key entry = (entry.1.name, entry.0)
 
-abbrev pub choice_names : ChoiceTable → FinMap by_chosen (Unit {0})
-choice_names choices = index_of choice_name_key choices
+abbrev pub choice_name_index : ChoiceTable → FinMap by_chosen (Unit {0})
+choice_name_index choices = index_of choice_name_key choices
 
 -- each charge row is under its own place
-abbrev pub ArePlaced : DayTable → Type 0
-ArePlaced days =
-    (key : ℕ × RowKey) (row : ChargeRow) → get days key ≡ Some row → place_of row ≡ key.1
+abbrev pub AreUnderOwnKeys : DayTable → Type 0
+AreUnderOwnKeys days =
+    (key : ℕ × RowKey) (row : ChargeRow) → get days key ≡ Some row → row_key row ≡ key.1
 
 -- The rows of the trees are those of the tables.
 pub record Holds (trees : Trees) (tables : Tables) : Type 0 where
@@ -57,12 +57,12 @@ pub record Holds (trees : Trees) (tables : Tables) : Type 0 where
   pub closes : trees 2 ≡ map closed_columns (entries tables.closes)
   pub records : trees 3 ≡ map record_columns (entries tables.records)
   pub days : trees 4 ≡ map day_columns (entries tables.days)
-  pub placed : ArePlaced tables.days
+  pub placed : AreUnderOwnKeys tables.days
   pub lines : trees 5 ≡ map line_columns (entries tables.lines)
-  pub identities : trees 6 ≡ map identity_columns (entries (identities tables.records))
+  pub identity_index : trees 6 ≡ map identity_columns (entries (identity_index tables.records))
   pub marks : trees 7 ≡ map mark_columns (entries (marks tables.records))
   pub choices : trees 8 ≡ map choice_columns (entries tables.choices)
-  pub choice_names : trees 9 ≡ map choice_name_columns (entries (choice_names tables.choices))
+  pub choice_name_index : trees 9 ≡ map choice_name_columns (entries (choice_name_index tables.choices))
 
 -- each of the trees is sorted by its whole rows, in this transaction and in the last commit
 pub record HasShapes (view : View) : Type 0 where
@@ -72,8 +72,8 @@ pub record HasShapes (view : View) : Type 0 where
   pub records : view.shape 3 ≡ Index plain
   pub days : view.shape 4 ≡ Index plain
   pub lines : view.shape 5 ≡ Index plain
-  pub identities : view.shape 6 ≡ Index plain
+  pub identity_index : view.shape 6 ≡ Index plain
   pub marks : view.shape 7 ≡ Index plain
   pub choices : view.shape 8 ≡ Index plain
-  pub choice_names : view.shape 9 ≡ Index plain
+  pub choice_name_index : view.shape 9 ≡ Index plain
   pub committed : view.committed_shape ≡ view.shape

@@ -25,8 +25,8 @@ state ghosts store = record {
 abbrev pub HasCleanDisk : State → Type 0
 HasCleanDisk state = IsClean state.view
 
--- No fault is forgotten, only a fault shuts the store, and a stop leaves what it could leave before,
--- or what the call commits.
+-- No fault is forgotten, only a fault shuts the store, and a stop leaves what it could leave
+-- before, or what the call commits.
 pub record Survives (old new : State) (Commits : Trees → Type 0) : Type 0 where
   pub clean : doubt old.view.is_clean ≤ doubt new.view.is_clean
   pub shield : old.IsShielded → new.IsShielded

@@ -4,8 +4,8 @@ use Rattle.sqlite_disk.specs.Disk.{MoreFaults}
 use Rattle.sqlite_trees.specs.Tree.{Trees}
 use Rattle.sqlite_trees.specs.View.{View, HasCause, KeepsCommitted, OnlyWrites}
 use Rattle.sqlite_trees.specs.declared.error.StoreError.{StoreError}
-use Rattle.kept_tables.specs.Keeping.{new_tables}
-use Rattle.kept_tables.specs.Tables.{Tables}
+use Rattle.table_model.specs.TablesAfter.{new_tables}
+use Rattle.table_model.specs.Tables.{Tables}
 use Rattle.tree_rows.specs.Rows.{IsUnchanged}
 use Rattle.tree_tables.specs.Holds.{Holds}
 use Rattle.tree_tables.specs.States.{State, HasCleanDisk, Survives}
@@ -67,13 +67,13 @@ pub record Makes {T : Type 0} (result : Result T StoreError) (old new : State) :
   pub refused : HasCleanDisk new → OnErr result (KeepsCommitted old.view new.view)
 
 -- the last commit stays, as long as the store is open
-pub record Stands (old new : View) : Type 0 where
+pub record KeepsLastCommit (old new : View) : Type 0 where
   pub was_open : IsTrue new.is_open → IsTrue old.is_open
   pub committed : IsTrue new.is_open → new.committed ≡ old.committed
 
 -- what was written is rolled back: the last commit is what is seen again
 pub record IsUndone (old new : View) : Type 0 where
-  pub stands : Stands old new
+  pub stands : KeepsLastCommit old new
   pub undone : IsTrue new.is_open → (new.trees ≡ old.committed) × (new.is_broken ≡ false)
 
 -- what a commit leaves where a stop comes within it: all that was written

@@ -6,8 +6,8 @@ use Rattle.sqlite_value.specs.declared.value.Value.TheVariants.{Blob, Int}
 use Rattle.book_model.specs.declared.row.ChargeRow.{ChargeRow}
 use Rattle.book_model.specs.declared.row.RowKey.{RowKey}
 use Rattle.tariff_rules.specs.declared.priced.Priced.{Priced}
-use Rattle.kept_tables.specs.Tables.{BookRow, ChoiceRow, RecordRow, Tables}
-use Rattle.kept_tables.specs.TablesOf.{place_of}
+use Rattle.table_model.specs.Tables.{BookRow, ChoiceRow, RecordRow, Tables}
+use Rattle.table_model.specs.TablesOf.{row_key}
 use Rattle.tree_tables.specs.Columns.{flag}
 use Rattle.tree_tables.specs.declared.book_row.StoredBook.{StoredBook}
 use Rattle.tree_tables.specs.declared.choice_rows.StoredChoice.{StoredChoice}
@@ -18,8 +18,8 @@ use Rattle.tree_tables.specs.declared.stored_record.StoredRecord.{StoredRecord}
 use Rattle.tree_tables.specs.declared.tariff_rows.StoredTariff.{StoredTariff}
 
 -- the row of the book, as it was read
-abbrev pub book_of : StoredBook → BookRow
-book_of stored = record {
+abbrev pub book_entry : StoredBook → BookRow
+book_entry stored = record {
   rule = stored.rule;
   adopted = stored.adopted;
   held = stored.held;
@@ -31,12 +31,12 @@ abbrev pub tariff_of : StoredTariff → ℤ × Option (List ℕ)
 tariff_of tariff = (tariff.day, Some (string_bytes tariff.body))
 
 -- a close as an entry of its table
-abbrev pub close_of : Close → ℕ × ℤ
-close_of close = (close.period, close.through)
+abbrev pub close_entry : Close → ℕ × ℤ
+close_entry close = (close.period, close.through)
 
 -- a choice as an entry of its table
-abbrev pub choice_of : StoredChoice → ℕ × ChoiceRow
-choice_of choice = (choice.number, record { name = choice.name; period = choice.period })
+abbrev pub choice_entry : StoredChoice → ℕ × ChoiceRow
+choice_entry choice = (choice.number, record { name = choice.name; period = choice.period })
 
 -- the columns are those of the choice
 pub record SaysChoice (row : Row) (choice : StoredChoice) : Type 0 where
@@ -81,7 +81,7 @@ IsAsRead stored tables = get tables.records stored.name ≡ Some (stored_entry s
 
 -- a charge row of a period as an entry of its table
 abbrev pub day_entry : ℕ → ChargeRow → (ℕ × RowKey) × ChargeRow
-day_entry period row = ((period, place_of row), row)
+day_entry period row = ((period, row_key row), row)
 
 -- the name of a line's record, and whether it adds the record
 abbrev pub signed_name : StoredLine → List ℕ × Bool

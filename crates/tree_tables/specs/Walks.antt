@@ -8,9 +8,9 @@ use Rattle.sqlite_trees.specs.View.{View, OnlyWrites}
 use Rattle.sqlite_value.specs.Keys.{plain}
 use Rattle.sqlite_value.specs.Order.{Row, column}
 use Rattle.sqlite_value.specs.declared.value.Value.TheVariants.{Blob}
-use Rattle.kept_tables.specs.Steps.{rename_rows}
-use Rattle.kept_tables.specs.TableChanges.{by_second_rule}
-use Rattle.kept_tables.specs.Tables.{RecordRow, RecordTable, Tables}
+use Rattle.table_model.specs.Steps.{rename_rows}
+use Rattle.table_model.specs.TableChanges.{by_second_rule}
+use Rattle.table_model.specs.Tables.{RecordRow, RecordTable, Tables}
 use Rattle.tree_rows.specs.Changes.{is_above, updated, DoneTo}
 use Rattle.tree_rows.specs.Indexes.{by_both}
 use Rattle.tree_rows.specs.Rows.{past_key, Rewrites}
@@ -18,14 +18,14 @@ use Rattle.tree_tables.specs.Columns.{record_columns}
 use Rattle.tree_tables.specs.Holds.{Holds}
 
 -- the rows after those of a key, or all where the key has no columns
-abbrev pub rows_behind : Row → List Row → List Row
-rows_behind [] rows = rows
-rows_behind (value ∷ more) rows = past_key (value ∷ more) (from_key plain (value ∷ more) rows)
+abbrev pub rows_past : Row → List Row → List Row
+rows_past [] rows = rows
+rows_past (value ∷ more) rows = past_key (value ∷ more) (from_key plain (value ∷ more) rows)
 
 -- the key of the last name that a walk has come to, with no columns before the first
-abbrev pub place_key : Option (List ℕ) → Row
-place_key None = []
-place_key (Some name) = Blob name ∷ []
+abbrev pub last_name_key : Option (List ℕ) → Row
+last_name_key None = []
+last_name_key (Some name) = Blob name ∷ []
 
 -- The trees hold these tables, but that the two trees which find records have the keys of others.
 abbrev pub with_rows_of : RecordTable → Trees → Trees
@@ -52,7 +52,7 @@ RenewsRow change before row due =
 pub record IsRenewing (change : RecordRow → RecordRow) (tables : Tables) (trees : Trees) (key : Row)
     : Type 0 where
   pub last : Option (List ℕ)
-  pub place : key ≡ place_key last
+  pub place : key ≡ last_name_key last
   pub records : RecordTable
   pub holds : HoldsFoundBy trees (record tables { records = records }) tables.records
   pub whole : updated change records ≡ updated change tables.records
@@ -101,8 +101,8 @@ pub record KeysNext (old new : View) (key next : Row) (more : Bool) : Type 0 whe
   pub only : OnlyWrites old new
   pub keys : (tables : Tables) → IsKeying tables old.trees key → Keys tables new.trees next more
 
--- The record with this row makes way, in the two trees that find it, from the identity of an entry to
--- the one that its row says.
+-- The record with this row makes way, in the two trees that find it, from the identity of an entry
+-- to the one that its row says.
 pub record MovesKeys (old new : View) (row entry : Row) : Type 0 where
   pub mid : View
   pub identity : Rewrites old mid 6

@@ -5,9 +5,9 @@ ghost use Rattle.sqlite_value.specs.Order.{column};
 ghost use Rattle.sqlite_value.specs.declared.value.Value.TheVariants.{Int};
 ghost use Rattle.tree_tables.specs.Columns.{book_columns};
 ghost use Rattle.tree_tables.specs.Fits.{BookFits};
-ghost use Rattle.tree_tables.specs.Stored.{book_of};
+ghost use Rattle.tree_tables.specs.Stored.{book_entry};
 
-use crate::cells::{count_at, push_all};
+use crate::column_values::{count_at, push_all};
 use crate::keys::number_key;
 use crate::tables::TreeTables;
 use sqlite_trees::error::StoreError;
@@ -45,7 +45,7 @@ fn book_row(row: &mut Row, book: &StoredBook) -> Result<(), StoreError>
     requires adopted { book.now.adopted < 2 ^ 63 }
     requires held { book.now.held < 2 ^ 63 }
     requires amount { book.now.amount < 2 ^ 63 }
-    ensures { OnOk result (row.new ≡ book_columns (book_of book.now)) }
+    ensures { OnOk result (row.new ≡ book_columns (book_entry book.now)) }
 {
     row.clear();
     push_all(
@@ -110,7 +110,7 @@ fn with_rule(book: &StoredBook, rule: u64, period: u16) -> StoredBook
 
 impl<S: Store> TreeTables<S> {
     ghost use Rattle.std.specs.Prelude.{◌≡◌, ◌<◌, ◌^◌};
-    ghost use Rattle.kept_tables.specs.Steps as step;
+    ghost use Rattle.table_model.specs.Steps as step;
     ghost use Rattle.tree_tables.specs.Answers.{FindsBook};
     ghost use Rattle.tree_tables.specs.States.{state};
     ghost use Rattle.tree_tables.specs.Steps.{Always, Does, FailsByStore, Looks, Makes};

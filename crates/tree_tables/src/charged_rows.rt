@@ -3,7 +3,7 @@
 ghost use Rattle.std.specs.Prelude.{◌≡◌, IfErr, OnOk};
 ghost use Rattle.tree_tables.specs.Columns.{charged_part};
 
-use crate::cells::hash_at;
+use crate::column_values::hash_at;
 use crate::keys::number_key;
 use crate::stored_record::StoredRecord;
 use crate::tables::TreeTables;

@@ -5,7 +5,7 @@ ghost use Rattle.tree_tables.specs.Columns.{choice_columns, choice_name_columns}
 ghost use Rattle.tree_tables.specs.Fits.{ChoiceFits};
 ghost use Rattle.tree_tables.specs.Stored.{SaysChoice};
 
-use crate::cells::{hash_at, number_at, period_at};
+use crate::column_values::{hash_at, number_at, period_at};
 use crate::keys::{bytes_key, choice_key};
 use crate::tables::TreeTables;
 use sqlite_trees::error::StoreError;
@@ -74,8 +74,8 @@ impl ReadRow for StoredChoice {
 impl<S: Store> TreeTables<S> {
     ghost use Rattle.std.specs.Prelude.{◌≡◌, ◌<◌, ◌^◌, None};
     ghost use Rattle.std.specs.FinMap.{get};
-    ghost use Rattle.kept_tables.specs.Steps as step;
-    ghost use Rattle.tree_tables.specs.Answers.{IsNamed, ListsChoices, last_number};
+    ghost use Rattle.table_model.specs.Steps as step;
+    ghost use Rattle.tree_tables.specs.Answers.{HasChoice, ListsChoices, last_number};
     ghost use Rattle.tree_tables.specs.Fits.{ChoicesFit};
     ghost use Rattle.tree_tables.specs.States.{state};
     ghost use Rattle.tree_tables.specs.Steps.{Always, Does, FailsByStore, Looks};
@@ -96,9 +96,9 @@ impl<S: Store> TreeTables<S> {
 
     /// Whether some choice names the record of a name: one look, and no choice is read, however
     /// many there are.
-    pub fn is_named(&mut self, name: &[u8]) -> Result<bool, StoreError>
+    pub fn has_choice(&mut self, name: &[u8]) -> Result<bool, StoreError>
         ensures looks { Looks result (state S.Store self.old.store) (state S.Store self.new.store)
-            (IsNamed name.now) }
+            (HasChoice name.now) }
         ensures cause { FailsByStore result (state S.Store self.old.store)
             (state S.Store self.new.store) Always }
     {

@@ -2,9 +2,9 @@
 
 ghost use Rattle.std.specs.Prelude.{◌≡◌, OnOk};
 ghost use Rattle.tree_tables.specs.Columns.{closed_columns};
-ghost use Rattle.tree_tables.specs.Stored.{close_of};
+ghost use Rattle.tree_tables.specs.Stored.{close_entry};
 
-use crate::cells::{day_at, period_at, push_all};
+use crate::column_values::{day_at, period_at, push_all};
 use crate::keys::period_key;
 use crate::tables::TreeTables;
 use sqlite_trees::error::StoreError;
@@ -26,7 +26,7 @@ pub struct Close {
 
 /// Makes the row of a close.
 fn close_row(row: &mut Row, close: &Close) -> Result<(), StoreError>
-    ensures { OnOk result (row.new ≡ closed_columns (close_of close.now)) }
+    ensures { OnOk result (row.new ≡ closed_columns (close_entry close.now)) }
 {
     row.clear();
     push_all(
@@ -58,7 +58,7 @@ impl ReadRow for Close {
 }
 
 impl<S: Store> TreeTables<S> {
-    ghost use Rattle.kept_tables.specs.Steps as step;
+    ghost use Rattle.table_model.specs.Steps as step;
     ghost use Rattle.tree_tables.specs.Answers.{ListsCloses};
     ghost use Rattle.tree_tables.specs.States.{state};
     ghost use Rattle.tree_tables.specs.Steps.{Always, Does, FailsByStore, Looks};

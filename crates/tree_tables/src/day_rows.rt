@@ -3,13 +3,13 @@
 ghost use Rattle.std.specs.Prelude.{◌≡◌, ◌==◌, ◌∷◌, ◌+ℤ◌, [], ℕ, IfErr, IfOk, OnOk, map, pos};
 ghost use Rattle.sqlite_value.specs.Order.{column};
 ghost use Rattle.sqlite_value.specs.declared.value.Value.TheVariants.{Int};
-ghost use Rattle.kept_tables.specs.TablesOf.{place_of};
-ghost use Rattle.tree_tables.specs.Columns.{day_columns, place_columns};
+ghost use Rattle.table_model.specs.TablesOf.{row_key};
+ghost use Rattle.tree_tables.specs.Columns.{day_columns, day_key_columns};
 ghost use Rattle.tree_tables.specs.Days.{RowFits, SaysDay};
 ghost use Rattle.tree_tables.specs.Fits.{ChargeFits};
 
-use crate::cells::{count_at, counts_at, day_at, name_at, push_all};
 use crate::closed_rows::Close;
+use crate::column_values::{count_at, counts_at, day_at, name_at, push_all};
 use crate::keys::period_key;
 use crate::tables::TreeTables;
 use book_model::{ChargeRow, RowKey};
@@ -35,14 +35,14 @@ pub struct DayRow {
 
 /// Where a charge row is: its period, and its day, centre and shift.
 #[derive(Clone, Copy)]
-pub struct DayPlace {
+pub struct DayKey {
     pub period: u16,
     pub place: RowKey,
 }
 
 /// The place of a charge row.
 fn place_in(charge: &ChargeRow) -> RowKey
-    ensures { result ≡ place_of charge.now }
+    ensures { result ≡ row_key charge.now }
 {
     RowKey {
         day: charge.day,
@@ -53,7 +53,7 @@ fn place_in(charge: &ChargeRow) -> RowKey
 
 /// The key of a charge row.
 fn place_key(key: &mut Row, period: u32, place: &RowKey) -> Result<(), StoreError>
-    ensures { OnOk result (key.new ≡ place_columns (period, place.now)) }
+    ensures { OnOk result (key.new ≡ day_key_columns (period, place.now)) }
 {
     key.clear();
     push_all(
@@ -70,7 +70,7 @@ fn place_key(key: &mut Row, period: u32, place: &RowKey) -> Result<(), StoreErro
 /// Makes the row of a charge row.
 fn day_row(row: &mut Row, period: u32, charge: &ChargeRow) -> Result<(), StoreError>
     requires fits { RowFits charge.now }
-    ensures { OnOk result (row.new ≡ day_columns ((period, place_of charge.now), charge.now)) }
+    ensures { OnOk result (row.new ≡ day_columns ((period, row_key charge.now), charge.now)) }
 {
     place_key(row, period, &place_in(charge))?;
     push_all(
@@ -156,7 +156,7 @@ fn charges(days: Vec<StoredDay>, alloc: Global) -> Result<Vec<ChargeRow>, StoreE
 impl<S: Store> TreeTables<S> {
     ghost use Rattle.std.specs.Prelude.{◌≡◌, IfOk, OnErr, false};
     ghost use Rattle.sqlite_trees.specs.View.{IsClean, IsQuiet, KeepsCommitted};
-    ghost use Rattle.kept_tables.specs.Steps as step;
+    ghost use Rattle.table_model.specs.Steps as step;
     ghost use Rattle.tree_tables.specs.Answers.{FindsDay, ListsDays};
     ghost use Rattle.tree_tables.specs.Days.{MovesSome, NoneLater, NoneNext};
     ghost use Rattle.tree_tables.specs.Fits.{DaysFit};
@@ -164,7 +164,7 @@ impl<S: Store> TreeTables<S> {
     ghost use Rattle.tree_tables.specs.Steps.{Always, Does, FailsByStore, Looks};
 
     /// A period's charge row at a place, if there is one.
-    pub fn find_day(&mut self, spot: &DayPlace) -> Result<Option<ChargeRow>, StoreError>
+    pub fn find_day(&mut self, spot: &DayKey) -> Result<Option<ChargeRow>, StoreError>
         ensures looks { Looks result (state S.Store self.old.store) (state S.Store self.new.store)
             (FindsDay spot.now.period spot.now.place) }
     {
@@ -206,7 +206,7 @@ impl<S: Store> TreeTables<S> {
     }
 
     /// A period's charge row at a place, if there is one, goes.
-    pub fn drop_day(&mut self, spot: &DayPlace) -> Result<(), StoreError>
+    pub fn drop_day(&mut self, spot: &DayKey) -> Result<(), StoreError>
         ensures does { Does result (state S.Store self.old.store) (state S.Store self.new.store)
             Always (step.drop_day_row spot.now.period spot.now.place) }
     {
@@ -214,8 +214,8 @@ impl<S: Store> TreeTables<S> {
         drop_row(&mut self.store, DAYS, &self.key, &mut self.before)
     }
 
-    /// The first row of a period that is dated after a day, if there is one, goes to the next period.
-    /// Answers whether there was one.
+    /// The first row of a period that is dated after a day, if there is one, goes to the next
+    /// period. Answers whether there was one.
     fn move_day(&mut self, close: &Close) -> Result<bool, StoreError>
         ensures moved { IfOk result (λ found. IsClean (S.Store.view self.new.store)
             → MovesSome (S.Store.view self.old.store) (S.Store.view self.new.store)

@@ -5,7 +5,7 @@ ghost use Rattle.sqlite_value.specs.Order.{column};
 ghost use Rattle.sqlite_value.specs.declared.value.Value.TheVariants.{Blob};
 ghost use Rattle.tree_tables.specs.Fits.{EndsInName};
 
-use crate::cells::hash_at;
+use crate::column_values::hash_at;
 use crate::stored_record::StoredRecord;
 use crate::tables::TreeTables;
 use sqlite_trees::error::StoreError;

@@ -4,12 +4,12 @@
 
 ghost use Rattle.std.specs.Prelude.{◌≡◌, IfOk, OnOk, true};
 ghost use Rattle.sqlite_value.specs.Order.{column};
-ghost use Rattle.kept_tables.specs.TableChanges.{by_second_rule};
+ghost use Rattle.table_model.specs.TableChanges.{by_second_rule};
 ghost use Rattle.tree_tables.specs.Walks.{RenewsRow};
 
-use crate::cells::{blob_at, with_column};
+use crate::column_values::{blob_at, with_column};
 use crate::record_rows::{CHARGED, IDENTITIES, MARKS, RECORDS, identity_row, mark_row};
-use crate::record_walks::{MOST_STEPS, NAME, column_key, first_behind};
+use crate::record_walks::{MOST_STEPS, NAME, column_key, first_past};
 use crate::stored_usage::usage_bytes;
 use crate::tables::TreeTables;
 use smf_type30::Type30;
@@ -47,8 +47,8 @@ fn is_keyed(before: &Row, last: &Row) -> Result<bool, StoreError>
 impl<S: Store> TreeTables<S> {
     ghost use Rattle.std.specs.Prelude.{IfOk, OnErr, OnOk};
     ghost use Rattle.sqlite_trees.specs.View.{IsClean, IsQuiet, KeepsCommitted};
-    ghost use Rattle.kept_tables.specs.Steps as step;
-    ghost use Rattle.kept_tables.specs.TableChanges.{by_second_rule};
+    ghost use Rattle.table_model.specs.Steps as step;
+    ghost use Rattle.table_model.specs.TableChanges.{by_second_rule};
     ghost use Rattle.tree_tables.specs.States.{state};
     ghost use Rattle.tree_tables.specs.Steps.{Always, Does};
     ghost use Rattle.tree_tables.specs.Walks.{KeysNext, KeysRecords, MovesKeys, RenamesRows};
@@ -65,7 +65,7 @@ impl<S: Store> TreeTables<S> {
         ensures quiet { IsQuiet S.Store.view S.Store.faults S.Store.recovers S.Store.is_shielded
             self.old.store self.new.store }
     {
-        if !first_behind(&mut self.store, RECORDS, &self.key, &mut self.before)? {
+        if !first_past(&mut self.store, RECORDS, &self.key, &mut self.before)? {
             return Ok(false);
         }
         column_key(&mut self.key, &self.before, NAME)?;
@@ -74,8 +74,8 @@ impl<S: Store> TreeTables<S> {
         Ok(true)
     }
 
-    /// The rows of all records have their identities by the second rule. The trees that find records
-    /// stay as they are.
+    /// The rows of all records have their identities by the second rule. The trees that find
+    /// records stay as they are.
     fn rename_rows(&mut self, alloc: Global) -> Result<(), StoreError>
         ensures renamed { OnOk result (IsClean (S.Store.view self.new.store)
             → RenamesRows (S.Store.view self.old.store) (S.Store.view self.new.store)) }
@@ -105,7 +105,7 @@ impl<S: Store> TreeTables<S> {
         ensures quiet { IsQuiet S.Store.view S.Store.faults S.Store.recovers S.Store.is_shielded
             self.old.store self.new.store }
     {
-        if !first_behind(&mut self.store, IDENTITIES, last, &mut self.row)? {
+        if !first_past(&mut self.store, IDENTITIES, last, &mut self.row)? {
             return Ok(false);
         }
         identity_row(last, self.row.get(0), self.row.get(1))?;
@@ -121,8 +121,8 @@ impl<S: Store> TreeTables<S> {
         Ok(true)
     }
 
-    /// The record over `before` was found by this entry, and by its mark with the identity there: it
-    /// is found by the identity that its row says from now on.
+    /// The record over `before` was found by this entry, and by its mark with the identity there:
+    /// it is found by the identity that its row says from now on.
     fn key_record(&mut self, entry: &Row) -> Result<(), StoreError>
         ensures keyed { OnOk result (IsClean (S.Store.view self.new.store)
             → MovesKeys (S.Store.view self.old.store) (S.Store.view self.new.store)
@@ -161,8 +161,8 @@ impl<S: Store> TreeTables<S> {
         Err(StoreError::Corrupt)
     }
 
-    /// Each record has its identity by the second rule, and is found by it. A walk that does not end,
-    /// and data that are those of no usage record, are answered as a damaged file.
+    /// Each record has its identity by the second rule, and is found by it. A walk that does not
+    /// end, and data that are those of no usage record, are answered as a damaged file.
     pub fn rename_records(&mut self, alloc: Global) -> Result<(), StoreError>
         ensures does { Does result (state S.Store self.old.store) (state S.Store self.new.store)
             Always step.rename_rows }

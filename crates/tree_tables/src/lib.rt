@@ -1,12 +1,12 @@
 //! The tables of books, kept in the sorted trees of a store, below SQL: each look at them, and each
-//! step of a change, says what it is of the tables of `kept_tables`.
+//! step of a change, says what it is of the tables of `table_model`.
 #![tactic(auto)]
 
 mod book_row;
-mod cells;
 mod charged_rows;
 mod choice_rows;
 mod closed_rows;
+mod column_values;
 mod day_rows;
 mod found_names;
 mod identity_walks;
@@ -22,13 +22,13 @@ mod tariff_rows;
 
 pub use book_row::{StoredBook, Sums};
 // How columns are read, for who reads the rows anew.
-pub use cells::{
-    bytes_at, count_at, day_at, hash_at, mark_at, name_at, number_at, period_at, text_at,
-};
 pub use choice_rows::StoredChoice;
 pub use closed_rows::Close;
-pub use day_rows::{DayPlace, DayRow};
-pub use line_rows::{LinePlace, StoredLine};
+pub use column_values::{
+    bytes_at, count_at, day_at, hash_at, mark_at, name_at, number_at, period_at, text_at,
+};
+pub use day_rows::{DayKey, DayRow};
+pub use line_rows::{LineKey, StoredLine};
 pub use memory::trees_in_memory;
 pub use record_rows::NewRecord;
 pub use stored_record::{StoredRecord, read_record};

@@ -6,7 +6,7 @@ ghost use Rattle.tree_tables.specs.Columns.{line_columns};
 ghost use Rattle.tree_tables.specs.Fits.{LineFits};
 ghost use Rattle.tree_tables.specs.Stored.{SaysLine};
 
-use crate::cells::{hash_at, mark_at, push_all};
+use crate::column_values::{hash_at, mark_at, push_all};
 use crate::keys::period_key;
 use crate::tables::TreeTables;
 use sqlite_trees::error::StoreError;
@@ -21,7 +21,7 @@ const LINES: u32 = 5;
 
 /// Where a line is: its period, and the name of its record.
 #[derive(Clone, Copy)]
-pub struct LinePlace<'a> {
+pub struct LineKey<'a> {
     pub period: u16,
     pub name: &'a [u8],
 }
@@ -36,7 +36,7 @@ pub struct StoredLine {
 }
 
 /// The key of a line.
-fn line_key(key: &mut Row, spot: &LinePlace<'_>) -> Result<(), StoreError>
+fn line_key(key: &mut Row, spot: &LineKey<'_>) -> Result<(), StoreError>
     ensures { OnOk result (key.new ≡ Int (pos spot.now.period) ∷ Blob spot.now.name.now ∷ []) }
 {
     key.clear();
@@ -50,7 +50,7 @@ fn line_key(key: &mut Row, spot: &LinePlace<'_>) -> Result<(), StoreError>
 }
 
 /// Makes the row of a line.
-fn line_row(row: &mut Row, spot: &LinePlace<'_>, plus: bool) -> Result<(), StoreError>
+fn line_row(row: &mut Row, spot: &LineKey<'_>, plus: bool) -> Result<(), StoreError>
     ensures { OnOk result (row.new ≡ line_columns ((spot.now.period, spot.now.name.now), plus)) }
 {
     line_key(row, spot)?;
@@ -80,7 +80,7 @@ impl ReadRow for StoredLine {
 }
 
 impl<S: Store> TreeTables<S> {
-    ghost use Rattle.kept_tables.specs.Steps as step;
+    ghost use Rattle.table_model.specs.Steps as step;
     ghost use Rattle.tree_tables.specs.Answers.{ListsLines};
     ghost use Rattle.tree_tables.specs.States.{state};
     ghost use Rattle.tree_tables.specs.Fits.{LinesFit};
@@ -88,7 +88,7 @@ impl<S: Store> TreeTables<S> {
 
     /// A line is kept under its period and the name of its record: it adds the record, or reverses
     /// it.
-    pub fn put_line(&mut self, spot: &LinePlace<'_>, plus: bool) -> Result<(), StoreError>
+    pub fn put_line(&mut self, spot: &LineKey<'_>, plus: bool) -> Result<(), StoreError>
         ensures does { Does result (state S.Store self.old.store) (state S.Store self.new.store)
             Always (step.put_line_row spot.now.period spot.now.name.now plus) }
     {
@@ -104,7 +104,7 @@ impl<S: Store> TreeTables<S> {
     }
 
     /// A period's line for a record, if there is one, goes.
-    pub fn drop_line(&mut self, spot: &LinePlace<'_>) -> Result<(), StoreError>
+    pub fn drop_line(&mut self, spot: &LineKey<'_>) -> Result<(), StoreError>
         ensures does { Does result (state S.Store self.old.store) (state S.Store self.new.store)
             Always (step.drop_line_row spot.now.period spot.now.name.now) }
     {

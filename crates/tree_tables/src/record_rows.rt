@@ -6,7 +6,7 @@ ghost use Rattle.sqlite_value.specs.declared.value.Value.TheVariants.{Blob, Int,
 ghost use Rattle.tree_tables.specs.Columns.{flag, record_columns};
 ghost use Rattle.tree_tables.specs.Stored.{new_entry, priced_entry};
 
-use crate::cells::{push_all, with_column};
+use crate::column_values::{push_all, with_column};
 use crate::keys::{bytes_key, number_key};
 use crate::stored_record::{StoredRecord, read_record};
 use crate::tables::TreeTables;
@@ -148,7 +148,7 @@ fn marked_row(row: &mut Row, before: &Row, mark: bool) -> Result<(), StoreError>
 impl<S: Store> TreeTables<S> {
     ghost use Rattle.std.specs.Prelude.{◌≡◌, None};
     ghost use Rattle.std.specs.FinMap.{get};
-    ghost use Rattle.kept_tables.specs.Steps as step;
+    ghost use Rattle.table_model.specs.Steps as step;
     ghost use Rattle.tree_tables.specs.Answers.{FindsRecord, FindsSharing, ListsUncharged};
     ghost use Rattle.tree_tables.specs.States.{state};
     ghost use Rattle.tree_tables.specs.Fits.{NamedFits, RecordsFit};

@@ -6,11 +6,11 @@ ghost use Rattle.sqlite_disk.specs.Disk.{MoreFaults};
 ghost use Rattle.sqlite_trees.specs.View.{HasCause, IsClean, IsQuiet, KeepsCommitted, KeepsSchema};
 ghost use Rattle.sqlite_value.specs.Keys.{plain};
 ghost use Rattle.sqlite_value.specs.Order.{column};
-ghost use Rattle.kept_tables.specs.Steps.{post_by};
+ghost use Rattle.table_model.specs.Steps.{post_by};
 ghost use Rattle.tree_rows.specs.Rows.{IsFirst, IsUnchanged};
-ghost use Rattle.tree_tables.specs.Walks.{RenewsRow, place_key, rows_behind};
+ghost use Rattle.tree_tables.specs.Walks.{RenewsRow, last_name_key, rows_past};
 
-use crate::cells::{day_at, mark_at, with_column};
+use crate::column_values::{day_at, mark_at, with_column};
 use crate::keys::bytes_key;
 use crate::record_rows::{CHARGED, RECORDS};
 use crate::stored_record::{StoredRecord, read_record};
@@ -35,7 +35,7 @@ pub(crate) const MOST_STEPS: u64 = 1 << 32;
 
 /// Reads the first row of a tree after those of the key over `row`, or the very first where the key
 /// has no columns; or answers that there is none.
-pub(crate) fn first_behind<S: Store>(
+pub(crate) fn first_past<S: Store>(
     store: &mut S,
     tree: u32,
     key: &Row,
@@ -44,7 +44,7 @@ pub(crate) fn first_behind<S: Store>(
     requires { IsClean (S.Store.view store.old)
         → (S.Store.view store.old).shape tree ≡ Shape.Index plain }
     ensures found { IfOk result (λ there. IsClean (S.Store.view store.new)
-        → IsFirst (rows_behind key.now ((S.Store.view store.old).trees tree)) row.new there) }
+        → IsFirst (rows_past key.now ((S.Store.view store.old).trees tree)) row.new there) }
     ensures same { OnOk result (IsClean (S.Store.view store.new)
         → IsUnchanged (S.Store.view store.old) (S.Store.view store.new)) }
     ensures schema { KeepsSchema (S.Store.view store.old) (S.Store.view store.new) }
@@ -73,7 +73,7 @@ pub(crate) fn column_key(key: &mut Row, row: &Row, at: usize) -> Result<(), Stor
 
 /// The key of the name that a walk has come to, with no columns before the first.
 fn walk_key(key: &mut Row, last: Option<[u8; 32]>) -> Result<(), StoreError>
-    ensures made { OnOk result (key.new ≡ place_key last) }
+    ensures made { OnOk result (key.new ≡ last_name_key last) }
     ensures memory { IfErr result (λ error. error ≡ StoreError.OutOfMemory) }
 {
     match last {
@@ -110,7 +110,7 @@ fn post_row(row: &mut Row, before: &Row, through: i32) -> Result<bool, StoreErro
 impl<S: Store> TreeTables<S> {
     ghost use Rattle.std.specs.Prelude.{IfOk, OnErr};
     ghost use Rattle.sqlite_trees.specs.View.{IsClean, IsQuiet, KeepsCommitted};
-    ghost use Rattle.kept_tables.specs.Steps as step;
+    ghost use Rattle.table_model.specs.Steps as step;
     ghost use Rattle.tree_tables.specs.Answers.{FindsNext};
     ghost use Rattle.tree_tables.specs.Fits.{EachFits};
     ghost use Rattle.tree_tables.specs.States.{state};
@@ -130,7 +130,7 @@ impl<S: Store> TreeTables<S> {
             (state S.Store self.new.store) EachFits }
     {
         walk_key(&mut self.key, last)?;
-        if !first_behind(&mut self.store, RECORDS, &self.key, &mut self.before)? {
+        if !first_past(&mut self.store, RECORDS, &self.key, &mut self.before)? {
             return Ok(None);
         }
         Ok(Some(read_record(&self.before, alloc)?))
@@ -147,7 +147,7 @@ impl<S: Store> TreeTables<S> {
         ensures quiet { IsQuiet S.Store.view S.Store.faults S.Store.recovers S.Store.is_shielded
             self.old.store self.new.store }
     {
-        if !first_behind(&mut self.store, RECORDS, &self.key, &mut self.before)? {
+        if !first_past(&mut self.store, RECORDS, &self.key, &mut self.before)? {
             return Ok(false);
         }
         column_key(&mut self.key, &self.before, NAME)?;

@@ -3,12 +3,12 @@
 ghost use Rattle.std.specs.Prelude.{◌≡◌, ℕ, IfErr, IfOk, List, pos};
 ghost use Rattle.sqlite_value.specs.Order.{column};
 ghost use Rattle.sqlite_value.specs.declared.value.Value.TheVariants.{Int, Text};
-ghost use Rattle.kept_tables.specs.Tables.{RecordRow};
+ghost use Rattle.table_model.specs.Tables.{RecordRow};
 ghost use Rattle.tree_tables.specs.Columns.{record_columns};
 ghost use Rattle.tree_tables.specs.Fits.{PriceFits, RecordFits};
 ghost use Rattle.tree_tables.specs.Stored.{stored_entry};
 
-use crate::cells::{bytes_at, counts_at, day_at, hash_at, mark_at, name_at};
+use crate::column_values::{bytes_at, counts_at, day_at, hash_at, mark_at, name_at};
 use sqlite_trees::error::StoreError;
 use sqlite_value::row::Row;
 use std::alloc::Global;

@@ -3,7 +3,7 @@
 ghost use Rattle.std.specs.Prelude.{◌≡◌, OnOk, Some};
 ghost use Rattle.tree_tables.specs.Columns.{tariff_columns};
 
-use crate::cells::{day_at, push_all, text_at};
+use crate::column_values::{day_at, push_all, text_at};
 use crate::keys::day_key;
 use crate::tables::TreeTables;
 use sqlite_trees::error::StoreError;
@@ -64,7 +64,7 @@ impl ReadRow for StoredTariff {
 }
 
 impl<S: Store> TreeTables<S> {
-    ghost use Rattle.kept_tables.specs.Steps as step;
+    ghost use Rattle.table_model.specs.Steps as step;
     ghost use Rattle.tree_tables.specs.Answers.{ListsTariffs};
     ghost use Rattle.tree_tables.specs.States.{state};
     ghost use Rattle.tree_tables.specs.Steps.{Always, Does, FailsByStore, Looks};

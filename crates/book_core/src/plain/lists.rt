@@ -8,10 +8,10 @@ use super::PlainLedger;
 use crate::charge_rows::charge_rows;
 use crate::choices::last_chosen;
 use crate::closed::ClosedPeriod;
-use crate::ending::Ending;
 use crate::identities::{disputes, shared_identities};
 use crate::lines::sort_lines;
 use crate::period::Period;
+use crate::period_end::PeriodEnd;
 use book_model::{ChargeRow, Dispute, LedgerFault, Line, Naming};
 use std::alloc::{AllocError, Global};
 
@@ -39,14 +39,14 @@ impl<N: Naming + Drop> PlainLedger<N> {
     ghost use Rattle.book_model.specs.Words.{IsDay, Answers, period_of, AreDisputes, dispute_shown};
     ghost use Rattle.book_model.specs.Words.{AreLines, adjustments_outcome, charges_outcome};
     ghost use Rattle.book_model.specs.Words.{disputes_outcome, periods_outcome, AreRows};
-    ghost use Rattle.book_core.specs.Shares.{IsEnding};
+    ghost use Rattle.book_core.specs.Treatments.{IsPeriodEnd};
     ghost use Rattle.book_core.specs.PlainBook.{book_in, naming_in, period_in};
 
     /// How the open period ends through a day, or, where there is none, now.
-    pub(super) fn ending(&self, through: Option<i32>) -> Result<Ending, AllocError>
-        ensures { IfOk result (IsEnding self.now.held.entries (book_in self.now).rulings through) }
+    pub(super) fn period_end(&self, through: Option<i32>) -> Result<PeriodEnd, AllocError>
+        ensures { IfOk result (IsPeriodEnd self.now.held.entries (book_in self.now).rulings through) }
     {
-        Ok(Ending {
+        Ok(PeriodEnd {
             adopted: self.adopted,
             shared: shared_identities(self.alloc, &self.held, self.adopted)?,
             chosen: last_chosen(self.alloc, &self.choices, self.adopted)?,
@@ -66,7 +66,7 @@ impl<N: Naming + Drop> PlainLedger<N> {
         }
         match self.closed.get(number as usize - 1) {
             Some(closed) => Ok(Period::Closed(closed)),
-            None => Ok(Period::Open(self.ending(None)?)),
+            None => Ok(Period::Open(self.period_end(None)?)),
         }
     }
 

@@ -5,9 +5,9 @@ ghost use Rattle.book_model.specs.Words.{same_bytes};
 ghost use Rattle.book_core.specs.Plain.{record_of};
 
 use super::PlainLedger;
+use crate::acceptance::{is_full, name_of};
 use crate::held::HeldRecord;
 use crate::pricing::price_in;
-use crate::room::{is_full, name_of};
 use book_model::{Accepted, LedgerFault, Naming};
 use smf_type30::Type30;
 
@@ -36,7 +36,7 @@ impl<N: Naming + Drop> PlainLedger<N> {
             (accept_outcome (N.name_of (naming_in self.old)) bytes.now) }
     {
         let usage = Type30::of_usage(bytes);
-        if self.recalled.has(&usage.identity2(), bytes) {
+        if self.cache.has(&usage.identity2(), bytes) {
             return Ok(Accepted::Known);
         }
         self.keep_named(&usage, bytes)
@@ -66,7 +66,7 @@ impl<N: Naming + Drop> PlainLedger<N> {
         let identity = held.identity;
         let record = held.bytes.clone()?;
         self.held.insert(name, held)?;
-        self.recalled.recall(identity, record);
+        self.cache.remember(identity, record);
         self.total += amount;
         Ok(Accepted::Kept)
     }

@@ -8,8 +8,8 @@ use super::PlainLedger;
 use super::lists::last_close;
 use crate::accepted_tariff::{AcceptedTariff, are_before, has_day_of, has_text};
 use crate::closed::ClosedPeriod;
-use crate::ending::is_after;
 use crate::limits::LAST_PERIOD;
+use crate::period_end::is_after;
 use crate::repricing::{cost_under, reprice};
 use book_model::{LedgerFault, Naming, Ruled};
 use std::alloc::AllocError;
@@ -132,10 +132,13 @@ impl<N: Naming + Drop> PlainLedger<N> {
         ensures naming { naming_in self.new ≡ naming_in self.old }
     {
         let alloc = self.alloc;
-        let ending = self.ending(Some(through))?;
-        let posted = ending.charged_names(alloc, &self.held)?;
-        let shares = ending.shares(alloc, &self.held, &self.posted)?;
-        self.closed.push(ClosedPeriod { through, shares })?;
+        let period_end = self.period_end(Some(through))?;
+        let posted = period_end.charged_names(alloc, &self.held)?;
+        let treatments = period_end.treatments(alloc, &self.held, &self.posted)?;
+        self.closed.push(ClosedPeriod {
+            through,
+            treatments,
+        })?;
         self.posted = posted;
         Ok(())
     }

@@ -1,15 +1,15 @@
 //! New books in a store whose trees have no rows yet.
 
 ghost use Rattle.std.specs.Prelude.{◌≡◌, IfErr, OnOk};
-ghost use Rattle.kept_tables.specs.Keeping.{new_tables};
+ghost use Rattle.table_model.specs.TablesAfter.{new_tables};
 ghost use Rattle.tree_tables.specs.States.{HasCleanDisk, Survives, state};
 ghost use Rattle.tree_tables.specs.Steps.{HasNoRows};
-ghost use Rattle.table_ledger.specs.Commits.{IsAtRest, Keeping};
-ghost use Rattle.table_ledger.specs.Making.{MakesNew, MayHoldNew};
-ghost use Rattle.table_ledger.specs.Recalled.{IsStoreFault};
+ghost use Rattle.table_ledger.specs.Commits.{IsAtRest, Stores};
+ghost use Rattle.table_ledger.specs.NewBooks.{MakesNew, MayHoldNew};
+ghost use Rattle.table_ledger.specs.Loaded.{IsStoreFault};
 
 use super::TableLedger;
-use crate::settle::fault_of;
+use crate::finish::fault_of;
 use crate::summary::Summary;
 use book_core::{Ledger, LedgerFault, Naming};
 use sqlite_trees::error::StoreError;
@@ -35,7 +35,7 @@ fn make_books<S: Store>(tables: &mut TreeTables<S>) -> Result<(), LedgerFault>
     ensures made { HasCleanDisk (state S.Store tables.new.store)
         → IsAtRest (S.Store.view tables.old.store)
         → HasNoRows (S.Store.view tables.old.store).trees
-        → OnOk result (Keeping (S.Store.view tables.new.store) new_tables) }
+        → OnOk result (Stores (S.Store.view tables.new.store) new_tables) }
     ensures survives { Survives (state S.Store tables.old.store) (state S.Store tables.new.store)
         (MayHoldNew (S.Store.view tables.old.store)) }
     ensures kinds { IfErr result IsStoreFault }
@@ -55,8 +55,8 @@ impl<S: Store, N: Naming + Drop> TableLedger<S, N> {
     ghost use Rattle.tree_tables.specs.States.{HasCleanDisk, Survives, state};
     ghost use Rattle.tree_tables.specs.Steps.{HasNoRows};
     ghost use Rattle.table_ledger.specs.Commits.{IsAtRest};
-    ghost use Rattle.table_ledger.specs.Making.{MayHoldNew};
-    ghost use Rattle.table_ledger.specs.Recalled.{IsStoreFault};
+    ghost use Rattle.table_ledger.specs.NewBooks.{MayHoldNew};
+    ghost use Rattle.table_ledger.specs.Loaded.{IsStoreFault};
 
     /// New books, in a store that has the trees, without rows. Books that are there already are
     /// not touched.

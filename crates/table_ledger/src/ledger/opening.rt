@@ -1,7 +1,7 @@
 //! Books that a store holds are opened, and released again.
 
 use super::TableLedger;
-use crate::recall::read_summary;
+use crate::load::read_summary;
 use book_core::{Ledger, LedgerFault, Naming};
 use sqlite_trees::store::Store;
 use std::alloc::Global;
@@ -12,21 +12,21 @@ impl<S: Store, N: Naming + Drop> TableLedger<S, N> {
     ghost use Rattle.sqlite_trees.specs.View.{IsClean};
     ghost use Rattle.book_model.specs.Words.{Book};
     ghost use Rattle.book_core.specs.Ledgers.{IsOpenAt};
-    ghost use Rattle.kept_tables.specs.Tables.{Tables};
-    ghost use Rattle.kept_tables.specs.TablesOf.{tables_of};
-    ghost use Rattle.table_readings.specs.FromCalls.{IsFromCalls};
+    ghost use Rattle.table_model.specs.Tables.{Tables};
+    ghost use Rattle.table_model.specs.TablesOf.{tables_of};
+    ghost use Rattle.table_laws.specs.FromCalls.{IsFromCalls};
     ghost use Rattle.tree_rows.specs.Rows.{IsUnchanged};
     ghost use Rattle.tree_tables.specs.Holds.{HasShapes, Holds};
     ghost use Rattle.tree_tables.specs.States.{HasCleanDisk, Survives, state};
-    ghost use Rattle.table_ledger.specs.Commits.{Keeping};
-    ghost use Rattle.table_ledger.specs.Recalled.{HasTexts, IsOpenCause, IsOpenFault};
+    ghost use Rattle.table_ledger.specs.Commits.{Stores};
+    ghost use Rattle.table_ledger.specs.Loaded.{HasTexts, IsOpenCause, IsOpenFault};
 
     /// The books that a store holds.
     pub fn open(alloc: Global, store: S, naming: N) -> Result<TableLedger<S, N>, (LedgerFault, S)>
         requires { IsClean (S.Store.view store) → HasShapes (S.Store.view store) }
         ensures books { IfOk result (λ ledger. HasCleanDisk (state S.Store ledger.tables.store)
             → (book : Book) → IsFromCalls (N.name_of naming) book
-            → Keeping (S.Store.view store) (tables_of (N.name_of naming) book)
+            → Stores (S.Store.view store) (tables_of (N.name_of naming) book)
             → IsOpenAt (N.name_of naming) book (⟦<TableLedger<S, N> as Ledger>⟧.seen ledger)) }
 
         // Nothing is written.
@@ -46,7 +46,7 @@ impl<S: Store, N: Naming + Drop> TableLedger<S, N> {
         // What calls made is read again, unless memory runs out or the disk fails.
         ensures own { IfErr result (λ refused. HasCleanDisk (state S.Store refused.1)
             → (book : Book) → IsFromCalls (N.name_of naming) book → HasTexts book
-            → Keeping (S.Store.view store) (tables_of (N.name_of naming) book)
+            → Stores (S.Store.view store) (tables_of (N.name_of naming) book)
             → IsOpenCause (state S.Store store) (state S.Store refused.1) refused.0) }
         ensures shaped { IfErr result (λ refused. IsClean (S.Store.view refused.1)
             → HasShapes (S.Store.view refused.1)) }

@@ -2,11 +2,11 @@
 
 ghost use Rattle.std.specs.Prelude.{◌≡◌};
 ghost use Rattle.toml.specs.View.{table_view, view};
-ghost use Rattle.tariff_rules.specs.Document.{Answers, AnswersItems};
+ghost use Rattle.tariff_rules.specs.Document.{IsUnlessMemory, AreUnlessMemory};
 ghost use Rattle.tariff_rules.specs.CentreEntry as spec;
 
 use super::{CentreRule, Field};
-use crate::document::{name_at, text_at, value_at, whole_in};
+use crate::document::{integer_in, name_at, text_at, value_at};
 use crate::fault::TariffFault;
 use crate::key::Key;
 use crate::prefix::prefix_of;
@@ -29,7 +29,7 @@ fn field_at(table: &Table) -> Result<Field, TariffFault>
     ensures { result ≡ spec.field_at (table_view table.now) }
 {
     match (value_at(table, Key::Account), value_at(table, Key::Job)) {
-        (Some(account), _) => match whole_in(account, 1, LAST_ACCOUNT) {
+        (Some(account), _) => match integer_in(account, 1, LAST_ACCOUNT) {
             Some(n) => Ok(Field::Account(n as u16)),
             None => Err(TariffFault::Range(Key::Account)),
         },
@@ -41,7 +41,7 @@ fn field_at(table: &Table) -> Result<Field, TariffFault>
 /// The prefix at a key.
 #[tactic(auto, unfolding(crate::specs::CentreEntry::prefix_at))]
 fn prefix_at(alloc: Global, table: &Table, key: Key, most: usize) -> Result<Vec<u8>, TariffFault>
-    ensures { AnswersItems result (spec.prefix_at (table_view table.now) key most) }
+    ensures { AreUnlessMemory result (spec.prefix_at (table_view table.now) key most) }
 {
     let text = text_at(table, key)?;
     prefix_of(alloc, text, most)?.ok_or(TariffFault::Range(key))
@@ -49,7 +49,7 @@ fn prefix_at(alloc: Global, table: &Table, key: Key, most: usize) -> Result<Vec<
 
 /// What the field has to begin with.
 fn prefix_for(alloc: Global, table: &Table, field: Field) -> Result<Vec<u8>, TariffFault>
-    ensures { AnswersItems result (spec.prefix_for (table_view table.now) field) }
+    ensures { AreUnlessMemory result (spec.prefix_for (table_view table.now) field) }
 {
     match field {
         Field::Account(_) => prefix_at(alloc, table, Key::Prefix, MAX_ACCOUNT_PREFIX),
@@ -61,7 +61,7 @@ impl CentreRule {
     /// The rule of a table.
     #[tactic(auto, unfolding(crate::specs::CentreEntry::centre_rule_of))]
     fn of_table(alloc: Global, table: &Table) -> Result<CentreRule, TariffFault>
-        ensures { Answers result (spec.centre_rule_of (table_view table.now)) }
+        ensures { IsUnlessMemory result (spec.centre_rule_of (table_view table.now)) }
     {
         let centre = name_at(table)?;
         let field = field_at(table)?;

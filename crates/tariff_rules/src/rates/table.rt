@@ -5,7 +5,7 @@ ghost use Rattle.toml.specs.View.{table_view};
 ghost use Rattle.tariff_rules.specs.TariffFile as spec;
 
 use super::{MAX_RATE, Rates};
-use crate::document::whole_at;
+use crate::document::integer_at;
 use crate::fault::TariffFault;
 use crate::key::Key;
 use toml::Table;
@@ -21,9 +21,9 @@ impl Rates {
     ) -> Result<Rates, TariffFault>
         ensures { result ≡ spec.rates_at (table_view table.now) cpu_key excp_key record_key }
     {
-        let cpu = whole_at(table, cpu_key, 0, MAX_RATE)?;
-        let excp = whole_at(table, excp_key, 0, MAX_RATE)?;
-        let record_fee = whole_at(table, record_key, 0, MAX_RATE)?;
+        let cpu = integer_at(table, cpu_key, 0, MAX_RATE)?;
+        let excp = integer_at(table, excp_key, 0, MAX_RATE)?;
+        let record_fee = integer_at(table, record_key, 0, MAX_RATE)?;
         Ok(Rates {
             cpu,
             excp,

@@ -3,12 +3,12 @@
 ghost use Rattle.std.specs.Prelude.{◌≡◌, map, IfOk};
 ghost use Rattle.std.specs.List.{filter_map, list_all};
 ghost use Rattle.toml.specs.View.{table_view, view};
-ghost use Rattle.tariff_rules.specs.Document.{Answers, AnswersItems};
+ghost use Rattle.tariff_rules.specs.Document.{IsUnlessMemory, AreUnlessMemory};
 ghost use Rattle.tariff_rules.specs.ShiftEntry as spec;
 
 use super::{MAX_PERCENT, Shift, ShiftRule};
 use crate::clock::minute_of_text;
-use crate::document::{entries_at, name_at, text_at, whole_at, whole_in};
+use crate::document::{entries_at, integer_at, integer_in, name_at, text_at};
 use crate::fault::TariffFault;
 use crate::key::Key;
 use crate::rules::Rule;
@@ -22,7 +22,7 @@ const DAYS_PER_WEEK: usize = 7;
 fn weekday_in(value: &Value) -> Option<u8>
     ensures { result ≡ spec.weekday_in (view value.now) }
 {
-    match whole_in(value, 1, DAYS_PER_WEEK as u64) {
+    match integer_in(value, 1, DAYS_PER_WEEK as u64) {
         Some(day) => Some(day as u8),
         None => None,
     }
@@ -63,7 +63,7 @@ fn weekdays_of(alloc: Global, entries: &[Value]) -> Result<Vec<u8>, AllocError>
 /// The weekdays at the key `days`.
 #[tactic(auto, unfolding(crate::specs::ShiftEntry::days_at))]
 fn days_at(alloc: Global, table: &Table) -> Result<Vec<u8>, TariffFault>
-    ensures { AnswersItems result (spec.days_at (table_view table.now)) }
+    ensures { AreUnlessMemory result (spec.days_at (table_view table.now)) }
 {
     let entries = entries_at(table, Key::Days)?;
     if !are_weekdays(entries) {
@@ -98,13 +98,13 @@ impl ShiftRule {
     /// The rule of a table.
     #[tactic(auto, unfolding(crate::specs::ShiftEntry::shift_rule_of))]
     fn of_table(alloc: Global, table: &Table) -> Result<ShiftRule, TariffFault>
-        ensures { Answers result (spec.shift_rule_of (table_view table.now)) }
+        ensures { IsUnlessMemory result (spec.shift_rule_of (table_view table.now)) }
     {
         let name = name_at(table)?;
         let days = days_at(alloc, table)?;
         let from = minute_at(table, Key::From)?;
         let to = to_at(table, from)?;
-        let percent = whole_at(table, Key::Percent, 0, u64::from(MAX_PERCENT))? as u16;
+        let percent = integer_at(table, Key::Percent, 0, u64::from(MAX_PERCENT))? as u16;
         Ok(ShiftRule {
             shift: Shift { name, percent },
             days,

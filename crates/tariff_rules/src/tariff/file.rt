@@ -3,7 +3,7 @@
 ghost use Rattle.std.specs.Prelude.{◌≡◌, ◌≢◌, IfErr, IfOk, Ok, Err};
 ghost use Rattle.smf_text.specs.Day.{IsDay};
 ghost use Rattle.toml.specs.View.{table_view};
-ghost use Rattle.tariff_rules.specs.Document.{Answers, AnswersItems};
+ghost use Rattle.tariff_rules.specs.Document.{IsUnlessMemory, AreUnlessMemory};
 ghost use Rattle.tariff_rules.specs.TariffFile as spec;
 ghost use Rattle.tariff_rules.specs.TariffFile.{terms_in};
 
@@ -40,7 +40,7 @@ fn effective_at(document: &Table) -> Result<i32, TariffFault>
 /// The shifts, which agree on what each charges.
 #[tactic(auto, unfolding(crate::specs::TariffFile::shifts_at))]
 fn shifts_at(alloc: Global, document: &Table) -> Result<Vec<ShiftRule>, TariffFault>
-    ensures { AnswersItems result (spec.shifts_at (table_view document.now)) }
+    ensures { AreUnlessMemory result (spec.shifts_at (table_view document.now)) }
 {
     let rules = rules_at(alloc, document, Key::Shift, MAX_SHIFTS)?;
     if has_conflict(&rules) {
@@ -53,7 +53,7 @@ impl Tariff {
     /// The tariff of a document.
     #[tactic(auto, unfolding(crate::specs::TariffFile::terms_of))]
     fn of_document(alloc: Global, document: &Table) -> Result<Tariff, TariffFault>
-        ensures { Answers result (spec.terms_of (table_view document.now)) }
+        ensures { IsUnlessMemory result (spec.terms_of (table_view document.now)) }
     {
         let effective = effective_at(document)?;
         let rates = table_at(document, Key::Rates)?;

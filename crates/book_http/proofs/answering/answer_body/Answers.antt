@@ -1,5 +1,5 @@
 use Rattle.std.proofs.Common.{ap, ◌++◌, Err}
-use Rattle.book_http.specs.Reads.{bytes_of}
+use Rattle.book_http.specs.Reads.{bytes_read}
 use Rattle.book_http.specs.Replies.{reply_of}
 use Rattle.book_http.proofs.AskedLemmas.{whole_body, short_body, wanting}
 use Rattle.book_http.proofs.answering.answer_body.Goals as goal
@@ -12,7 +12,7 @@ returns-in-Ok-clause-answer g c =
     let read = c.in-Ok.ensures.reads in (
       read.0,
       read.1,
-      whole_body old new _ c.args.layout c.args.size (c.args.front.now ++ bytes_of read.0)
+      whole_body old new _ c.args.layout c.args.size (c.args.front.now ++ bytes_read read.0)
           c.in-Ok.body.items reply read.2.enough read.2.bytes
           c.answer_import.ensures,
     )
@@ -24,7 +24,7 @@ returns-in-Err-Short-clause-answer g c =
     let read = rw c.in-Err-Short.field-0-is at c.in-Err-Short.ensures.reads in (
       read.0,
       read.1,
-      short_body seen _ c.args.layout c.args.size (c.args.front.now ++ bytes_of read.0)
+      short_body seen _ c.args.layout c.args.size (c.args.front.now ++ bytes_read read.0)
           (c.in-Err-Short.ensures.ended fault) read.2,
     )
 

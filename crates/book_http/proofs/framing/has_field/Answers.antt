@@ -7,8 +7,8 @@ pub loop-field-init : goal.loop-field-init
 unfolding spec.has_field
 loop-field-init c = refl
 
-pub returns-then-is_called : goal.returns-then-is_called
-returns-then-is_called c =
+pub returns-then-is_field_named : goal.returns-then-is_field_named
+returns-then-is_field_named c =
     sym (has_field_at c.args.wanted.now c.args.bytes.now c.args.fields.now c.loop-field.field-index
     c.loop-field-test.true (search rules))
 

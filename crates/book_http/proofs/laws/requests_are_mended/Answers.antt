@@ -1,4 +1,4 @@
-use Rattle.book_http.proofs.MendLemmas as law
+use Rattle.book_http.proofs.RetryLemmas as law
 use Rattle.book_http.proofs.laws.requests_are_mended.Goals as goal
 
 pub returns : goal.returns

@@ -1,5 +1,5 @@
-use Rattle.book_core.proofs.WorkLemmas.{work_as}
-use Rattle.office.specs.Requests.{told_by}
+use Rattle.book_core.proofs.TransitionLemmas.{work_as}
+use Rattle.office.specs.Requests.{response_by}
 use Rattle.book_http.specs.Answer.{AnswersImport}
 use Rattle.book_http.specs.Replies.{reply_of}
 use Rattle.book_http.proofs.office_answers.answer_import.Goals as goal
@@ -7,12 +7,12 @@ use Rattle.book_http.proofs.office_answers.answer_import.Goals as goal
 pub returns : goal.returns
 returns g c =
     let old = g.L.Ledger.seen c.args.ledger.now in
-    let new = g.L.Ledger.seen c.ask_alone.new.ledger in
+    let new = g.L.Ledger.seen c.ask_without_reader.new.ledger in
     work_as old new _
     (AnswersImport old.naming c.args.layout c.args.body.items (reply_of c.answer_of.result))
     (λ was before events is asked. record {
-      told = told_by c.ask_alone.result;
+      told = response_by c.ask_without_reader.result;
       made = asked;
       replied = c.answer_of.ensures;
     })
-    c.ask_alone.ensures
+    c.ask_without_reader.ensures

@@ -1,10 +1,10 @@
 use Rattle.std.proofs.Common.{arith, ap, refl}
 use Rattle.book_model.specs.Words.{Front}
 use Rattle.book_import.specs.Receipts.{counted}
-use Rattle.book_import.proofs.GoingLemmas.{goes_nowhere, shorter, goes_on, all_done, takes_all}
-use Rattle.book_import.proofs.GoingLemmas.{breaks_here}
+use Rattle.book_import.proofs.FeedLemmas.{goes_nowhere, shorter, goes_on, all_done, takes_all}
+use Rattle.book_import.proofs.FeedLemmas.{breaks_here}
 use Rattle.book_import.proofs.ReachLemmas.{counts_further}
-use Rattle.book_import.proofs.ComeLemmas.{leads_nowhere, come_broken, leads_further, come_refused}
+use Rattle.book_import.proofs.PieceRecordLemmas.{leads_nowhere, come_broken, leads_further, come_refused}
 use Rattle.book_import.proofs.pieces.import_piece.Goals as goal
 
 pub loop-fault-init : goal.loop-fault-init

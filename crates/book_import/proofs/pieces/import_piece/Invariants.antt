@@ -1,7 +1,7 @@
 use Rattle.std.proofs.Common.{◌+◌, ◌≤◌, length}
 use Rattle.book_import.specs.Receipts.{counted}
-use Rattle.book_import.proofs.GoingLemmas.{Goes}
-use Rattle.book_import.proofs.ComeLemmas.{LeadsOver}
+use Rattle.book_import.proofs.FeedLemmas.{Goes}
+use Rattle.book_import.proofs.PieceRecordLemmas.{LeadsOver}
 use Rattle.book_import.proofs.ReachLemmas.{CountsOver}
 use Rattle.book_import.proofs.pieces.import_piece.Given as goal
 

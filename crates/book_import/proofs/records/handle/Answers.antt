@@ -1,6 +1,6 @@
 use Rattle.std.proofs.Common.{sym, ap, ◌∙◌, Ok, Err, refl}
 use Rattle.std.proofs.lemmas.Result.{err_from_is_err_and}
-use Rattle.book_core.proofs.WorkLemmas.{no_work, work_as}
+use Rattle.book_core.proofs.TransitionLemmas.{no_work, work_as}
 use Rattle.book_import.proofs.ImportLemmas.{usage_counts, other_counts}
 use Rattle.book_import.proofs.records.handle.Goals as goal
 

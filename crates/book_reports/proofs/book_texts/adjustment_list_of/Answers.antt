@@ -1,7 +1,7 @@
 use Rattle.std.proofs.Common.{◌∙◌, refl, sym, ap, Ok, ℕ, Vec, Global}
 use Rattle.std.proofs.lemmas.Result.{err_from_is_err_and}
 use Rattle.report_texts.specs.AdjustmentLists.{adjustment_list_text}
-use Rattle.book_reports.specs.BookTexts.{shown_by, through_of}
+use Rattle.book_reports.specs.BookTexts.{shown_by, closed_through}
 use Rattle.book_reports.proofs.ReadingLemmas.{call_failed, then_failed, then_wanting, then_shown}
 use Rattle.book_reports.proofs.WritingLemmas.{same_value}
 use Rattle.book_reports.proofs.book_texts.adjustment_list_of.Goals as goal
@@ -21,7 +21,7 @@ returns-in_err-lines g c =
     let lines_read = rw c.in_ok-through.ensures.through.work.naming at c.in_err-lines.ensures.lines in
     rw (failed.1, failed.2)
     (then_failed _ (λ book. refl) (λ book. refl) (λ book. refl)
-    (λ book is. ap (shown_by (adjustment_list_text period (through_of book period))) is)
+    (λ book is. ap (shown_by (adjustment_list_text period (closed_through book period))) is)
     c.in_ok-through.ensures.through lines_read)
 
 pub returns-in_err-adjustment_list_text : goal.returns-in_err-adjustment_list_text
@@ -45,7 +45,7 @@ returns g c =
     let lines_read = rw c.in_ok-through.ensures.through.work.naming at c.in_ok-lines.ensures.lines in
     then_shown _ (λ book. refl) (λ book. refl) (λ book. refl)
     (λ book early late.
-    ap (shown_by (adjustment_list_text period (through_of book period))) late
+    ap (shown_by (adjustment_list_text period (closed_through book period))) late
     ∙ ap (λ through. Ok (adjustment_list_text period through lines)) (same_value early)
     ∙ ap Ok (sym text))
     c.in_ok-through.ensures.through lines_read

@@ -1,7 +1,7 @@
 use Rattle.std.proofs.Common.{◌∙◌, refl, sym, ap, Ok, ℕ, Vec, Global}
 use Rattle.std.proofs.lemmas.Result.{err_from_is_err_and}
 use Rattle.report_texts.specs.Statements.{statement_text}
-use Rattle.book_reports.specs.BookTexts.{shown_by, through_of}
+use Rattle.book_reports.specs.BookTexts.{shown_by, closed_through}
 use Rattle.book_reports.proofs.ReadingLemmas.{call_failed, then_failed, then_wanting, then_shown}
 use Rattle.book_reports.proofs.WritingLemmas.{same_value}
 use Rattle.book_reports.proofs.book_texts.statement_of.Goals as goal
@@ -20,7 +20,7 @@ returns-in_err-rows g c =
     let failed = err_from_is_err_and answer.result answer.ensures.1 in
     rw (failed.1, failed.2)
     (then_failed _ (λ book. refl) (λ book. refl) (λ book. refl)
-    (λ book is. ap (shown_by (statement_text period (through_of book period))) is)
+    (λ book is. ap (shown_by (statement_text period (closed_through book period))) is)
     c.in_ok-through.ensures.through c.in_err-rows.ensures.rows)
 
 pub returns-in_err-statement_text : goal.returns-in_err-statement_text
@@ -42,7 +42,7 @@ returns g c =
     ∙ ap (statement_text period through) c.deref.ensures.value in
     then_shown _ (λ book. refl) (λ book. refl) (λ book. refl)
     (λ book early late.
-    ap (shown_by (statement_text period (through_of book period))) late
+    ap (shown_by (statement_text period (closed_through book period))) late
     ∙ ap (λ through. Ok (statement_text period through rows)) (same_value early)
     ∙ ap Ok (sym text))
     c.in_ok-through.ensures.through c.in_ok-rows.ensures.rows

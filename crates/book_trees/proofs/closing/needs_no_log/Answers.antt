@@ -1,5 +1,5 @@
 use Rattle.std.proofs.Common.{◌<◌, arith, length}
-use Rattle.book_trees.specs.Left.{shortest_log}
+use Rattle.book_trees.specs.LedgerFiles.{shortest_log}
 use Rattle.book_trees.proofs.ShortLogs.{holds_alone}
 use Rattle.book_trees.proofs.closing.needs_no_log.Goals as goal
 

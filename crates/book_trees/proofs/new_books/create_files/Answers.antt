@@ -11,7 +11,7 @@ use Rattle.book_trees.proofs.FileParts.{end_honest, file_cause, files_kept, firs
 use Rattle.book_trees.proofs.FileParts.{first_image}
 use Rattle.book_trees.proofs.Refused.{cause_of}
 use Rattle.book_trees.proofs.Trees.{has_trees}
-use Rattle.book_trees.specs.Left.{image_of}
+use Rattle.book_trees.specs.LedgerFiles.{image_of}
 use Rattle.book_trees.specs.Refusals.{faults_in, HasCause, HoldsNothing, StopCreating}
 use Rattle.book_trees.specs.Schema.{books_schema}
 use Rattle.book_trees.specs.declared.faults.OpenFault.{OpenFault}

@@ -2,8 +2,8 @@ use Rattle.std.proofs.Common.{◌≡◌, Bool, cond, List, ℕ, ap₂, subst}
 use Rattle.sqlite_disk.specs.Events.{Event, replay}
 use Rattle.sqlite_store.specs.FileStore.{view}
 use Rattle.sqlite_wal.specs.Recovery.{Image}
-use Rattle.book_trees.specs.Left.{HoldsBooks, tables_at}
-use Rattle.book_trees.specs.Shown.{Shows}
+use Rattle.book_trees.specs.LedgerFiles.{HoldsBooks, trees_held}
+use Rattle.book_trees.specs.StoreView.{ShowsBooks}
 use Rattle.book_trees.proofs.opening.open_at.Goals as goal
 
 abbrev image : List ℕ → List ℕ → Image
@@ -20,7 +20,7 @@ returns-in-Ok-open_files-clause-found g c clean =
     let same = ap₂ image (ap₂ (seen g.S.Start.log g.S.Start.db) log.0 log.1)
     (ap₂ (seen g.S.Start.log g.S.Start.db) db.0 db.1) in
     subst (λ (i : Image). (held : HoldsBooks i) → (view c.in-Ok-open_files.store).trees
-    ≡ tables_at held) same (c.in-Ok-open_files.ensures.found clean)
+    ≡ trees_held held) same (c.in-Ok-open_files.ensures.found clean)
 
 pub returns-in-Ok-open_files-clause-read : goal.returns-in-Ok-open_files-clause-read
 returns-in-Ok-open_files-clause-read g c clean =
@@ -28,5 +28,5 @@ returns-in-Ok-open_files-clause-read g c clean =
     let db = c.in-Ok.ensures.fresh.1 in
     let same = ap₂ image (ap₂ (seen g.S.Start.log g.S.Start.db) log.0 log.1)
     (ap₂ (seen g.S.Start.log g.S.Start.db) db.0 db.1) in
-    subst (λ (i : Image). Shows i c.in-Ok-open_files.store) same
+    subst (λ (i : Image). ShowsBooks i c.in-Ok-open_files.store) same
     (c.in-Ok-open_files.ensures.read clean)

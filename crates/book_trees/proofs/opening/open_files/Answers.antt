@@ -4,9 +4,9 @@ use Rattle.sqlite_store.specs.Unopened.{image, IsFullFile}
 use Rattle.sqlite_wal.specs.Recovery.{Image}
 use Rattle.book_trees.proofs.FileParts.{end_honest, file_cause, files_kept, first_honest}
 use Rattle.book_trees.proofs.FileParts.{first_image}
-use Rattle.book_trees.specs.Left.{image_of, tables_at, AreLeft, HoldsBooks}
+use Rattle.book_trees.specs.LedgerFiles.{image_of, trees_held, AreLeft, HoldsBooks}
 use Rattle.book_trees.specs.Refusals.{AreFull}
-use Rattle.book_trees.specs.Shown.{Shows}
+use Rattle.book_trees.specs.StoreView.{ShowsBooks}
 use Rattle.book_trees.proofs.opening.open_files.Goals as goal
 
 pub open_left-requires-clause-left : goal.open_left-requires-clause-left
@@ -33,14 +33,14 @@ returns-in-Ok-open_left-clause-found g c clean =
     let given = c.in-Ok.ensures.files in
     let old = c.in-Ok.files in
     subst (λ (i : Image). (held : HoldsBooks i) → (view c.in-Ok-open_left.store).trees
-    ≡ tables_at held) (first_image old old c.args.files c.args.files given (sym given))
+    ≡ trees_held held) (first_image old old c.args.files c.args.files given (sym given))
     (c.in-Ok-open_left.ensures.found clean)
 
 pub returns-in-Ok-open_left-clause-read : goal.returns-in-Ok-open_left-clause-read
 returns-in-Ok-open_left-clause-read g c clean =
     let given = c.in-Ok.ensures.files in
     let old = c.in-Ok.files in
-    subst (λ (i : Image). Shows i c.in-Ok-open_left.store)
+    subst (λ (i : Image). ShowsBooks i c.in-Ok-open_left.store)
     (first_image old old c.args.files c.args.files given (sym given))
     (c.in-Ok-open_left.ensures.read clean)
 

@@ -5,7 +5,7 @@ use Rattle.book_trees.proofs.Opened.{committed_is, committed_listed, found_old, 
 use Rattle.book_trees.proofs.Opened.{held_listed, opens_twice, rows_are, shows_tables, some_file}
 use Rattle.book_trees.proofs.Refused.{cause_of, cause_since}
 use Rattle.book_trees.proofs.Trees.{has_trees}
-use Rattle.book_trees.specs.Left.{page_size, HoldsBooks}
+use Rattle.book_trees.specs.LedgerFiles.{page_size, HoldsBooks}
 use Rattle.book_trees.specs.Listing.{lists_books}
 use Rattle.book_trees.specs.Refusals.{HasCause}
 use Rattle.book_trees.specs.declared.faults.OpenFault.{OpenFault}

@@ -1,13 +1,13 @@
 use Rattle.std.proofs.Common.{refl, subst, ℤ, w32}
 use Rattle.std.proofs.lemmas.Int.{to_z-of_z}
 use Rattle.std.specs.Prelude.{None, List, ℕ}
-use Rattle.streams.specs.Sides.{reader_seen}
+use Rattle.streams.specs.InputOutput.{reader_seen}
 use Rattle.book_model.proofs.DayLemmas.{day_fits}
 use Rattle.book_model.specs.Outcomes.{tariff_outcome, close_outcome}
 use Rattle.book_core.specs.Calls.{Calls}
-use Rattle.book_core.specs.Work.{IsWork}
+use Rattle.book_core.specs.Transition.{IsTransition}
 use Rattle.book_import.specs.Imports.{Imports}
-use Rattle.book_import.specs.Reading.{cut_of}
+use Rattle.book_import.specs.ReadLimits.{cut_of}
 use Rattle.office.specs.declared.request.Asked.{Asked}
 use Rattle.office.specs.declared.request.Asked.TheVariants.{Tariff, Close, Choose, Adopt, Import}
 use Rattle.office.specs.declared.request.Asked.TheVariants.{ImportBytes, Report}
@@ -23,7 +23,7 @@ returns-in-Tariff g c =
     (unread no_dump (record { is = refl; same = refl })
     (work_told Ruling c.ruled.ensures
     (subst (λ (text : List ℕ).
-    IsWork old new (Calls (λ ruled. ruled) (tariff_outcome text) c.tariff.result))
+    IsTransition old new (Calls (λ ruled. ruled) (tariff_outcome text) c.tariff.result))
     c.as_str.ensures.value c.tariff.ensures.work)))
 
 pub returns-in-Close : goal.returns-in-Close
@@ -37,7 +37,7 @@ returns-in-Close g c =
     (unread no_dump (record { is = refl; same = refl })
     (work_told Ruling c.ruled-in-Close.ensures
     (subst (λ (day : ℤ).
-    IsWork old new (Calls (λ ruled. ruled) (close_outcome c.in-Close.period day) c.close.result))
+    IsTransition old new (Calls (λ ruled. ruled) (close_outcome c.in-Close.period day) c.close.result))
     (to_z-of_z w32 through (day_fits through day)) c.close.ensures.work)))
 
 pub returns-in-Choose : goal.returns-in-Choose
@@ -79,7 +79,7 @@ returns-in-ImportBytes g c =
     (unread (whole_dump c.in-ImportBytes.layout c.in-ImportBytes.bytes.items)
     (record { is = refl; same = refl })
     (subst (λ (bytes : List ℕ).
-    IsWork old new (Imports old.naming c.in-ImportBytes.layout None bytes c.import_bytes.result))
+    IsTransition old new (Imports old.naming c.in-ImportBytes.layout None bytes c.import_bytes.result))
     c.as_slice.ensures.value c.import_bytes.ensures))
 
 pub returns-in-Report : goal.returns-in-Report

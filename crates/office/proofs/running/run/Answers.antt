@@ -1,11 +1,11 @@
 use Rattle.std.proofs.Common.{◌≡◌, ◌+◌, ◌++◌, ◌∷◌, [], ◌∙◌, List, sym, ap, subst, take, take_all}
 use Rattle.std.proofs.Common.{rules}
 use Rattle.std.proofs.lemmas.List.{take_more}
-use Rattle.book_core.specs.Work.{IsWork}
-use Rattle.book_core.proofs.WorkLemmas.{no_work, work_then, work_as}
+use Rattle.book_core.specs.Transition.{IsTransition}
+use Rattle.book_core.proofs.TransitionLemmas.{no_work, work_then, work_as}
 use Rattle.book_core.proofs.FollowLemmas.{follows}
 use Rattle.office.specs.declared.request.Asked.{Asked}
-use Rattle.office.specs.Runs.{AsksAlone, Runs}
+use Rattle.office.specs.Runs.{AsksWithoutReader, Runs}
 use Rattle.office.proofs.RunLemmas.{none_run, one_more_run, runs_answered}
 use Rattle.office.proofs.running.run.Goals as goal
 
@@ -24,21 +24,21 @@ pub loop-asked-preserved : goal.loop-asked-preserved
 loop-asked-preserved g c =
     let old = g.L.Ledger.seen c.args.ledger.now in
     let now = g.L.Ledger.seen c.loop-asked.ledger in
-    let new = g.L.Ledger.seen c.ask_alone-answer.new.ledger in
+    let new = g.L.Ledger.seen c.ask_without_reader-answer.new.ledger in
     let i = c.loop-asked.asked-index in
     let first : List Asked = take i c.args.requests.now in
     let answers = c.loop-asked.answers.items in
     let asked = c.asked-item.result in
-    let answer = c.ask_alone-answer.result in
+    let answer = c.ask_without_reader-answer.result in
     let told = c.push.new.self.items in
     let all : List Asked = take (i + 1) c.args.requests.now in
     let more : first ++ asked ∷ [] ≡ all =
     ap (λ (item : Asked). first ++ item ∷ []) c.asked-item.is
     ∙ sym (take_more c.args.requests.now i asked c.loop-asked-test.true) in
-    let answered = subst (λ naming. IsWork now new (AsksAlone naming asked answer))
-    c.loop-asked.invariant.runs.naming c.ask_alone-answer.ensures in
+    let answered = subst (λ naming. IsTransition now new (AsksWithoutReader naming asked answer))
+    c.loop-asked.invariant.runs.naming c.ask_without_reader-answer.ensures in
     let both = work_then old now new (Runs old.naming first answers)
-    (AsksAlone old.naming asked answer) c.loop-asked.invariant.runs answered in
+    (AsksWithoutReader old.naming asked answer) c.loop-asked.invariant.runs answered in
     record {
       runs = work_as old new _ (Runs old.naming all told)
           (one_more_run old.naming first all answers told asked answer more
@@ -55,7 +55,7 @@ returns g c =
     let answers = c.loop-asked.answers.items in
     let all : take c.loop-asked.asked-index requests ≡ requests =
     take_all c.loop-asked.asked-index requests c.loop-asked-test.false in
-    let runs = subst (λ requests. IsWork old new (Runs old.naming requests answers)) all
+    let runs = subst (λ requests. IsTransition old new (Runs old.naming requests answers)) all
     c.loop-asked.invariant.runs in
     record {
       runs = runs;

@@ -1,5 +1,5 @@
 use Rattle.std.proofs.Common.{◌∙◌, arith, ap}
-use Rattle.report_texts.specs.AdjustmentLists.{charged_by, taken_by}
+use Rattle.report_texts.specs.AdjustmentLists.{charged_amount, reversed_amount}
 use Rattle.report_texts.proofs.AmountLemmas.{charged_below, taken_below}
 use Rattle.report_texts.proofs.adjustment_lists.sums.Goals as goal
 
@@ -7,7 +7,7 @@ use Rattle.report_texts.proofs.adjustment_lists.sums.Goals as goal
 pub overflow_add-charged : goal.overflow_add-charged
 overflow_add-charged c =
     let sum = c.loop-line.invariant.charged in
-    let part = c.charged_by-charged.ensures ∙ ap charged_by c.line-item.is in
+    let part = c.charged_amount-charged.ensures ∙ ap charged_amount c.line-item.is in
     let all = charged_below c.args.lines.now c.loop-line.line-index c.line-item.result
     c.loop-line-test.true in
     let below = c.requires.amount in
@@ -17,7 +17,7 @@ overflow_add-charged c =
 pub overflow_add-taken : goal.overflow_add-taken
 overflow_add-taken c =
     let sum = c.loop-line.invariant.taken in
-    let part = c.taken_by-taken.ensures ∙ ap taken_by c.line-item.is in
+    let part = c.reversed_amount-taken.ensures ∙ ap reversed_amount c.line-item.is in
     let all = taken_below c.args.lines.now c.loop-line.line-index c.line-item.result
     c.loop-line-test.true in
     let below = c.requires.amount in

@@ -1,4 +1,4 @@
-use Rattle.smf_frames.proofs.Determined.{determined}
+use Rattle.smf_frames.proofs.FeedDetermined.{determined}
 use Rattle.smf_frames.proofs.laws.feed_is_determined.Goals as goal
 
 pub returns : goal.returns

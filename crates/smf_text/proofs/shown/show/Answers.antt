@@ -1,7 +1,7 @@
 use Rattle.std.proofs.Common.{◌≡◌, ◌∙◌, arith, string_bytes}
 use Rattle.std.proofs.lemmas.Grind.{common_steps}
 use Rattle.smf_text.specs.CodePage.{show_text}
-use Rattle.smf_text.proofs.UnlikeLemmas.{show_text-injective, bytes_everywhere}
+use Rattle.smf_text.proofs.InjectiveLemmas.{show_text-injective, bytes_everywhere}
 use Rattle.smf_text.proofs.shown.show.Goals as goal
 
 pub returns-clause-unlike : goal.returns-clause-unlike

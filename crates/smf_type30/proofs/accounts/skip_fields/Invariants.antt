@@ -1,4 +1,4 @@
-use Rattle.smf_type30.specs.Walk.{LeavesRest}
+use Rattle.smf_type30.specs.AccountWalk.{LeavesRest}
 use Rattle.smf_type30.proofs.accounts.skip_fields.Given as goal
 
 abbrev pub invariant-loop : goal.invariant-loop

@@ -3,8 +3,8 @@ use Rattle.std.specs.Option.{option_map_or}
 use Rattle.book_model.specs.Words.{identity_by, identity_of, identity2_of}
 use Rattle.table_ledger.specs.Summaries.{ruled_in}
 use Rattle.book_core.specs.Effects.{effects_of}
-use Rattle.kept_tables.specs.Views.{rows_with}
-use Rattle.table_readings.specs.AcceptRead.{view_with}
+use Rattle.table_model.specs.Views.{rows_with}
+use Rattle.table_laws.specs.AcceptRead.{view_with}
 use Rattle.table_ledger.proofs.NewEntries.{commit_so, entry_kept}
 use Rattle.table_ledger.proofs.Refusals.{commit_failed}
 use Rattle.table_ledger.proofs.TryLemmas.{commit_refused, commit_seen, saw_none, saw_found}
@@ -33,8 +33,8 @@ returns g c = record {
       let name = c.args.name in
       let bytes = c.args.bytes.now in
       let priced = c.args.priced.now in
-      let identity : c.in_force-identity.result.now ≡ identity_by (ruled_in summary) bytes =
-      c.in_force-identity.ensures
+      let identity : c.identity_in_force-identity.result.now ≡ identity_by (ruled_in summary) bytes =
+      c.identity_in_force-identity.ensures
       ∙ (λ i. option_map_or (λ (period : ℕ). (c.identity2-second.ensures.value ∙ ap identity2_of c.of_usage-usage.ensures) i)
       summary.adopted ((c.identity-first.ensures.value ∙ ap identity_of c.of_usage-usage.ensures) i)) in
       commit_seen

@@ -4,7 +4,7 @@ use Rattle.book_model.specs.Words.{record_with, job_of}
 use Rattle.table_ledger.proofs.LineReadings.{found_there, line_found, look_refused}
 use Rattle.table_ledger.proofs.TryLemmas.{looks_known, looks_stopped}
 use Rattle.table_ledger.proofs.TryLemmas.{saw_found, saw_none}
-use Rattle.kept_tables.specs.Tables.{Tables}
+use Rattle.table_model.specs.Tables.{Tables}
 use Rattle.tree_tables.specs.Answers.{FindsRecord}
 use Rattle.tree_tables.specs.Holds.{Holds}
 use Rattle.tree_tables.specs.States.{HasCleanDisk, state}

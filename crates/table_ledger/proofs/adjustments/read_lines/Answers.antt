@@ -9,7 +9,7 @@ use Rattle.tree_tables.specs.declared.line_rows.StoredLine.{StoredLine}
 use Rattle.table_ledger.specs.LineReads.{lines_stored}
 use Rattle.table_ledger.proofs.LineReadings.{line_more, look_refused}
 use Rattle.table_ledger.proofs.TryLemmas.{looks_known, looks_stopped, saw_found, saw_so, saw_then}
-use Rattle.kept_tables.specs.Tables.{Tables}
+use Rattle.table_model.specs.Tables.{Tables}
 use Rattle.tree_tables.specs.Holds.{Holds}
 use Rattle.tree_tables.specs.States.{HasCleanDisk, state}
 use Rattle.tree_tables.specs.Steps.{IsCaused}

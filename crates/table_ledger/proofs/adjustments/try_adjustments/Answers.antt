@@ -1,9 +1,9 @@
 use Rattle.std.proofs.Common.{◌≡◌, ◌∙◌, ap, sym, true, false}
 use Rattle.std.specs.Prelude.{List}
 use Rattle.std.proofs.lemmas.Result.{err_from_is_err_and}
-use Rattle.kept_tables.specs.Reading.{lines_read}
-use Rattle.table_readings.specs.ListsRead.{is_period}
-use Rattle.table_readings.proofs.ListLemmas.{lists_follow}
+use Rattle.table_model.specs.PeriodLists.{lines_read}
+use Rattle.table_laws.specs.ListsRead.{is_period}
+use Rattle.table_laws.proofs.ListLemmas.{lists_follow}
 use Rattle.tree_tables.specs.declared.line_rows.StoredLine.{StoredLine}
 use Rattle.table_ledger.specs.LineReads.{lines_stored}
 use Rattle.table_ledger.specs.Summaries.{ruled_in}
@@ -11,7 +11,7 @@ use Rattle.table_ledger.proofs.LineReadings.{lines_listed}
 use Rattle.table_ledger.proofs.ListReadings.{first_refused, later_refused, no_period, period_read}
 use Rattle.table_ledger.proofs.TryLemmas.{saw_found, saw_then, try_stopped}
 use Rattle.book_model.specs.Words.{Book}
-use Rattle.kept_tables.specs.TablesOf.{tables_of}
+use Rattle.table_model.specs.TablesOf.{tables_of}
 use Rattle.tree_tables.specs.States.{HasCleanDisk, state}
 use Rattle.tree_tables.specs.Steps.{IsCaused}
 use Rattle.table_ledger.specs.Ready.{IsReadyAt}

@@ -1,7 +1,7 @@
 use Rattle.std.proofs.Common.{◌≡◌, false, rules, true}
 use Rattle.tree_tables.specs.Answers.{FindsSharing}
 use Rattle.table_ledger.specs.Adoptions.{is_last}
-use Rattle.table_ledger.proofs.Settling.{due_alone, due_chosen}
+use Rattle.table_ledger.proofs.DueCharges.{due_alone, due_chosen}
 use Rattle.table_ledger.proofs.TryLemmas.{looks_known, saw_found, saw_none}
 use Rattle.tree_tables.specs.States.{state}
 use Rattle.table_ledger.proofs.Refusals.{looks_failed}

@@ -2,13 +2,13 @@ use Rattle.std.proofs.Common.{◌≢◌, ◌∙◌, Ok, refl, subst, sym}
 use Rattle.book_model.specs.Words.{adopt_outcome}
 use Rattle.book_model.specs.declared.answer.Ruled.{Ruled}
 use Rattle.book_model.specs.declared.answer.Ruled.TheVariants.{Done}
-use Rattle.kept_tables.specs.Steps.{adoption_by_steps}
-use Rattle.kept_tables.specs.Views.{is_due_in}
-use Rattle.kept_tables.proofs.AdoptionSteps.{adoption_is_steps}
+use Rattle.table_model.specs.Steps.{adoption_by_steps}
+use Rattle.table_model.specs.Views.{is_due_in}
+use Rattle.table_model.proofs.AdoptionSteps.{adoption_is_steps}
 use Rattle.tree_tables.specs.States.{state}
 use Rattle.tree_tables.specs.Steps.{Always}
 use Rattle.table_ledger.specs.Summaries.{book_ruled}
-use Rattle.table_ledger.specs.Tries.{IsPlain}
+use Rattle.table_ledger.specs.Attempts.{LeavesOpen}
 use Rattle.table_ledger.proofs.AdoptTries.{adopt_done, adopt_is_event, adopt_makes, adopt_plain}
 use Rattle.table_ledger.proofs.AdoptTries.{adopt_remembered, adopt_remembers}
 use Rattle.table_ledger.proofs.TryLemmas.{saw_none, tries_err, tries_told, try_answered, try_done}
@@ -31,7 +31,7 @@ returns-then-not-is_done g c = record {
       let other : answer ≢ Ok Done = c.is_done.ensures.other c.if-not-is_done.true in
       try_answered view naming summary (adopt_outcome rule)
       (saw_none {state = state g.S.Store c.args.tables.now.store})
-      (subst IsPlain (sym is) (adopt_plain (book_ruled summary) rule))
+      (subst LeavesOpen (sym is) (adopt_plain (book_ruled summary) rule))
       (λ book ready known. adopt_makes answer rule book
       (sym (adopt_remembered summary book rule ready.remembers) ∙ sym is) other);
 }

@@ -1,6 +1,6 @@
-use Rattle.kept_tables.specs.Steps.{set_rule}
-use Rattle.kept_tables.specs.Views.{is_due_in}
-use Rattle.kept_tables.specs.TableChanges.{settle_step, walk}
+use Rattle.table_model.specs.Steps.{set_rule}
+use Rattle.table_model.specs.Views.{is_due_in}
+use Rattle.table_model.specs.TableChanges.{charge_due_step, walk}
 use Rattle.book_model.specs.Words.{second_rule}
 use Rattle.std.specs.FinMap.{keys}
 use Rattle.tree_tables.specs.States.{state}
@@ -17,7 +17,7 @@ returns g c = record {
       let rest : Does c.set_rule.result (state g.S.Store c.rename_records.new.self.store)
       (state g.S.Store c.set_rule.new.self.store) Always
       (λ tables. set_rule second_rule period
-      (walk (settle_step period c.args.through (is_due_in tables)) (keys tables.records) tables)) =
+      (walk (charge_due_step period c.args.through (is_due_in tables)) (keys tables.records) tables)) =
       does_then {When = Always} c.set_rule.result c.in_ok-charge_due.ensures.does
       c.set_rule.ensures.does (λ tables always. (tt, tt)) in
       does_then {When = Always} c.set_rule.result c.in_ok-rename_records.ensures.does rest

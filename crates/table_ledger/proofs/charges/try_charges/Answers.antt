@@ -1,12 +1,12 @@
 use Rattle.std.proofs.Common.{◌≡◌, ◌∙◌, sym, subst, true, false}
 use Rattle.std.proofs.lemmas.Result.{err_from_is_err_and}
 use Rattle.book_model.specs.Words.{AreRows, Book}
-use Rattle.kept_tables.specs.Reading.{rows_read}
-use Rattle.kept_tables.specs.TablesOf.{tables_of}
+use Rattle.table_model.specs.PeriodLists.{rows_read}
+use Rattle.table_model.specs.TablesOf.{tables_of}
 use Rattle.tree_tables.specs.States.{HasCleanDisk, state}
 use Rattle.tree_tables.specs.Steps.{IsCaused}
-use Rattle.table_readings.specs.ListsRead.{is_period}
-use Rattle.table_readings.proofs.ListLemmas.{lists_follow}
+use Rattle.table_laws.specs.ListsRead.{is_period}
+use Rattle.table_laws.proofs.ListLemmas.{lists_follow}
 use Rattle.table_ledger.specs.Ready.{IsReadyAt}
 use Rattle.table_ledger.specs.Summaries.{ruled_in}
 use Rattle.table_ledger.proofs.ListReadings.{first_refused, no_period, period_read}

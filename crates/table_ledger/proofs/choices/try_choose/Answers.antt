@@ -6,13 +6,13 @@ use Rattle.book_model.specs.Words.{choose_outcome, most_choices}
 use Rattle.book_model.specs.declared.answer.Ruled.{Ruled}
 use Rattle.book_model.specs.declared.answer.Ruled.TheVariants.{Already}
 use Rattle.book_model.specs.declared.fault.LedgerFault.TheVariants.{Full, NoSuchRecord, NotDisputed}
-use Rattle.kept_tables.specs.TableChanges.{put_choice}
-use Rattle.kept_tables.specs.TablesOf.{tables_of}
-use Rattle.kept_tables.specs.Views.{member_at}
+use Rattle.table_model.specs.TableChanges.{put_choice}
+use Rattle.table_model.specs.TablesOf.{tables_of}
+use Rattle.table_model.specs.Views.{member_at}
 use Rattle.tree_tables.specs.Answers.{charged_with}
 use Rattle.tree_tables.specs.States.{state}
 use Rattle.tree_tables.specs.Stored.{stored_entry}
-use Rattle.table_ledger.specs.Entries.{IsNext}
+use Rattle.table_ledger.specs.RecordWrites.{IsNext}
 use Rattle.table_ledger.proofs.AcceptTries.{saw_as}
 use Rattle.table_ledger.proofs.ChoiceTries.{choose_again, choose_alone, choose_done, choose_full}
 use Rattle.table_ledger.proofs.ChoiceTries.{choose_is_event, choose_makes, choose_none}

@@ -1,6 +1,6 @@
 use Rattle.tree_tables.specs.States.{state}
 use Rattle.tree_tables.specs.Steps.{Always, Does}
-use Rattle.table_ledger.specs.Entries.{write_line, write_mark}
+use Rattle.table_ledger.specs.RecordWrites.{write_line, write_mark}
 use Rattle.table_ledger.proofs.StepLemmas.{does_then}
 use Rattle.table_ledger.proofs.Refusals.{does_failed, does_failed_behind}
 use Rattle.table_ledger.proofs.choices.write_change.Goals as goal

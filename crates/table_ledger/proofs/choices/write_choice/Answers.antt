@@ -1,13 +1,13 @@
 use Rattle.std.proofs.Common.{◌≡◌, ◌∙◌, ℕ, Option, Some, None, ap, refl}
 use Rattle.std.specs.FinMap.{get, insert}
 use Rattle.std.specs.Option.{option_map_or}
-use Rattle.book_core.specs.declared.effect_table.Effects.{Effects}
-use Rattle.kept_tables.specs.Steps.{put_choice_row}
-use Rattle.kept_tables.specs.TableChanges.{apply, charge_in}
-use Rattle.kept_tables.specs.Tables.{ChoiceTable, Tables}
+use Rattle.book_core.specs.declared.effects.Effects.{Effects}
+use Rattle.table_model.specs.Steps.{put_choice_row}
+use Rattle.table_model.specs.TableChanges.{apply, charge_in}
+use Rattle.table_model.specs.Tables.{ChoiceTable, Tables}
 use Rattle.tree_tables.specs.States.{state}
 use Rattle.tree_tables.specs.Steps.{Does}
-use Rattle.table_ledger.specs.Entries.{IsNext}
+use Rattle.table_ledger.specs.RecordWrites.{IsNext}
 use Rattle.table_ledger.proofs.StepLemmas.{does_so, does_then}
 use Rattle.table_ledger.proofs.Refusals.{does_failed, does_failed_behind}
 use Rattle.table_ledger.proofs.choices.write_choice.Goals as goal

@@ -1,10 +1,10 @@
 use Rattle.table_ledger.proofs.AcceptTries.{saw_as}
-use Rattle.table_ledger.proofs.Settling.{joins_found}
+use Rattle.table_ledger.proofs.DueCharges.{joins_found}
 use Rattle.table_ledger.proofs.TryLemmas.{looks_known}
 use Rattle.table_ledger.proofs.Refusals.{looks_failed}
 use Rattle.table_ledger.proofs.Refusals.{looks_failed_after}
 use Rattle.table_ledger.proofs.TryLemmas.{saw_found}
-use Rattle.table_ledger.proofs.Settling.{joins_none}
+use Rattle.table_ledger.proofs.DueCharges.{joins_none}
 use Rattle.table_ledger.proofs.chosen.join.Goals as goal
 
 -- the record that was found is the last of its identity

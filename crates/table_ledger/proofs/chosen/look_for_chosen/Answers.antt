@@ -2,7 +2,7 @@ use Rattle.std.proofs.Common.{List, map, subst}
 use Rattle.tree_tables.specs.declared.choice_rows.StoredChoice.{StoredChoice}
 use Rattle.tree_tables.proofs.Looking.{looks_behind}
 use Rattle.table_ledger.specs.Adoptions.{IsLastOf}
-use Rattle.table_ledger.proofs.Settling.{last_listed}
+use Rattle.table_ledger.proofs.DueCharges.{last_listed}
 use Rattle.table_ledger.proofs.Refusals.{looks_failed}
 use Rattle.table_ledger.proofs.chosen.look_for_chosen.Goals as goal
 

@@ -12,8 +12,8 @@ use Rattle.tree_tables.specs.States.{state}
 use Rattle.book_model.specs.declared.answer.Ruled.{Ruled}
 use Rattle.book_model.specs.declared.answer.Ruled.TheVariants.{Done}
 use Rattle.tree_tables.specs.Days.{NoneNext}
-use Rattle.table_ledger.specs.Closings.{close_written}
-use Rattle.table_ledger.specs.Tries.{IsPlain}
+use Rattle.table_ledger.specs.CloseWrites.{close_by_steps}
+use Rattle.table_ledger.specs.Attempts.{LeavesOpen}
 use Rattle.table_ledger.proofs.CloseTries.{close_is_event, close_plain, close_makes}
 use Rattle.table_ledger.proofs.CloseTries.{close_remembered, close_room}
 use Rattle.table_ledger.proofs.LastClose.{popped}
@@ -44,7 +44,7 @@ returns-then-not-is_done g c = record {
       let other : answer ≢ Ok Done = c.is_done.ensures.other c.if-not-is_done.true in
       try_answered (λ (ruled : Ruled). ruled) naming summary (close_outcome number day)
       (saw_none {state = state g.S.Store c.args.tables.now.store})
-      (subst IsPlain (sym is) (close_plain (book_ruled summary) number day))
+      (subst LeavesOpen (sym is) (close_plain (book_ruled summary) number day))
       (λ book ready known. close_makes answer number day book
       (sym (close_remembered summary book number day ready.remembers) ∙ sym is) other);
 }
@@ -83,7 +83,7 @@ returns-in-Err g c = record {
       (let is = c.push.new.self.ok.0 in omega (arith, is)) in
       tries_so (λ (ruled : Ruled). ruled) naming summary outcome
       (try_undone (λ (ruled : Ruled). ruled) naming summary outcome
-      (state g.S.Store c.keep_close.new.tables.store) (NoneNext number) (close_written number day)
+      (state g.S.Store c.keep_close.new.tables.store) (NoneNext number) (close_by_steps number day)
       (saw_none {state = state g.S.Store c.args.tables.now.store})
       (λ book ready known. close_is_event naming summary _ number day c.requires.day answer book ready)
       c.in-Err.ensures.commits)
@@ -111,7 +111,7 @@ returns g c = record {
       let outcome = close_outcome number day in
       let answer = sym (answered summary number day c.requires.day c.close_answer-answer.ensures) ∙ c.is_done.ensures.done c.if-not-is_done.false in
       try_done (λ (ruled : Ruled). ruled) naming summary outcome
-      (state g.S.Store c.keep_close.new.tables.store) (NoneNext number) (close_written number day)
+      (state g.S.Store c.keep_close.new.tables.store) (NoneNext number) (close_by_steps number day)
       (saw_none {state = state g.S.Store c.args.tables.now.store})
       (λ book ready known. close_is_event naming summary _ number day c.requires.day answer book ready)
       c.in_default.ensures.commits

@@ -1,5 +1,5 @@
 use Rattle.std.proofs.Common.{Ok, subst}
-use Rattle.kept_tables.specs.Steps.{move_day_rows, post_rows}
+use Rattle.table_model.specs.Steps.{move_day_rows, post_rows}
 use Rattle.tree_tables.specs.Days.{NoneNext}
 use Rattle.tree_tables.specs.States.{state}
 use Rattle.tree_tables.specs.Steps.{Always, Does}

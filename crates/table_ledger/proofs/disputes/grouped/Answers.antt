@@ -5,9 +5,9 @@ use Rattle.std.specs.Prelude.{All, Bool, if◌then◌else◌}
 use Rattle.std.proofs.lemmas.Result.{err_from_is_err_and}
 use Rattle.book_model.specs.Words.{AreDisputes, Disputed, dispute_shown}
 use Rattle.book_model.specs.declared.dispute.Dispute.{Dispute}
-use Rattle.kept_tables.specs.Tables.{Tables}
-use Rattle.kept_tables.specs.Views.{rows_with}
-use Rattle.table_readings.specs.DisputesRead.{is_unsettled, join_last}
+use Rattle.table_model.specs.Tables.{Tables}
+use Rattle.table_model.specs.Views.{rows_with}
+use Rattle.table_laws.specs.DisputesRead.{has_none_charged, join_last}
 use Rattle.tree_tables.specs.Answers.{is_charged}
 use Rattle.tree_tables.specs.Holds.{Holds}
 use Rattle.tree_tables.specs.States.{HasCleanDisk, state}
@@ -57,7 +57,7 @@ loop-stored-preserved g c =
       saw = saw_so (saw_then c.loop-stored.invariant.saw
           (saw_found c.in_ok-has_charged.ensures.looks))
           (λ tables known.
-          grouped_more (is_unsettled tables.records) rows at row olds
+          grouped_more (has_none_charged tables.records) rows at row olds
           (shown c.if-not-branch.found) settled c.loop-stored-test.true c.stored-item.is
           (ap not (known.1 ∙ (λ i. list_any is_charged
           (rows_with (c.deref.ensures.value i) tables.records)))) more known.0);

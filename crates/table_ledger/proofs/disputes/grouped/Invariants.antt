@@ -1,7 +1,7 @@
 use Rattle.std.proofs.Common.{◌≡◌, map, take}
 use Rattle.std.specs.Prelude.{filter}
 use Rattle.book_model.specs.Words.{AreDisputes, dispute_shown}
-use Rattle.table_readings.specs.DisputesRead.{grouped, is_unsettled}
+use Rattle.table_laws.specs.DisputesRead.{grouped, has_none_charged}
 use Rattle.tree_tables.specs.States.{state}
 use Rattle.tree_tables.specs.Stored.{stored_entry}
 use Rattle.table_ledger.specs.Commits.{Saw}
@@ -12,7 +12,7 @@ abbrev pub invariant-loop-stored : goal.invariant-loop-stored
 invariant-loop-stored g l = record {
   saw : Saw (state g.S.Store l.initial.tables.store) (state g.S.Store l.tables.store) (λ tables.
       map dispute_shown l.found.items
-      ≡ grouped (filter (is_unsettled tables.records)
+      ≡ grouped (filter (has_none_charged tables.records)
       (map stored_entry (take l.stored-index l.rows))));
   shown : AreDisputes (map dispute_shown l.found.items);
 }

@@ -24,10 +24,10 @@ returns-in_ok-push-5-clause-joined c =
     let differ : same_bytes last.identity.items c.args.stored.now.identity.items ≡ false =
     search rules in
     ap (λ (all : List Dispute). map dispute_shown all) (c.in_ok-push-5.ensures.items
-    ∙ ap (λ (front : List Dispute). front ++ c.in_ok-alone-2.field-0 ∷ [])
+    ∙ ap (λ (front : List Dispute). front ++ c.in_ok-single_dispute-2.field-0 ∷ [])
     c.in_ok-push-4.ensures.items)
-    ∙ joined_other c.args.found.now.items c.pop.new.self.items last c.in_ok-alone-2.field-0
-    (stored_entry c.args.stored.now) c.in-Some.ensures.items differ c.in_ok-alone-2.ensures.made
+    ∙ joined_other c.args.found.now.items c.pop.new.self.items last c.in_ok-single_dispute-2.field-0
+    (stored_entry c.args.stored.now) c.in-Some.ensures.items differ c.in_ok-single_dispute-2.ensures.made
 
 -- if the disputes can be shown and the record can, then all of them can
 pub returns-in_ok-push-3-clause-shown : goal.returns-in_ok-push-3-clause-shown

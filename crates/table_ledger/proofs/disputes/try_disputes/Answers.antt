@@ -3,15 +3,15 @@ use Rattle.std.specs.Prelude.{All, filter}
 use Rattle.std.proofs.lemmas.Result.{err_from_is_err_and}
 use Rattle.tree_tables.specs.Stored.{stored_entry}
 use Rattle.tree_tables.specs.declared.stored_record.StoredRecord.{StoredRecord}
-use Rattle.table_readings.specs.DisputesRead.{disputes_read, grouped, is_unsettled}
-use Rattle.table_readings.proofs.DisputeLemmas.{disputes_follow}
+use Rattle.table_laws.specs.DisputesRead.{disputes_read, grouped, has_none_charged}
+use Rattle.table_laws.proofs.DisputeLemmas.{disputes_follow}
 use Rattle.table_ledger.specs.DisputeReads.{IsShownRow}
 use Rattle.table_ledger.proofs.ListReadings.{first_refused, later_refused, list_read}
 use Rattle.table_ledger.proofs.OwnBooks.{fails_behind}
 use Rattle.table_ledger.proofs.SurvivalLemmas.{clean_before}
 use Rattle.table_ledger.proofs.TryLemmas.{saw_found, saw_then, try_stopped}
 use Rattle.book_model.specs.Words.{Book}
-use Rattle.kept_tables.specs.TablesOf.{tables_of}
+use Rattle.table_model.specs.TablesOf.{tables_of}
 use Rattle.tree_tables.specs.States.{HasCleanDisk, state}
 use Rattle.tree_tables.specs.Steps.{IsCaused}
 use Rattle.table_ledger.specs.Ready.{IsReadyAt}
@@ -36,7 +36,7 @@ returns-clause-tries g c = λ naming.
     let records = (tables_of naming book).records in
     ap grouped (sym (disputes_follow.unsettled naming book _ whole known.0.same known.0.sorted))
     ∙ sym (known.1
-    ∙ ap (λ (rows : List StoredRecord). grouped (filter (is_unsettled records)
+    ∙ ap (λ (rows : List StoredRecord). grouped (filter (has_none_charged records)
     (map stored_entry rows))) c.deref-2.ensures.value))
 
 pub returns-in_err-grouped-clause-tries : goal.returns-in_err-grouped-clause-tries

@@ -1,10 +1,10 @@
 use Rattle.std.proofs.Common.{◌∙◌, ap, map}
 use Rattle.book_core.specs.Effects.{effects_of}
-use Rattle.book_core.specs.declared.effect_table.Effects.{Effects}
+use Rattle.book_core.specs.declared.effects.Effects.{Effects}
 use Rattle.tree_tables.specs.Stored.{stored_entry}
-use Rattle.kept_tables.specs.Views.{rows_with}
-use Rattle.table_readings.specs.AcceptRead.{view_with}
-use Rattle.table_readings.proofs.AcceptLemmas.{two_are_enough}
+use Rattle.table_model.specs.Views.{rows_with}
+use Rattle.table_laws.specs.AcceptRead.{view_with}
+use Rattle.table_laws.proofs.AcceptLemmas.{two_are_enough}
 use Rattle.table_ledger.proofs.Refusals.{looks_failed}
 use Rattle.table_ledger.proofs.TryLemmas.{looks_known, looks_refused, saw_found, saw_then}
 use Rattle.table_ledger.proofs.effects.look_for_effects.Goals as goal

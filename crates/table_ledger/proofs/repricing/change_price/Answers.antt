@@ -3,9 +3,9 @@ use Rattle.table_ledger.proofs.StepLemmas.{does_then}
 use Rattle.table_ledger.proofs.Refusals.{does_failed, does_unseen}
 use Rattle.table_ledger.proofs.StepLemmas.{does_so}
 use Rattle.table_ledger.proofs.TryLemmas.{saw_found}
-use Rattle.table_ledger.proofs.Settling.{does_seen}
+use Rattle.table_ledger.proofs.DueCharges.{does_seen}
 use Rattle.tree_tables.specs.Steps.{Always}
-use Rattle.kept_tables.specs.Tables.{DayTable}
+use Rattle.table_model.specs.Tables.{DayTable}
 use Rattle.table_ledger.proofs.repricing.change_price.Goals as goal
 
 -- the old price leaves its row, and then the new one joins another

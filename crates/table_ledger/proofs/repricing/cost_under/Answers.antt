@@ -1,6 +1,6 @@
 use Rattle.std.proofs.Common.{◌+◌, ◌∙◌, Err, refl, sym, ap, arith, rules, true≢false}
 use Rattle.sqlite_trees.specs.declared.error.StoreError.TheVariants.{Corrupt}
-use Rattle.kept_tables.specs.TableChanges.{amount_under}
+use Rattle.table_model.specs.TableChanges.{amount_under}
 use Rattle.tree_tables.specs.States.{state}
 use Rattle.tree_tables.proofs.Walked.{sums_all, sums_blind, sums_enough, sums_no_more, sums_none}
 use Rattle.tree_tables.proofs.Walked.{sums_on, sums_still}

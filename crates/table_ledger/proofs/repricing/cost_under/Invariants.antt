@@ -1,6 +1,6 @@
 use Rattle.std.proofs.Common.{◌≤◌}
 use Rattle.book_model.specs.Words.{most_cost}
-use Rattle.kept_tables.specs.TableChanges.{amount_under}
+use Rattle.table_model.specs.TableChanges.{amount_under}
 use Rattle.tree_tables.specs.States.{state}
 use Rattle.tree_tables.proofs.Walked.{SumsTo}
 use Rattle.table_ledger.specs.Repricing.{CanCost}

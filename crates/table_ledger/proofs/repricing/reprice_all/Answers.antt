@@ -1,6 +1,6 @@
 use Rattle.std.proofs.Common.{Err, refl}
 use Rattle.sqlite_trees.specs.declared.error.StoreError.TheVariants.{Corrupt}
-use Rattle.kept_tables.specs.TableChanges.{reprice_step}
+use Rattle.table_model.specs.TableChanges.{reprice_step}
 use Rattle.tree_tables.specs.States.{state}
 use Rattle.tree_tables.proofs.WalkNames.{next_stands, reprice_keeps}
 use Rattle.tree_tables.proofs.Walked.{walks_all, walks_blind, walks_fail, walks_no_more, walks_none}

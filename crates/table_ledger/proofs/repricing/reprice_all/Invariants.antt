@@ -1,4 +1,4 @@
-use Rattle.kept_tables.specs.TableChanges.{reprice_step}
+use Rattle.table_model.specs.TableChanges.{reprice_step}
 use Rattle.tree_tables.specs.States.{state}
 use Rattle.tree_tables.proofs.Walked.{WalksTo}
 use Rattle.table_ledger.proofs.repricing.reprice_all.Given as goal

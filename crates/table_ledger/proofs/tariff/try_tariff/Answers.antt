@@ -1,13 +1,13 @@
 use Rattle.std.proofs.Common.{◌≡◌, ◌≢◌, ◌∙◌, ℕ, List, [], ◌∷◌, ◌++◌, sym, ap, subst, Ok, Some}
 use Rattle.std.proofs.Common.{refl}
 use Rattle.tree_tables.specs.States.{state}
-use Rattle.book_model.specs.Words.{IsDay, Terms, tariff_outcome, Tariffed, are_rising}
+use Rattle.book_model.specs.Words.{IsDay, Terms, tariff_outcome, AcceptedTerms, are_rising}
 use Rattle.book_model.specs.declared.answer.Ruled.{Ruled}
 use Rattle.book_model.specs.declared.answer.Ruled.TheVariants.{Done}
 use Rattle.book_model.specs.declared.fault.LedgerFault.TheVariants.{Full}
-use Rattle.kept_tables.specs.Steps.{tariff_by_steps}
-use Rattle.table_ledger.specs.Repricing.{Counts}
-use Rattle.table_ledger.specs.Tries.{IsPlain}
+use Rattle.table_model.specs.Steps.{tariff_by_steps}
+use Rattle.table_ledger.specs.Repricing.{CountsRecords}
+use Rattle.table_ledger.specs.Attempts.{LeavesOpen}
 use Rattle.table_ledger.proofs.Answering.{makes_refused}
 use Rattle.table_ledger.proofs.TariffTries.{unread_plain, unread_makes, tariff_plain, tariff_rising}
 use Rattle.table_ledger.proofs.TariffTries.{tariff_other, tariff_full, tariff_done}
@@ -47,14 +47,14 @@ returns-then-not-is_done g c = record {
       let other : answer ≢ Ok Done = c.is_done.ensures.other c.if-not-is_done.true in
       try_answered view naming summary (tariff_outcome text)
       (saw_none {state = state g.S.Store c.args.tables.now.store})
-      (subst IsPlain (sym is) (tariff_plain summary text terms))
+      (subst LeavesOpen (sym is) (tariff_plain summary text terms))
       (λ book ready known. tariff_makes answer text terms book c.in-Ok.ensures.said
       (tariff_other summary text terms c.in-Ok.ensures.said naming _ book ready answer (sym is) other)
       other);
 }
 
 -- one more tariff, as its text and its terms
-more : (tariffs : List Tariffed) (terms : Terms) {own text : List ℕ} {items : List Tariffed}
+more : (tariffs : List AcceptedTerms) (terms : Terms) {own text : List ℕ} {items : List AcceptedTerms}
     → items ≡ tariffs ++ record { text = Some own; terms = terms } ∷ [] → own ≡ text
     → items ≡ tariffs ++ record { text = Some text; terms = terms } ∷ []
 more tariffs terms is same =
@@ -95,7 +95,7 @@ returns-in_err-keep_tariff g c = record {
       (λ error. tries_told view naming summary outcome
       (tries_so view naming summary outcome
       (try_undone view naming summary outcome
-      (state g.S.Store c.keep_tariff.new.tables.store) (Counts summary.held)
+      (state g.S.Store c.keep_tariff.new.tables.store) (CountsRecords summary.held)
       (tariff_by_steps c.open_number.result text terms amount)
       (saw_found (rw c.in-Some.is at c.in_ok-amount.ensures.looks))
       (λ book ready known. tariff_is_event summary text terms said naming _ book ready done
@@ -126,7 +126,7 @@ returns g c = record {
       let said = c.in-Ok.ensures.said in
       let done = sym c.tariff_answer-answer.ensures ∙ c.is_done.ensures.done c.if-not-is_done.false in
       try_done view naming summary (tariff_outcome text)
-      (state g.S.Store c.keep_tariff.new.tables.store) (Counts summary.held)
+      (state g.S.Store c.keep_tariff.new.tables.store) (CountsRecords summary.held)
       (tariff_by_steps c.open_number.result text terms amount)
       (saw_found (rw c.in-Some.is at c.in_ok-amount.ensures.looks))
       (λ book ready known. tariff_is_event summary text terms said naming _ book ready done

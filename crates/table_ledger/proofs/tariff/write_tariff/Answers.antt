@@ -1,7 +1,7 @@
 use Rattle.std.proofs.Common.{◌∙◌, Ok, sym}
 use Rattle.std.specs.FinMap.{keys}
-use Rattle.kept_tables.specs.Steps.{put_tariff_row, set_sums}
-use Rattle.kept_tables.specs.TableChanges.{reprice_step, walk}
+use Rattle.table_model.specs.Steps.{put_tariff_row, set_sums}
+use Rattle.table_model.specs.TableChanges.{reprice_step, walk}
 use Rattle.tree_tables.specs.Steps.{Always}
 use Rattle.table_ledger.proofs.CodeDays.{kept_day}
 use Rattle.table_ledger.proofs.StepLemmas.{does_so, does_then}

@@ -1,7 +1,7 @@
 use Rattle.std.proofs.Common.{◌∙◌}
 use Rattle.std.proofs.lemmas.List.{drop_all}
 use Rattle.std.proofs.lemmas.Result.{err_from_is_err_and}
-use Rattle.tariff_rules.proofs.EachLemmas.{all_found, entry_fails, entry_joins}
+use Rattle.tariff_rules.proofs.ReadEachLemmas.{all_found, entry_fails, entry_joins}
 use Rattle.tariff_rules.proofs.rules.read_each.Goals as goal
 
 pub returns-in_err-read : goal.returns-in_err-read

@@ -1,7 +1,7 @@
 use Rattle.std.proofs.Common.{◌≡◌, map}
 use Rattle.toml.specs.View.{view}
 use Rattle.tariff_rules.specs.Document.{read_each}
-use Rattle.tariff_rules.proofs.EachLemmas.{behind, from_entry}
+use Rattle.tariff_rules.proofs.ReadEachLemmas.{behind, from_entry}
 use Rattle.tariff_rules.proofs.rules.read_each.Given as goal
 
 -- what was found, and what the entries ahead say, is what all say

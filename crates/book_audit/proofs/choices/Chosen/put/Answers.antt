@@ -1,7 +1,7 @@
 use Rattle.std.proofs.Common.{◌∙◌, ap, sym, cond, Some}
 use Rattle.std.specs.Cmp.Lexicographic.{texts_ties}
 use Rattle.std.specs.Map.{lookup}
-use Rattle.book_audit.specs.Choices.{name_of}
+use Rattle.book_audit.specs.Choices.{last_chosen}
 use Rattle.book_audit.proofs.Inserting.{lookup-insert_entry}
 use Rattle.book_audit.proofs.choices.Chosen.put.Goals as goal
 
@@ -10,5 +10,5 @@ returns-clause-names c other =
     ap (lookup _) c.in_ok-insert.ensures.entries
     ∙ lookup-insert_entry (λ key. key.items) other c.args.identity c.args.choice.now.name
     c.args.self.now.names.entries
-    ∙ ap (λ b. cond b (Some c.args.choice.now.name) (name_of c.args.self.now other))
+    ∙ ap (λ b. cond b (Some c.args.choice.now.name) (last_chosen c.args.self.now other))
     (sym (texts_ties other c.args.identity.items))

@@ -1,6 +1,6 @@
 use Rattle.std.proofs.Common.{◌∙◌, []}
 use Rattle.book_core.specs.Plain.{ruled_by}
-use Rattle.book_core.proofs.ForceLemmas.{in_force_is}
+use Rattle.book_core.proofs.IdentityInForce.{in_force_is}
 use Rattle.book_core.proofs.chosen.ChosenRecord.identity_by.Goals as goal
 
 pub returns : goal.returns

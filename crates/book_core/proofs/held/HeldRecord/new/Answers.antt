@@ -1,7 +1,7 @@
 use Rattle.std.proofs.Common.{◌∙◌, sym, ap}
 use Rattle.smf_type30.proofs.IdentityLength.{identity-long}
 use Rattle.book_model.specs.Words.{identity_of, identity2_of}
-use Rattle.book_core.proofs.ForceLemmas.{first_in_second}
+use Rattle.book_core.proofs.IdentityInForce.{first_in_second}
 use Rattle.book_core.proofs.held.HeldRecord.new.Goals as goal
 
 pub invariant_of-result-clause-first : goal.invariant_of-result-clause-first

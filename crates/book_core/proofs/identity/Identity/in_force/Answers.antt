@@ -1,5 +1,5 @@
 use Rattle.std.proofs.Common.{◌∙◌, refl, sym, take_all, arith}
-use Rattle.book_core.proofs.ForceLemmas.{padded_at_front, padded_all, all_in_force, front_in_force}
+use Rattle.book_core.proofs.IdentityInForce.{padded_at_front, padded_all, all_in_force, front_in_force}
 use Rattle.book_core.proofs.identity.Identity.in_force.Goals as goal
 
 pub invariant_of-result : goal.invariant_of-result

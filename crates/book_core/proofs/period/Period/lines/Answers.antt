@@ -4,26 +4,26 @@ use Rattle.std.specs.Map.Iter.{deref_pair}
 use Rattle.std.proofs.lemmas.List.{map-append, append-nil}
 use Rattle.std.proofs.lemmas.List.Elements.{filter_map-append}
 use Rattle.book_core.specs.Plain.{Entry}
-use Rattle.book_core.specs.Shares.{line_at, share_in}
+use Rattle.book_core.specs.Treatments.{line_at, treatment_in}
 use Rattle.book_core.proofs.period.Period.lines.Goals as goal
 use Rattle.book_core.proofs.period.Period.lines.Goals.{After-line}
 
 -- the line of one more record comes after those of the others
 more : (c : After-line)
-    → filter_map (λ entry. line_at (share_in c.args.self.now c.args.posted.now entry) entry)
+    → filter_map (λ entry. line_at (treatment_in c.args.self.now c.args.posted.now entry) entry)
     (map deref_pair (c.loop-name.yielded ++ (c.in-Some.name, c.in-Some.kept) ∷ []))
     ≡ c.loop-name.lines.items ++ cons_option c.line.result []
 more c =
     let done = map deref_pair c.loop-name.yielded in
     let entry : Entry = (c.in-Some.name.now, c.in-Some.kept.now) in
     let its_line : Entry → _ = λ entry.
-    line_at (share_in c.args.self.now c.args.posted.now entry) entry in
+    line_at (treatment_in c.args.self.now c.args.posted.now entry) entry in
     ap (filter_map its_line)
     (map-append deref_pair c.loop-name.yielded ((c.in-Some.name, c.in-Some.kept) ∷ []))
     ∙ filter_map-append its_line done (entry ∷ [])
     ∙ (λ i. sym c.loop-name.invariant i
     ++ cons_option
-    ((ap (λ share. line_at share entry) (sym c.share.ensures) ∙ sym c.line.ensures) i) [])
+    ((ap (λ treatment. line_at treatment entry) (sym c.treatment.ensures) ∙ sym c.line.ensures) i) [])
 
 pub loop-name-preserved-in-Continue-1 : goal.loop-name-preserved-in-Continue-1
 loop-name-preserved-in-Continue-1 c =

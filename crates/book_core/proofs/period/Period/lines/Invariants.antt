@@ -1,11 +1,11 @@
 use Rattle.std.proofs.Common.{◌≡◌, map}
 use Rattle.std.specs.List.{filter_map}
 use Rattle.std.specs.Map.Iter.{deref_pair}
-use Rattle.book_core.specs.Shares.{line_at, share_in}
+use Rattle.book_core.specs.Treatments.{line_at, treatment_in}
 use Rattle.book_core.proofs.period.Period.lines.Given as goal
 
 -- the lines are those of the records so far
 abbrev pub invariant-loop-name : goal.invariant-loop-name
 invariant-loop-name l =
-    l.lines.items ≡ filter_map (λ entry. line_at (share_in l.self l.posted entry) entry)
+    l.lines.items ≡ filter_map (λ entry. line_at (treatment_in l.self l.posted entry) entry)
     (map deref_pair l.yielded)

@@ -2,17 +2,17 @@ use Rattle.std.proofs.Common.{◌∙◌, sym, ap, subst, Bool, Ok}
 use Rattle.book_model.specs.Words.{Period, period_of, rows_for, rows_of, FitSums, AreRows}
 use Rattle.book_core.specs.Plain.{Entry}
 use Rattle.book_core.specs.PlainBook.{book_in}
-use Rattle.book_core.specs.Shares.{is_counted, share_in}
+use Rattle.book_core.specs.Treatments.{is_counted, treatment_in}
 use Rattle.book_core.proofs.BookLemmas.{read_of}
-use Rattle.book_core.proofs.ShareLemmas.{rows_for-where}
-use Rattle.book_core.proofs.ShownLemmas.{fit_sums, are_rows}
+use Rattle.book_core.proofs.TreatmentLemmas.{rows_for-where}
+use Rattle.book_core.proofs.ListLimits.{fit_sums, are_rows}
 use Rattle.book_core.proofs.plain.PlainLedger.charge_rows.Goals as goal
 
 pub charge_rows-requires : goal.charge_rows-requires
 charge_rows-requires g c =
     let ledger = c.args.self.now in
     let counted : Entry → Bool = λ entry.
-    is_counted (share_in c.in_ok-period.period ledger.posted entry) in
+    is_counted (treatment_in c.in_ok-period.period ledger.posted entry) in
     subst FitSums (sym (c.deref.ensures.value ∙ c.in_ok-prices.ensures))
     (fit_sums ledger.kept counted)
 
@@ -21,7 +21,7 @@ returns-clause-rows g c =
     let ledger = c.args.self.now in
     let rulings = (book_in ledger).rulings in
     let counted : Entry → Bool = λ entry.
-    is_counted (share_in c.in_ok-period.period ledger.posted entry) in
+    is_counted (treatment_in c.in_ok-period.period ledger.posted entry) in
     read_of (λ (period : Period). rows_for rulings period.counted)
     (period_of (book_in ledger) c.args.number) _ c.in_ok-period.ensures
     ∙ ap Ok (rows_for-where ledger.kept ledger.rising counted
@@ -32,7 +32,7 @@ pub returns-clause-shown : goal.returns-clause-shown
 returns-clause-shown g c =
     let ledger = c.args.self.now in
     let counted : Entry → Bool = λ entry.
-    is_counted (share_in c.in_ok-period.period ledger.posted entry) in
+    is_counted (treatment_in c.in_ok-period.period ledger.posted entry) in
     subst AreRows
     (sym (c.in_ok-charge_rows.ensures
     ∙ ap rows_of (c.deref.ensures.value ∙ c.in_ok-prices.ensures)))

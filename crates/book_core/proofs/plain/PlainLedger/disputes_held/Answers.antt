@@ -2,7 +2,7 @@ use Rattle.std.proofs.Common.{sym, ap, subst, ◌∙◌, [], Ok}
 use Rattle.book_core.proofs.DisputeLemmas.{disputes_in-held}
 use Rattle.book_model.specs.Words.{AreDisputes}
 use Rattle.book_core.specs.Plain.{disputes_among, ruled_by}
-use Rattle.book_core.proofs.ShownLemmas.{are_disputes}
+use Rattle.book_core.proofs.ListLimits.{are_disputes}
 use Rattle.book_core.proofs.plain.PlainLedger.disputes_held.Goals as goal
 
 pub returns-clause-disputes : goal.returns-clause-disputes

@@ -6,13 +6,13 @@ use Rattle.book_model.specs.declared.fault.LedgerFault.TheVariants.{DigestClash}
 use Rattle.book_model.specs.Words.{accept_priced, keep, after_any, most_held, most_cost}
 use Rattle.book_model.specs.Words.{accept_event, by_bytes, same_bytes, price_in, has}
 use Rattle.book_model.proofs.AnswerLemmas.{answers_itself, accept_calls}
-use Rattle.book_core.specs.Plain.{AreBooked, AreHeld, held_in, record_of, ruled_by}
+use Rattle.book_core.specs.Plain.{AreBooked, CacheIsHeld, held_in, record_of, ruled_by}
 use Rattle.book_core.specs.PlainBook.{book_in, book_with}
-use Rattle.book_core.specs.Shares.{AreNamed, under_name}
+use Rattle.book_core.specs.Treatments.{AreNamed, under_name}
 use Rattle.book_core.proofs.AcceptLemmas.{accept_answer-found, accept_answer-missing}
 use Rattle.book_core.proofs.AcceptLemmas.{accept_answer-priced, kept_with}
 use Rattle.book_core.proofs.BookLemmas.{book-kept}
-use Rattle.book_core.proofs.RecallLemmas.{one_held, still_held}
+use Rattle.book_core.proofs.CacheLemmas.{one_held, still_held}
 use Rattle.book_core.proofs.NameLemmas.{still_named}
 use Rattle.book_core.proofs.plain.PlainLedger.keep_named.Goals as goal
 
@@ -103,9 +103,9 @@ invariant_of-self-2 g c =
           let held = c.in_ok-held.held in
           let missing = sym c.in_default.ensures.value in
           let after = insert_entry by_bytes ledger.held.entries name held in
-          subst (λ entries. AreHeld entries c.recall.new.self) (sym c.in_ok-insert.ensures.entries)
-          (c.recall.ensures (has (held_in after))
-          (still_held ledger.held.entries name held missing ledger.recalled ledger.recalls)
+          subst (λ entries. CacheIsHeld entries c.remember.new.self) (sym c.in_ok-insert.ensures.entries)
+          (c.remember.ensures (has (held_in after))
+          (still_held ledger.held.entries name held missing ledger.cache ledger.recalls)
           (one_held ledger.held.entries name held missing _ c.in_ok-record.ensures.cases));
       named = subst (λ entries. AreNamed entries ledger.posted ledger.closed.items)
           (sym c.in_ok-insert.ensures.entries)

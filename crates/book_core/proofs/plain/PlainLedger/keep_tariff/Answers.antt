@@ -2,9 +2,9 @@ use Rattle.std.proofs.Common.{◌≡◌, ◌∙◌, ◌+◌, ◌≤◌, List, �
 use Rattle.std.proofs.Common.{true, arith, vec_len}
 use Rattle.std.specs.Prelude.{string_bytes, vec_capacity}
 use Rattle.std.specs.List.Sorted.{IsStrictlySortedBy}
-use Rattle.book_model.specs.Words.{Tariffed, by_bytes, has, put_in_force}
+use Rattle.book_model.specs.Words.{AcceptedTerms, by_bytes, has, put_in_force}
 use Rattle.book_core.specs.Plain.{AreBooked, ruled_by}
-use Rattle.book_core.specs.Recalling.{AllPass}
+use Rattle.book_core.specs.CachedRecords.{AllPass}
 use Rattle.book_core.specs.PlainBook.{book_in, book_with}
 use Rattle.book_core.proofs.RepricingLemmas.{book_stays, held_stay, names_stay, pushed}
 use Rattle.book_core.proofs.RepricingLemmas.{still_named-anew}
@@ -20,7 +20,7 @@ returns-clause-book g c =
     ∙ ap (λ tariffs. book_with tariffs ledger.held.entries ledger.posted ledger.closed.items
     ledger.choices.items ledger.adopted)
     (c.in_ok-push.ensures.items
-    ∙ ap (λ (tariffs : List Tariffed). tariffs ++ record {
+    ∙ ap (λ (tariffs : List AcceptedTerms). tariffs ++ record {
       text = Some (string_bytes c.in_ok-from_str.field-0);
       terms = c.args.tariff;
     } ∷ []) c.reserve.ensures.items)
@@ -64,7 +64,7 @@ invariant_of-self-2 g c =
           (sym tariffs)
           (subst (AreBooked names _ anew) (sym c.requires.total)
           (kept_anew ledger.kept _ terms later anew c.reprice.ensures small));
-      recalls = subst (λ held. AllPass (has held) ledger.recalled)
+      recalls = subst (λ held. AllPass (has held) ledger.cache)
           (sym (held_stay c.reprice.ensures)) ledger.recalls;
       named = still_named-anew c.reprice.ensures ledger.posted ledger.closed.items ledger.named;
       few = ledger.few;

@@ -5,12 +5,12 @@ use Rattle.std.specs.List.{IsDistinct}
 use Rattle.book_model.specs.declared.line.Line.{Line}
 use Rattle.book_model.specs.Words.{period_of, AreLines, by_line, lines_of, same_bytes, members}
 use Rattle.book_model.specs.Words.{set_of}
-use Rattle.book_core.specs.declared.share.Share.{Share}
+use Rattle.book_core.specs.declared.treatment.Treatment.{Treatment}
 use Rattle.book_core.specs.Plain.{Entry}
 use Rattle.book_core.specs.PlainBook.{book_in, naming_in}
-use Rattle.book_core.specs.Shares.{share_in}
+use Rattle.book_core.specs.Treatments.{treatment_in}
 use Rattle.book_core.proofs.BookLemmas.{read_of}
-use Rattle.book_core.proofs.LineLemmas.{lines_at, names_apart, lines_of-shares, are_lines}
+use Rattle.book_core.proofs.LineLemmas.{lines_at, names_apart, lines_of-treatments, are_lines}
 use Rattle.book_core.proofs.plain.PlainLedger.lines.Given.{Over}
 use Rattle.book_core.proofs.plain.PlainLedger.lines.Goals as goal
 use Rattle.book_core.proofs.plain.PlainLedger.lines.Goals.{After-sort_lines}
@@ -18,10 +18,10 @@ use Rattle.book_core.proofs.plain.PlainLedger.lines.Goals.{After-sort_lines}
 pub sort_lines-requires : goal.sort_lines-requires
 sort_lines-requires g c =
     let ledger = c.args.self.now in
-    let share : Entry → Option Share = share_in c.in_ok-period.period ledger.posted in
+    let treatment : Entry → Option Treatment = treatment_in c.in_ok-period.period ledger.posted in
     subst (λ lines. IsDistinct same_bytes (map (λ (line : Line). line.name) lines))
     (sym (c.deref_mut.ensures.value ∙ c.in_ok-lines.ensures))
-    (names_apart ledger.kept ledger.rising share)
+    (names_apart ledger.kept ledger.rising treatment)
 
 -- a vector with all its items written over has what was written
 written_over : (count : ℕ) (written items : List Line) → count ≡ length items
@@ -36,7 +36,7 @@ written_over count written items counted long =
 sorted : (g : Over) (c : After-sort_lines g)
     → take c.in_ok-lines.lines.len
     (c.sort_lines.new.lines ++ drop (length c.sort_lines.new.lines) c.in_ok-lines.lines.items)
-    ≡ members (set_of by_line (lines_at (share_in c.in_ok-period.period c.args.self.now.posted)
+    ≡ members (set_of by_line (lines_at (treatment_in c.in_ok-period.period c.args.self.now.posted)
     c.args.self.now.held.entries))
 sorted g c =
     let items = c.in_ok-lines.lines.items in
@@ -51,15 +51,15 @@ pub returns-clause-lines : goal.returns-clause-lines
 returns-clause-lines g c =
     let ledger = c.args.self.now in
     let names = g.N.Naming.name_of (naming_in ledger) in
-    let share : Entry → Option Share = share_in c.in_ok-period.period ledger.posted in
+    let treatment : Entry → Option Treatment = treatment_in c.in_ok-period.period ledger.posted in
     read_of (lines_of names (book_in ledger).rulings) (period_of (book_in ledger) c.args.number) _
     c.in_ok-period.ensures
-    ∙ ap Ok (lines_of-shares ledger.kept ledger.rising share
+    ∙ ap Ok (lines_of-treatments ledger.kept ledger.rising treatment
     ∙ sym (sorted g (goal.at.returns-clause-lines g c).After-sort_lines))
 
 pub returns-clause-shown : goal.returns-clause-shown
 returns-clause-shown g c =
     let ledger = c.args.self.now in
-    let share : Entry → Option Share = share_in c.in_ok-period.period ledger.posted in
+    let treatment : Entry → Option Treatment = treatment_in c.in_ok-period.period ledger.posted in
     subst AreLines (sym (sorted g (goal.at.returns-clause-shown g c).After-sort_lines))
-    (are_lines ledger.kept ledger.rising share)
+    (are_lines ledger.kept ledger.rising treatment)

@@ -17,13 +17,13 @@ returns-in-Some g c =
     ∙ slice_get_read c.deref.result.now (length c.deref.result.now) (c.args.number - 1)
     c.in-Some.closed.now refl c.in-Some.ensures.lookup.3.0 c.in-Some.ensures.lookup.1))
 
-pub returns-in_ok-ending-in-None : goal.returns-in_ok-ending-in-None
-returns-in_ok-ending-in-None g c =
+pub returns-in_ok-period_end-in-None : goal.returns-in_ok-period_end-in-None
+returns-in_ok-period_end-in-None g c =
     let ledger = c.args.self.now in
     ap (λ found. ok_or found NoSuchPeriod)
     (period_of-open ledger.tariffs.items ledger.closed.items ledger.choices.items ledger.adopted
     ledger.kept ledger.rising ledger.posted
-    c.in_ok-ending-in-None.field-0 c.args.number c.in_ok-ending-in-None.ensures
+    c.in_ok-period_end-in-None.field-0 c.args.number c.in_ok-period_end-in-None.ensures
     (omega arith) (omega arith)
     (ap (λ closed. slice_get closed (c.args.number - 1)) (sym c.deref.ensures.value)
     ∙ slice_get_past c.deref.result.now (c.args.number - 1)

@@ -7,4 +7,4 @@ use Rattle.smf_frames.proofs.joiner.Joiner.begun.Goals as goal
 pub returns-then-self-clause-exact : goal.returns-then-self-clause-exact
 returns-then-self-clause-exact c =
     begun_len c.self.invariant c.if-self.true
-    ∙ ap (λ (j : Joining). data_len j.place.begun) c.self.view_is
+    ∙ ap (λ (j : Joining). data_len j.position.begun) c.self.view_is

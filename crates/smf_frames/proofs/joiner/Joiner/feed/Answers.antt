@@ -10,7 +10,7 @@ use Rattle.smf_frames.proofs.joiner.Joiner.feed.Goals as goal
 pub returns-in_err-step : goal.returns-in_err-step
 returns-in_err-step c =
     let p = err_from_is_err_and c.from_residual.result c.from_residual.ensures.1 in
-    let none = none_stands c.loop-self.self.standing c.stands.result c.stands.ensures
+    let none = none_stands c.loop-self.self.ready c.stands.result c.stands.ensures
     c.loop-self-test.true in
     subst (λ r. Feeds c.args.self.now c.args.piece.now r c.step.new.self) (sym (p.1 ∙ ap Err p.2))
     (feeds_fault c.args.self.now c.loop-self.self c.step.new.self c.args.piece.now
@@ -19,7 +19,7 @@ returns-in_err-step c =
 
 pub returns-in-None : goal.returns-in-None
 returns-in-None c =
-    let none = none_stands c.loop-self.self.standing c.stands.result c.stands.ensures
+    let none = none_stands c.loop-self.self.ready c.stands.result c.stands.ensures
     c.loop-self-test.true in
     feeds_all c.args.self.now c.loop-self.self c.step.new.self c.args.piece.now
     c.loop-self.rest.now c.loop-self.invariant.fed none
@@ -41,7 +41,7 @@ loop-self-smaller c =
 
 pub loop-self-preserved : goal.loop-self-preserved
 loop-self-preserved c =
-    let none = none_stands c.loop-self.self.standing c.stands.result c.stands.ensures
+    let none = none_stands c.loop-self.self.ready c.stands.result c.stands.ensures
     c.loop-self-test.true in
     record {
       fed = inr (fed_step c.args.self.now c.loop-self.self c.step.new.self c.args.piece.now

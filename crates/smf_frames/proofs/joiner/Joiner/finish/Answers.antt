@@ -1,7 +1,7 @@
 use Rattle.std.proofs.Common.{sym, ◌∙◌}
 use Rattle.std.specs.Option.{option_or}
 use Rattle.smf_frames.proofs.HeldFields.{tests_held}
-use Rattle.smf_frames.proofs.Standing.{fault_after}
+use Rattle.smf_frames.proofs.JoinerStates.{fault_after}
 use Rattle.smf_frames.proofs.joiner.Joiner.finish.Goals as goal
 
 pub returns-in-Some-clause-exact : goal.returns-in-Some-clause-exact

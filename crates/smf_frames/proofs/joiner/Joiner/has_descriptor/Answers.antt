@@ -8,6 +8,6 @@ pub returns : goal.returns
 returns c =
     let j = c.self.inside in
     let held = ap (λ (k : Joining). length k.held) c.self.view_is in (
-      λ is. omega (arith, held, held_len c.self.invariant, eqb-true j.got 4 is),
-      λ four. eq-eqb j.got 4 (four_held c.self.invariant (subst (λ n. 4 ≤ n) (sym held) four)),
+      λ is. omega (arith, held, held_len c.self.invariant, eqb-true j.received 4 is),
+      λ four. eq-eqb j.received 4 (four_held c.self.invariant (subst (λ n. 4 ≤ n) (sym held) four)),
     )

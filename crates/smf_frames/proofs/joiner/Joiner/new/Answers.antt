@@ -1,7 +1,7 @@
 use Rattle.std.proofs.Common.{◌++◌, List, ℕ, [], ◌∷◌, false, None, sym, ap, ◌∙◌, subst}
-use Rattle.smf_frames.specs.Joining.{StandsAfter}
+use Rattle.smf_frames.specs.Joining.{HasTaken}
 use Rattle.smf_frames.specs.JoinerFields.{joining_in}
-use Rattle.smf_frames.proofs.Standing.{front_of_nothing, stands_start}
+use Rattle.smf_frames.proofs.JoinerStates.{front_of_nothing, stands_start}
 use Rattle.smf_frames.proofs.joiner.Joiner.new.Goals as goal
 
 pub returns-clause-stands : goal.returns-clause-stands
@@ -9,14 +9,14 @@ returns-clause-stands c =
     let zeros : List ℕ = 0 ∷ 0 ∷ 0 ∷ 0 ∷ [] in
     let items = c.in_ok-extend_from_slice.ensures.items
     ∙ ap (λ xs. xs ++ zeros) c.in_ok-joined.ensures.items in
-    subst (λ xs. StandsAfter [] (joining_in (record {
+    subst (λ xs. HasTaken [] (joining_in (record {
       layout = c.args.layout;
       left = None;
       is_begun = false;
       joined = xs;
-      mark = 4;
+      data_end = 4;
       descriptor = zeros;
-      got = 0;
+      received = 0;
       stands = false;
       room = 0;
     }))) (sym items) (stands_start c.args.layout)

@@ -39,7 +39,7 @@ invariant_of-self-else-not-self c =
     let room = room_of_segment c.self.invariant c.args.self.now c.self.view_is c.requires.none
     c.requires.holds in
     let none = not_standing j.stands j.joined.items
-    (ap (λ (k : Joining). k.standing) c.self.view_is ∙ c.requires.none) in
+    (ap (λ (k : Joining). k.ready) c.self.view_is ∙ c.requires.none) in
     passed_keeps c.self.invariant room c.left_after-self-inside.result
     c.goes_on-self-inside.result j.stands j.joined.items c.len-self-inside.result
     (c.len-self-inside.ensures ∙ omega (arith, j.joined.ok.0)) (omega arith)
@@ -50,7 +50,7 @@ returns-then-not-self c =
     let j = c.self.inside in
     let holds = subst HoldsSegment (sym c.self.view_is) c.requires.holds in
     let none = not_standing j.stands j.joined.items
-    (ap (λ (k : Joining). k.standing) c.self.view_is ∙ c.requires.none) in
+    (ap (λ (k : Joining). k.ready) c.self.view_is ∙ c.requires.none) in
     let len_is : j.joined.len ≡ length j.joined.items = omega (arith, j.joined.ok.0) in
     let left_is : c.left_after-self-inside.result ≡ left_after j.left (named_len j.descriptor) =
     c.left_after-self-inside.ensures ∙ ap (left_after j.left) c.named_len.ensures in
@@ -66,9 +66,9 @@ returns-then-not-self c =
       left = left_is i;
       is_begun = c.if-not-self.true i;
       joined = written_over c.describe.new.bytes j.joined.items j.joined.len same len_is i;
-      mark = mark_is i;
+      data_end = mark_is i;
       descriptor = j.descriptor;
-      got = 0;
+      received = 0;
       stands = true;
       room = 0;
     }))
@@ -82,7 +82,7 @@ returns-else-not-self c =
     let j = c.self.inside in
     let holds = subst HoldsSegment (sym c.self.view_is) c.requires.holds in
     let none = not_standing j.stands j.joined.items
-    (ap (λ (k : Joining). k.standing) c.self.view_is ∙ c.requires.none) in
+    (ap (λ (k : Joining). k.ready) c.self.view_is ∙ c.requires.none) in
     let left_is : c.left_after-self-inside.result ≡ left_after j.left (named_len j.descriptor) =
     c.left_after-self-inside.ensures ∙ ap (left_after j.left) c.named_len.ensures in
     let mark_is : c.len-self-inside.result ≡ length j.joined.items =
@@ -92,9 +92,9 @@ returns-else-not-self c =
       left = left_is i;
       is_begun = c.if-not-self.false i;
       joined = j.joined.items;
-      mark = mark_is i;
+      data_end = mark_is i;
       descriptor = j.descriptor;
-      got = 0;
+      received = 0;
       stands = none i;
       room = 0;
     }))

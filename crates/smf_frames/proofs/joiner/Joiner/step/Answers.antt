@@ -2,8 +2,8 @@ use Rattle.std.proofs.Common.{◌≤◌, ◌<◌, length, arith, sym, ap, ◌∙
 use Rattle.std.proofs.lemmas.Bool.{cases_lt, false≢true}
 use Rattle.std.proofs.lemmas.List.{length-take-le}
 use Rattle.smf_frames.specs.JoinerSteps.{HoldsSegment}
-use Rattle.smf_frames.proofs.Stepping.{step_short, step_block, step_less, holds_segment}
-use Rattle.smf_frames.proofs.Stepping.{step_segment}
+use Rattle.smf_frames.proofs.OneStep.{step_short, step_block, step_less, holds_segment}
+use Rattle.smf_frames.proofs.OneStep.{step_segment}
 use Rattle.smf_frames.proofs.joiner.Joiner.step.Goals as goal
 
 pub returns-then-not-has_descriptor-clause-step : goal.returns-then-not-has_descriptor-clause-step

@@ -11,7 +11,7 @@ returns c =
     record {
       value = rw (← c.self.view_is)
           (c.copied.ensures
-          ∙ option_copied-first_chunk _ _ _ c.lend.ensures.long c.first_chunk.ensures.cases
-          ∙ ap Some (c.lend.ensures.parts outcome (lit≤ tt))
+          ∙ option_copied-first_chunk _ _ _ c.section_bytes.ensures.long c.first_chunk.ensures.cases
+          ∙ ap Some (c.section_bytes.ensures.parts outcome (lit≤ tt))
           ∙ present _ _ _ (λ e. c.if-count-eq0.false (c.count.ensures ∙ e)));
     }

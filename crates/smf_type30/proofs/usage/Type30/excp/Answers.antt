@@ -10,6 +10,6 @@ returns c =
     record {
       value = rw (← c.self.view_is)
           (c.number4.ensures
-          ∙ c.lend.ensures.numbers blocks (lit≤ tt)
+          ∙ c.section_bytes.ensures.numbers blocks (lit≤ tt)
           ∙ present _ _ _ (λ e. c.if-count-eq0.false (c.count.ensures ∙ e)));
     }

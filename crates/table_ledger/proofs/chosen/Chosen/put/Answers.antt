@@ -1,7 +1,7 @@
 use Rattle.std.proofs.Common.{◌∙◌, ap, sym, cond, Some}
 use Rattle.std.specs.Cmp.Lexicographic.{texts_ties}
 use Rattle.std.specs.Map.{lookup}
-use Rattle.table_ledger.specs.Adoptions.{name_of}
+use Rattle.table_ledger.specs.Adoptions.{last_chosen}
 use Rattle.table_ledger.proofs.Inserting.{lookup-insert_entry}
 use Rattle.table_ledger.proofs.chosen.Chosen.put.Goals as goal
 
@@ -10,5 +10,5 @@ returns c other =
     ap (lookup _) c.in_ok-insert.ensures.entries
     ∙ lookup-insert_entry (λ key. key.items) other c.args.identity c.args.name
     c.args.self.now.names.entries
-    ∙ ap (λ b. cond b (Some c.args.name) (name_of c.args.self.now other))
+    ∙ ap (λ b. cond b (Some c.args.name) (last_chosen c.args.self.now other))
     (sym (texts_ties other c.args.identity.items))

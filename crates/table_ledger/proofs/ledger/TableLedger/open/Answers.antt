@@ -1,11 +1,11 @@
 use Rattle.std.proofs.Common.{subst, sym}
 use Rattle.sqlite_trees.specs.Tree.{Trees}
-use Rattle.kept_tables.specs.TablesOf.{tables_of}
+use Rattle.table_model.specs.TablesOf.{tables_of}
 use Rattle.tree_tables.specs.Holds.{Holds}
 use Rattle.tree_tables.specs.States.{HasCleanDisk, state}
-use Rattle.table_ledger.specs.Commits.{Keeping}
-use Rattle.table_ledger.specs.Recalled.{IsOpenCause}
-use Rattle.table_ledger.proofs.RecallLemmas.{never_both, read_open}
+use Rattle.table_ledger.specs.Commits.{Stores}
+use Rattle.table_ledger.specs.Loaded.{IsOpenCause}
+use Rattle.table_ledger.proofs.LoadLemmas.{never_both, read_open}
 use Rattle.table_ledger.proofs.ledger.TableLedger.open.Goals as goal
 
 pub returns-in-Ok-clause-books : goal.returns-in-Ok-clause-books
@@ -15,7 +15,7 @@ returns-in-Ok-clause-books g c = λ clean book calls keeping.
     (state g.S.Store c.read_summary.new.tables.store) c.in-Ok.summary book
     (λ (trees : Trees). g.met.S.Store.settled c.read_summary.new.tables.store trees)
     c.in-Ok.ensures.reads clean calls
-    (subst (λ store. Keeping (g.S.Store.view store) (tables_of names book))
+    (subst (λ store. Stores (g.S.Store.view store) (tables_of names book))
     (sym c.over-tables.ensures) keeping)
 
 pub returns-in-Err-clause-found : goal.returns-in-Err-clause-found
@@ -32,7 +32,7 @@ returns-in-Err-clause-own g c = λ clean book calls texts keeping.
     let own = c.in-Err.ensures.own
     (subst (λ store. HasCleanDisk (state g.S.Store store)) c.into_store.ensures.same clean) names
     book calls texts
-    (subst (λ store. Keeping (g.S.Store.view store) (tables_of names book))
+    (subst (λ store. Stores (g.S.Store.view store) (tables_of names book))
     (sym c.over-tables.ensures) keeping) in
     subst (λ store. IsOpenCause (state g.S.Store store) (state g.S.Store c.into_store.result) fault)
     c.over-tables.ensures

@@ -3,7 +3,7 @@ use Rattle.book_model.specs.declared.answer.Accepted.{Accepted}
 use Rattle.book_model.specs.Words.{accept_outcome}
 use Rattle.tree_tables.specs.States.{state}
 use Rattle.table_ledger.proofs.OneCall.{call_reopen}
-use Rattle.table_ledger.proofs.SettleLemmas.{call_settled}
+use Rattle.table_ledger.proofs.FinishLemmas.{call_settled}
 use Rattle.table_ledger.proofs.ledger.TableLedgerLedger.accept.Goals as goal
 
 pub returns-then-self : goal.returns-then-self
@@ -22,7 +22,7 @@ returns g c =
     let old = c.args.self.now in
     let names = g.N.Naming.name_of old.naming in
     call_settled g.S.Store (λ (accepted : Accepted). accepted) names old.summary c.try_accept-tried.new.summary
-    old.tables.store c.try_accept-tried.new.tables.store c.settle.new.tables.store (accept_outcome names c.args.bytes.now)
-    old.must_reopen c.settle.new.must_reopen c.try_accept-tried.result c.settle.result c.if-self.false
+    old.tables.store c.try_accept-tried.new.tables.store c.finish.new.tables.store (accept_outcome names c.args.bytes.now)
+    old.must_reopen c.finish.new.must_reopen c.try_accept-tried.result c.finish.result c.if-self.false
     (λ (trees : Trees). g.met.S.Store.settled old.tables.store trees)
-    (c.try_accept-tried.ensures.tries) c.settle.ensures.settles
+    (c.try_accept-tried.ensures.tries) c.finish.ensures.settles

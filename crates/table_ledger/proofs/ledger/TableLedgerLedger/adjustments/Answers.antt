@@ -5,8 +5,8 @@ use Rattle.book_model.specs.declared.line.Line.{Line}
 use Rattle.book_model.specs.Words.{adjustments_outcome}
 use Rattle.tree_tables.specs.States.{state}
 use Rattle.table_ledger.proofs.OneCall.{call_reopen}
-use Rattle.table_ledger.proofs.SettledLists.{own_settled}
-use Rattle.table_ledger.proofs.SettleLemmas.{call_settled}
+use Rattle.table_ledger.proofs.FinishedLists.{own_settled}
+use Rattle.table_ledger.proofs.FinishLemmas.{call_settled}
 use Rattle.table_ledger.proofs.ledger.TableLedgerLedger.adjustments.Goals as goal
 
 pub returns-then-self-clause-lines : goal.returns-then-self-clause-lines
@@ -25,10 +25,10 @@ returns-clause-lines g c =
     let old = c.args.self.now in
     let names = g.N.Naming.name_of old.naming in
     call_settled g.S.Store (λ (lines : Vec Line Global). lines.items) names old.summary old.summary
-    old.tables.store c.try_adjustments-tried.new.tables.store c.settle.new.tables.store (adjustments_outcome names c.args.period)
-    old.must_reopen c.settle.new.must_reopen c.try_adjustments-tried.result c.settle.result c.if-self.false
+    old.tables.store c.try_adjustments-tried.new.tables.store c.finish.new.tables.store (adjustments_outcome names c.args.period)
+    old.must_reopen c.finish.new.must_reopen c.try_adjustments-tried.result c.finish.result c.if-self.false
     (λ (trees : Trees). g.met.S.Store.settled old.tables.store trees)
-    (c.try_adjustments-tried.ensures.tries names) c.settle.ensures.settles
+    (c.try_adjustments-tried.ensures.tries names) c.finish.ensures.settles
 
 -- a ledger that is to be reopened lists nothing
 pub returns-then-self-clause-own : goal.returns-then-self-clause-own
@@ -42,7 +42,7 @@ returns-clause-own g c =
     let names = g.N.Naming.name_of old.naming in
     let wide = g.met.N.Naming.wide old.naming in
     own_settled g.S.Store (λ (lines : Vec Line Global). lines.items) names old.summary
-    old.tables.store c.try_adjustments-tried.new.tables.store c.settle.new.tables.store (adjustments_outcome names c.args.period)
-    old.must_reopen c.settle.new.must_reopen c.try_adjustments-tried.result c.settle.result
-    (c.try_adjustments-tried.ensures.tries names) (c.try_adjustments-tried.ensures.own names wide) c.settle.ensures.settles
-    c.settle.ensures.served c.settle.ensures.mended
+    old.tables.store c.try_adjustments-tried.new.tables.store c.finish.new.tables.store (adjustments_outcome names c.args.period)
+    old.must_reopen c.finish.new.must_reopen c.try_adjustments-tried.result c.finish.result
+    (c.try_adjustments-tried.ensures.tries names) (c.try_adjustments-tried.ensures.own names wide) c.finish.ensures.settles
+    c.finish.ensures.served c.finish.ensures.mended

@@ -3,11 +3,11 @@ use Rattle.tree_tables.specs.States.{state}
 use Rattle.std.proofs.Common.{subst, w32}
 use Rattle.std.proofs.lemmas.Int.{to_z-of_z}
 use Rattle.book_model.proofs.DayLemmas.{day_fits}
-use Rattle.table_ledger.specs.Tries.{Tries}
+use Rattle.table_ledger.specs.Attempts.{Attempts}
 use Rattle.book_model.specs.declared.answer.Ruled.{Ruled}
 use Rattle.book_model.specs.Words.{close_outcome}
 use Rattle.table_ledger.proofs.OneCall.{call_reopen}
-use Rattle.table_ledger.proofs.SettleLemmas.{call_settled}
+use Rattle.table_ledger.proofs.FinishLemmas.{call_settled}
 use Rattle.table_ledger.proofs.ledger.TableLedgerLedger.close.Goals as goal
 
 pub returns-then-self : goal.returns-then-self
@@ -24,14 +24,14 @@ pub returns : goal.returns
 returns g c =
     let old = c.args.self.now in
     let names = g.N.Naming.name_of old.naming in
-    let tries = subst (λ day. Tries (λ (ruled : Ruled). ruled) names old.summary
+    let tries = subst (λ day. Attempts (λ (ruled : Ruled). ruled) names old.summary
     c.try_close-tried.new.summary (state g.S.Store old.tables.store)
     (state g.S.Store c.try_close-tried.new.tables.store) (close_outcome c.args.period day)
     c.try_close-tried.result)
     (to_z-of_z w32 c.args.through (day_fits c.args.through c.requires))
     (c.try_close-tried.ensures.tries names) in
     call_settled g.S.Store (λ (ruled : Ruled). ruled) names old.summary c.try_close-tried.new.summary
-    old.tables.store c.try_close-tried.new.tables.store c.settle.new.tables.store (close_outcome c.args.period c.args.through)
-    old.must_reopen c.settle.new.must_reopen c.try_close-tried.result c.settle.result c.if-self.false
+    old.tables.store c.try_close-tried.new.tables.store c.finish.new.tables.store (close_outcome c.args.period c.args.through)
+    old.must_reopen c.finish.new.must_reopen c.try_close-tried.result c.finish.result c.if-self.false
     (λ (trees : Trees). g.met.S.Store.settled old.tables.store trees)
-    tries c.settle.ensures.settles
+    tries c.finish.ensures.settles

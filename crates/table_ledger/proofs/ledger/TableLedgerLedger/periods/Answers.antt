@@ -4,8 +4,8 @@ use Rattle.std.specs.Global.{Global}
 use Rattle.book_model.specs.Words.{periods_outcome}
 use Rattle.tree_tables.specs.States.{state}
 use Rattle.table_ledger.proofs.OneCall.{call_reopen}
-use Rattle.table_ledger.proofs.SettledLists.{own_settled}
-use Rattle.table_ledger.proofs.SettleLemmas.{call_settled}
+use Rattle.table_ledger.proofs.FinishedLists.{own_settled}
+use Rattle.table_ledger.proofs.FinishLemmas.{call_settled}
 use Rattle.table_ledger.proofs.ledger.TableLedgerLedger.periods.Goals as goal
 
 pub returns-then-self-clause-days : goal.returns-then-self-clause-days
@@ -23,10 +23,10 @@ returns-clause-days g c =
     let old = c.args.self.now in
     let names = g.N.Naming.name_of old.naming in
     call_settled g.S.Store (λ (days : Vec ℤ Global). days.items) names old.summary old.summary
-    old.tables.store old.tables.store c.settle.new.tables.store periods_outcome
-    old.must_reopen c.settle.new.must_reopen c.try_periods-tried.result c.settle.result c.if-self.false
+    old.tables.store old.tables.store c.finish.new.tables.store periods_outcome
+    old.must_reopen c.finish.new.must_reopen c.try_periods-tried.result c.finish.result c.if-self.false
     (λ (trees : Trees). g.met.S.Store.settled old.tables.store trees)
-    (c.try_periods-tried.ensures.tries names) c.settle.ensures.settles
+    (c.try_periods-tried.ensures.tries names) c.finish.ensures.settles
 
 -- a ledger that is to be reopened lists nothing
 pub returns-then-self-clause-own : goal.returns-then-self-clause-own
@@ -39,7 +39,7 @@ returns-clause-own g c =
     let old = c.args.self.now in
     let names = g.N.Naming.name_of old.naming in
     own_settled g.S.Store (λ (days : Vec ℤ Global). days.items) names old.summary
-    old.tables.store old.tables.store c.settle.new.tables.store periods_outcome
-    old.must_reopen c.settle.new.must_reopen c.try_periods-tried.result c.settle.result
-    (c.try_periods-tried.ensures.tries names) (c.try_periods-tried.ensures.own names) c.settle.ensures.settles
-    c.settle.ensures.served c.settle.ensures.mended
+    old.tables.store old.tables.store c.finish.new.tables.store periods_outcome
+    old.must_reopen c.finish.new.must_reopen c.try_periods-tried.result c.finish.result
+    (c.try_periods-tried.ensures.tries names) (c.try_periods-tried.ensures.own names) c.finish.ensures.settles
+    c.finish.ensures.served c.finish.ensures.mended

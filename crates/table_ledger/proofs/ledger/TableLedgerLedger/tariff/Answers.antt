@@ -3,7 +3,7 @@ use Rattle.book_model.specs.declared.answer.Ruled.{Ruled}
 use Rattle.book_model.specs.Words.{tariff_outcome}
 use Rattle.tree_tables.specs.States.{state}
 use Rattle.table_ledger.proofs.OneCall.{call_reopen}
-use Rattle.table_ledger.proofs.SettleLemmas.{call_settled}
+use Rattle.table_ledger.proofs.FinishLemmas.{call_settled}
 use Rattle.table_ledger.proofs.ledger.TableLedgerLedger.tariff.Goals as goal
 
 pub returns-then-self : goal.returns-then-self
@@ -21,7 +21,7 @@ returns g c =
     let old = c.args.self.now in
     let names = g.N.Naming.name_of old.naming in
     call_settled g.S.Store (λ (ruled : Ruled). ruled) names old.summary c.try_tariff-tried.new.summary
-    old.tables.store c.try_tariff-tried.new.tables.store c.settle.new.tables.store (tariff_outcome c.args.text.now)
-    old.must_reopen c.settle.new.must_reopen c.try_tariff-tried.result c.settle.result c.if-self.false
+    old.tables.store c.try_tariff-tried.new.tables.store c.finish.new.tables.store (tariff_outcome c.args.text.now)
+    old.must_reopen c.finish.new.must_reopen c.try_tariff-tried.result c.finish.result c.if-self.false
     (λ (trees : Trees). g.met.S.Store.settled old.tables.store trees)
-    (c.try_tariff-tried.ensures.tries names) c.settle.ensures.settles
+    (c.try_tariff-tried.ensures.tries names) c.finish.ensures.settles

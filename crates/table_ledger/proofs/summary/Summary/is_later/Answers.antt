@@ -3,7 +3,7 @@ use Rattle.std.proofs.lemmas.Int.{to_z-of_z}
 use Rattle.std.specs.List.{list_all}
 use Rattle.std.specs.Option.{option_map_or}
 use Rattle.std.specs.Prelude.{int_lt, ℤ}
-use Rattle.book_model.specs.Words.{Tariffed, last_close}
+use Rattle.book_model.specs.Words.{AcceptedTerms, last_close}
 use Rattle.book_model.proofs.DayLemmas.{day_fits}
 use Rattle.book_model.proofs.LatestLemmas.{is_later-by}
 use Rattle.table_ledger.specs.Summaries.{ruled_in}
@@ -16,7 +16,7 @@ late day close = option_map_or (λ close. int_lt close day) close true
 pub returns-then-are_before : goal.returns-then-are_before
 returns-then-are_before c =
     let day = c.args.tariff.now.effective in
-    let before = ap (list_all (λ (tariff : Tariffed). int_lt tariff.terms.effective day))
+    let before = ap (list_all (λ (tariff : AcceptedTerms). int_lt tariff.terms.effective day))
     (sym c.deref.ensures.value) ∙ sym c.are_before.ensures ∙ c.if-are_before.true in
     sym (is_later-by day (ruled_in c.args.self.now)
     ∙ (λ i. before i && late (sym c.effective.ensures.value i) (sym c.last_close.ensures i))
@@ -28,7 +28,7 @@ pub returns-else-are_before : goal.returns-else-are_before
 returns-else-are_before c =
     let day = c.args.tariff.now.effective in
     let rulings = ruled_in c.args.self.now in
-    let before = ap (list_all (λ (tariff : Tariffed). int_lt tariff.terms.effective day))
+    let before = ap (list_all (λ (tariff : AcceptedTerms). int_lt tariff.terms.effective day))
     (sym c.deref.ensures.value) ∙ sym c.are_before.ensures ∙ c.if-are_before.false in
     c.if-are_before.false
     ∙ sym (is_later-by day rulings ∙ (λ i. before i && late day (last_close rulings)))

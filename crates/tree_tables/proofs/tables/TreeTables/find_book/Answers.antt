@@ -1,6 +1,6 @@
 use Rattle.std.proofs.Common.{◌∙◌, rules, subst, sym, true≢false}
 use Rattle.sqlite_disk.specs.Disk.{MoreFaults}
-use Rattle.kept_tables.specs.Tables.{Tables}
+use Rattle.table_model.specs.Tables.{Tables}
 use Rattle.tree_rows.proofs.Failing.{caused_by_memory}
 use Rattle.tree_tables.specs.Fits.{BookFits}
 use Rattle.tree_tables.specs.Holds.{Holds}

@@ -19,7 +19,7 @@ returns g c = record {
       (λ tables names. EndIn (take 2 (run_of key (identity_rows tables.records))) names.items) =
       looks_found ghosts c.list_first.ensures.quiet c.in_ok-names.ensures.same
       (λ clean tables holds. subst (λ rows. EndIn (take 2 (run_of key rows)) names.items)
-      holds.identities (c.in_ok-names.ensures.found clean)) in
+      holds.identity_index (c.in_ok-names.ensures.found clean)) in
       looks_behind c.read_named.result listed c.read_named.ensures.looks
       (λ tables found ends all. sharing_found tables c.args.identity.now key names.items
       found.items c.in_ok-bytes_key.ensures.made ends

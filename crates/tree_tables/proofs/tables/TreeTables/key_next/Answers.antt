@@ -7,19 +7,19 @@ use Rattle.tree_tables.proofs.tables.TreeTables.key_next.Goals as goal
 pub returns-then-not-branch-clause-keys : goal.returns-then-not-branch-clause-keys
 returns-then-not-branch-clause-keys g c clean =
     keys_none (g.S.Store.view c.args.self.now.store)
-    (g.S.Store.view c.first_behind.new.store) c.args.last.now c.first_behind.new.row
-    (c.in_ok-first_behind.ensures.same clean) c.args.last.now
-    (rw c.if-not-branch.true at (c.in_ok-first_behind.ensures.found clean))
+    (g.S.Store.view c.first_past.new.store) c.args.last.now c.first_past.new.row
+    (c.in_ok-first_past.ensures.same clean) c.args.last.now
+    (rw c.if-not-branch.true at (c.in_ok-first_past.ensures.found clean))
 
 -- its record is found by the identity that its row says
 pub returns-then-branch-clause-keys : goal.returns-then-branch-clause-keys
 returns-then-branch-clause-keys g c clean =
     let old = g.S.Store.view c.args.self.now.store in
     let before = clean_before g.S.Store c.find_row.ensures.quiet clean in
-    let first = c.in_ok-first_behind.ensures.same before in
-    keys_kept old (g.S.Store.view c.find_row.new.store) c.args.last.now c.first_behind.new.row
+    let first = c.in_ok-first_past.ensures.same before in
+    keys_kept old (g.S.Store.view c.find_row.new.store) c.args.last.now c.first_past.new.row
     (same_both old first (c.in_ok-find_row.ensures.same clean)) c.identity_row.new.row
-    (rw c.if-not-branch.false at (c.in_ok-first_behind.ensures.found before))
+    (rw c.if-not-branch.false at (c.in_ok-first_past.ensures.found before))
     (c.in_ok-identity_row.ensures ∙ (λ i. c.get.ensures i ∷ c.get-2.ensures i ∷ []))
     c.in_ok-column_key.ensures
     (found_before old 3 first (c.in_ok-find_row.ensures.found clean))
@@ -32,10 +32,10 @@ returns-clause-keys g c clean =
     let old = g.S.Store.view c.args.self.now.store in
     let after = clean_before g.S.Store c.key_record.ensures.quiet clean in
     let before = clean_before g.S.Store c.find_row.ensures.quiet after in
-    let first = c.in_ok-first_behind.ensures.same before in
-    keys_one old (g.S.Store.view c.find_row.new.store) c.args.last.now c.first_behind.new.row
+    let first = c.in_ok-first_past.ensures.same before in
+    keys_one old (g.S.Store.view c.find_row.new.store) c.args.last.now c.first_past.new.row
     (same_both old first (c.in_ok-find_row.ensures.same after)) c.identity_row.new.row
-    (rw c.if-not-branch.false at (c.in_ok-first_behind.ensures.found before))
+    (rw c.if-not-branch.false at (c.in_ok-first_past.ensures.found before))
     (c.in_ok-identity_row.ensures ∙ (λ i. c.get.ensures i ∷ c.get-2.ensures i ∷ []))
     c.in_ok-column_key.ensures
     (found_before old 3 first (c.in_ok-find_row.ensures.found after))

@@ -1,5 +1,5 @@
 use Rattle.std.proofs.Common.{rules}
-use Rattle.kept_tables.specs.Steps.{rename_rows}
+use Rattle.table_model.specs.Steps.{rename_rows}
 use Rattle.tree_tables.proofs.Keying.{keying_starts}
 use Rattle.tree_tables.proofs.Looking.{clean_before, only_both}
 use Rattle.tree_tables.proofs.tables.TreeTables.key_records.Goals as goal

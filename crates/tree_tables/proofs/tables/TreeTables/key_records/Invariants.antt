@@ -1,6 +1,6 @@
 use Rattle.sqlite_trees.specs.View.{IsClean, IsQuiet, OnlyWrites}
-use Rattle.kept_tables.specs.Steps.{rename_rows}
-use Rattle.kept_tables.specs.Tables.{Tables}
+use Rattle.table_model.specs.Steps.{rename_rows}
+use Rattle.table_model.specs.Tables.{Tables}
 use Rattle.tree_tables.specs.Walks.{HoldsFoundBy, IsKeying}
 use Rattle.tree_tables.proofs.tables.TreeTables.key_records.Given as goal
 

@@ -1,5 +1,5 @@
 use Rattle.std.proofs.Common.{Ok, rules, subst, sym}
-use Rattle.kept_tables.specs.Tables.{Tables}
+use Rattle.table_model.specs.Tables.{Tables}
 use Rattle.tree_rows.specs.Runs.{run_of}
 use Rattle.tree_tables.specs.Answers.{FindsNamed}
 use Rattle.tree_tables.specs.Fits.{AllNamed, EndsInName, RecordsFit, RowsFit}

@@ -1,5 +1,5 @@
 use Rattle.std.proofs.Common.{◌≡◌, ◌∙◌, ◌+◌, suc, sym, ap, arith}
-use Rattle.kept_tables.specs.TablesOf.{place_of}
+use Rattle.table_model.specs.TablesOf.{row_key}
 use Rattle.tree_tables.specs.Columns.{day_columns}
 use Rattle.tree_tables.proofs.MoveDays.{none_found, one_moved, other_found, some_looked, some_more}
 use Rattle.tree_tables.proofs.Looking.{clean_before}
@@ -50,5 +50,5 @@ returns-clause-moved g c clean =
     (c.in_ok-first_from.ensures.found before) c.in_ok-later_key.ensures charge c.day_row.new.row
     c.if-not-branch.false (λ m is. sym (c.is_of.ensures m is) ∙ c.if-not-is_of.false)
     c.in_ok-charge.ensures.says
-    (c.in_ok-day_row.ensures ∙ ap (λ m. day_columns ((m, place_of charge), charge)) next)
+    (c.in_ok-day_row.ensures ∙ ap (λ m. day_columns ((m, row_key charge), charge)) next)
     (c.in_ok-change_row.ensures.done clean))

@@ -1,6 +1,6 @@
 use Rattle.std.proofs.Common.{true, false, subst, w32}
 use Rattle.std.proofs.lemmas.Int.{to_z-of_z}
-use Rattle.kept_tables.specs.Steps.{post_by}
+use Rattle.table_model.specs.Steps.{post_by}
 use Rattle.tree_tables.specs.Walks.{RenewsRow}
 use Rattle.tree_tables.proofs.Looking.{clean_before}
 use Rattle.tree_tables.proofs.Renewing.{post_again, renews_kept, renews_none, renews_one}
@@ -11,9 +11,9 @@ pub returns-then-not-branch-clause-renews : goal.returns-then-not-branch-clause-
 returns-then-not-branch-clause-renews g c clean =
     renews_none (post_by c.args.through) (post_again c.args.through)
     (g.S.Store.view c.args.self.now.store)
-    (g.S.Store.view c.first_behind.new.store) c.args.self.now.key c.first_behind.new.row
-    (c.in_ok-first_behind.ensures.same clean) c.args.self.now.key
-    (rw c.if-not-branch.true at (c.in_ok-first_behind.ensures.found clean))
+    (g.S.Store.view c.first_past.new.store) c.args.self.now.key c.first_past.new.row
+    (c.in_ok-first_past.ensures.same clean) c.args.self.now.key
+    (rw c.if-not-branch.true at (c.in_ok-first_past.ensures.found clean))
 
 -- the record is posted
 pub returns-in_ok-change_row-clause-renews : goal.returns-in_ok-change_row-clause-renews
@@ -21,12 +21,12 @@ returns-in_ok-change_row-clause-renews g c clean =
     let before = clean_before g.S.Store c.change_row.ensures.quiet clean in
     renews_one (post_by c.args.through) (post_again c.args.through)
     (g.S.Store.view c.args.self.now.store)
-    (g.S.Store.view c.first_behind.new.store) c.args.self.now.key c.first_behind.new.row
-    (c.in_ok-first_behind.ensures.same before) (g.S.Store.view c.change_row.new.store)
+    (g.S.Store.view c.first_past.new.store) c.args.self.now.key c.first_past.new.row
+    (c.in_ok-first_past.ensures.same before) (g.S.Store.view c.change_row.new.store)
     c.column_key.new.key c.post_row.new.row
-    (rw c.if-not-branch.false at (c.in_ok-first_behind.ensures.found before))
+    (rw c.if-not-branch.false at (c.in_ok-first_past.ensures.found before))
     c.in_ok-column_key.ensures
-    (subst (λ day. RenewsRow (post_by day) c.first_behind.new.row c.post_row.new.row true)
+    (subst (λ day. RenewsRow (post_by day) c.first_past.new.row c.post_row.new.row true)
     (to_z-of_z w32 c.args.through c.ranges.through)
     (rw c.if-branch.true at c.in_ok-post_row.ensures))
     (c.in_ok-change_row.ensures.done clean)
@@ -36,10 +36,10 @@ pub returns-else-branch-clause-renews : goal.returns-else-branch-clause-renews
 returns-else-branch-clause-renews g c clean =
     renews_kept (post_by c.args.through) (post_again c.args.through)
     (g.S.Store.view c.args.self.now.store)
-    (g.S.Store.view c.first_behind.new.store) c.args.self.now.key c.first_behind.new.row
-    (c.in_ok-first_behind.ensures.same clean) c.column_key.new.key c.post_row.new.row
-    (rw c.if-not-branch.false at (c.in_ok-first_behind.ensures.found clean))
+    (g.S.Store.view c.first_past.new.store) c.args.self.now.key c.first_past.new.row
+    (c.in_ok-first_past.ensures.same clean) c.column_key.new.key c.post_row.new.row
+    (rw c.if-not-branch.false at (c.in_ok-first_past.ensures.found clean))
     c.in_ok-column_key.ensures
-    (subst (λ day. RenewsRow (post_by day) c.first_behind.new.row c.post_row.new.row false)
+    (subst (λ day. RenewsRow (post_by day) c.first_past.new.row c.post_row.new.row false)
     (to_z-of_z w32 c.args.through c.ranges.through)
     (rw c.if-branch.false at c.in_ok-post_row.ensures))

@@ -1,6 +1,6 @@
 use Rattle.sqlite_trees.specs.View.{IsClean, IsQuiet, OnlyWrites}
-use Rattle.kept_tables.specs.Steps.{post_by}
-use Rattle.kept_tables.specs.Tables.{Tables}
+use Rattle.table_model.specs.Steps.{post_by}
+use Rattle.table_model.specs.Tables.{Tables}
 use Rattle.tree_tables.specs.Holds.{Holds}
 use Rattle.tree_tables.specs.Walks.{IsRenewing}
 use Rattle.tree_tables.proofs.tables.TreeTables.post_records.Given as goal

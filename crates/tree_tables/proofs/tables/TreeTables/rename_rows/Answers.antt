@@ -1,5 +1,5 @@
 use Rattle.std.proofs.Common.{rules}
-use Rattle.kept_tables.specs.TableChanges.{by_second_rule}
+use Rattle.table_model.specs.TableChanges.{by_second_rule}
 use Rattle.tree_tables.proofs.Looking.{clean_before, only_both}
 use Rattle.tree_tables.proofs.Renewing.{renewing_starts}
 use Rattle.tree_tables.proofs.tables.TreeTables.rename_rows.Goals as goal

@@ -1,6 +1,6 @@
 use Rattle.sqlite_trees.specs.View.{IsClean, IsQuiet, OnlyWrites}
-use Rattle.kept_tables.specs.TableChanges.{by_second_rule}
-use Rattle.kept_tables.specs.Tables.{Tables}
+use Rattle.table_model.specs.TableChanges.{by_second_rule}
+use Rattle.table_model.specs.Tables.{Tables}
 use Rattle.tree_tables.specs.Holds.{Holds}
 use Rattle.tree_tables.specs.Walks.{IsRenewing}
 use Rattle.tree_tables.proofs.tables.TreeTables.rename_rows.Given as goal

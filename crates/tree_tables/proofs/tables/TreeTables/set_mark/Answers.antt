@@ -1,7 +1,7 @@
 use Rattle.std.proofs.Common.{◌≡◌, ◌∷◌, [], ◌∙◌, ap, pos}
 use Rattle.sqlite_value.specs.Order.{column}
 use Rattle.sqlite_value.specs.declared.value.Value.TheVariants.{Int}
-use Rattle.kept_tables.specs.RowChanges.{mark_at}
+use Rattle.table_model.specs.RowChanges.{mark_at}
 use Rattle.tree_tables.specs.Columns.{flag}
 use Rattle.tree_tables.proofs.Looking.{clean_before, does_after, does_nothing, quiet_both}
 use Rattle.tree_tables.proofs.Looking.{rewrites_behind}

@@ -1,0 +1,174 @@
+-- A request after one that was hindered.
+use Rattle.std.proofs.Common.{◌≡◌, ◌∙◌, ◌⊎◌, inl, inr, ℕ, Bool, true, false, List, [], ◌++◌, length}
+use Rattle.std.proofs.Common.{take, None, ltb, sym, ap, subst, append-nil}
+use Rattle.httparse.specs.Grammar.{RequestHead}
+use Rattle.smf_frames.specs.declared.dump.Layout.{Layout}
+use Rattle.book_model.specs.Words.{front, Book, Event, after_all, Naming}
+use Rattle.book_import.specs.declared.receipt.Receipt.{Receipt}
+use Rattle.book_import.specs.declared.receipt.Stop.{Stop}
+use Rattle.book_import.specs.Dumps.{stop_after}
+use Rattle.book_import.specs.Imports.{Handles}
+use Rattle.book_import.specs.Laws.{book_after_import}
+use Rattle.book_import.specs.Repeats as imports
+use Rattle.book_import.proofs.RetryLemmas.{stops_are_mended}
+use Rattle.book_import.proofs.RepeatLemmas.{is_whole}
+use Rattle.office.specs.Requests.{whole_dump}
+use Rattle.book_http.specs.declared.answer_head.BodyKind.TheVariants as kinds
+use Rattle.book_http.specs.declared.asked.Asked.{Asked}
+use Rattle.book_http.specs.declared.asked.Asked.TheVariants as asks
+use Rattle.book_http.specs.Asked.{asked}
+use Rattle.book_http.specs.Answer.{office_reply, AnswersBody, AnswersAsked, Answers, done, no_memory}
+use Rattle.book_http.specs.Answer.{no_head, a_head}
+use Rattle.book_http.specs.Head.{HasHead, HasNoHead}
+use Rattle.book_http.specs.Laws.{IsUnhindered, IsWhole, RequestsAreMended}
+use Rattle.book_http.specs.Replies.{Reply}
+use Rattle.book_http.proofs.HeadLemmas.{head_unique}
+use Rattle.book_http.proofs.LawLemmas.{import_counted, report_none}
+
+-- three requests that did nothing
+none_at_all : (before : Book) (first second all : List Event) → first ≡ [] → second ≡ [] → all ≡ []
+    → after_all (second ++ first) before ≡ after_all all before
+none_at_all before first second all none nothing nil =
+    ap (λ events. after_all (events ++ first) before) nothing
+    ∙ ap (λ events. after_all events before) (none ∙ sym nil)
+
+-- an import that nothing hindered leaves the books of a whole one
+import_left : (naming : Naming) (stop : Stop) (records : List (List ℕ)) (before : Book)
+    (told : Receipt) (events : List Event) (is : Bool)
+    → Handles naming stop records told false before events is → imports.IsUnhindered told
+    → after_all events before ≡ book_after_import naming before stop records
+import_left naming stop records before told events is handled unhindered =
+    ap (λ events. after_all events before)
+    (sym (is_whole naming stop records before told events is handled unhindered).told.events)
+
+-- the same import after one that was hindered, or that did nothing
+import_mended : (short : Bool) (naming : Naming) (layout : Layout) (body : List ℕ)
+    (once twice alone : Reply) (before : Book) (first second all : List Event)
+    (between is end : Bool)
+    → (first ≡ []) ⊎ AnswersBody short naming layout body once false before first between
+    → AnswersBody short naming layout body twice false (after_all first before) second is
+    → IsWhole twice → AnswersBody short naming layout body alone false before all end
+    → IsUnhindered alone → after_all (second ++ first) before ≡ after_all all before
+import_mended true naming layout body once twice alone before first second all between is end one two
+    whole single unhindered =
+    none_at_all before first second all (elim one [ inl none ↦ none | inr made ↦ made.none.none ])
+    two.none.none single.none.none
+import_mended false naming layout body once twice alone before first second all between is end one
+    two whole single unhindered =
+    let dump = whole_dump layout body in
+    let found = front layout body in
+    let stop = stop_after None found in
+    let b = import_counted naming dump two.told false (after_all first before) second is two.made in
+    let c = import_counted naming dump single.told false before all end single.made in
+    let counted = two.replied ∙ ap (office_reply kinds.Text) b.counted in
+    let left : after_all all before ≡ book_after_import naming before stop found.records =
+    import_left naming stop found.records before c.receipt all end c.imported
+    (unhindered.whole c.receipt (single.replied ∙ ap (office_reply kinds.Text) c.counted)) in
+    elim one [
+      | inl none ↦
+          ap (λ events. after_all (second ++ events) before) none
+          ∙ ap (λ events. after_all events before) (append-nil second)
+          ∙ import_left naming stop found.records before b.receipt second is
+          (subst (λ events. Handles naming stop found.records b.receipt false
+          (after_all events before) second is) none b.imported)
+          (whole.unhindered.whole b.receipt counted) ∙ sym left
+      | inr made ↦
+          let a = import_counted naming dump made.told false before first between made.made in
+          stops_are_mended naming before stop stop found.records a.receipt b.receipt first second
+          between is a.imported b.imported (whole.unhindered.whole b.receipt counted)
+          (whole.apart b.receipt counted) ∙ sym left
+    ]
+
+-- what a head asks, after a request that was hindered, or that did nothing
+asked_mended : (wanted : Asked) (naming : Naming) (behind : List ℕ) (once twice alone : Reply)
+    (before : Book) (first second all : List Event) (between is end : Bool)
+    → (first ≡ []) ⊎ AnswersAsked naming wanted behind once false before first between
+    → AnswersAsked naming wanted behind twice false (after_all first before) second is
+    → IsWhole twice → AnswersAsked naming wanted behind alone false before all end
+    → IsUnhindered alone → after_all (second ++ first) before ≡ after_all all before
+asked_mended (asks.Refusal status) naming behind once twice alone before first second all between is
+    end one two whole single unhindered =
+    none_at_all before first second all (elim one [ inl none ↦ none | inr made ↦ made.none.none ])
+    two.none.none single.none.none
+asked_mended (asks.OtherMethod method) naming behind once twice alone before first second all between
+    is end one two whole single unhindered =
+    none_at_all before first second all (elim one [ inl none ↦ none | inr made ↦ made.none.none ])
+    two.none.none single.none.none
+asked_mended (asks.Report report) naming behind once twice alone before first second all between is
+    end one two whole single unhindered =
+    none_at_all before first second all
+    (elim one [
+      | inl none ↦ none
+      | inr made ↦ report_none naming report once false before first between made
+    ])
+    (report_none naming report twice false (after_all first before) second is two)
+    (report_none naming report alone false before all end single)
+asked_mended (asks.Import layout size) naming behind once twice alone before first second all between
+    is end one two whole single unhindered =
+    import_mended (ltb (length behind) size) naming layout (take size behind) once twice alone before
+    first second all between is end one two whole single unhindered
+
+-- what is answered to a head is the answer to any other at the beginning of the same bytes
+asked_same : (naming : Naming) (bytes : List ℕ) (head other : RequestHead) (behind rest : List ℕ)
+    (reply : Reply) (before : Book) (events : List Event) (is : Bool) → HasHead bytes head behind
+    → HasHead bytes other rest → AnswersAsked naming (asked other) rest reply false before events is
+    → AnswersAsked naming (asked head) behind reply false before events is
+asked_same naming bytes head other behind rest reply before events is stands there made =
+    let same = head_unique bytes other head rest behind there stands in
+    subst (λ (h : RequestHead). AnswersAsked naming (asked h) behind reply false before events is)
+    same.0
+    (subst (λ (b : List ℕ). AnswersAsked naming (asked other) b reply false before events is) same.1
+    made)
+
+-- a request without a head does nothing
+headless : (naming : Naming) (bytes : List ℕ) (reply : Reply) (before : Book) (events : List Event)
+    (is : Bool) → HasNoHead bytes → Answers naming bytes reply false before events is → events ≡ []
+headless naming bytes reply before events is never (no_head some none refused) = refused.none.none
+headless naming bytes reply before events is never (a_head head behind stands made) =
+    absurd (never head behind stands)
+
+-- one with a head does nothing, or what that asks
+with_head : (naming : Naming) (bytes : List ℕ) (head : RequestHead) (behind : List ℕ) (reply : Reply)
+    (before : Book) (events : List Event) (is : Bool) → HasHead bytes head behind
+    → Answers naming bytes reply false before events is
+    → (events ≡ []) ⊎ AnswersAsked naming (asked head) behind reply false before events is
+with_head naming bytes head behind reply before events is stands (no_head some never refused) =
+    absurd (never head behind stands)
+with_head naming bytes head behind reply before events is stands
+    (a_head other rest there (no_memory refused)) =
+    inl refused.none.none
+with_head naming bytes head behind reply before events is stands
+    (a_head other rest there (done made)) =
+    inr (asked_same naming bytes head other behind rest reply before events is stands there made)
+
+-- and where nothing hindered it, that
+unhindered_head : (naming : Naming) (bytes : List ℕ) (head : RequestHead) (behind : List ℕ)
+    (reply : Reply) (before : Book) (events : List Event) (is : Bool) → HasHead bytes head behind
+    → Answers naming bytes reply false before events is → IsUnhindered reply
+    → AnswersAsked naming (asked head) behind reply false before events is
+unhindered_head naming bytes head behind reply before events is stands
+    (no_head some never refused) unhindered =
+    absurd (never head behind stands)
+unhindered_head naming bytes head behind reply before events is stands
+    (a_head other rest there (no_memory refused)) unhindered =
+    absurd (unhindered.done refused.replied)
+unhindered_head naming bytes head behind reply before events is stands
+    (a_head other rest there (done made)) unhindered =
+    asked_same naming bytes head other behind rest reply before events is stands there made
+
+-- the law of it
+pub requests_are_mended : RequestsAreMended
+requests_are_mended naming before bytes once twice alone first second all between is end one
+    (no_head some never refused) whole single unhindered =
+    none_at_all before first second all
+    (headless naming bytes once before first between never one) refused.none.none
+    (headless naming bytes alone before all end never single)
+requests_are_mended naming before bytes once twice alone first second all between is end one
+    (a_head head behind stands (no_memory refused)) whole single unhindered =
+    absurd (whole.unhindered.done refused.replied)
+requests_are_mended naming before bytes once twice alone first second all between is end one
+    (a_head head behind stands (done two)) whole single unhindered =
+    asked_mended (asked head) naming behind once twice alone before first second all between is end
+    (with_head naming bytes head behind once before first between stands one) two whole
+    (unhindered_head naming bytes head behind alone before all end stands single unhindered)
+    unhindered

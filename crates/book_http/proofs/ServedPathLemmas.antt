@@ -1,0 +1,129 @@
+-- What is served is found at its path.
+use Rattle.std.proofs.Common.{◌≡◌, ℕ, suc, zero, ◌-◌, ◌<◌, ◌≤◌, Bool, true, false, cond, ◌&&◌, List}
+use Rattle.std.proofs.Common.{[], ◌∷◌, ◌++◌, length, Option, Some, None, arith, refl, sym, ap, ◌∙◌}
+use Rattle.std.proofs.lemmas.Bool.Decides.{nat_tests}
+use Rattle.std.specs.Char.{is_ascii_digit}
+use Rattle.std.specs.List.{list_all}
+use Rattle.std.specs.Prelude.{◌==◌, option_map}
+use Rattle.matchit.specs.Rows.{RowsOf, param_token, catch_all_token}
+use Rattle.matchit.specs.Seek.{own, step, or_else, seek, param_step, has_slash}
+use Rattle.std.proofs.lemmas.Bool.{true≢false}
+use Rattle.std.proofs.lemmas.Str.Parse.{digit_at}
+use Rattle.std.specs.Int.{IsInRange}
+use Rattle.book_http.specs.Routes.{page_of, route_rows}
+use Rattle.book_http.proofs.PeriodLemmas.{are_digits, three_pass, two_pass}
+use Rattle.book_http.proofs.RouterLemmas.{Key}
+
+-- a lookup in no rows finds nothing
+param_nothing : (path : List ℕ) → (param_step {K = Key} [] path).1 ≡ []
+unfolding param_step
+param_nothing path =
+    elim (has_slash path) as (λ slash.
+    (cond {A = ℕ × RowsOf Key} slash (0, []) (length path, [])).1 ≡ []) [
+      | true ↦ refl
+      | false ↦ refl
+    ]
+
+seek_nothing : (skip : ℕ) (path : List ℕ) → seek {K = Key} skip [] path ≡ None
+unfolding seek
+seek_nothing skip [] = refl
+seek_nothing (suc skip) (b ∷ path) = seek_nothing skip path
+seek_nothing zero (b ∷ path) =
+    let behind = (param_step {K = Key} [] (b ∷ path)).0 in
+    simp (seek_nothing 0 path, param_nothing (b ∷ path), seek_nothing (behind - 1) path)
+
+or_else_none : (a : Option Key) → or_else a None ≡ a
+or_else_none None = refl
+or_else_none (Some key) = refl
+
+-- where a parameter takes the rest of the path, the route that ends there is found
+seek_end : (skip : ℕ) (rows : RowsOf Key) (path : List ℕ) → length path ≤ skip
+    → seek skip rows path ≡ own rows
+unfolding seek
+seek_end skip rows [] few = refl
+seek_end (suc skip) rows (b ∷ path) few = seek_end skip rows path (omega arith)
+seek_end zero rows (b ∷ path) few = absurd (omega arith)
+
+abbrev pub is_empty : RowsOf Key → Bool
+is_empty [] = true
+is_empty (row ∷ rows) = false
+
+empty_is : (rows : RowsOf Key) → is_empty rows ≡ true → rows ≡ []
+empty_is [] e = refl
+empty_is (row ∷ rows) e = absurd (true≢false (sym e))
+
+-- there is no parameter in the rows along these bytes
+abbrev pub is_plain_along : List ℕ → RowsOf Key → Bool
+is_plain_along [] rows = true
+is_plain_along (b ∷ front) rows =
+    (is_empty (step param_token rows) && is_empty (step catch_all_token rows))
+    && is_plain_along front (step b rows)
+
+-- the rows after these bytes
+abbrev pub rows_along : List ℕ → RowsOf Key → RowsOf Key
+rows_along [] rows = rows
+rows_along (b ∷ front) rows = rows_along front (step b rows)
+
+plain_step : (rows : RowsOf Key) (b : ℕ) (path : List ℕ)
+    → step param_token rows ≡ [] → step catch_all_token rows ≡ []
+    → seek 0 rows (b ∷ path) ≡ seek 0 (step b rows) path
+unfolding seek
+plain_step rows b path no_param no_rest =
+    let behind = (param_step {K = Key} [] (b ∷ path)).0 in
+    let nothing = seek_nothing (behind - 1) path in
+    simp (no_param, no_rest, param_nothing (b ∷ path), nothing, or_else_none)
+
+walk : (front path : List ℕ) (rows : RowsOf Key) → is_plain_along front rows ≡ true
+    → seek 0 rows (front ++ path) ≡ seek 0 (rows_along front rows) path
+walk [] path rows plain = refl
+walk (b ∷ front) path rows plain =
+    let passed =
+    three_pass (is_empty (step param_token rows)) (is_empty (step catch_all_token rows))
+    (is_plain_along front (step b rows)) plain in
+    plain_step rows b (front ++ path) (empty_is _ passed.0) (empty_is _ passed.1)
+    ∙ walk front path (step b rows) passed.2
+
+-- digits have no slash
+no_slash : (digits : List ℕ) → list_all is_ascii_digit digits ≡ true → has_slash digits ≡ false
+no_slash [] e = refl
+no_slash (d ∷ digits) e =
+    let passed = two_pass (is_ascii_digit d) (list_all is_ascii_digit digits) e in
+    let range : IsInRange 48 57 d =
+    digit_at (d ∷ digits) 0 (are_digits.to (d ∷ digits) e) (omega arith) in
+    let other : (d == 47) ≡ false = grind (arith, nat_tests) in
+    rw other (no_slash digits passed.1)
+
+param_lone : (key : Key) (path : List ℕ) → has_slash path ≡ false
+    → param_step (([], key) ∷ []) path ≡ (length path, ([], key) ∷ [])
+unfolding param_step
+param_lone key path plain = rw plain refl
+
+step_lone : (key : Key) (d : ℕ) → d < 256 → step d ((param_token ∷ [], key) ∷ []) ≡ []
+step_lone key d byte = let other : (256 == d) ≡ false = grind (arith, nat_tests) in rw other refl
+
+-- digits are found where a parameter is due
+lone_found : (key : Key) (text : List ℕ) → 0 < length text → list_all is_ascii_digit text ≡ true
+    → seek 0 ((param_token ∷ [], key) ∷ []) text ≡ Some key
+unfolding seek
+lone_found key [] some digits = absurd (omega arith)
+lone_found key (d ∷ rest) some digits =
+    let range : IsInRange 48 57 d =
+    digit_at (d ∷ rest) 0 (are_digits.to (d ∷ rest) digits) (omega arith) in
+    let byte : d < 256 = omega arith in
+    rw (
+      step_lone key d byte,
+      seek_nothing 0 rest,
+      param_lone key (d ∷ rest) (no_slash (d ∷ rest) digits),
+      seek_end (length (d ∷ rest) - 1) (([], key) ∷ []) rest (omega arith),
+    ) refl
+
+-- a path with digits after a prefix is found by the one row there
+pub numbered_found : (front text : List ℕ) (key : Key) → is_plain_along front route_rows ≡ true
+    → rows_along front route_rows ≡ (param_token ∷ [], key) ∷ []
+    → 0 < length text → list_all is_ascii_digit text ≡ true
+    → page_of (front ++ text) ≡ Some key.value
+unfolding page_of
+numbered_found front text key plain ends some digits =
+    ap (option_map (λ row. row.value))
+    (walk front text route_rows plain ∙ ap (λ rows. seek 0 rows text) ends
+    ∙ lone_found key text some digits)

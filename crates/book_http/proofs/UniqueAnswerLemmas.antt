@@ -1,0 +1,199 @@
+-- A request has one answer, by its bytes and the book before it.
+use Rattle.std.proofs.Common.{◌≡◌, ◌≢◌, ◌∙◌, ℕ, Bool, true, false, List, [], ◌∷◌, length, take, ltb}
+use Rattle.std.proofs.Common.{Result, Ok, Err, None, refl, sym, ap, subst}
+use Rattle.httparse.specs.Grammar.{RequestHead}
+use Rattle.smf_frames.specs.declared.dump.Layout.{Layout}
+use Rattle.book_model.specs.Words.{front, Book, Event, Outcome, Naming}
+use Rattle.book_model.specs.declared.fault.LedgerFault.{LedgerFault}
+use Rattle.book_model.specs.declared.fault.LedgerFault.TheVariants.{NoSuchPeriod}
+use Rattle.book_core.specs.Calls.{Calls}
+use Rattle.book_import.specs.declared.receipt.Receipt.{Receipt}
+use Rattle.book_import.specs.declared.receipt.Stop.{Stop}
+use Rattle.book_import.specs.declared.receipt.Stop.TheVariants.{End, Frame, Read, ReadLimit, Ledger}
+use Rattle.book_import.specs.Dumps.{stop_after}
+use Rattle.book_import.specs.Handled.{Imported, Answering, answers_of, handle, handle_all, continue_with}
+use Rattle.book_import.specs.Handled.{nothing_imported}
+use Rattle.book_import.specs.Imports.{Handles, GivesReceipt, whole, out_of_memory, store_failed}
+use Rattle.book_import.specs.Receipts.{is_stop_of_books}
+use Rattle.book_reports.specs.declared.report.Report.{Report}
+use Rattle.book_reports.specs.BookTexts.{report_outcome}
+use Rattle.office.specs.Requests.{Response, Text, response_outcome, whole_dump}
+use Rattle.book_http.specs.declared.answer_head.BodyKind.{BodyKind}
+use Rattle.book_http.specs.declared.answer_head.BodyKind.TheVariants as kinds
+use Rattle.book_http.specs.declared.asked.Asked.{Asked}
+use Rattle.book_http.specs.declared.asked.Asked.TheVariants as asks
+use Rattle.book_http.specs.declared.status.Status.TheVariants.{Unavailable}
+use Rattle.book_http.specs.Answer.{office_reply, body_kind, AnswersReport}
+use Rattle.book_http.specs.Answer.{AnswersImport, AnswersBody, AnswersAsked, RefusesRequest}
+use Rattle.book_http.specs.Answer.{UnlessMemory, done, no_memory, no_head, a_head}
+use Rattle.book_http.specs.Asked.{asked}
+use Rattle.book_http.specs.Laws.{IsSame, AnswersAreOne}
+use Rattle.book_http.specs.Replies.{Reply, receipt_reply, import_status}
+use Rattle.book_http.proofs.HeadLemmas.{head_unique}
+use Rattle.book_http.proofs.LawLemmas.{report_none, import_counted}
+
+-- two refusals of one kind
+refusals_same : (refused one other : Reply) (was : Bool) (before : Book) (first second : List Event)
+    (is_one is_other : Bool) → RefusesRequest refused one was before first is_one
+    → RefusesRequest refused other was before second is_other → IsSame one other first second
+refusals_same refused one other was before first second is_one is_other a b = record {
+  reply = a.replied ∙ sym b.replied;
+  events = a.none.none ∙ sym b.none.none;
+}
+
+-- a report that is not unavailable is the definitions' one
+reply_tells : (kind : BodyKind) (outcome : Book → Outcome Response) (told : Result Response LedgerFault)
+    (was : Bool) (before : Book) (events : List Event) (is : Bool)
+    → Calls (λ (told : Response). told) outcome told was before events is
+    → (office_reply kind told).status ≢ Unavailable → (outcome before).answer ≡ told
+reply_tells kind outcome (Ok told) was before events is called served = called.makes.0
+reply_tells kind outcome (Err NoSuchPeriod) was before events is called served = called.makes.0
+reply_tells kind outcome (Err fault) was before events is called served = absurd (served refl)
+
+reports_same : (naming : Naming) (wanted : Report) (one other : Reply) (was : Bool) (before : Book)
+    (first second : List Event) (is_one is_other : Bool)
+    → AnswersReport naming wanted one was before first is_one → one.status ≢ Unavailable
+    → AnswersReport naming wanted other was before second is_other → other.status ≢ Unavailable
+    → IsSame one other first second
+reports_same naming wanted one other was before first second is_one is_other a served b served_too =
+    let outcome = response_outcome Text (report_outcome naming wanted) in
+    let kind = body_kind wanted in
+    let left : (outcome before).answer ≡ a.told =
+    reply_tells kind outcome a.told was before first is_one a.made
+    (subst (λ (r : Reply). r.status ≢ Unavailable) a.replied served) in
+    let right : (outcome before).answer ≡ b.told =
+    reply_tells kind outcome b.told was before second is_other b.made
+    (subst (λ (r : Reply). r.status ≢ Unavailable) b.replied served_too) in
+    record {
+      reply = a.replied ∙ ap (office_reply kind) (sym left ∙ right) ∙ sym b.replied;
+      events =
+          report_none naming wanted one was before first is_one a
+          ∙ sym (report_none naming wanted other was before second is_other b);
+    }
+
+-- where a fault of the books follows the last record, the import stops with one
+stops_by_books : (answers : Answering) (fault : LedgerFault) (records : List (List ℕ))
+    (so_far : Imported)
+    → is_stop_of_books (handle_all answers (Ledger fault) records so_far).receipt.stop ≡ true
+stops_by_books answers fault [] so_far = refl
+stops_by_books answers fault (bytes ∷ rest) so_far =
+    elim (handle answers bytes so_far) as (λ handled.
+    is_stop_of_books (continue_with (handle_all answers (Ledger fault) rest) so_far handled).receipt.stop
+    ≡ true) [
+      | Ok next ↦ stops_by_books answers fault rest next
+      | Err refused ↦ refl
+    ]
+
+-- and then it is unavailable
+stop_unavailable : (stop : Stop) → is_stop_of_books stop ≡ true → import_status stop ≡ Unavailable
+stop_unavailable End is = cc is
+stop_unavailable (Frame fault) is = cc is
+stop_unavailable Read is = refl
+stop_unavailable ReadLimit is = refl
+stop_unavailable (Ledger fault) is = refl
+
+-- an import that is not unavailable is a whole one
+import_tells : (naming : Naming) (stop : Stop) (records : List (List ℕ)) (told : Receipt)
+    (was : Bool) (before : Book) (events : List Event) (is : Bool)
+    → Handles naming stop records told was before events is → import_status told.stop ≢ Unavailable
+    → GivesReceipt (handle_all (answers_of was naming) stop records (nothing_imported before)) told events
+import_tells naming stop records told was before events is (whole same so) served = so
+import_tells naming stop records told was before events is (out_of_memory count same so) served =
+    absurd (served (stop_unavailable told.stop
+    (ap (λ (r : Receipt). is_stop_of_books r.stop) (sym so.receipt)
+    ∙ stops_by_books (answers_of was naming) _ (take count records) (nothing_imported before))))
+import_tells naming stop records told was before events is
+    (store_failed count kept open_before reopen within either stopped so made) served =
+    absurd (served (ap import_status stopped))
+
+imports_same : (naming : Naming) (layout : Layout) (body : List ℕ) (one other : Reply) (was : Bool)
+    (before : Book) (first second : List Event) (is_one is_other : Bool)
+    → AnswersImport naming layout body one was before first is_one → one.status ≢ Unavailable
+    → AnswersImport naming layout body other was before second is_other
+    → other.status ≢ Unavailable → IsSame one other first second
+imports_same naming layout body one other was before first second is_one is_other a served b
+    served_too =
+    let found = front layout body in
+    let stop = stop_after None found in
+    let dump = whole_dump layout body in
+    let first_one = import_counted naming dump a.told was before first is_one a.made in
+    let second_one = import_counted naming dump b.told was before second is_other b.made in
+    let reply_one = a.replied ∙ ap (office_reply kinds.Text) first_one.counted in
+    let reply_two = b.replied ∙ ap (office_reply kinds.Text) second_one.counted in
+    let left = import_tells naming stop found.records first_one.receipt was before first is_one
+    first_one.imported (subst (λ (r : Reply). r.status ≢ Unavailable) reply_one served) in
+    let right =
+    import_tells naming stop found.records second_one.receipt was before second is_other
+    second_one.imported (subst (λ (r : Reply). r.status ≢ Unavailable) reply_two served_too) in
+    record {
+      reply = reply_one ∙ ap receipt_reply (sym left.receipt ∙ right.receipt) ∙ sym reply_two;
+      events = sym left.events ∙ right.events;
+    }
+
+bodies_same : (short : Bool) (naming : Naming) (layout : Layout) (body : List ℕ) (one other : Reply)
+    (was : Bool) (before : Book) (first second : List Event) (is_one is_other : Bool)
+    → AnswersBody short naming layout body one was before first is_one → one.status ≢ Unavailable
+    → AnswersBody short naming layout body other was before second is_other
+    → other.status ≢ Unavailable → IsSame one other first second
+bodies_same true naming layout body one other was before first second is_one is_other a served b
+    served_too =
+    refusals_same _ one other was before first second is_one is_other a b
+bodies_same false naming layout body one other was before first second is_one is_other a served b
+    served_too =
+    imports_same naming layout body one other was before first second is_one is_other a served b
+    served_too
+
+asked_same : (wanted : Asked) (naming : Naming) (behind : List ℕ) (one other : Reply) (was : Bool)
+    (before : Book) (first second : List Event) (is_one is_other : Bool)
+    → AnswersAsked naming wanted behind one was before first is_one → one.status ≢ Unavailable
+    → AnswersAsked naming wanted behind other was before second is_other
+    → other.status ≢ Unavailable → IsSame one other first second
+asked_same (asks.Refusal status) naming behind one other was before first second is_one is_other a
+    served b served_too =
+    refusals_same _ one other was before first second is_one is_other a b
+asked_same (asks.OtherMethod method) naming behind one other was before first second is_one is_other
+    a served b served_too =
+    refusals_same _ one other was before first second is_one is_other a b
+asked_same (asks.Report report) naming behind one other was before first second is_one is_other a
+    served b served_too =
+    reports_same naming report one other was before first second is_one is_other a served b
+    served_too
+asked_same (asks.Import layout size) naming behind one other was before first second is_one is_other
+    a served b served_too =
+    bodies_same (ltb (length behind) size) naming layout (take size behind) one other was before
+    first second is_one is_other a served b served_too
+
+-- what a head asks was done, where the reply is not unavailable
+was_done : (wanted : Asked) (naming : Naming) (behind : List ℕ) (reply : Reply) (was : Bool)
+    (before : Book) (events : List Event) (is : Bool)
+    → UnlessMemory (AnswersAsked naming wanted behind reply) reply was before events is
+    → reply.status ≢ Unavailable → AnswersAsked naming wanted behind reply was before events is
+was_done wanted naming behind reply was before events is (done made) served = made
+was_done wanted naming behind reply was before events is (no_memory refused) served =
+    absurd (served (ap (λ (r : Reply). r.status) refused.replied))
+
+-- the law of it
+pub answers_are_one : AnswersAreOne
+answers_are_one naming before bytes one other was first second is_one is_other
+    (no_head some never a) served (no_head some_too never_too b) served_too =
+    refusals_same _ one other was before first second is_one is_other a b
+answers_are_one naming before bytes one other was first second is_one is_other
+    (no_head some never a) served (a_head head behind stands b) served_too =
+    absurd (never head behind stands)
+answers_are_one naming before bytes one other was first second is_one is_other
+    (a_head head behind stands a) served (no_head some never b) served_too =
+    absurd (never head behind stands)
+answers_are_one naming before bytes one other was first second is_one is_other
+    (a_head head behind stands a) served (a_head head_too rest stands_too b) served_too =
+    let same = head_unique bytes head_too head rest behind stands_too stands in
+    let made = was_done (asked head) naming behind one was before first is_one a served in
+    let too = was_done (asked head_too) naming rest other was before second is_other b served_too in
+    asked_same (asked head) naming behind one other was before first second is_one is_other made
+    served
+    (subst
+    (λ (h : RequestHead). AnswersAsked naming (asked h) behind other was before second is_other)
+    same.0
+    (subst
+    (λ (l : List ℕ). AnswersAsked naming (asked head_too) l other was before second is_other)
+    same.1 too))
+    served_too

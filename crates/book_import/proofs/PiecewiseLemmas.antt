@@ -1,0 +1,98 @@
+-- What an import has done with the records of a dump that it reads in pieces.
+use Rattle.std.proofs.Common.{◌≡◌, ◌∙◌, ℕ, List, [], ◌++◌, sym, ap, subst, Option, Some, None}
+use Rattle.std.proofs.Common.{append-nil}
+use Rattle.std.specs.Prelude.{unwrap_or}
+use Rattle.smf_frames.specs.declared.dump.Layout.{Layout}
+use Rattle.book_model.specs.Words.{Front, front, Joining, HasTaken, nothing_joined}
+use Rattle.book_model.specs.Words.{nothing_found, Naming}
+use Rattle.book_core.specs.Ledgers.{Seen}
+use Rattle.book_core.specs.Transition.{Transition, IsTransition}
+use Rattle.book_core.proofs.TransitionLemmas.{no_work, work_then, work_as}
+use Rattle.book_import.specs.declared.receipt.Receipt.{Receipt}
+use Rattle.book_import.specs.declared.receipt.Stop.{Stop}
+use Rattle.book_import.specs.declared.receipt.Stop.TheVariants.{End}
+use Rattle.book_import.specs.Dumps.{stop_after, frame_stop}
+use Rattle.book_import.specs.Receipts.{receipt_stopped}
+use Rattle.book_import.specs.Imports.{Imports}
+use Rattle.book_import.specs.Pieces.{LeadsTo, FollowsRecords, StopsAt, HandlesPiece, TakesAll}
+use Rattle.book_import.proofs.ImportLemmas.{none_yet}
+use Rattle.book_import.proofs.FeedLemmas.{HasPassed, holds_here, passed_more, stop_is}
+use Rattle.book_import.proofs.PieceLemmas.{ends_behind, behind_done}
+
+-- the records were handled, leading to this receipt
+abbrev pub LeadsFrom : Seen → Seen → Receipt → List (List ℕ) → Type 0
+LeadsFrom begins now receipt records = IsTransition begins now (LeadsTo begins.naming records receipt)
+
+-- none yet
+pub joins_nothing : (begins : Seen) (layout : Layout) (joiner : Joining) (receipt : Receipt)
+    → joiner ≡ nothing_joined layout → HasTaken [] joiner → front layout [] ≡ nothing_found
+    → receipt ≡ receipt_stopped End → HasPassed layout [] joiner (LeadsFrom begins begins receipt)
+joins_nothing begins layout joiner receipt is stands found so = record {
+  layout_is = ap (λ (j : Joining). j.layout) is;
+  none = ap (λ (j : Joining). j.ready) is;
+  stands = stands;
+  whole = ap (λ (f : Front). f.is_broken) found;
+  done = subst (λ (f : Front). LeadsFrom begins begins receipt f.records) (sym found)
+      (work_as begins begins _ (LeadsTo begins.naming [] receipt)
+      (none_yet begins.naming receipt so) (no_work begins));
+}
+
+module _ (begins now : Seen) (receipt : Receipt) {layout : Layout} {bytes : List ℕ}
+    {joiner : Joining} (joins : HasPassed layout bytes joiner (LeadsFrom begins now receipt)) where
+  -- what becomes of everything with a piece, under the naming and the layout of the beginning
+  with_piece : (next : Seen) (Made : Naming → Layout → List ℕ → Transition)
+      → ((text : List ℕ) → HasTaken text joiner → IsTransition now next (FollowsRecords now.naming
+      (front joiner.layout text).records receipt (Made now.naming joiner.layout text)))
+      → IsTransition begins next (Made begins.naming layout bytes)
+  with_piece next Made handled =
+      let first = (front layout bytes).records in
+      work_as begins next _ (Made begins.naming layout bytes)
+      (behind_done begins.naming first receipt (Made begins.naming layout bytes))
+      (work_then begins now next (LeadsTo begins.naming first receipt)
+      (FollowsRecords begins.naming first receipt (Made begins.naming layout bytes)) joins.done
+      (holds_here joins (λ l text. IsTransition now next
+      (FollowsRecords begins.naming (front l text).records receipt (Made begins.naming l text)))
+      (λ text stood. subst (λ naming. IsTransition now next (FollowsRecords naming
+      (front joiner.layout text).records receipt (Made naming joiner.layout text)))
+      joins.done.naming (handled text stood))))
+
+  -- one more piece
+  pub joins_more : {new : Joining} {piece : List ℕ} (next : Seen) (later : Receipt)
+      → TakesAll joiner piece new
+      → ((text : List ℕ) → HasTaken text joiner → IsTransition now next
+      (HandlesPiece now.naming joiner.layout text piece receipt later None))
+      → HasPassed layout (bytes ++ piece) new (LeadsFrom begins next later)
+  joins_more {piece = piece} next later taken handled =
+      passed_more joins taken
+      (with_piece next (λ naming l text. LeadsTo naming (front l (text ++ piece)).records later)
+      handled)
+
+  -- the import was stopped in a piece
+  pub joins_stopped : (next : Seen) (piece : List ℕ) (later told : Receipt) (stop : Stop)
+      → ((text : List ℕ) → HasTaken text joiner → IsTransition now next
+      (HandlesPiece now.naming joiner.layout text piece receipt later (Some stop)))
+      → told ≡ record later { stop = stop } → (cut : Option Stop)
+      → IsTransition begins next (Imports begins.naming layout cut (bytes ++ piece) told)
+  joins_stopped next piece later told stop handled so cut =
+      let text = bytes ++ piece in
+      let here = record later { stop = stop } in
+      subst (λ told. IsTransition begins next (Imports begins.naming layout cut text told)) (sym so)
+      (work_as begins next _ (Imports begins.naming layout cut text here)
+      (λ was before events is stops.
+      subst (λ b. Imports begins.naming layout cut b here was before events is)
+      (append-nil text) (stops [] cut))
+      (with_piece next (λ naming l text. StopsAt naming l (text ++ piece) here) handled))
+
+  -- no more pieces come
+  pub joins_ended : (told : Receipt) (stop : Stop) (cut : Option Stop)
+      → ((text : List ℕ) → HasTaken text joiner
+      → stop ≡ unwrap_or cut (frame_stop (front joiner.layout text).fault))
+      → told ≡ record receipt { stop = stop }
+      → IsTransition begins now (Imports begins.naming layout cut bytes told)
+  joins_ended told stop cut stopped so =
+      let found = front layout bytes in
+      work_as begins now (LeadsTo begins.naming found.records receipt)
+      (Imports begins.naming layout cut bytes told)
+      (ends_behind begins.naming found.records receipt told (stop_after cut found)
+      (so ∙ ap (λ stop. record receipt { stop = stop }) (stop_is joins cut stopped)))
+      joins.done

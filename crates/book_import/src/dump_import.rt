@@ -1,0 +1,78 @@
+ghost use Rattle.std.specs.Prelude.{◌≡◌, ◌+◌, ◌≤◌, ◌^◌, ℕ, List, None, false};
+ghost use Rattle.streams.specs.Sources.{reader_of, reads_of, has_failed, has_ended};
+ghost use Rattle.streams.specs.AnswerFlags.{NothingUnread};
+ghost use Rattle.streams.specs.InputOutput.{input};
+ghost use Rattle.book_core.specs.Transition.{IsTransition};
+ghost use Rattle.book_import.specs.Imports.{Imports};
+ghost use Rattle.book_import.specs.Reach.{IsReadFor};
+ghost use Rattle.book_import.specs.ReadLimits.{cut_of, most_reads};
+
+use crate::pieces::import_piece;
+use crate::receipt::{Receipt, Stop};
+use crate::source_reads::{PIECE, read_piece};
+use crate::stop::{dump_end, reading_end};
+use book_core::{Ledger, LedgerFault, Source};
+use smf_frames::{Joiner, Layout};
+use std::alloc::Global;
+use std::io::Read;
+
+/// Reads a dump to its end, in at most so many reads, and submits its records to the books in
+/// order. If it stops before the end, nothing more is read. At most a piece and a record of the
+/// dump are held at a time.
+pub fn import<R: Read + Drop, L: Ledger>(
+    alloc: Global,
+    source: &mut Source<R>,
+    layout: Layout,
+    reads: u64,
+    ledger: &mut L,
+) -> Receipt
+    requires asked { reads_of source.old ≤ 2 ^ 62 }
+    requires failed { has_failed source.old ≡ false }
+    requires ended { has_ended source.old ≡ false }
+    requires reads { reads ≤ most_reads }
+
+    // These bytes were taken from the reader, up to the stop and no further, and booked. If the
+    // source has ended, they are all the bytes of a reader that shows its bytes.
+    ensures booked { (bytes : List ℕ)
+        × IsReadFor layout reads bytes result (input R.remaining source.old source.new)
+        × IsTransition (L.seen ledger.old) (L.seen ledger.new)
+        (Imports (L.seen ledger.old).naming layout (cut_of source.new) bytes result) }
+    ensures left { NothingUnread
+        (has_ended source.new) (R.remaining (reader_of source.new)) }
+    ensures asked { reads_of source.new ≤ reads_of source.old + reads }
+{
+    let Ok(mut joiner) = Joiner::new(alloc, layout) else {
+        return Receipt::stopped(Stop::Ledger(LedgerFault::Memory));
+    };
+    let mut receipt = Receipt::stopped(Stop::End);
+    let mut piece = [0u8; PIECE];
+    for _ in 0..reads {
+        let Some(count) = read_piece(source, &mut piece) else {
+            return receipt.stopped_by(reading_end(source, &joiner));
+        };
+        if let Some(stop) = import_piece(ledger, &mut joiner, &mut receipt, &piece[..count]) {
+            return receipt.stopped_by(stop);
+        }
+    }
+    receipt.stopped_by(reading_end(source, &joiner))
+}
+
+/// Submits the records of a dump to the books, in order. These bytes are the whole dump.
+pub fn import_bytes<L: Ledger>(
+    alloc: Global,
+    ledger: &mut L,
+    layout: Layout,
+    bytes: &[u8],
+) -> Receipt
+    ensures { IsTransition (L.seen ledger.old) (L.seen ledger.new)
+        (Imports (L.seen ledger.old).naming layout None bytes.now result) }
+{
+    let Ok(mut joiner) = Joiner::new(alloc, layout) else {
+        return Receipt::stopped(Stop::Ledger(LedgerFault::Memory));
+    };
+    let mut receipt = Receipt::stopped(Stop::End);
+    match import_piece(ledger, &mut joiner, &mut receipt, bytes) {
+        Some(stop) => receipt.stopped_by(stop),
+        None => receipt.stopped_by(dump_end(&joiner)),
+    }
+}

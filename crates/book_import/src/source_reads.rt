@@ -1,0 +1,41 @@
+ghost use Rattle.std.specs.Prelude.{◌≡◌, IfSome, ◌+◌, ◌<◌, ◌≤◌, ◌^◌, false, true};
+ghost use Rattle.std.specs.Prelude.{length, take, unwrap_or, None};
+ghost use Rattle.std.specs.Io.KnownBytes.{Consumes};
+ghost use Rattle.streams.specs.Sources.{reader_of, reads_of, has_failed, has_ended};
+ghost use Rattle.streams.specs.AnswerFlags.{NothingUnread};
+
+use book_core::Source;
+use std::io::Read;
+
+/// The most reads that one import may make: the office's number, as a law says.
+pub const MAX_READS: u64 = 1_000_000_000;
+
+/// How many bytes a read asks for: the office's number, as a law says.
+pub const PIECE: usize = 65_536;
+
+/// Asks a source once for the next piece of its bytes. Returns how many came, one or more; or none
+/// if the reader failed or has come to its end, which the source shows.
+pub fn read_piece<R: Read + Drop>(source: &mut Source<R>, piece: &mut [u8]) -> Option<usize>
+    requires room { 0 < length piece.old }
+    requires asked { reads_of source.old < 2 ^ 63 }
+    requires failed { has_failed source.old ≡ false }
+    requires ended { has_ended source.old ≡ false }
+
+    // The bytes that came were taken from the reader, and are first in the piece.
+    ensures taken { Consumes (R.remaining (reader_of source.old))
+        (R.remaining (reader_of source.new)) (take (unwrap_or result 0) piece.new) }
+    ensures came { IfSome result (λ count. (0 < count) × (count ≤ length piece.new)) }
+
+    // If some came, the reader may be asked again.
+    ensures failed { IfSome result (λ _. has_failed source.new ≡ false) }
+    ensures ended { IfSome result (λ _. has_ended source.new ≡ false) }
+    ensures none { result ≡ None → has_failed source.new ≡ false → has_ended source.new ≡ true }
+    ensures asked { reads_of source.new ≡ reads_of source.old + 1 }
+    ensures left { NothingUnread
+        (has_ended source.new) (R.remaining (reader_of source.new)) }
+{
+    match source.read(piece) {
+        Err(_) | Ok(0) => None,
+        Ok(count) => Some(count),
+    }
+}

@@ -1,5 +1,0 @@
-use Rattle.book_laws.proofs.WidthLemmas.{statements_are_even}
-use Rattle.book_laws.proofs.runs.statements_are_even.Goals as goal
-
-pub returns : goal.returns
-returns c = statements_are_even

@@ -1,0 +1,98 @@
+-- Histories that calls made.
+use Rattle.std.proofs.Common.{◌≡◌, ℕ, List, [], ◌∷◌, refl, sym, ap, ◌∙◌, subst, true, Bool, not}
+use Rattle.std.proofs.Common.{Some, None, Ok}
+use Rattle.std.specs.Prelude.{ℤ, int_lt, not}
+use Rattle.std.specs.List.{list_any, list_all}
+use Rattle.std.specs.Option.{option_map, option_map_or}
+use Rattle.tariff_rules.specs.Terms.{Terms}
+use Rattle.book_model.specs.declared.answer.Ruled.TheVariants.{Done}
+use Rattle.book_model.specs.MadeByCalls.{IsMadeByCalls}
+use Rattle.book_model.specs.Books.{Book, open_number}
+use Rattle.book_model.specs.Events.{Event, RecordKept, TariffAccepted, PeriodClosed, RecordChosen}
+use Rattle.book_model.specs.Events.{SecondRuleAdopted}
+use Rattle.book_model.specs.History.{rulings, tariffs, book_after}
+use Rattle.book_model.specs.Laws.{LatestIsLast}
+use Rattle.book_model.specs.Records.{Naming, name_of}
+use Rattle.book_model.specs.RulingAnswers.{has_text, is_effective, is_later, is_too_dear}
+use Rattle.book_model.specs.RulingAnswers.{terms_answer}
+use Rattle.book_model.specs.Rulings.{Rulings, AcceptedTerms, are_rising, with_tariff, with_close}
+use Rattle.book_model.specs.Rulings.{with_choice, with_second_rule, last_close}
+use Rattle.book_model.specs.Sound.{IsSound}
+use Rattle.book_model.proofs.CallLemmas.{passes}
+use Rattle.book_model.proofs.LatestLemmas.{rising-behind, begun-last}
+use Rattle.book_model.proofs.ListLemmas.{list_all-not_any}
+use Rattle.book_model.proofs.RecordSets.{first_of}
+use Rattle.book_model.proofs.SoundLemmas.{steps_stay_sound}
+
+-- the rulings of the book are those of the history
+pub rulings_are : (history : List Event) → (book_after history).rulings ≡ rulings history
+rulings_are [] = refl
+rulings_are (RecordKept bytes ∷ older) = rulings_are older
+rulings_are (TariffAccepted text terms ∷ older) = ap (with_tariff text terms) (rulings_are older)
+rulings_are (PeriodClosed day ∷ older) = ap (with_close day) (rulings_are older)
+rulings_are (RecordChosen bytes ∷ older) = ap (with_choice bytes) (rulings_are older)
+rulings_are (SecondRuleAdopted ∷ older) = ap with_second_rule (rulings_are older)
+
+-- the book is sound after each event that was answered so
+pub sound_after : (naming : Naming) (history : List Event) → IsMadeByCalls naming history
+    → IsSound naming (book_after history)
+sound_after naming [] answered = steps_stay_sound.start naming
+sound_after naming (RecordKept bytes ∷ older) answered =
+    steps_stay_sound.keep naming (book_after older) bytes (sound_after naming older answered.1)
+    answered.0
+sound_after naming (TariffAccepted (Some text) terms ∷ older) answered =
+    steps_stay_sound.tariff naming (book_after older) text terms
+    (sound_after naming older answered.1) answered.0
+sound_after naming (TariffAccepted None terms ∷ older) answered =
+    subst (λ history. IsSound naming (book_after (TariffAccepted None terms ∷ history)))
+    (sym answered)
+    (steps_stay_sound.flat naming terms)
+sound_after naming (PeriodClosed day ∷ older) answered =
+    steps_stay_sound.close naming (book_after older) (open_number (book_after older)) day
+    (sound_after naming older answered.1) answered.0
+sound_after naming (RecordChosen bytes ∷ older) answered =
+    steps_stay_sound.choose naming (book_after older) (name_of naming bytes) bytes
+    (sound_after naming older answered.1) answered.2
+sound_after naming (SecondRuleAdopted ∷ older) answered =
+    steps_stay_sound.adopt naming (book_after older) (sound_after naming older answered.1)
+
+-- a tariff that comes into force begins later than every other one
+begins_later : (book : Book) (text : List ℕ) (terms : Terms)
+    → terms_answer book text terms ≡ Ok Done
+    → list_all (λ tariff. int_lt tariff.terms.effective terms.effective) book.rulings.tariffs ≡ true
+begins_later book text terms done =
+    let day : ℤ = terms.effective in
+    let others : List AcceptedTerms = book.rulings.tariffs in
+    let later = passes (list_any (has_text text) others) (list_any (is_effective day) others)
+    (is_later day book.rulings)
+    (is_too_dear (with_tariff (Some text) terms book.rulings) book.held) done in
+    let before : AcceptedTerms → Bool = λ tariff. int_lt tariff.terms.effective day in
+    let after : Bool = option_map_or (λ close. int_lt close day) (last_close book.rulings) true in
+    list_all-not_any before others
+    ∙ first_of (not (list_any (λ tariff. not (before tariff)) others)) after later
+
+-- so the tariffs rise
+rising : (naming : Naming) (history : List Event) → IsMadeByCalls naming history
+    → are_rising (tariffs history) ≡ true
+rising naming [] answered = refl
+rising naming (RecordKept bytes ∷ older) answered = rising naming older answered.1
+rising naming (TariffAccepted (Some text) terms ∷ older) answered =
+    let later : AcceptedTerms = record { text = Some text; terms = terms } in
+    let day : ℤ = terms.effective in
+    let before = begins_later (book_after older) text terms answered.0 in
+    rising-behind (tariffs older) later (rising naming older answered.1)
+    (ap (λ (ruled : Rulings). list_all (λ tariff. int_lt tariff.terms.effective day) ruled.tariffs)
+    (sym (rulings_are older)) ∙ before)
+rising naming (TariffAccepted None terms ∷ older) answered =
+    ap (λ history. are_rising (tariffs (TariffAccepted None terms ∷ history))) answered
+rising naming (PeriodClosed day ∷ older) answered = rising naming older answered.1
+rising naming (RecordChosen bytes ∷ older) answered = rising naming older answered.1
+rising naming (SecondRuleAdopted ∷ older) answered = rising naming older answered.1
+
+-- the law of it
+pub latest_is_last : LatestIsLast
+latest_is_last = record {
+  rising = rising;
+  last = λ tariffs day rise.
+      ap (option_map (λ tariff. tariff.terms)) (begun-last tariffs day rise);
+}

@@ -1,0 +1,54 @@
+-- What a ledger leaves of its two files.
+use Rattle.std.specs.Prelude.{◌≡◌, ◌⊎◌, ◌+◌, ◌<◌, ◌^◌, [], ℕ}
+use Rattle.sqlite_disk.specs.declared.Disk.{Ghosts}
+use Rattle.sqlite_disk.specs.declared.files.Files.{Files}
+use Rattle.sqlite_pages.specs.PageMap.{PageMap}
+use Rattle.sqlite_pool.specs.Stored.{Recovers}
+use Rattle.sqlite_store.specs.Db.{IsFile}
+use Rattle.sqlite_store.specs.Listing.{file_trees}
+use Rattle.sqlite_store.specs.Opening.{IsEmptyFile}
+use Rattle.sqlite_trees.specs.Tree.{Trees}
+use Rattle.sqlite_wal.specs.Files.{seen_image}
+use Rattle.sqlite_wal.specs.Recovery.{Image}
+use Rattle.book_trees.specs.Schema.{books_schema}
+
+-- what reads of two files return
+abbrev pub image_of : {D : Type 0} → Ghosts D → Files D → Image
+image_of g files = seen_image g files.log files.db
+
+-- the size of a page
+abbrev pub page_size : ℕ
+page_size = 4096
+
+-- the files recover to a sound file of the tables of books
+pub record HoldsBooks (image : Image) : Type 0 where
+  pub pages : PageMap
+  pub found : Recovers page_size image pages
+  pub file : IsFile page_size books_schema pages
+
+-- the tables that it holds
+abbrev pub trees_held : {image : Image} → HoldsBooks image → Trees
+trees_held held = file_trees page_size books_schema held.pages
+
+-- a database that was begun, and has no table yet
+pub record HoldsNone (image : Image) : Type 0 where
+  pub pages : PageMap
+  pub found : Recovers page_size image pages
+  pub empty : IsEmptyFile page_size pages
+
+-- The files are empty, or a ledger left them. A stop inside the making of books leaves a database
+-- that was begun.
+abbrev pub AreLeft : Image → Type 0
+AreLeft image = (image.db ≡ []) ⊎ (HoldsNone image ⊎ HoldsBooks image)
+
+-- no table has a row
+abbrev pub AreEmptyTables : Trees → Type 0
+AreEmptyTables trees = (tree : ℕ) → tree < 2 ^ 32 → trees tree ≡ []
+
+-- A log with no room for its header and that of a page is passed over.
+abbrev pub shortest_log : ℕ
+shortest_log = 32 + 24
+
+-- the file, with no log to go with it
+abbrev pub without_log : Image → Image
+without_log image = record { log = []; db = image.db }

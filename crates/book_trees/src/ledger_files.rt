@@ -1,0 +1,19 @@
+//! What the files of a ledger hold as they are opened.
+
+ghost use Rattle.std.specs.Prelude.{◌≡◌, []};
+ghost use Rattle.std.proofs.Common.{refl, inl};
+ghost use Rattle.sqlite_wal.specs.Files.{image_at};
+ghost use Rattle.book_trees.specs.LedgerFiles.{AreLeft};
+
+use sqlite_disk::{Start, Unknown};
+
+/// What two files held as they were opened: nothing, or what a ledger left.
+pub trait LeftByLedger: Start {
+    ghost left: { AreLeft (image_at Self.Start) };
+}
+
+/// For `main` to name, as ever: at this type a clause on values says nothing of a file that is not
+/// empty.
+impl LeftByLedger for Unknown {
+    ghost left = { inl refl };
+}

@@ -1,0 +1,126 @@
+//! The words of the command line, as `clap` reads them.
+
+use crate::fault::ArgumentFault;
+use crate::known_commands::{Argument, KNOWN_COMMANDS, KnownCommand, ValueKind, ValuedArgument};
+use crate::matched_request::matched_request;
+use crate::request::Request;
+use clap::builder::ValueParser;
+use clap::error::ErrorKind;
+use clap::{Arg, ArgAction, Command, Error};
+use std::alloc::{AllocError, Global};
+
+/// The program's version.
+const VERSION: &str = "0.1.0";
+
+/// What a value has to be, where no rate is above the highest.
+fn parser_of<'a>(kind: ValueKind, highest: u32) -> ValueParser<'a> {
+    match kind {
+        ValueKind::Text => ValueParser::String,
+        ValueKind::OneOf(texts) => ValueParser::Names(texts),
+        ValueKind::Number => ValueParser::Signed(0, 65_535),
+        ValueKind::UpTo(most) => ValueParser::Signed(1, most),
+        ValueKind::Rate => ValueParser::Unsigned(0, u64::from(highest)),
+    }
+}
+
+fn value_arg<'a>(alloc: Global, valued: ValuedArgument, highest: u32) -> Arg<'a> {
+    Arg::new(alloc, valued.name)
+        .value_name(valued.shown)
+        .help(valued.help)
+        .action(ArgAction::Set)
+        .value_parser(parser_of(valued.kind, highest))
+}
+
+fn clap_arg<'a>(alloc: Global, word: Argument, highest: u32) -> Arg<'a> {
+    match word {
+        Argument::Flag { name, help } => Arg::new(alloc, name)
+            .long(name)
+            .help(help)
+            .action(ArgAction::SetTrue),
+        Argument::InPlace(valued) => value_arg(alloc, valued, highest).required(true),
+        Argument::Named(valued) => value_arg(alloc, valued, highest)
+            .long(valued.name)
+            .required(true),
+        Argument::Optional(valued, text) => value_arg(alloc, valued, highest)
+            .long(valued.name)
+            .default_value(text),
+    }
+}
+
+fn clap_args<'a>(
+    alloc: Global,
+    words: &[Argument],
+    highest: u32,
+) -> Result<Vec<Arg<'a>>, AllocError> {
+    let mut args = Vec::new(alloc);
+    for word in words {
+        args.push(clap_arg(alloc, *word, highest))?;
+    }
+    Ok(args)
+}
+
+fn known_command<'a>(
+    alloc: Global,
+    known: &KnownCommand,
+    highest: u32,
+) -> Result<Command<'a>, AllocError> {
+    let args = clap_args(alloc, known.words, highest)?;
+    Command::new(alloc, known.name)
+        .about(known.about)
+        .args(args)
+}
+
+fn commands_of<'a>(
+    alloc: Global,
+    table: &[KnownCommand],
+    highest: u32,
+) -> Result<Vec<Command<'a>>, AllocError> {
+    let mut commands = Vec::new(alloc);
+    for known in table {
+        commands.push(known_command(alloc, known, highest)?)?;
+    }
+    Ok(commands)
+}
+
+fn command_line<'a>(
+    alloc: Global,
+    program: &'a str,
+    highest: u32,
+) -> Result<Command<'a>, AllocError> {
+    let commands = commands_of(alloc, KNOWN_COMMANDS.as_slice(), highest)?;
+    Command::new(alloc, program)
+        .about("The books of a chargeback office, read from SMF type 30 records")
+        .version(VERSION)
+        .subcommand_required(true)
+        .subcommands(commands)
+}
+
+/// What `clap` says about words that it refuses.
+fn fault_in(alloc: Global, error: &Error) -> ArgumentFault {
+    if error.kind() == ErrorKind::OutOfMemory {
+        return ArgumentFault::Memory;
+    }
+    match format!(in alloc; "{error}") {
+        Err(_) => ArgumentFault::Memory,
+        Ok(text) if error.use_stderr() => ArgumentFault::Wrong(text),
+        Ok(text) => ArgumentFault::Help(text),
+    }
+}
+
+/// The command that the words ask for, the first of which is the program's name, where no rate is
+/// above `highest`; help and faults call the program by the name that is given. Wrong without a
+/// text would be a subcommand or a missing word that `command_line` does not let pass.
+pub fn requested_by<'a>(
+    alloc: Global,
+    program: &'a str,
+    words: &'a [String],
+    highest: u32,
+) -> Result<Request<'a>, ArgumentFault> {
+    let Ok(line) = command_line(alloc, program, highest) else {
+        return Err(ArgumentFault::Memory);
+    };
+    match line.try_get_matches_from(words) {
+        Ok(matches) => matched_request(&matches).ok_or(ArgumentFault::Wrong(String::new(alloc))),
+        Err(error) => Err(fault_in(alloc, &error)),
+    }
+}

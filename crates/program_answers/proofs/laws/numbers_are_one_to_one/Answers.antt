@@ -1,5 +1,0 @@
-use Rattle.program_answers.proofs.NumberLemmas.{numbers_are_one_to_one}
-use Rattle.program_answers.proofs.laws.numbers_are_one_to_one.Goals as goal
-
-pub returns : goal.returns
-returns c = numbers_are_one_to_one

@@ -1,0 +1,192 @@
+-- What makes a check: a dump, listed piece by piece.
+use Rattle.std.proofs.Common.{◌≡◌, ℕ, List, [], ◌++◌, length, sym, ap, subst, Option, Some, None}
+use Rattle.std.proofs.Common.{Result, Ok, Err, ◌∙◌, ◌+◌, ◌≤◌, false, append-nil}
+use Rattle.std.specs.Prelude.{◌||◌}
+use Rattle.std.specs.Prelude.{IfOk, unwrap_or}
+use Rattle.std.specs.Io.KnownBytes.{Consumes, Appends}
+use Rattle.std.proofs.KnownBytes.{Appends-nil, Consumes-nil}
+use Rattle.smf_frames.specs.declared.dump.Layout.{Layout}
+use Rattle.smf_frames.specs.declared.fault.FrameFault.{FrameFault}
+use Rattle.streams.specs.InputOutput.{Input, ReaderSeen}
+use Rattle.book_model.specs.Words.{Front, front, Joining, HasTaken, broken_by}
+use Rattle.book_import.specs.declared.receipt.Stop.{Stop}
+use Rattle.book_import.specs.declared.receipt.Stop.TheVariants.{Frame}
+use Rattle.book_import.specs.Dumps.{stop_after, frame_stop}
+use Rattle.book_import.specs.ReadLimits.{piece_length}
+use Rattle.book_import.specs.Receipts.{is_stop_of_books}
+use Rattle.book_import.specs.Reach.{is_early_stop, EndsBy, IsNoFurther}
+use Rattle.book_import.specs.Pieces.{TakesAll}
+use Rattle.book_import.proofs.FeedLemmas.{HasPassed, holds_here, passed_more, stop_is}
+use Rattle.book_import.proofs.ReachLemmas.{ends_late, ends_early, nothing_further, all_needed}
+use Rattle.book_import.proofs.ReachLemmas.{piece_needed}
+use Rattle.book_reports.specs.declared.fault.ReportFault.{ReportFault}
+use Rattle.program_output.specs.declared.listing.Listing.{Listing}
+use Rattle.program_output.specs.Checks.{IsCheck, AreWritten}
+use Rattle.book_reports.specs.CheckLists.{record_lines, last_line, check_list_text}
+use Rattle.program_output.specs.Listings.{HasListed, WritesSome, ListsPiece, Breaks, waiting}
+use Rattle.program_output.specs.Listings.{listed_count, WritesFirst}
+use Rattle.book_reports.specs.Writing.{WritesPrefix}
+use Rattle.program_output.proofs.ListingLemmas.{written_of_more, is_prefix, listed_whole}
+use Rattle.program_output.proofs.ListingLemmas.{prefix_grows, grows_on, lines_written}
+
+-- the lines of the records were written, or are waiting
+abbrev pub AreListed : Option (List ℕ) → Option (List ℕ) → Listing → List (List ℕ) → Type 0
+AreListed held holds listing records = HasListed records held holds listing
+
+module _ {layout : Layout} {bytes : List ℕ} {joiner : Joining} (began now : Listing)
+    (held had has : Option (List ℕ))
+    (lists : HasPassed layout bytes joiner (AreListed held had began)) where
+  -- where the lines of a piece were written or are waiting, so are those of all bytes so far
+  lists_on : (piece : List ℕ) (found : Option FrameFault)
+      → ListsPiece joiner piece began now had has (Ok found)
+      → AreListed held has now (front layout (bytes ++ piece)).records
+  lists_on piece found over =
+      holds_here lists (λ l text. AreListed held had began (front l text).records
+      → AreListed held has now (front l (text ++ piece)).records)
+      (λ text stood. over text held stood) lists.done
+
+  -- one more piece
+  pub lists_more : {new : Joining} {piece : List ℕ} → TakesAll joiner piece new
+      → ListsPiece joiner piece began now had has (Ok None)
+      → HasPassed layout (bytes ++ piece) new (AreListed held has now)
+  lists_more {piece = piece} taken over = passed_more lists taken (lists_on piece None over)
+
+-- the stop that is answered is the one at which the reading ended
+ends_told : (allowed : ℕ) (found : Front) (input : Input) (stop : Stop)
+    (answer : Result Stop ReportFault) → IfOk answer (λ told. told ≡ stop)
+    → EndsBy allowed (is_early_stop found stop) input
+    → IfOk answer (λ told. EndsBy allowed (is_early_stop found told) input)
+ends_told allowed found input stop (Ok told) same ends =
+    subst (λ stop. EndsBy allowed (is_early_stop found stop) input) (sym same) ends
+ends_told allowed found input stop (Err fault) same ends = tt
+
+-- the lines of all bytes before the last piece were written before it was read
+written_before : (layout : Layout) (input : Input) (bytes piece : List ℕ) (joiner : Joining)
+    (began : Listing) (held had gets : Option (List ℕ))
+    → HasPassed layout bytes joiner (AreListed held had began) → waiting began ≡ []
+    → (more : List ℕ) × Appends had gets more
+    → input.new.reads ≤ input.old.reads + length bytes + 1 → length piece ≤ piece_length
+    → input.new.has_failed ≡ false → input.new.has_ended ≡ false
+    → IsNoFurther layout (bytes ++ piece) (AreWritten held gets) input
+written_before layout input bytes piece joiner began held had gets lists waits grown reads few
+    failed ended =
+    piece_needed layout (AreWritten held gets) input bytes piece lists.whole
+    (lines_written (front layout bytes).records began held had gets lists.done waits grown) reads
+    few failed ended
+
+module _ {layout : Layout} {cut : Option Stop} {allowed : ℕ} {input : Input} where
+  -- without memory nothing is read or written
+  pub no_check : (held : Option (List ℕ)) (fault : ReportFault) → input.new ≡ input.old
+      → IsCheck layout cut allowed input held held (Err fault)
+  no_check held fault same = record {
+    bytes = [];
+    taken = subst (λ (one : ReaderSeen). Consumes input.old.left one.left []) (sym same)
+        (Consumes-nil input.old.left);
+    written = (0, Appends-nil held);
+    stop = tt;
+    ends = tt;
+    no_further = nothing_further layout (AreWritten held held) input ([], Appends-nil held)
+        (ap (λ (one : ReaderSeen). one.reads) same);
+  }
+
+  -- the last line was written after the lines of these bytes, or a prefix of what was left of them
+  is_check : (bytes : List ℕ) (began : Listing) (held had has : Option (List ℕ))
+      (stop : Stop) (answer : Result Stop ReportFault)
+      → HasListed (front layout bytes).records held had began
+      → stop ≡ stop_after cut (front layout bytes)
+      → WritesPrefix (waiting began ++ last_line (listed_count began) stop) had has answer
+      → IfOk answer (λ told. told ≡ stop)
+      → Consumes input.old.left input.new.left bytes
+      → EndsBy allowed (is_early_stop (front layout bytes) stop) input
+      → IsNoFurther layout bytes (AreWritten held has) input
+      → IsCheck layout cut allowed input held has answer
+  is_check bytes began held had has stop answer listed same written told taken ends no_further =
+      record {
+        bytes = bytes;
+        taken = taken;
+        written = subst (λ stop. WritesPrefix (check_list_text (front layout bytes).records stop)
+            held has answer) same
+            (listed_whole (front layout bytes).records stop held had has began answer listed
+            written);
+        stop = subst (λ stop. IfOk answer (λ told. told ≡ stop)) same told;
+        ends = ends_told allowed (front layout bytes) input stop answer told ends;
+        no_further = no_further;
+      }
+
+  -- no more pieces came
+  pub check_ended : (bytes : List ℕ) (joiner : Joining) (began : Listing)
+      (held had has : Option (List ℕ)) (stop : Stop) (answer : Result Stop ReportFault)
+      → HasPassed layout bytes joiner (AreListed held had began) → waiting began ≡ []
+      → ((text : List ℕ) → HasTaken text joiner
+      → stop ≡ unwrap_or cut (frame_stop (front joiner.layout text).fault))
+      → is_stop_of_books stop ≡ false
+      → WritesPrefix (waiting began ++ last_line (listed_count began) stop) had has answer
+      → IfOk answer (λ told. told ≡ stop)
+      → Consumes input.old.left input.new.left bytes
+      → input.new.reads ≤ input.old.reads + length bytes + 1
+      → (input.new.has_failed ≡ false → input.new.has_ended ≡ false
+      → input.new.reads ≡ input.old.reads + allowed)
+      → IsCheck layout cut allowed input held has answer
+  check_ended bytes joiner began held had has stop answer lists waits stopped other written told
+      taken reads out =
+      is_check bytes began held had has stop answer lists.done (stop_is lists cut stopped)
+      written told taken
+      (ends_late (ap (λ b. b || (front layout bytes).is_broken) other ∙ lists.whole) out)
+      (all_needed layout (AreWritten held has) input bytes lists.whole
+      (lines_written (front layout bytes).records began held had has lists.done waits
+      (prefix_grows (waiting began ++ last_line (listed_count began) stop) had has answer written))
+      reads)
+
+  module _ (bytes piece : List ℕ) (joiner : Joining) (began now : Listing)
+      (held had has : Option (List ℕ))
+      (lists : HasPassed layout bytes joiner (AreListed held had began))
+      (waits : waiting began ≡ []) (grown : (more : List ℕ) × Appends had has more)
+      (taken : Consumes input.old.left input.new.left (bytes ++ piece))
+      (reads : input.new.reads ≤ input.old.reads + length bytes + 1)
+      (few : length piece ≤ piece_length)
+      (failed : input.new.has_failed ≡ false) (ended : input.new.has_ended ≡ false) where
+    -- a fault was found in the piece
+    pub check_broken : (gets : Option (List ℕ)) (fault : FrameFault)
+        (answer : Result Stop ReportFault) → Breaks joiner piece fault
+        → ListsPiece joiner piece began now had has (Ok (Some fault))
+        → WritesPrefix (waiting now ++ last_line (listed_count now) (Frame fault)) has gets answer
+        → IfOk answer (λ told. told ≡ Frame fault)
+        → IsCheck layout cut allowed input held gets answer
+    check_broken gets fault answer breaks over written told =
+        let all = bytes ++ piece in
+        let is = ap (λ b. front layout b) (sym (append-nil all))
+        ∙ holds_here lists (λ l text. front l ((text ++ piece) ++ [])
+        ≡ broken_by (front l (text ++ piece)).records fault)
+        (λ text stood. breaks text [] stood) in
+        is_check all now held has gets (Frame fault) answer
+        (lists_on began now held had has lists piece (Some fault) over)
+        (ap (stop_after cut) (sym is)) written told taken
+        (ends_early (ap (λ (f : Front). f.is_broken) is) failed ended)
+        (written_before layout input bytes piece joiner began held had gets lists waits
+        (grows_on had has gets grown (prefix_grows (waiting now ++ last_line (listed_count now)
+        (Frame fault)) has gets answer written)) reads few failed ended)
+
+    -- a line was not written, or there was no memory for it
+    pub check_cut : (fault : ReportFault) → ListsPiece joiner piece began now had has (Err fault)
+        → IsCheck layout cut allowed input held has (Err fault)
+    check_cut fault some =
+        let all = bytes ++ piece in
+        let found = front layout all in
+        let lines = record_lines 1 found.records in
+        let stop = stop_after cut found in
+        let last = last_line (length found.records) stop in
+        let part = holds_here lists (λ l text. AreListed held had began (front l text).records
+        → WritesSome l (text ++ piece) held has) (λ text stood. some text held stood) lists.done
+        [] in
+        record {
+          bytes = all;
+          taken = taken;
+          written = is_prefix (lines ++ last) (part.0 ++ last) held has
+              (written_of_more lines part.0 last held has
+              (subst (λ b. WritesFirst (record_lines 1 (front layout b).records) part.0 held has)
+              (append-nil all) part.1));
+          stop = tt;
+          ends = tt;
+          no_further = written_before layout input bytes piece joiner began held had has lists
+              waits grown reads few failed ended;
+        }

@@ -1,0 +1,77 @@
+-- A check list that is written as the records of its dump come. Words of the code alone.
+use Rattle.std.specs.Prelude.{◌≡◌, ℕ, ◌+◌, ◌≤◌, List, ◌++◌, length, Option, Some, None}
+use Rattle.std.specs.Prelude.{Result, Ok, Err, string_bytes}
+use Rattle.std.specs.Io.KnownBytes.{Appends}
+use Rattle.smf_frames.specs.declared.dump.Layout.{Layout}
+use Rattle.smf_frames.specs.declared.fault.FrameFault.{FrameFault}
+use Rattle.book_model.specs.Words.{front, Joining, HasTaken, broken_by}
+use Rattle.book_import.specs.Pieces.{TakesAll}
+use Rattle.book_reports.specs.declared.fault.ReportFault.{ReportFault}
+use Rattle.program_output.specs.declared.listing.Listing.{Listing}
+use Rattle.book_reports.specs.CheckLists.{record_lines}
+
+-- how many bytes are written at once, at most (the office's rule)
+abbrev pub most_written : ℕ
+most_written = 65536
+
+-- no line of a list is longer
+abbrev pub longest_line : ℕ
+longest_line = 64
+
+-- the bytes that are waiting to be written
+abbrev pub waiting : Listing → List ℕ
+waiting listing = string_bytes listing.text
+
+-- how many records have a line
+abbrev pub listed_count : Listing → ℕ
+listed_count listing = listing.count
+
+-- one more line can be written together with what is waiting
+abbrev pub HasRoom : Listing → Type 0
+HasRoom listing = length (waiting listing) + longest_line ≤ most_written
+
+-- the first bytes of a text were written, where what the writer holds is known, and this rest was
+-- not
+pub record WritesFirst (text rest : List ℕ) (held holds : Option (List ℕ)) : Type 0 where
+  pub first : List ℕ
+  pub grown : Appends held holds first
+  pub parts : text ≡ first ++ rest
+
+-- a text was written but for this rest, or before a fault but for some rest
+abbrev pub WritesAllBut : List ℕ → List ℕ → Option (List ℕ) → Option (List ℕ)
+    → Result (Unit {0}) ReportFault → Type 0
+WritesAllBut text rest held holds (Ok done) = WritesFirst text rest held holds
+WritesAllBut text rest held holds (Err fault) = (left : List ℕ) × WritesFirst text left held holds
+
+-- the lines of these records were written, or wait
+pub record HasListed (records : List (List ℕ)) (held holds : Option (List ℕ)) (listing : Listing)
+    : Type 0 where
+  pub count : listed_count listing ≡ length records
+  pub lines : WritesFirst (record_lines 1 records) (waiting listing) held holds
+
+-- the the first lines of a text's records were written, whatever bytes follow the text
+abbrev pub WritesSome : Layout → List ℕ → Option (List ℕ) → Option (List ℕ) → Type 0
+WritesSome layout text held holds = (more : List ℕ) → (left : List ℕ)
+    × WritesFirst (record_lines 1 (front layout (text ++ more)).records) left held holds
+
+-- Where the lines of the records before a piece were written, or are waiting, so are now those of
+-- the records that the piece completes; or, before a fault, the first of these lines were written.
+abbrev pub ListsPiece : Joining → List ℕ → Listing → Listing → Option (List ℕ) → Option (List ℕ)
+    → Result (Option FrameFault) ReportFault → Type 0
+ListsPiece joining piece began listing had has (Ok found) = (text : List ℕ) (held : Option (List ℕ))
+    → HasTaken text joining → HasListed (front joining.layout text).records held had began
+    → HasListed (front joining.layout (text ++ piece)).records held has listing
+ListsPiece joining piece began listing had has (Err fault) = (text : List ℕ) (held : Option (List ℕ))
+    → HasTaken text joining → HasListed (front joining.layout text).records held had began
+    → WritesSome joining.layout (text ++ piece) held has
+
+-- a fault breaks the front of a piece at a descriptor, whatever bytes follow
+abbrev pub Breaks : Joining → List ℕ → FrameFault → Type 0
+Breaks joining piece fault = (text more : List ℕ) → HasTaken text joining
+    → front joining.layout ((text ++ piece) ++ more)
+    ≡ broken_by (front joining.layout (text ++ piece)).records fault
+
+-- the piece was taken, or the fault that was found breaks it
+abbrev pub TakesOrBreaks : Joining → List ℕ → Option FrameFault → Joining → Type 0
+TakesOrBreaks old piece None new = TakesAll old piece new
+TakesOrBreaks old piece (Some fault) new = Breaks old piece fault

@@ -1,0 +1,24 @@
+//! What the program writes about a single dump, its lines on standard error, its exit statuses,
+//! what each number means, and the name that a word spells. No file is opened here.
+#![tactic(auto)]
+
+mod check;
+mod explanations;
+mod laws;
+mod listing;
+mod meanings;
+mod message;
+mod names;
+mod status;
+mod trials;
+
+pub use check::check_list;
+pub use explanations::{Explanation, FaultKind, explained};
+pub use laws::{numbers_are_one_to_one, same_records_same_texts};
+pub use message::{
+    PROGRAM, arguments_failed, books_busy, books_unsound, input_refused, io_failed, ledger_refused,
+    no_such_number, out_of_memory, report_failed, stopped,
+};
+pub use names::name_of_text;
+pub use status::Status;
+pub use trials::trial;

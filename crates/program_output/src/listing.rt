@@ -1,0 +1,102 @@
+//! A check list that is written as the records of its dump come.
+
+ghost use Rattle.std.specs.Prelude.{◌≡◌, ◌+◌, ◌<◌, ◌≤◌, ◌^◌, ◌++◌, false, true, []};
+ghost use Rattle.std.specs.Prelude.{length, IfErr, IfOk, OnOk};
+ghost use Rattle.streams.specs.Sinks.{writer_of, has_failed};
+ghost use Rattle.book_reports.specs.CheckLists.{last_line, record_line};
+ghost use Rattle.program_output.specs.Listings.{waiting, listed_count, most_written, HasRoom, WritesAllBut};
+ghost use Rattle.book_reports.specs.Writing.{WritesPrefix, is_write_fault, is_write_or_memory};
+
+use book_core::Sink;
+use book_import::Stop;
+use book_reports::{ReportFault, push_last_line, push_record_line, write_text};
+use std::alloc::{AllocError, Global};
+use std::io::Write;
+
+/// How many bytes are written at once, at most.
+const MOST_WRITTEN: usize = 65_536;
+
+/// No line of a list is longer.
+const LONGEST_LINE: usize = 64;
+
+/// The lines of a list that are waiting to be written, and how many records have a line.
+#[derive(Drop)]
+pub struct Listing {
+    text: String,
+    count: u64,
+}
+
+impl Listing {
+    /// A list with no line yet. It takes the memory for the lines that are written at once.
+    pub(crate) fn new(alloc: Global) -> Result<Listing, AllocError>
+        ensures waits { IfOk result (λ made. waiting made ≡ []) }
+        ensures count { IfOk result (λ made. listed_count made ≡ 0) }
+    {
+        Ok(Listing {
+            text: String::with_capacity(alloc, MOST_WRITTEN)?,
+            count: 0,
+        })
+    }
+
+    /// Writes what waits.
+    pub(crate) fn flush<W: Write + Drop>(&mut self, sink: &mut Sink<W>) -> Result<(), ReportFault>
+        requires unwritten { has_failed sink.old ≡ false }
+        requires short { length (waiting self.old) ≤ most_written }
+        ensures written { WritesPrefix (waiting self.old)
+            (W.contents (writer_of sink.old)) (W.contents (writer_of sink.new)) result }
+        ensures waits { OnOk result (waiting self.new ≡ []) }
+        ensures count { listed_count self.new ≡ listed_count self.old }
+        ensures failed { has_failed sink.new ≡ is_write_fault result }
+        ensures fault { IfErr result (λ fault. is_write_or_memory fault ≡ true) }
+    {
+        write_text(sink, self.text.as_str())?;
+        self.text.clear();
+        Ok(())
+    }
+
+    /// Adds the line of the next record. Where there is no room for a further line, what waits is
+    /// written.
+    pub(crate) fn push_line<W: Write + Drop>(
+        &mut self,
+        bytes: &[u8],
+        sink: &mut Sink<W>,
+    ) -> Result<(), ReportFault>
+        requires unwritten { has_failed sink.old ≡ false }
+        requires few { listed_count self.old < 2 ^ 63 }
+        requires room { HasRoom self.old }
+        ensures written { WritesAllBut (waiting self.old ++ record_line (listed_count self.old + 1) bytes.now)
+            (waiting self.new) (W.contents (writer_of sink.old)) (W.contents (writer_of sink.new))
+            result }
+        ensures room { OnOk result (HasRoom self.new) }
+        ensures count { listed_count self.new ≡ listed_count self.old + 1 }
+        ensures failed { has_failed sink.new ≡ is_write_fault result }
+        ensures fault { IfErr result (λ fault. is_write_or_memory fault ≡ true) }
+    {
+        self.count += 1;
+        push_record_line(&mut self.text, self.count, bytes)?;
+        if self.text.len() + LONGEST_LINE > MOST_WRITTEN {
+            self.flush(sink)?;
+        }
+        Ok(())
+    }
+
+    /// Adds the last line, and writes what waits.
+    pub(crate) fn end<W: Write + Drop>(
+        &mut self,
+        stop: Stop,
+        sink: &mut Sink<W>,
+    ) -> Result<Stop, ReportFault>
+        requires unwritten { has_failed sink.old ≡ false }
+        requires few { listed_count self.old < 2 ^ 63 }
+        requires room { HasRoom self.old }
+        ensures written { WritesPrefix (waiting self.old ++ last_line (listed_count self.old) stop)
+            (W.contents (writer_of sink.old)) (W.contents (writer_of sink.new)) result }
+        ensures stop { IfOk result (λ told. told ≡ stop) }
+        ensures failed { has_failed sink.new ≡ is_write_fault result }
+        ensures fault { IfErr result (λ fault. is_write_or_memory fault ≡ true) }
+    {
+        push_last_line(&mut self.text, self.count, stop)?;
+        self.flush(sink)?;
+        Ok(stop)
+    }
+}

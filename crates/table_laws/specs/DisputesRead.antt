@@ -1,0 +1,77 @@
+-- The disputes, as they are answered from the tables.
+use Rattle.std.specs.Prelude.{ℕ, Bool, not, if◌then◌else◌, List, [], ◌∷◌, ◌++◌, filter}
+use Rattle.std.specs.FinMap.{entries}
+use Rattle.std.specs.List.{list_any}
+use Rattle.std.specs.Ordering.{ordering_then}
+use Rattle.std.specs.declared.cmp.Ordering.{Ordering}
+use Rattle.book_model.specs.Words.{record_with, job_id_of, program_of, completion_of, Disputed}
+use Rattle.book_model.specs.Words.{by_bytes, same_bytes, set_of, members}
+use Rattle.book_model.specs.declared.dispute.Variant.{Variant}
+use Rattle.table_model.specs.Tables.{RecordRow, RecordTable, Tables}
+use Rattle.table_model.specs.Views.{rows_with}
+
+-- a row with its name
+abbrev pub NamedRow : Type 0
+NamedRow = List ℕ × RecordRow
+
+-- by identity, then name
+abbrev pub by_identity : NamedRow → NamedRow → Ordering
+by_identity one other =
+    ordering_then (by_bytes one.1.identity other.1.identity) (by_bytes one.0 other.0)
+
+-- a row as the list of disputes shows it
+abbrev pub variant_read : NamedRow → Variant
+variant_read row = record {
+  name = row.0;
+  priced = row.1.priced;
+  job_id = job_id_of (record_with row.1.data_bytes);
+  program = program_of (record_with row.1.data_bytes);
+  completion = completion_of (record_with row.1.data_bytes);
+}
+
+-- a dispute of one row
+abbrev pub dispute_of_one : NamedRow → Disputed
+dispute_of_one row = record { identity = row.1.identity; members = variant_read row ∷ [] }
+
+-- a row before disputes: it joins the first if that has its identity
+abbrev pub join_first : NamedRow → List Disputed → List Disputed
+join_first row [] = dispute_of_one row ∷ []
+join_first row (first ∷ others) =
+    if same_bytes row.1.identity first.identity
+    then record first { members = variant_read row ∷ first.members } ∷ others
+    else dispute_of_one row ∷ first ∷ others
+
+-- rows in groups: neighbours of one identity are one dispute
+abbrev pub grouped : List NamedRow → List Disputed
+grouped [] = []
+grouped (row ∷ rows) = join_first row (grouped rows)
+
+-- a row after disputes: it joins the last if that has its identity
+abbrev pub join_last : List Disputed → NamedRow → List Disputed
+join_last [] row = dispute_of_one row ∷ []
+join_last (last ∷ []) row =
+    if same_bytes last.identity row.1.identity
+    then record last { members = last.members ++ variant_read row ∷ [] } ∷ []
+    else last ∷ dispute_of_one row ∷ []
+join_last (first ∷ next ∷ others) row = first ∷ join_last (next ∷ others) row
+
+-- the rows that are not charged
+abbrev pub uncharged_among : RecordTable → List NamedRow
+uncharged_among records = filter (λ row. not row.1.charged) (entries records)
+
+-- no row of the row's identity is charged
+abbrev pub has_none_charged : RecordTable → NamedRow → Bool
+has_none_charged records row =
+    not (list_any (λ other. other.1.charged) (rows_with row.1.identity records))
+
+-- the rows in dispute: those that are not charged, except those of an identity that was settled
+abbrev pub disputed_among : RecordTable → List NamedRow
+disputed_among records = filter (has_none_charged records) (uncharged_among records)
+
+-- the same by identity, then name
+abbrev pub disputed_rows : Tables → List NamedRow
+disputed_rows tables = members (set_of by_identity (disputed_among tables.records))
+
+-- the disputes
+abbrev pub disputes_read : Tables → List Disputed
+disputes_read tables = grouped (disputed_rows tables)

@@ -1,0 +1,65 @@
+-- The laws of lists: what is answered for a period and for disputes is what the tables say, and can
+-- be shown.
+use Rattle.std.specs.Prelude.{◌≡◌, ℕ, filter, List, [], ◌∷◌, ◌++◌, Ok, true}
+use Rattle.std.specs.FinMap.{values}
+use Rattle.std.specs.List.Sorted.{IsPermutation, IsStrictlySortedBy}
+use Rattle.book_model.specs.Words.{Book, charges_outcome, adjustments_outcome, disputes_outcome}
+use Rattle.book_model.specs.Words.{periods_outcome, no_event, Naming, AreDisputes, AreLines, AreRows}
+use Rattle.table_model.specs.TablesOf.{tables_of}
+use Rattle.table_laws.specs.DisputesRead.{NamedRow, by_identity, disputed_among, disputed_rows}
+use Rattle.table_laws.specs.DisputesRead.{disputes_read, grouped, has_none_charged, join_last}
+use Rattle.table_laws.specs.DisputesRead.{uncharged_among}
+use Rattle.table_laws.specs.ListsRead.{charges_read, adjustments_read, is_period}
+use Rattle.table_laws.specs.Readable.{IsReadable}
+use Rattle.table_model.specs.PeriodLists.{rows_read, lines_read}
+
+-- the lists of a period, and the days of the closes
+pub record ListsFollow : Type 0 where
+  pub charges :
+      (naming : Naming) (book : Book) (number : ℕ) → IsReadable naming book
+      → charges_outcome number book
+      ≡ no_event (charges_read number book.rulings (tables_of naming book))
+  pub adjustments :
+      (naming : Naming) (book : Book) (number : ℕ) → IsReadable naming book
+      → adjustments_outcome naming number book
+      ≡ no_event (adjustments_read number book.rulings (tables_of naming book))
+  pub periods :
+      (naming : Naming) (book : Book) → IsReadable naming book
+      → periods_outcome book ≡ no_event (Ok (values (tables_of naming book).closes))
+
+-- The disputes are the rows of identities that have no charged row, in groups; rows that are in
+-- order are these if they are the same rows; so the rows that are not charged, in order, are
+-- these without those of an identity that was settled; and a row after others joins the last group
+-- or starts one.
+pub record DisputesFollow : Type 0 where
+  pub disputes :
+      (naming : Naming) (book : Book) → IsReadable naming book
+      → disputes_outcome naming book ≡ no_event (Ok (disputes_read (tables_of naming book)))
+  pub in_order :
+      (naming : Naming) (book : Book) (rows : List NamedRow) → IsReadable naming book
+      → IsPermutation rows (disputed_among (tables_of naming book).records)
+      → IsStrictlySortedBy by_identity rows
+      → rows ≡ disputed_rows (tables_of naming book)
+  pub unsettled :
+      (naming : Naming) (book : Book) (rows : List NamedRow) → IsReadable naming book
+      → IsPermutation rows (uncharged_among (tables_of naming book).records)
+      → IsStrictlySortedBy by_identity rows
+      → filter (has_none_charged (tables_of naming book).records) rows
+      ≡ disputed_rows (tables_of naming book)
+  pub push : (rows : List NamedRow) (row : NamedRow)
+      → grouped (rows ++ row ∷ []) ≡ join_last (grouped rows) row
+
+-- The charge rows and the adjustment lines of a period that exists, and the disputes, are lists
+-- that reports can print.
+pub record ListsShow : Type 0 where
+  pub rows :
+      (naming : Naming) (book : Book) (number : ℕ) → IsReadable naming book
+      → is_period number book.rulings ≡ true
+      → AreRows (rows_read number (tables_of naming book).days)
+  pub lines :
+      (naming : Naming) (book : Book) (number : ℕ) → IsReadable naming book
+      → is_period number book.rulings ≡ true
+      → AreLines (lines_read number (tables_of naming book))
+  pub disputes :
+      (naming : Naming) (book : Book) → IsReadable naming book
+      → AreDisputes (disputes_read (tables_of naming book))

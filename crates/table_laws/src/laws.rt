@@ -1,0 +1,90 @@
+//! Laws of what is read back from kept tables, which hold of their definitions alone. Each is the
+//! contract of a function that does nothing.
+
+ghost use Rattle.table_laws.specs.AnswerLaws.{AcceptFollows, AdoptionsFollow, ChoicesFollow};
+ghost use Rattle.table_laws.specs.AnswerLaws.{ClosingFollows, NumbersFit, TermsFollow};
+ghost use Rattle.table_laws.specs.AnswerLaws.{TwoAreEnough, ViewIsDetermined};
+ghost use Rattle.table_laws.specs.Laws.{BookFollows, CallsRead, CallsStay, TablesDetermine};
+ghost use Rattle.table_laws.specs.ListLaws.{DisputesFollow, ListsFollow, ListsShow};
+
+/// New books are made by calls, and each call that is an event leaves such books.
+pub fn calls_stay()
+    ensures { CallsStay }
+{}
+
+/// Books that calls made can be read back.
+pub fn calls_read()
+    ensures { CallsRead }
+{}
+
+/// The book is read back from its tables.
+pub fn book_follows()
+    ensures { BookFollows }
+{}
+
+/// Books that can be read back and have the same tables are equal.
+pub fn tables_determine()
+    ensures { TablesDetermine }
+{}
+
+/// A record that is submitted is answered by the rows of its name and of the book; and if it is
+/// kept, the tables after it are made of those before it.
+pub fn accept_follows()
+    ensures { AcceptFollows }
+{}
+
+/// What a ledger looks at for a new record depends on whether a choice names it only if an identity
+/// has just one row.
+pub fn view_is_determined()
+    ensures { ViewIsDetermined }
+{}
+
+/// The effects of a record depend on at most two rows of its identity.
+pub fn two_are_enough()
+    ensures { TwoAreEnough }
+{}
+
+/// A tariff is answered by the rulings and by what the records' rows will cost.
+pub fn terms_follow()
+    ensures { TermsFollow }
+{}
+
+/// A choice is answered by the row of its name, by the rows of that identity, and by the number of
+/// choices; and if it is done, the tables after it are made of those before it.
+pub fn choices_follow()
+    ensures { ChoicesFollow }
+{}
+
+/// The tables under the second rule of identity are made of those before it, and their row of the
+/// book determines the rule.
+pub fn adoptions_follow()
+    ensures { AdoptionsFollow }
+{}
+
+/// The tables after a close are made of those before it; and to post records is to update the rows
+/// that are dated on or before its day and whose marks differ.
+pub fn closing_follows()
+    ensures { ClosingFollows }
+{}
+
+/// The charge rows and the adjustment lines of each period, and the days of the closes, are
+/// answered from the tables.
+pub fn lists_follow()
+    ensures { ListsFollow }
+{}
+
+/// The disputes are the rows of identities that have no charged row, by identity, then name, in
+/// groups.
+pub fn disputes_follow()
+    ensures { DisputesFollow }
+{}
+
+/// Signed 64-bit integers hold the numbers of the tables.
+pub fn numbers_fit()
+    ensures { NumbersFit }
+{}
+
+/// The lists that are answered from the tables are ones that reports can print.
+pub fn lists_show()
+    ensures { ListsShow }
+{}

@@ -1,0 +1,251 @@
+-- Records that are charged under the second rule: what is due, and a step that charges it.
+use Rattle.std.proofs.Common.{◌≡◌, ◌∙◌, ℕ, List, Bool, true, false, cond, not, ◌&&◌, ◌||◌, Option}
+use Rattle.std.proofs.Common.{Some, None, refl, sym, ap, length, map, ◌++◌, ◌∷◌, [], Result, Ok, Err}
+use Rattle.std.specs.Prelude.{ℤ, ◌==◌, filter, if◌then◌else◌}
+use Rattle.std.specs.FinMap.{entries, get}
+use Rattle.std.specs.List.{last_or}
+use Rattle.std.specs.Option.{option_map_or}
+use Rattle.std.proofs.Math.Bool.{and-false, or-true}
+use Rattle.std.proofs.lemmas.List.{length-map}
+use Rattle.book_model.specs.Words.{same_bytes}
+use Rattle.book_core.specs.Effects.{charge_held}
+use Rattle.table_model.specs.TableChanges.{charge_in, charge_due_row, charge_due_step}
+use Rattle.table_model.specs.Tables.{ChoiceRow, RecordRow, RecordTable, Tables}
+use Rattle.table_model.specs.Views.{name_has_identity, is_due_at, is_due_in, member_at}
+use Rattle.table_model.specs.Views.{rows_with}
+use Rattle.table_model.proofs.DueStays.{due_stays, last_pushed, last_stays}
+use Rattle.sqlite_trees.specs.declared.error.StoreError.{StoreError}
+use Rattle.book_model.proofs.SetChanges.{is_back}
+use Rattle.table_laws.proofs.ChoiceLemmas.{choices_follow}
+use Rattle.table_laws.proofs.Texts.{same_is}
+use Rattle.tree_tables.specs.Answers.{FindsRecord, FindsSharing}
+use Rattle.tree_tables.specs.States.{State}
+use Rattle.tree_tables.specs.Steps.{Does}
+use Rattle.tree_tables.specs.Stored.{IsAsRead, choice_entry, stored_entry}
+use Rattle.tree_tables.specs.declared.choice_rows.StoredChoice.{StoredChoice}
+use Rattle.tree_tables.specs.declared.stored_record.StoredRecord.{StoredRecord}
+use Rattle.tree_tables.proofs.Looking.{kept_behind, only_both, only_looks}
+use Rattle.table_ledger.specs.Adoptions.{IsLast, IsLastOf, is_last, last_chosen}
+use Rattle.table_ledger.specs.Commits.{Saw}
+use Rattle.table_ledger.specs.declared.chosen.Chosen.{Chosen}
+use Rattle.table_ledger.proofs.ChoiceTries.{found_row, none_row}
+use Rattle.table_ledger.proofs.UnchangedStores.{holds_on}
+use Rattle.table_ledger.proofs.SurvivalLemmas.{clean_before, survives_then}
+
+-- a step after looks may rest on what was seen
+pub does_seen : {T : Type 0} {old middle new : State} {Known When : Tables → Type 0}
+    {change : Tables → Tables} (result : Result T StoreError) → Saw old middle Known
+    → Does result middle new (λ tables. When tables × Known tables) change
+    → Does result old new When change
+does_seen {old = old} {middle = middle} {new = new} (Ok value) saw does = record {
+  survives = survives_then saw.survives does.survives;
+  done = λ clean.
+      let seen = saw.seen (clean_before does.survives clean) in
+      let steps = does.done clean in
+      record {
+        only = only_both old.view (only_looks old.view seen.same) steps.only;
+        made = λ tables holds when.
+            steps.made tables (holds_on old.view middle.view tables seen.same holds)
+            (when, seen.known tables holds);
+      };
+  refused = λ clean. tt;
+}
+does_seen {old = old} {middle = middle} {new = new} (Err error) saw does = record {
+  survives = survives_then saw.survives does.survives;
+  done = λ clean. tt;
+  refused = λ clean.
+      kept_behind (saw.seen (clean_before does.survives clean)).same (does.refused clean);
+}
+
+-- ---- the records that were chosen last
+
+-- whether the record of a name has an identity, by the row that was found
+abbrev has_row : List ℕ → Option RecordRow → Bool
+has_row identity found =
+    option_map_or (λ (row : RecordRow). same_bytes row.identity identity) found false
+
+-- a choice of a record that was found is the last of its identity
+pub joins_found : (chosen more : Chosen) (name : List ℕ) (stored : StoredRecord) (tables : Tables)
+    → FindsRecord name tables (Some stored)
+    → ((other : List ℕ) → last_chosen more other
+    ≡ (if same_bytes other stored.identity.items then Some name else last_chosen chosen other))
+    → (identity : List ℕ)
+    → last_chosen more identity
+    ≡ (if name_has_identity tables.records identity name then Some name else last_chosen chosen identity)
+joins_found chosen more name stored tables found puts identity =
+    let row = (found_row name stored (get tables.records name) found).0 in
+    puts identity
+    ∙ ap (λ (is : Bool). if is then Some name else last_chosen chosen identity)
+    (turned identity stored.identity.items ∙ sym (ap (has_row identity) row))
+  where
+    turned : (one other : List ℕ) → same_bytes one other ≡ same_bytes other one
+    turned one other = same_is one other ∙ is_back one other ∙ sym (same_is other one)
+
+-- a choice for which no record was found changes nothing
+pub joins_none : (chosen : Chosen) (name : List ℕ) (tables : Tables)
+    → FindsRecord name tables None → (identity : List ℕ)
+    → last_chosen chosen identity
+    ≡ (if name_has_identity tables.records identity name then Some name else last_chosen chosen identity)
+joins_none chosen name tables found identity =
+    ap (λ (is : Bool). if is then Some name else last_chosen chosen identity)
+    (sym (ap (has_row identity) (none_row name (get tables.records name) found)))
+
+-- one more choice
+pub last_more : (names : List (List ℕ)) (name : List ℕ) (records : RecordTable)
+    (chosen more : Chosen) → IsLastOf names records chosen
+    → ((identity : List ℕ) → last_chosen more identity
+    ≡ (if name_has_identity records identity name then Some name else last_chosen chosen identity))
+    → IsLastOf (names ++ name ∷ []) records more
+last_more names name records chosen more lasts joins identity =
+    joins identity
+    ∙ ap (λ (before : Option (List ℕ)).
+    if name_has_identity records identity name then Some name else before) (lasts identity)
+    ∙ sym (last_pushed records identity None names name)
+
+-- all choices that were listed
+pub last_listed : (choices : List StoredChoice) (chosen : Chosen) (tables : Tables)
+    → map choice_entry choices ≡ entries tables.choices
+    → IsLastOf (map (λ (choice : StoredChoice). choice.name) choices) tables.records chosen
+    → IsLast chosen tables
+last_listed choices chosen tables lists lasts identity =
+    lasts identity
+    ∙ ap (λ names. last_or None (filter (name_has_identity tables.records identity) names))
+    (names_of choices ∙ ap (map (λ (entry : ℕ × ChoiceRow). entry.1.name)) lists
+    ∙ sym (entry_names (entries tables.choices)))
+  where
+    names_of : (choices : List StoredChoice)
+        → map (λ (choice : StoredChoice). choice.name) choices
+        ≡ map (λ (entry : ℕ × ChoiceRow). entry.1.name) (map choice_entry choices)
+    names_of [] = refl
+    names_of (choice ∷ choices) = ap (λ rest. choice.name ∷ rest) (names_of choices)
+
+    entry_names : (es : List (ℕ × ChoiceRow))
+        → map (λ (choice : ChoiceRow). choice.name) (map (λ (entry : ℕ × ChoiceRow). entry.1) es)
+        ≡ map (λ (entry : ℕ × ChoiceRow). entry.1.name) es
+    entry_names [] = refl
+    entry_names (entry ∷ es) = ap (λ rest. entry.1.name ∷ rest) (entry_names es)
+
+-- ---- what is due
+
+-- a record that is as it was read is due if it is alone, or is the one that was chosen last
+due_by : (stored : StoredRecord) (tables : Tables) (chosen : Chosen) → IsAsRead stored tables
+    → IsLast chosen tables
+    → is_due_in tables stored.name
+    ≡ ((length (rows_with stored.identity.items tables.records) == 1)
+    || is_last chosen stored.identity.items stored.name)
+due_by stored tables chosen stands lasts =
+    ap (is_due_at tables stored.name) stands
+    ∙ ap (λ found. (length (rows_with stored.identity.items tables.records) == 1)
+    || option_map_or (same_bytes stored.name) found false)
+    (sym (lasts stored.identity.items))
+
+-- it is the one that was chosen last
+pub due_chosen : (stored : StoredRecord) (tables : Tables) (chosen : Chosen)
+    → is_last chosen stored.identity.items stored.name ≡ true → IsAsRead stored tables
+    → IsLast chosen tables → true ≡ is_due_in tables stored.name
+due_chosen stored tables chosen is stands lasts =
+    let lone : Bool = length (rows_with stored.identity.items tables.records) == 1 in
+    sym (due_by stored tables chosen stands lasts ∙ ap (λ b. lone || b) is ∙ or-true lone)
+
+-- it is not, so it has to be alone
+pub due_alone : (stored : StoredRecord) (tables : Tables) (chosen : Chosen)
+    (sharing : List StoredRecord) (alone : Bool)
+    → is_last chosen stored.identity.items stored.name ≡ false
+    → FindsSharing stored.identity.items tables sharing
+    → alone ≡ (length sharing == 1) → IsAsRead stored tables → IsLast chosen tables
+    → alone ≡ is_due_in tables stored.name
+due_alone stored tables chosen sharing alone is shared told stands lasts =
+    let rows = rows_with stored.identity.items tables.records in
+    let lone : Bool = length rows == 1 in
+    told
+    ∙ ap (λ n. n == 1) (sym (length-map sharing stored_entry) ∙ ap length shared)
+    ∙ sym (choices_follow.lone tables.records (stored_entry stored).1)
+    ∙ sym (due_by stored tables chosen stands lasts ∙ ap (λ b. lone || b) is ∙ or-false lone)
+  where
+    or-false : (b : Bool) → (b || false) ≡ b
+    or-false true = refl
+    or-false false = refl
+
+-- ---- the step
+
+module _ (period : ℕ) (last : Option ℤ) (stored : StoredRecord) (tables : Tables)
+    (stands : IsAsRead stored tables) where
+  -- the step by the row that was read
+  abbrev settled : Bool → Tables
+  settled due =
+      cond (due && not stored.charged)
+      (charge_in period stored.name (charge_held last (member_at (stored_entry stored))) tables)
+      tables
+
+  settled_is : (due : Bool) → due ≡ is_due_in tables stored.name
+      → settled due ≡ charge_due_step period last (is_due_in tables) stored.name tables
+  settled_is due is =
+      ap settled is
+      ∙ sym (ap (λ found. charge_due_row period last (is_due_in tables stored.name) stored.name found
+      tables) stands)
+
+  -- a record that is charged stays
+  pub settles_charged : stored.charged ≡ true
+      → tables ≡ charge_due_step period last (is_due_in tables) stored.name tables
+  settles_charged charged =
+      let due : Bool = is_due_in tables stored.name in
+      sym (ap (λ b. cond (due && not b)
+      (charge_in period stored.name (charge_held last (member_at (stored_entry stored))) tables)
+      tables) charged
+      ∙ ap (λ b. cond b
+      (charge_in period stored.name (charge_held last (member_at (stored_entry stored))) tables)
+      tables) (and-false due))
+      ∙ settled_is due refl
+
+  -- so does one that is not due
+  pub settles_undue : (due : Bool) → due ≡ false → due ≡ is_due_in tables stored.name
+      → tables ≡ charge_due_step period last (is_due_in tables) stored.name tables
+  settles_undue due not_due is = sym (ap settled not_due) ∙ settled_is due is
+
+  -- the others are charged
+  pub settles_due : (due : Bool) → due ≡ true → stored.charged ≡ false
+      → due ≡ is_due_in tables stored.name
+      → charge_in period stored.name (charge_held last (member_at (stored_entry stored))) tables
+      ≡ charge_due_step period last (is_due_in tables) stored.name tables
+  settles_due due is_due uncharged is =
+      sym (ap settled is_due
+      ∙ ap (λ b. cond (not b)
+      (charge_in period stored.name (charge_held last (member_at (stored_entry stored))) tables)
+      tables) uncharged)
+      ∙ settled_is due is
+
+-- ---- the walk
+
+-- what still holds in the walk: the same records are due as before it, and the same ones were chosen
+-- last
+pub record IsStill (chosen : Chosen) (before now : Tables) : Type 0 where
+  pub due : (name : List ℕ) → is_due_in now name ≡ is_due_in before name
+  pub lasts : IsLast chosen now
+
+-- the steps of the walk, by the tables before it
+abbrev pub settle_of : ℕ → Option ℤ → Tables → List ℕ → Tables → Tables
+settle_of period last before = charge_due_step period last (is_due_in before)
+
+-- this holds before the first step,
+pub still_first : (chosen : Chosen) (tables : Tables) → IsLast chosen tables
+    → IsStill chosen tables tables
+still_first chosen tables lasts = record { due = λ name. refl; lasts = lasts }
+
+-- and after each one
+pub still_next : (period : ℕ) (last : Option ℤ) (chosen : Chosen) (before now : Tables)
+    (name : List ℕ) → IsStill chosen before now
+    → IsStill chosen before (settle_of period last before name now)
+still_next period last chosen before now name still = record {
+  due = λ other.
+      due_stays period last (is_due_in before) (name ∷ []) now other ∙ still.due other;
+  lasts = λ identity.
+      still.lasts identity
+      ∙ sym (last_stays period last (is_due_in before) name now identity);
+}
+
+-- the step by what is due now is the step by what was due before the walk
+pub settles_still : (period : ℕ) (last : Option ℤ) (chosen : Chosen) (before now : Tables)
+    (name : List ℕ) → IsStill chosen before now
+    → charge_due_step period last (is_due_in now) name now ≡ settle_of period last before name now
+settles_still period last chosen before now name still =
+    ap (λ due. charge_due_row period last due name (get now.records name) now) (still.due name)

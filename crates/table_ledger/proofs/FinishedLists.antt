@@ -1,0 +1,81 @@
+-- Lists that were tried and settled: what fails is the store's own.
+use Rattle.std.proofs.Common.{◌≡◌, ◌∙◌, Bool, false, inl, inr, Result, Ok, Err, refl, sym, subst}
+use Rattle.std.specs.Prelude.{IfErr, IsErrOf, IsTrue}
+use Rattle.sqlite_trees.specs.View.{IsClean}
+use Rattle.sqlite_trees.specs.declared.error.StoreError.{StoreError}
+use Rattle.sqlite_trees.specs.declared.error.StoreError.TheVariants.{OutOfMemory}
+use Rattle.sqlite_trees.specs.declared.store.Store.{Ghosts}
+use Rattle.book_model.specs.Words.{Book, Naming, Outcome}
+use Rattle.book_model.specs.declared.fault.LedgerFault.{LedgerFault}
+use Rattle.book_model.specs.declared.fault.LedgerFault.TheVariants.{Memory, NoSuchPeriod, Store}
+use Rattle.tree_tables.specs.States.{HasCleanDisk, state}
+use Rattle.table_ledger.specs.Loaded.{FailsAsItsOwn}
+use Rattle.table_ledger.specs.LedgerState.{LedgerState}
+use Rattle.table_ledger.specs.Attempts.{Finishes, Attempts, TriesItsOwn}
+use Rattle.table_ledger.specs.declared.summary.Summary.{Summary}
+use Rattle.table_ledger.proofs.OwnBooks.{cause_told}
+use Rattle.table_ledger.proofs.SurvivalLemmas.{clean_before}
+
+-- two faults that are answered are equal
+same_fault : {V : Type 0} (result : Result V LedgerFault) (one other : LedgerFault)
+    → result ≡ Err one → result ≡ Err other → one ≡ other
+same_fault result one other is too =
+    let both : Err one ≡ Err other = sym is ∙ too in cc
+
+module _ {S V A : Type 0} (ghosts : Ghosts S) (view : V → A) (naming : Naming) (summary : Summary)
+    (first middle last : S) (outcome : Book → Outcome A) where
+  -- the ledger before the call
+  abbrev before : Bool → LedgerState
+  before flag = record {
+    naming = naming;
+    state = state ghosts first;
+    must_reopen = flag;
+    summary = summary;
+  }
+
+  -- and after it
+  abbrev behind : Bool → LedgerState
+  behind flag = record {
+    naming = naming;
+    state = state ghosts last;
+    must_reopen = flag;
+    summary = summary;
+  }
+
+  -- a refusal of the answer is a refusal of the list
+  by_answer : (was is : Bool) (answer : Result V LedgerFault)
+      → IfErr answer (λ fault. fault ≡ NoSuchPeriod)
+      → FailsAsItsOwn answer (before was) (behind is)
+  by_answer was is (Ok value) own = tt
+  by_answer was is (Err fault) own = λ other clean books open_now. absurd (other own)
+
+  -- a list that was tried fails as stated
+  pub own_settled : (was is : Bool) (tried : Result (Result V LedgerFault) StoreError)
+      (result : Result V LedgerFault)
+      → Attempts view naming summary summary (state ghosts first) (state ghosts middle) outcome tried
+      → TriesItsOwn naming summary (state ghosts first) (state ghosts middle) tried
+      → Finishes ghosts middle last was is tried result
+      → IfErr tried (λ error. IsClean (ghosts.view last) → error ≡ OutOfMemory
+      → (ghosts.view last).is_broken ≡ false → IsErrOf result Memory)
+      → IfErr tried (λ error. IsClean (ghosts.view last) → IsTrue (ghosts.view last).is_open
+      → (ghosts.view last).is_broken ≡ false)
+      → FailsAsItsOwn result (before was) (behind is)
+  own_settled was is (Ok answer) result tries own settles served mended =
+      subst (λ result. FailsAsItsOwn result (before was) (behind is)) (sym settles.ends.0)
+      (by_answer was is answer own)
+  own_settled was is (Err error) result tries own settles served mended =
+      elim settles.ends [
+        | inl wanting ↦ subst
+            (λ result. FailsAsItsOwn result (before was) (behind is))
+            (sym wanting.0) (λ other clean books open_now. inl refl)
+        | inr failed ↦ subst
+            (λ result. FailsAsItsOwn result (before was) (behind is))
+            (sym failed.0) (λ other clean books open_now.
+            let early : HasCleanDisk (state ghosts middle) = clean_before settles.survives clean in
+            let ready = books.ready open_now (clean_before tries.survives early) in
+            cause_told (state ghosts first) (state ghosts middle) (state ghosts last) error Store
+            ready.ready.rest (own early ready.book ready.ready) tries.survives settles.survives clean
+            (inr refl)
+            (λ memory sound. same_fault result Store Memory failed.0 (served clean memory sound))
+            (mended clean))
+      ]

@@ -1,0 +1,223 @@
+-- The summary that is read is that of the tables, and so of their book.
+use Rattle.std.proofs.Common.{◌≡◌, ◌∙◌, ℕ, ℤ, zero, suc, List, [], ◌∷◌, ◌++◌, ap, arith, map, refl}
+use Rattle.std.proofs.Common.{subst, sym, None, Option, Some, slice_index_or, take, ◌<◌, inl, inr}
+use Rattle.std.proofs.Common.{Err, Ok, Result, false, length}
+use Rattle.std.specs.Prelude.{All, IfErr, IfOk, IsErrAnd, ◌==◌, if◌then◌else◌}
+use Rattle.std.specs.FinMap.{entries}
+use Rattle.std.specs.List.{AllZip, cons_option, filter_map}
+use Rattle.std.specs.Option.{option_map}
+use Rattle.std.proofs.lemmas.List.Elements.{All-cons}
+use Rattle.std.proofs.lemmas.Result.{err_from_is_err_and}
+use Rattle.tree_tables.specs.States.{State, HasCleanDisk, Survives}
+use Rattle.sqlite_trees.specs.declared.error.StoreError.{StoreError}
+use Rattle.book_model.specs.Words.{IsDay, Book, Naming, Rulings, AcceptedTerms, second_rule}
+use Rattle.book_model.specs.declared.fault.LedgerFault.{LedgerFault}
+use Rattle.book_model.specs.declared.fault.LedgerFault.TheVariants.{NotBooks, Store}
+use Rattle.book_core.specs.Ledgers.{IsOpenAt}
+use Rattle.table_model.specs.Tables.{BookRow, Tables}
+use Rattle.table_model.specs.TablesOf.{tables_of}
+use Rattle.table_laws.specs.BookIn.{adopted_read, tariff_read}
+use Rattle.table_laws.specs.FromCalls.{IsFromCalls}
+use Rattle.table_laws.proofs.BookLemmas.{book_follows}
+use Rattle.table_laws.proofs.ReadableLemmas.{calls_read}
+use Rattle.tree_tables.specs.Answers.{last_number}
+use Rattle.tree_tables.specs.Steps.{Looks}
+use Rattle.tree_tables.specs.Stored.{book_entry, close_entry, tariff_of}
+use Rattle.tree_tables.specs.declared.book_row.StoredBook.{StoredBook as Stored}
+use Rattle.tree_tables.specs.declared.closed_rows.Close.{Close}
+use Rattle.tree_tables.specs.declared.tariff_rows.StoredTariff.{StoredTariff}
+use Rattle.table_ledger.specs.Commits.{Stores, Saw}
+use Rattle.table_ledger.specs.Ready.{Remembers}
+use Rattle.table_ledger.specs.Loaded.{AreRowsOf, IsCloseDay, IsLoaded, IsStoreFault, Reads, SummarizesTables}
+use Rattle.table_ledger.specs.Loaded.{SaysRule, SaysTariff, SummarizesRows}
+use Rattle.table_ledger.specs.LedgerState.{seen_on}
+use Rattle.table_ledger.specs.ReadyBooks.{LeavesTheLast}
+use Rattle.table_ledger.specs.declared.summary.Summary.{Summary}
+use Rattle.table_ledger.proofs.OpenLemmas.{opened}
+use Rattle.table_ledger.proofs.LastChoice.{last_counts}
+use Rattle.table_ledger.proofs.RowsTaken.{index_again, rows_of}
+use Rattle.table_ledger.proofs.SurvivalLemmas.{survives_then}
+use Rattle.table_ledger.proofs.UnchangedStores.{holds_on, rest_on}
+use Rattle.table_ledger.proofs.TryLemmas.{looks_refused}
+
+-- one row more is read
+pub zip_next : {A B : Type 0} (Says : A → B → Type 0) (rows : List A) (at : ℕ) (values : List B)
+    (row : A) (value : B) → AllZip Says (take at rows) values → at < length rows
+    → row ≡ slice_index_or rows at row → Says row value
+    → AllZip Says (take (suc at) rows) (values ++ value ∷ [])
+zip_next Says [] at values row value so_far below is said = absurd (omega (arith, below))
+zip_next Says (first ∷ rows) zero [] row value so_far below is said =
+    (subst (λ it. Says it value) is said, tt)
+zip_next Says (first ∷ rows) zero (other ∷ values) row value so_far below is said = absurd so_far
+zip_next Says (first ∷ rows) (suc at) [] row value so_far below is said = absurd so_far
+zip_next Says (first ∷ rows) (suc at) (other ∷ values) row value so_far below is said =
+    let rest : at < length rows = omega (arith, below) in
+    (so_far.0, zip_next Says rows at values row value so_far.1 rest is said)
+
+-- one more row gives a value
+pub zip_at : {A B : Type 0} (Says : A → B → Type 0) (rows : List A) (at : ℕ) (values : List B)
+    (row : A) (value : B) → AllZip Says (take at rows) values → at < length rows
+    → Says (slice_index_or rows at row) value
+    → AllZip Says (take (suc at) rows) (values ++ value ∷ [])
+zip_at Says rows at values row value so_far below says =
+    zip_next Says rows at values (slice_index_or rows at row) value so_far below
+    (index_again rows at row (slice_index_or rows at row) below) says
+
+-- tariffs that rows give are those that are read from them
+pub tariffs_said : (rows : List StoredTariff) (tariffs : List AcceptedTerms)
+    → AllZip SaysTariff rows tariffs → filter_map tariff_read (map tariff_of rows) ≡ tariffs
+tariffs_said [] [] said = refl
+tariffs_said [] (tariff ∷ tariffs) said = absurd said
+tariffs_said (row ∷ rows) [] said = absurd said
+tariffs_said (row ∷ rows) (tariff ∷ tariffs) said =
+    let rest = tariffs_said rows tariffs said.1 in
+    λ i. cons_option (said.0 i) (rest i)
+
+-- the days that rows have are those of their closes
+pub days_had : (rows : List Close) (days : List ℤ) → AllZip IsCloseDay rows days
+    → map (λ (close : ℕ × ℤ). close.1) (map close_entry rows) ≡ days
+days_had [] [] had = refl
+days_had [] (day ∷ days) had = absurd had
+days_had (row ∷ rows) [] had = absurd had
+days_had (row ∷ rows) (day ∷ days) had =
+    let rest = days_had rows days had.1 in
+    λ i. sym had.0.0 i ∷ rest i
+
+-- each is a day
+pub all_days : (rows : List Close) (days : List ℤ) → AllZip IsCloseDay rows days → All IsDay days
+all_days [] [] had = λ k d within. absurd (omega (arith, within))
+all_days [] (day ∷ days) had = absurd had
+all_days (row ∷ rows) [] had = absurd had
+all_days (row ∷ rows) (day ∷ days) had =
+    All-cons IsDay day days had.0.1 (all_days rows days had.1)
+
+-- the rule that a row gives is the one that is read from it
+said_rule : (row : Stored) (closes : ℕ) (adopted : Option ℕ) → SaysRule closes row adopted
+    → adopted ≡ adopted_read (book_entry row)
+said_rule row closes None says =
+    ap (λ rule. if rule == second_rule then Some row.adopted else None) (sym says.0)
+said_rule row closes (Some period) says =
+    λ i. if sym says.0 i == second_rule then Some (sym says.1 i) else None
+
+-- a summary that rows show is that of the tables that have these rows,
+pub recalled : (summary : Summary) (tables : Tables) (row : Stored) (tariffs : List StoredTariff)
+    (closes : List Close) (choices : ℕ) → SummarizesRows row tariffs closes choices summary
+    → book_entry row ≡ tables.book
+    → map tariff_of tariffs ≡ entries tables.tariffs → map close_entry closes ≡ entries tables.closes
+    → choices ≡ last_number tables.choices → SummarizesTables summary tables
+recalled summary tables row tariffs closes choices shows book texts days last =
+    let ruled = sym (tariffs_said tariffs summary.tariffs.items shows.tariffs)
+    ∙ ap (filter_map tariff_read) texts in
+    let closed = sym (days_had closes summary.closes.items shows.closes)
+    ∙ ap (map (λ (close : ℕ × ℤ). close.1)) days in
+    record {
+      tariffs = ruled;
+      closes = closed;
+      choices = shows.made ∙ last;
+      adopted = said_rule row (length summary.closes.items) summary.adopted shows.adopted
+          ∙ ap adopted_read book;
+      held = shows.held ∙ ap (λ (kept : BookRow). kept.held) book;
+      total = shows.total ∙ ap (λ (kept : BookRow). kept.amount) book;
+    }
+
+-- so is what is answered from the rows
+pub recalled_by : (answer : Result Summary LedgerFault) (tables : Tables) (row : Stored)
+    (texts : List StoredTariff) (days : List Close) (choices : ℕ)
+    → IfOk answer (SummarizesRows row texts days choices)
+    → IfErr answer IsStoreFault
+    → IfErr answer (λ fault. fault ≡ Store → (rulings : Rulings)
+    → AreRowsOf row texts days choices rulings → ⊥) → book_entry row ≡ tables.book
+    → map tariff_of texts ≡ entries tables.tariffs → map close_entry days ≡ entries tables.closes
+    → choices ≡ last_number tables.choices → IsLoaded tables answer
+recalled_by (Ok summary) tables row texts days choices shows kinds refused book said had last =
+    recalled summary tables row texts days choices shows book said had last
+recalled_by (Err fault) tables row texts days choices shows kinds refused book said had last = (
+  kinds,
+  λ store naming of calls are.
+      refused store of.rulings (rows_of naming of row texts days choices calls
+      (book ∙ ap (λ (tables : Tables). tables.book) are)
+      (said ∙ ap (λ (tables : Tables). entries tables.tariffs) are)
+      (had ∙ ap (λ (tables : Tables). entries tables.closes) are)
+      (last ∙ ap (λ (tables : Tables). last_number tables.choices) are)),
+)
+
+-- a summary of the tables of a book is one of the book
+pub remembered : (naming : Naming) (book : Book) (summary : Summary) → IsFromCalls naming book
+    → SummarizesTables summary (tables_of naming book) → Remembers summary book
+remembered naming book summary calls recalls =
+    let whole = calls_read naming book calls in
+    let back = ap (λ (book : Book). book.rulings) (book_follows naming book whole) in
+    record {
+      tariffs = recalls.tariffs ∙ ap (λ (rulings : Rulings). rulings.tariffs) back;
+      closes = recalls.closes ∙ ap (λ (rulings : Rulings). rulings.closes) back;
+      choices = recalls.choices ∙ last_counts naming book whole;
+      adopted = recalls.adopted ∙ ap (λ (rulings : Rulings). rulings.adopted) back;
+      held = recalls.held;
+      total = recalls.total;
+    }
+
+-- an answer of looks
+pub reads_answer : (old new : State) (answer : Result Summary LedgerFault)
+    → Looks (Ok answer) old new IsLoaded → Reads answer old new
+reads_answer old new (Ok summary) looks = record {
+  survives = looks.survives;
+  read = looks.found;
+  refused = λ clean. tt;
+}
+reads_answer old new (Err fault) looks = record {
+  survives = looks.survives;
+  read = λ clean. tt;
+  refused = λ clean tables holds. ((looks.found clean).known tables holds).0;
+}
+
+-- looks that were refused
+pub reads_refused : (old middle new : State) (error : StoreError) (fault : LedgerFault)
+    → Looks (Err error) old middle IsLoaded → Survives middle new (λ trees. ⊥)
+    → IsStoreFault fault → Reads (Err fault) old new
+reads_refused old middle new error fault looks survives is = record {
+  survives = survives_then looks.survives survives;
+  read = λ clean. tt;
+  refused = λ clean tables holds. is;
+}
+
+-- a query after looks is refused, and its error passed on
+pub refused_at : {A B : Type 0} {old middle new : State} {Known : Tables → Type 0}
+    {Answers : Tables → A → Type 0} {Others : Tables → B → Type 0} {error : StoreError}
+    (Q : StoreError → Type 0) (result : Result A StoreError) → IsErrAnd result Q → Saw old middle Known
+    → Looks {A = B} (Err error) middle new Others → Looks result old new Answers
+refused_at {A} {B} {old} {middle} {new} {Known} {Answers} {Others} {error} Q result is saw looks =
+    let refused = err_from_is_err_and result is in
+    let looked : Looks {A = A} (Err error) old new Answers = looks_refused saw looks in
+    subst (λ (said : Result A StoreError). Looks said old new Answers) (sym refused.1)
+    (record { survives = looked.survives; found = λ clean. tt; refused = looked.refused })
+
+-- the row of the book is never missing
+pub never_missed : (found : Option Stored) (book : BookRow) → option_map book_entry found ≡ Some book
+    → found ≡ None → ⊥
+never_missed None book same none = absurd (let e = same in cc)
+never_missed (Some row) book same none = absurd (let e = none in cc)
+
+-- a fault of the store does not say that there are no books
+pub never_both : (fault : LedgerFault) → fault ≡ NotBooks → IsStoreFault fault → ⊥
+never_both fault none (inl memory) = absurd (let e = sym none ∙ memory in cc)
+never_both fault none (inr store) = absurd (let e = sym none ∙ store in cc)
+
+-- books that were read are open
+pub read_open : (naming : Naming) (old new : State) (summary : Summary) (book : Book)
+    → LeavesTheLast new.view new.may_leave → Reads (Ok summary) old new → HasCleanDisk new
+    → IsFromCalls naming book → Stores old.view (tables_of naming book)
+    → IsOpenAt naming book (seen_on (record {
+      naming = naming;
+      state = new;
+      must_reopen = false;
+      summary = summary;
+    }))
+read_open naming old new summary book last reads clean calls keeping =
+    let read = reads.read clean in
+    let tables = tables_of naming book in
+    opened naming new summary book last clean calls
+    (record {
+      holds = holds_on old.view new.view tables read.same keeping.holds;
+      rest = rest_on old.view new.view read.same keeping.rest;
+    })
+    (remembered naming book summary calls (read.known tables keeping.holds))

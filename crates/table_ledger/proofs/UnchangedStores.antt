@@ -1,0 +1,75 @@
+-- What stays of a store after calls that change nothing.
+use Rattle.std.proofs.Common.{◌≡◌, ◌∙◌, refl, sym, ap, subst}
+use Rattle.sqlite_trees.specs.View.{View, KeepsCommitted}
+use Rattle.table_model.specs.Tables.{Tables}
+use Rattle.tree_rows.specs.Rows.{IsUnchanged}
+use Rattle.tree_tables.specs.Holds.{Holds}
+use Rattle.tree_tables.specs.Steps.{KeepsLastCommit}
+use Rattle.table_ledger.specs.Commits.{IsAtRest}
+
+-- the trees are those from before,
+pub trees_same : (old new : View) → IsUnchanged old new → new.trees ≡ old.trees
+trees_same old new same = ap (λ (v : View). v.trees) same
+
+-- and so is the last commit
+pub committed_same : (old new : View) → IsUnchanged old new → new.committed ≡ old.committed
+committed_same old new same = ap (λ (v : View). v.committed) same
+
+-- it is open where it was
+pub open_same : (old new : View) → IsUnchanged old new → new.is_open ≡ old.is_open
+open_same old new same = ap (λ (v : View). v.is_open) same
+
+-- no call changes nothing, nor do two that change nothing
+pub unchanged_none : (view : View) → IsUnchanged view view
+unchanged_none view = refl
+
+pub unchanged_then : (first middle last : View) → IsUnchanged first middle
+    → IsUnchanged middle last → IsUnchanged first last
+unchanged_then first middle last one two =
+    two ∙ ap (λ (v : View). record v { cursors = last.cursors }) one
+
+-- trees that hold the tables still hold them
+pub holds_on : (old new : View) (tables : Tables) → IsUnchanged old new → Holds old.trees tables
+    → Holds new.trees tables
+holds_on old new tables same holds =
+    subst (λ trees. Holds trees tables) (sym (trees_same old new same)) holds
+
+-- a store at rest is still at rest
+pub rest_on : (old new : View) → IsUnchanged old new → IsAtRest old → IsAtRest new
+rest_on old new same rest = record {
+  is_open = open_same old new same ∙ rest.is_open;
+  sound = ap (λ (v : View). v.is_broken) same ∙ rest.sound;
+  settled = trees_same old new same ∙ rest.settled ∙ sym (committed_same old new same);
+}
+
+-- the last commit stays if nothing is changed,
+pub stands_same : (old new : View) → IsUnchanged old new → KeepsLastCommit old new
+stands_same old new same = record {
+  was_open = λ is_open. sym (open_same old new same) ∙ is_open;
+  committed = λ is_open. committed_same old new same;
+}
+
+-- if a call says so,
+pub stands_kept : {old new : View} → KeepsCommitted old new → KeepsLastCommit old new
+stands_kept kept = record { was_open = kept.was_open; committed = kept.committed }
+
+-- and after one call after another
+pub stands_then : {first middle last : View} → KeepsLastCommit first middle → KeepsLastCommit middle last
+    → KeepsLastCommit first last
+stands_then one two = record {
+  was_open = λ is_open. one.was_open (two.was_open is_open);
+  committed = λ is_open. two.committed is_open ∙ one.committed (two.was_open is_open);
+}
+
+-- each call that changes nothing keeps the last commit
+pub kept_same : (old new : View) → IsUnchanged old new → KeepsCommitted old new
+kept_same old new same = record {
+  shape = ap (λ (v : View). v.shape) same;
+  reals = ap (λ (v : View). v.reals) same;
+  committed_shape = ap (λ (v : View). v.committed_shape) same;
+  committed_reals = ap (λ (v : View). v.committed_reals) same;
+  numbered = ap (λ (v : View). v.is_numbered) same;
+  was_open = λ is_open. sym (open_same old new same) ∙ is_open;
+  committed = λ is_open. committed_same old new same;
+  marks = λ is_open. ap (λ (v : View). v.marks) same;
+}

@@ -1,0 +1,101 @@
+use Rattle.std.proofs.Common.{◌≡◌, ◌∙◌, ap, map, sym}
+use Rattle.std.proofs.lemmas.Result.{err_from_is_err_and}
+use Rattle.table_model.specs.Tables.{Tables}
+use Rattle.std.specs.Option.{option_map}
+use Rattle.tree_tables.specs.Stored.{book_entry, close_entry, tariff_of}
+use Rattle.tree_tables.specs.Holds.{Holds}
+use Rattle.tree_tables.specs.States.{HasCleanDisk, state}
+use Rattle.tree_tables.specs.Steps.{IsCaused}
+use Rattle.table_ledger.specs.Loaded.{CanBeListed}
+use Rattle.table_ledger.proofs.OwnBooks.{fails_behind}
+use Rattle.table_ledger.proofs.LoadLemmas.{never_missed, recalled_by, refused_at}
+use Rattle.table_ledger.proofs.TryLemmas.{looks_known, saw_found, saw_none, saw_then}
+use Rattle.table_ledger.proofs.load.look_for_summary.Goals as goal
+
+pub returns-in_err-row-clause-looks : goal.returns-in_err-row-clause-looks
+returns-in_err-row-clause-looks g c =
+    refused_at _ c.from_residual.result c.from_residual.ensures.1 saw_none c.in_err-row.ensures.looks
+
+pub returns-in_default-clause-looks : goal.returns-in_default-clause-looks
+returns-in_default-clause-looks g c =
+    let none = c.in_default.is in
+    looks_known (saw_found c.in_ok-row.ensures.looks)
+    (λ (tables : Tables) known. absurd (never_missed c.in_ok-row.field-0 tables.book known none))
+
+pub returns-in_err-tariffs-clause-looks : goal.returns-in_err-tariffs-clause-looks
+returns-in_err-tariffs-clause-looks g c =
+    refused_at _ c.from_residual-in_err-tariffs.result c.from_residual-in_err-tariffs.ensures.1
+    (saw_found c.in_ok-row.ensures.looks) c.in_err-tariffs.ensures.looks
+
+pub returns-in_err-closes-clause-looks : goal.returns-in_err-closes-clause-looks
+returns-in_err-closes-clause-looks g c =
+    refused_at _ c.from_residual-in_err-closes.result c.from_residual-in_err-closes.ensures.1
+    (saw_then (saw_found c.in_ok-row.ensures.looks)
+    (saw_found c.in_ok-tariffs.ensures.looks))
+    c.in_err-closes.ensures.looks
+
+pub returns-in_err-choices-clause-looks : goal.returns-in_err-choices-clause-looks
+returns-in_err-choices-clause-looks g c =
+    refused_at _ c.from_residual-in_err-choices.result c.from_residual-in_err-choices.ensures.1
+    (saw_then (saw_then (saw_found c.in_ok-row.ensures.looks)
+    (saw_found c.in_ok-tariffs.ensures.looks))
+    (saw_found c.in_ok-closes.ensures.looks))
+    c.in_err-choices.ensures.looks
+
+pub returns-clause-looks : goal.returns-clause-looks
+returns-clause-looks g c =
+    let texts = c.deref.result.now in
+    let days = c.deref-2.result.now in
+    let all_texts : texts ≡ c.in_ok-tariffs.tariffs.items = let e = c.deref.ensures.value in cc in
+    let all_days : days ≡ c.in_ok-closes.closes.items = let e = c.deref-2.ensures.value in cc in
+    looks_known (saw_then (saw_then (saw_then (saw_found c.in_ok-row.ensures.looks)
+    (saw_found c.in_ok-tariffs.ensures.looks))
+    (saw_found c.in_ok-closes.ensures.looks))
+    (saw_found c.in_ok-choices.ensures.looks))
+    (λ (tables : Tables) known.
+    let found = ap (option_map book_entry) (sym c.in-Some.is) ∙ known.0.0.0 in
+    recalled_by c.summary_of.result tables c.in-Some.row texts days c.in_ok-choices.choices
+    c.summary_of.ensures.shows c.summary_of.ensures.kinds c.summary_of.ensures.refused (let e = found in cc)
+    (ap (map tariff_of) all_texts ∙ known.0.0.1) (ap (map close_entry) all_days ∙ known.0.1) known.1)
+
+-- why the tariffs were not listed, after the look at the row of the book
+pub returns-in_err-tariffs-clause-cause : goal.returns-in_err-tariffs-clause-cause
+returns-in_err-tariffs-clause-cause g c =
+    let start = state g.S.Store c.args.tables.now.store in
+    let end = state g.S.Store c.list_tariffs.new.self.store in
+    let cause : HasCleanDisk end → (tables : Tables) → Holds start.view.trees tables
+    → CanBeListed tables → IsCaused start end c.in_err-tariffs.field-0.0 =
+    fails_behind _ (saw_found c.in_ok-row.ensures.looks) c.in_err-tariffs.ensures.looks.survives
+    (λ clean tables holds when. c.in_err-tariffs.ensures.cause clean tables holds when.tariffs) in
+    let p = err_from_is_err_and c.from_residual-in_err-tariffs.result
+    c.from_residual-in_err-tariffs.ensures.1 in
+    rw (p.1, p.2) cause
+
+-- why the closes were not, after both
+pub returns-in_err-closes-clause-cause : goal.returns-in_err-closes-clause-cause
+returns-in_err-closes-clause-cause g c =
+    let start = state g.S.Store c.args.tables.now.store in
+    let end = state g.S.Store c.list_closes.new.self.store in
+    let cause : HasCleanDisk end → (tables : Tables) → Holds start.view.trees tables
+    → CanBeListed tables → IsCaused start end c.in_err-closes.field-0.0 =
+    fails_behind _ (saw_then (saw_found c.in_ok-row.ensures.looks)
+    (saw_found c.in_ok-tariffs.ensures.looks)) c.in_err-closes.ensures.looks.survives
+    (λ clean tables holds when. c.in_err-closes.ensures.cause clean tables holds when.closes) in
+    let p = err_from_is_err_and c.from_residual-in_err-closes.result
+    c.from_residual-in_err-closes.ensures.1 in
+    rw (p.1, p.2) cause
+
+-- why the last choice was not, after all three
+pub returns-in_err-choices-clause-cause : goal.returns-in_err-choices-clause-cause
+returns-in_err-choices-clause-cause g c =
+    let start = state g.S.Store c.args.tables.now.store in
+    let end = state g.S.Store c.last_choice.new.self.store in
+    let cause : HasCleanDisk end → (tables : Tables) → Holds start.view.trees tables
+    → CanBeListed tables → IsCaused start end c.in_err-choices.field-0.0 =
+    fails_behind _ (saw_then (saw_then (saw_found c.in_ok-row.ensures.looks)
+    (saw_found c.in_ok-tariffs.ensures.looks)) (saw_found c.in_ok-closes.ensures.looks))
+    c.in_err-choices.ensures.looks.survives
+    (λ clean tables holds when. c.in_err-choices.ensures.cause clean tables holds when.choices) in
+    let p = err_from_is_err_and c.from_residual-in_err-choices.result
+    c.from_residual-in_err-choices.ensures.1 in
+    rw (p.1, p.2) cause

@@ -1,0 +1,159 @@
+-- What is read from a store when its books are opened.
+use Rattle.std.specs.Prelude.{◌≡◌, ◌≢◌, ◌⊎◌, ◌≤◌, ◌<◌, ◌+◌, ◌^◌, All, IfErr, IfOk, Option, Some, None, Result, Ok}
+use Rattle.std.specs.Prelude.{Err, List, ℕ, ℤ, int_lt, length, map, false, true}
+use Rattle.std.specs.List.{AllZip, last_or}
+use Rattle.std.specs.List.Sorted.{IsStrictlySortedBy}
+use Rattle.std.specs.Option.{option_map_or}
+use Rattle.std.specs.Ordering.{int_cmp}
+use Rattle.std.specs.FinMap.{entries}
+use Rattle.std.specs.Str.{IsUtf8}
+use Rattle.sqlite_disk.specs.Disk.{MoreFaults}
+use Rattle.tree_tables.specs.States.{State, HasCleanDisk, Survives}
+use Rattle.book_model.specs.Words.{IsDay, AcceptedTerms, Rulings, Book, Naming, are_rising, last_period}
+use Rattle.book_model.specs.Words.{most_choices, most_cost, most_held, second_rule}
+use Rattle.book_model.specs.declared.fault.LedgerFault.{LedgerFault}
+use Rattle.book_model.specs.declared.fault.LedgerFault.TheVariants.{Memory, NoSuchPeriod, NotBooks}
+use Rattle.book_model.specs.declared.fault.LedgerFault.TheVariants.{Store}
+use Rattle.table_model.specs.Tables.{Tables, first_rule, never_adopted}
+use Rattle.table_model.specs.TablesOf.{close_entries, tables_of}
+use Rattle.table_laws.specs.BookIn.{rulings_of_tables, tariff_read}
+use Rattle.table_laws.specs.FromCalls.{IsFromCalls}
+use Rattle.tree_tables.specs.Answers.{last_number}
+use Rattle.tree_tables.specs.Columns.{closed_columns, tariff_columns}
+use Rattle.tree_tables.specs.Fits.{CloseFits, RowsFit, TariffFits}
+use Rattle.tree_tables.specs.Holds.{Holds}
+use Rattle.tree_tables.specs.Steps.{Sees}
+use Rattle.tree_tables.specs.Stored.{close_entry, tariff_of}
+use Rattle.tree_tables.specs.declared.book_row.StoredBook.{StoredBook as Stored}
+use Rattle.tree_tables.specs.declared.closed_rows.Close.{Close}
+use Rattle.tree_tables.specs.declared.tariff_rows.StoredTariff.{StoredTariff}
+use Rattle.table_ledger.specs.Commits.{Stores}
+use Rattle.table_ledger.specs.LedgerState.{LedgerState, seen_on}
+use Rattle.table_ledger.specs.declared.summary.Summary.{Summary}
+
+-- out of memory, or another fault of the store
+abbrev pub IsStoreFault : LedgerFault → Type 0
+IsStoreFault fault = (fault ≡ Memory) ⊎ (fault ≡ Store)
+
+-- such a fault, or there are no books
+abbrev pub IsOpenFault : LedgerFault → Type 0
+IsOpenFault fault = (fault ≡ NotBooks) ⊎ IsStoreFault fault
+
+-- a row's text gives the tariff
+abbrev pub SaysTariff : StoredTariff → AcceptedTerms → Type 0
+SaysTariff row tariff = tariff_read (tariff_of row) ≡ Some tariff
+
+-- it does, and the row is stored under the first day of the tariff
+abbrev pub TellsTariff : StoredTariff → AcceptedTerms → Type 0
+TellsTariff row tariff = SaysTariff row tariff × (tariff.terms.effective ≡ row.day)
+
+-- a row has the day, and it is a valid one
+abbrev pub IsCloseDay : Close → ℤ → Type 0
+IsCloseDay row day = (day ≡ row.through) × IsDay day
+
+-- a row is that of the next close after those through some days: of the next period, through a day
+-- that is later than the last of them
+pub record IsNextClose (days : List ℤ) (row : Close) : Type 0 where
+  pub period : row.period ≡ length days + 1
+  pub later : option_map_or (λ last. int_lt last row.through) (last_or None days) true ≡ true
+  pub day : IsDay row.through
+
+-- the sums of a row are within the office's limits
+pub record IsBookRow (row : Stored) : Type 0 where
+  pub held : row.held ≤ most_held
+  pub amount : row.amount ≤ most_cost
+
+-- A row gives the rule of identity of a book with this many closes: the first rule, which was never
+-- adopted; or the second one, which was adopted in a period that has begun.
+abbrev pub SaysRule : ℕ → Stored → Option ℕ → Type 0
+SaysRule closes row None = (row.rule ≡ first_rule) × (row.adopted ≡ never_adopted)
+SaysRule closes row (Some period) =
+    (row.rule ≡ second_rule) × (row.adopted ≡ period) × (0 < period) × (period ≤ closes + 1)
+
+-- rows are those of closes through some days: from period 1 on, each day later than the one before
+pub record AreCloses (rows : List Close) (closes : List ℤ) : Type 0 where
+  pub numbered : map close_entry rows ≡ close_entries 1 closes
+  pub days : All IsDay closes
+  pub in_order : IsStrictlySortedBy int_cmp closes
+
+-- rows are those of a book of these rulings with this many choices, within the office's limits
+pub record AreRowsOf (row : Stored) (texts : List StoredTariff) (days : List Close) (choices : ℕ)
+    (rulings : Rulings) : Type 0 where
+  pub book : IsBookRow row
+  pub tariffs : AllZip TellsTariff texts rulings.tariffs
+  pub rising : are_rising rulings.tariffs ≡ true
+  pub closes : AreCloses days rulings.closes
+  pub few : length rulings.closes < last_period
+  pub adopted : SaysRule (length rulings.closes) row rulings.adopted
+  pub chosen : choices ≤ most_choices
+
+-- the summary is what the rows show
+pub record SummarizesRows (row : Stored) (texts : List StoredTariff) (days : List Close) (choices : ℕ)
+    (summary : Summary) : Type 0 where
+  pub tariffs : AllZip SaysTariff texts summary.tariffs.items
+  pub closes : AllZip IsCloseDay days summary.closes.items
+  pub made : summary.choices ≡ choices
+  pub adopted : SaysRule (length summary.closes.items) row summary.adopted
+  pub held : summary.held ≡ row.held
+  pub total : summary.total ≡ row.amount
+
+-- the summary is what the tables say
+pub record SummarizesTables (summary : Summary) (tables : Tables) : Type 0 where
+  pub tariffs : summary.tariffs.items ≡ (rulings_of_tables tables).tariffs
+  pub closes : summary.closes.items ≡ (rulings_of_tables tables).closes
+  pub choices : summary.choices ≡ last_number tables.choices
+  pub adopted : summary.adopted ≡ (rulings_of_tables tables).adopted
+  pub held : summary.held ≡ tables.book.held
+  pub total : summary.total ≡ tables.book.amount
+
+-- the tables are those of no book that calls made
+abbrev pub AreOfNone : Tables → Type 0
+AreOfNone tables =
+    (naming : Naming) (book : Book) → IsFromCalls naming book → tables ≢ tables_of naming book
+
+-- If the tables of books are looked at, the summary is theirs; no fault says that there are none,
+-- and one is of the store only if calls made no such tables.
+abbrev pub IsLoaded : Tables → Result Summary LedgerFault → Type 0
+IsLoaded tables (Ok summary) = SummarizesTables summary tables
+IsLoaded tables (Err fault) = IsStoreFault fault × (fault ≡ Store → AreOfNone tables)
+
+-- the rows of tariffs and closes fit, so that they can be listed, and so does the last choice's
+-- number
+pub record CanBeListed (tables : Tables) : Type 0 where
+  pub tariffs : RowsFit TariffFits (map tariff_columns (entries tables.tariffs))
+  pub closes : RowsFit CloseFits (map closed_columns (entries tables.closes))
+  pub choices : last_number tables.choices < 2 ^ 32
+
+-- the texts of the tariffs consist of characters, like any text that is given to a call
+abbrev pub HasTexts : Book → Type 0
+HasTexts book =
+    All (λ (tariff : AcceptedTerms). (text : List ℕ) → tariff.text ≡ Some text → IsUtf8 text)
+    book.rulings.tariffs
+
+-- why books are not opened: memory ran out, or the disk failed or refused meanwhile
+abbrev pub IsOpenCause : State → State → LedgerFault → Type 0
+IsOpenCause old new fault =
+    (fault ≡ Memory) ⊎ ((fault ≡ Store) × MoreFaults old.faults new.faults)
+
+-- Why a list fails, other than that there is no such period: if a ledger wrote what is stored and
+-- was not to be reopened, and the disk is clean after the call, only for such a cause.
+abbrev pub FailsAsItsOwn : {V : Type 0} → Result V LedgerFault → LedgerState → LedgerState → Type 0
+FailsAsItsOwn result old new =
+    IfErr result (λ fault. fault ≢ NoSuchPeriod → HasCleanDisk new.state
+    → (seen_on old).is_books → old.must_reopen ≡ false → IsOpenCause old.state new.state fault)
+
+-- books that calls made are read again, or there is such a cause
+abbrev pub ReadsItsOwn : Result Summary LedgerFault → State → State → Type 0
+ReadsItsOwn result old new =
+    IfErr result (λ fault. HasCleanDisk new → (naming : Naming) (book : Book)
+    → IsFromCalls naming book → HasTexts book → Stores old.view (tables_of naming book)
+    → IsOpenCause old new fault)
+
+-- Books are looked for in a store, and nothing is committed.
+pub record Reads (result : Result Summary LedgerFault) (old new : State) : Type 0 where
+  pub survives : Survives old new (λ trees. ⊥)
+  pub read : HasCleanDisk new
+      → IfOk result (λ summary. Sees old.view new.view (SummarizesTables summary))
+  pub refused : HasCleanDisk new
+      → IfErr result (λ fault. (tables : Tables) → Holds old.view.trees tables
+      → IsStoreFault fault)

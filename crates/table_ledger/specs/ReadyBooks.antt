@@ -1,0 +1,49 @@
+-- A ledger that is ready determines its book, and so does what a crash leaves of it.
+use Rattle.std.proofs.Common.{◌≡◌, ◌∙◌, Bool, IsTrue, sym, ap}
+use Rattle.sqlite_trees.specs.Tree.{Trees}
+use Rattle.sqlite_trees.specs.View.{View, IsClean}
+use Rattle.book_model.specs.Words.{Book, Naming}
+use Rattle.book_core.specs.Ledgers.{StopIsHarmless}
+use Rattle.table_model.specs.TablesOf.{tables_of}
+use Rattle.table_laws.specs.BookIn.{book_in}
+use Rattle.table_laws.proofs.BookLemmas.{book_follows}
+use Rattle.table_laws.proofs.ReadableLemmas.{calls_read}
+use Rattle.table_ledger.specs.Ready.{IsReadyAt, IsStoredIn}
+use Rattle.table_ledger.specs.LedgerState.{book_of_trees, AreBooks, seen_of}
+use Rattle.table_ledger.specs.TablesRead.{tables_read}
+use Rattle.table_ledger.specs.declared.summary.Summary.{Summary}
+
+-- trees that hold a book determine it
+pub book_of_stored : {naming : Naming} {book : Book} {trees : Trees} → IsStoredIn naming book trees
+    → book_of_trees trees ≡ book
+book_of_stored {naming} {book} {trees} kept =
+    ap book_in (tables_read trees (tables_of naming book) kept.holds)
+    ∙ book_follows naming book (calls_read naming book kept.calls)
+
+-- what a ledger that is ready shows determines its book
+pub book_of_ready : {naming : Naming} {summary : Summary} {view : View} {book : Book}
+    → IsReadyAt naming summary view book → book_of_trees view.trees ≡ book
+book_of_ready ready = book_of_stored ready.kept
+
+-- while it is open, a crash leaves only the last commit,
+abbrev pub LeavesTheLast : View → (Trees → Type 0) → Type 0
+LeavesTheLast view may_leave =
+    (trees : Trees) → IsTrue view.is_open → may_leave trees → trees ≡ view.committed
+
+-- so what a crash leaves of a ledger that is ready determines its book
+pub book_of_left : {naming : Naming} {summary : Summary} {book : Book} (view : View)
+    (may_leave : Trees → Type 0) → LeavesTheLast view may_leave
+    → IsReadyAt naming summary view book → (trees : Trees) → may_leave trees
+    → book_of_trees trees ≡ book
+book_of_left view may_leave last ready trees left =
+    ap book_of_trees (last trees ready.rest.is_open left ∙ sym ready.rest.settled) ∙ book_of_ready ready
+
+-- an open ledger can leave only its own book
+pub settled_on : (naming : Naming) (view : View) (may_leave : Trees → Type 0) (must_reopen : Bool)
+    (summary : Summary) → LeavesTheLast view may_leave → IsClean view
+    → AreBooks naming view may_leave must_reopen summary
+    → StopIsHarmless (seen_of naming view may_leave must_reopen summary)
+settled_on naming view may_leave must_reopen summary last clean books is_open book left =
+    let ready = books.ready is_open clean in
+    left.2 ∙ book_of_left view may_leave last ready.ready left.0 left.1
+    ∙ sym (book_of_ready ready.ready)

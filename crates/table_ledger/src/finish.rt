@@ -1,0 +1,60 @@
+//! What becomes of a call that the store refused.
+
+ghost use Rattle.std.specs.Prelude.{◌≡◌, ◌⊎◌, IfErr, IsErrOf, IsTrue, false};
+ghost use Rattle.sqlite_trees.specs.View.{IsClean};
+ghost use Rattle.tree_tables.specs.States.{Survives, state};
+ghost use Rattle.table_ledger.specs.Attempts.{IsRolledBack, Finishes};
+
+use book_core::LedgerFault;
+use sqlite_trees::error::StoreError;
+use sqlite_trees::store::Store;
+use tree_tables::TreeTables;
+
+/// Rolls back what was written, and answers the fault that an error of the store is: out of memory,
+/// if the store still serves; else one of the store.
+pub(crate) fn fault_of<S: Store>(tables: &mut TreeTables<S>, error: StoreError) -> LedgerFault
+    ensures kind { (result ≡ LedgerFault.Memory) ⊎ (result ≡ LedgerFault.Store) }
+    ensures told { result ≡ LedgerFault.Memory → error ≡ StoreError.OutOfMemory }
+    ensures served { IsClean (S.Store.view tables.new.store) → error ≡ StoreError.OutOfMemory
+        → (S.Store.view tables.new.store).is_broken ≡ false → result ≡ LedgerFault.Memory }
+    ensures mended { IsClean (S.Store.view tables.new.store)
+        → IsTrue (S.Store.view tables.new.store).is_open
+        → (S.Store.view tables.new.store).is_broken ≡ false }
+    ensures back { IsClean (S.Store.view tables.new.store) → result ≡ LedgerFault.Memory
+        → IsRolledBack (S.Store.view tables.old.store) (S.Store.view tables.new.store) }
+    ensures survives { Survives (state S.Store tables.old.store) (state S.Store tables.new.store)
+        (λ trees. ⊥) }
+{
+    tables.roll_back();
+    if error == StoreError::OutOfMemory && !tables.is_broken() {
+        LedgerFault::Memory
+    } else {
+        LedgerFault::Store
+    }
+}
+
+/// Answers a call that was tried. After a fault of the store the books have to be reopened.
+pub(crate) fn finish<S: Store, V: Drop>(
+    tables: &mut TreeTables<S>,
+    must_reopen: &mut bool,
+    tried: Result<Result<V, LedgerFault>, StoreError>,
+) -> Result<V, LedgerFault>
+    requires { must_reopen.old ≡ false }
+    ensures settles { Finishes S.Store tables.old.store tables.new.store must_reopen.old
+        must_reopen.new tried result }
+    ensures served { IfErr tried (λ error. IsClean (S.Store.view tables.new.store)
+        → error ≡ StoreError.OutOfMemory → (S.Store.view tables.new.store).is_broken ≡ false
+        → IsErrOf result LedgerFault.Memory) }
+    ensures mended { IfErr tried (λ error. IsClean (S.Store.view tables.new.store)
+        → IsTrue (S.Store.view tables.new.store).is_open
+        → (S.Store.view tables.new.store).is_broken ≡ false) }
+{
+    match tried {
+        Ok(answer) => answer,
+        Err(error) => {
+            let fault = fault_of(tables, error);
+            *must_reopen = fault == LedgerFault::Store;
+            Err(fault)
+        }
+    }
+}

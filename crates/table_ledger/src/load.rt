@@ -1,0 +1,224 @@
+//! The summary of a book, read from its tables.
+
+ghost use Rattle.std.specs.Prelude.{◌≡◌, ◌⊎◌, ◌<◌, ◌≤◌, IfErr, IfOk, IsTrue, List, None, false, length};
+ghost use Rattle.std.specs.Prelude.{true, ℕ, ℤ, IfSome, Option};
+ghost use Rattle.std.specs.List.{AllZip, last_or};
+ghost use Rattle.tree_tables.specs.States.{state};
+ghost use Rattle.book_model.specs.Words.{Rulings, AcceptedTerms, are_rising, last_period, most_cost};
+ghost use Rattle.book_model.specs.Words.{most_choices, most_held};
+ghost use Rattle.tree_tables.specs.Steps.{FailsByStore, Looks};
+ghost use Rattle.table_ledger.specs.Loaded.{AreCloses, AreRowsOf, CanBeListed, IsCloseDay, IsBookRow};
+ghost use Rattle.table_ledger.specs.Loaded.{IsNextClose, IsOpenFault, IsLoaded, IsStoreFault};
+ghost use Rattle.table_ledger.specs.Loaded.{Reads, ReadsItsOwn, SaysRule, SaysTariff, SummarizesRows};
+ghost use Rattle.table_ledger.specs.Loaded.{TellsTariff};
+
+use crate::finish::fault_of;
+use crate::summary::Summary;
+use book_core::{
+    AcceptedTariff, LAST_PERIOD, LedgerFault, MAX_CHOICES, MAX_COST, MAX_HELD, are_before, is_after,
+};
+use smf_text::{FIRST_DAY, LAST_DAY};
+use sqlite_trees::error::StoreError;
+use sqlite_trees::store::Store;
+use std::alloc::Global;
+use tariff_rules::{Tariff, TariffFault};
+use tree_tables::{Close, StoredBook, StoredTariff, TreeTables};
+
+/// The rule of identity under which books begin.
+const FIRST_RULE: u64 = 1;
+
+/// The rule of identity that they adopt.
+const SECOND_RULE: u64 = 2;
+
+/// The period of adoption where no rule was adopted.
+const NEVER_ADOPTED: u64 = 0;
+
+/// The tariff of a row, if its text is one and gives the row's day.
+fn tariff_at(alloc: Global, row: &StoredTariff) -> Result<AcceptedTariff, LedgerFault>
+    ensures says { IfOk result (λ tariff. SaysTariff row.now tariff) }
+    ensures day { IfOk result (λ tariff. tariff.terms.effective ≡ row.now.day) }
+    ensures kinds { IfErr result IsStoreFault }
+    ensures refused { IfErr result (λ fault. fault ≡ LedgerFault.Store
+        → (tariff : AcceptedTerms) → ¬ TellsTariff row.now tariff) }
+{
+    let tariff = match Tariff::parse(alloc, &row.body) {
+        Ok(tariff) => tariff,
+        Err(TariffFault::Memory) => return Err(LedgerFault::Memory),
+        Err(_) => return Err(LedgerFault::Store),
+    };
+    if tariff.effective() != row.day {
+        return Err(LedgerFault::Store);
+    }
+    let text = Some(String::from_str(alloc, &row.body)?);
+    Ok(AcceptedTariff { text, tariff })
+}
+
+/// The tariffs of rows, if each begins later than those before it.
+fn tariffs_of(alloc: Global, rows: &[StoredTariff]) -> Result<Vec<AcceptedTariff>, LedgerFault>
+    ensures say { IfOk result (λ tariffs. AllZip SaysTariff rows.now tariffs.items) }
+    ensures rising { IfOk result (λ tariffs. are_rising tariffs.items ≡ true) }
+    ensures kinds { IfErr result IsStoreFault }
+    ensures refused { IfErr result (λ fault. fault ≡ LedgerFault.Store
+        → (tariffs : List AcceptedTerms) → AllZip TellsTariff rows.now tariffs
+        → ¬ (are_rising tariffs ≡ true)) }
+{
+    let mut tariffs = Vec::with_capacity(alloc, rows.len())?;
+    for row in rows {
+        let tariff = tariff_at(alloc, row)?;
+        if !are_before(&tariffs, &tariff.tariff) {
+            return Err(LedgerFault::Store);
+        }
+        tariffs.push(tariff)?;
+    }
+    Ok(tariffs)
+}
+
+/// The last of some days, if there is one.
+fn last_of(days: &[i32]) -> Option<i32>
+    ensures { result ≡ last_or None days.now }
+{
+    days.last().copied()
+}
+
+/// The row is that of the next close after those through some days.
+fn is_next(days: &[i32], row: &Close) -> bool
+    ensures next { result ≡ true → IsNextClose days.now row.now }
+    ensures other { result ≡ false → ¬ IsNextClose days.now row.now }
+{
+    row.period as usize == days.len() + 1
+        && is_after(last_of(days), row.through)
+        && FIRST_DAY <= row.through
+        && row.through <= LAST_DAY
+}
+
+/// The day of the next close: of the period after the last, through a later day.
+fn next_day(days: &[i32], row: &Close) -> Result<i32, LedgerFault>
+    ensures has { IfOk result (λ day. IsCloseDay row.now day) }
+    ensures next { IfOk result (λ day. IsNextClose days.now row.now) }
+    ensures kinds { IfErr result IsStoreFault }
+    ensures refused { IfErr result (λ fault. ¬ IsNextClose days.now row.now) }
+{
+    if is_next(days, row) {
+        Ok(row.through)
+    } else {
+        Err(LedgerFault::Store)
+    }
+}
+
+/// The days of closes, if their periods follow one another, and the days do too.
+fn days_of(alloc: Global, rows: &[Close]) -> Result<Vec<i32>, LedgerFault>
+    ensures have { IfOk result (λ days. AllZip IsCloseDay rows.now days.items) }
+    ensures kinds { IfErr result IsStoreFault }
+    ensures refused { IfErr result (λ fault. fault ≡ LedgerFault.Store
+        → (days : List ℤ) → ¬ AreCloses rows.now days) }
+{
+    let mut days = Vec::with_capacity(alloc, rows.len())?;
+    for row in rows {
+        let day = next_day(&days, row)?;
+        days.push(day)?;
+    }
+    Ok(days)
+}
+
+/// The period of adoption that a row gives, if it is under one of the two rules: the first was
+/// never adopted, and the second in a period that has begun.
+fn adopted_by(row: &StoredBook, closes: usize) -> Option<Option<u16>>
+    requires { closes < last_period }
+    ensures says { IfSome result (SaysRule closes row.now) }
+    ensures refused { result ≡ None → (adopted : Option ℕ) → ¬ SaysRule closes row.now adopted }
+{
+    if row.rule == FIRST_RULE && row.adopted == NEVER_ADOPTED {
+        return Some(None);
+    }
+    if row.rule == SECOND_RULE && 1 <= row.adopted && row.adopted <= closes as u64 + 1 {
+        return Some(Some(row.adopted as u16));
+    }
+    None
+}
+
+/// The sums of the row are within the office's limits.
+fn is_kept(row: &StoredBook) -> bool
+    ensures held { IsTrue result → row.now.held ≤ most_held }
+    ensures amount { IsTrue result → row.now.amount ≤ most_cost }
+    ensures kept { result ≡ true → IsBookRow row.now }
+    ensures refused { result ≡ false → ¬ IsBookRow row.now }
+{
+    row.held <= MAX_HELD as u64 && row.amount <= MAX_COST
+}
+
+/// There are fewer closes than possible periods, and no more choices than the most possible.
+fn are_few(closes: &[i32], choices: u32) -> bool
+    ensures few { result ≡ true → length closes.now < last_period }
+    ensures chosen { result ≡ true → choices ≤ most_choices }
+    ensures many { result ≡ false
+        → (last_period ≤ length closes.now) ⊎ (most_choices < choices) }
+{
+    closes.len() < LAST_PERIOD as usize && choices as usize <= MAX_CHOICES
+}
+
+/// The summary of the rows, if they are those of a book; the last of its choices has this number.
+fn summary_of(
+    alloc: Global,
+    row: &StoredBook,
+    tariffs: &[StoredTariff],
+    closes: &[Close],
+    choices: u32,
+) -> Result<Summary, LedgerFault>
+    ensures shows { IfOk result (SummarizesRows row.now tariffs.now closes.now choices) }
+    ensures kinds { IfErr result IsStoreFault }
+    ensures refused { IfErr result (λ fault. fault ≡ LedgerFault.Store
+        → (rulings : Rulings) → ¬ AreRowsOf row.now tariffs.now closes.now choices rulings) }
+{
+    let tariffs = tariffs_of(alloc, tariffs)?;
+    let closes = days_of(alloc, closes)?;
+    if !is_kept(row) || !are_few(&closes, choices) {
+        return Err(LedgerFault::Store);
+    }
+    let Some(adopted) = adopted_by(row, closes.len()) else {
+        return Err(LedgerFault::Store);
+    };
+    Ok(Summary {
+        tariffs,
+        closes,
+        choices,
+        adopted,
+        held: row.held as usize,
+        total: row.amount,
+    })
+}
+
+/// Reads the summary of the book.
+fn look_for_summary<S: Store>(
+    alloc: Global,
+    tables: &mut TreeTables<S>,
+) -> Result<Result<Summary, LedgerFault>, StoreError>
+    ensures looks { Looks result (state S.Store tables.old.store) (state S.Store tables.new.store)
+        IsLoaded }
+    ensures kinds { IfOk result (λ answer. IfErr answer IsOpenFault) }
+    ensures cause { FailsByStore result (state S.Store tables.old.store)
+        (state S.Store tables.new.store) CanBeListed }
+{
+    let Some(row) = tables.find_book()? else {
+        return Ok(Err(LedgerFault::NotBooks));
+    };
+    let tariffs = tables.list_tariffs(alloc)?;
+    let closes = tables.list_closes(alloc)?;
+    let choices = tables.last_choice()?;
+    Ok(summary_of(alloc, &row, &tariffs, &closes, choices))
+}
+
+/// Reads the summary of the book that a store holds, if it holds one.
+pub(crate) fn read_summary<S: Store>(
+    alloc: Global,
+    tables: &mut TreeTables<S>,
+) -> Result<Summary, LedgerFault>
+    ensures reads { Reads result (state S.Store tables.old.store) (state S.Store tables.new.store) }
+    ensures kinds { IfErr result IsOpenFault }
+    ensures own { ReadsItsOwn result (state S.Store tables.old.store)
+        (state S.Store tables.new.store) }
+{
+    match look_for_summary(alloc, tables) {
+        Ok(answer) => answer,
+        Err(error) => Err(fault_of(tables, error)),
+    }
+}

@@ -1,0 +1,28 @@
+-- A view that is read from tables gives a member only if it counts one.
+use Rattle.std.proofs.Common.{◌≡◌, ℕ, suc, List, [], ◌∷◌, length, refl, true, false}
+use Rattle.std.proofs.Common.{Some, None, is_some, arith}
+use Rattle.std.specs.Prelude.{◌==◌, if◌then◌else◌}
+use Rattle.std.proofs.lemmas.Bool.Decides.{nat_tests}
+use Rattle.table_model.specs.Laws.{ViewFits}
+use Rattle.table_model.specs.Tables.{ChoiceTable, RecordRow}
+use Rattle.table_model.specs.Views.{rows_with, rows_count, only_row, member_at, has_choice}
+use Rattle.table_model.specs.Views.{lone_members}
+
+-- by the rows of the identity
+fits : (choices : ChoiceTable) (rows : List (List ℕ × RecordRow))
+    → is_some (only_row choices rows) ≡ (rows_count choices rows == 1)
+fits choices [] = refl
+fits choices (one ∷ []) =
+    elim (has_choice choices one.0) as (λ c.
+    is_some (if c then None else Some (member_at one)) ≡ (lone_members c == 1)) [
+      | true ↦ refl
+      | false ↦ refl
+    ]
+fits choices (one ∷ other ∷ more) = not_one (length more)
+  where
+    not_one : (n : ℕ) → false ≡ (suc (suc n) == 1)
+    not_one n = grind (arith, nat_tests)
+
+-- the law
+pub view_fits : ViewFits
+view_fits tables identity = fits tables.choices (rows_with identity tables.records)

@@ -1,0 +1,5 @@
+use Rattle.table_model.proofs.FiveDiffer.{at_most_five_differ}
+use Rattle.table_model.proofs.laws.at_most_five_differ.Goals as goal
+
+pub returns : goal.returns
+returns c = at_most_five_differ

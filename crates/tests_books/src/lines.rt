@@ -1,0 +1,53 @@
+//! What the lines of a row have set so far, and how books are asked.
+
+use book_core::Ledger;
+use std::alloc::AllocError;
+use tests_ledgers::{BookLines, answer};
+use tests_requests::{RequestLines, answer_request};
+use tests_scripts::{Ask, Named};
+
+/// How dumps are read, texts are written and requests come from here on in a row.
+#[derive(Drop)]
+pub(crate) struct Lines {
+    pub(crate) books: BookLines,
+    requests: RequestLines,
+}
+
+impl Lines {
+    /// As at the beginning of a row.
+    pub(crate) fn new() -> Lines {
+        Lines {
+            books: BookLines::new(),
+            requests: RequestLines::new(),
+        }
+    }
+
+    /// Answers a line that is asked of books, by calls or by requests. False where it is not one,
+    /// or can't be read.
+    pub(crate) fn ask_once<L: Ledger>(
+        &mut self,
+        named: &Named,
+        ledger: &mut L,
+        ask: Ask<'_>,
+        out: &mut Vec<u8>,
+    ) -> Result<bool, AllocError> {
+        if answer(&mut self.books, named, ledger, ask, out)? {
+            return Ok(true);
+        }
+        answer_request(&mut self.requests, named, ledger, ask, out)
+    }
+
+    /// The same, or answers `each-call` with such a line after it.
+    pub(crate) fn ask<L: Ledger>(
+        &mut self,
+        named: &Named,
+        ledger: &mut L,
+        ask: Ask<'_>,
+        out: &mut Vec<u8>,
+    ) -> Result<bool, AllocError> {
+        if ask.verb == "each-call" {
+            return self.ask_each_call(named, ledger, ask, out);
+        }
+        self.ask_once(named, ledger, ask, out)
+    }
+}

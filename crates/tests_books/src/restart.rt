@@ -1,0 +1,78 @@
+//! Stores whose files outlive them, on disks that can be made to fail.
+
+ghost use Rattle.std.specs.Prelude.{IfOk};
+ghost use Rattle.sqlite_trees.specs.View.{IsClean};
+ghost use Rattle.tree_tables.specs.Holds.{HasShapes};
+
+use book_trees::{checkpoint_log, create_files, keeps_books};
+use sqlite_disk::{Crash, Files};
+use sqlite_pager::Options;
+use sqlite_store::FileStore;
+use sqlite_trees::store::Reopen;
+use std::alloc::Global;
+
+/// A store whose files are found again after a crash. What uses only this trait is proved without
+/// looking at what the store is made of.
+pub trait Restart: Reopen + Drop {
+    /// Its files.
+    type Disks: Drop;
+
+    /// New trees of books, in files that hold nothing. Where the disk fails, the files as they are
+    /// found after a crash.
+    fn made(alloc: Global, files: Self::Disks) -> Result<Self, Self::Disks>
+        ensures shaped { IfOk result (λ store. IsClean (Self.Store.view store)
+            → HasShapes (Self.Store.view store)) };
+
+    /// The store, after the end of the work on it: what its log holds is in its files, unless the
+    /// disk stopped meanwhile, which is answered too.
+    fn checkpoint_log(self) -> (Self, bool);
+
+    /// What is found when the machine is back. Where the disk stops once more, or holds no trees of
+    /// books, the store is given back.
+    fn back(self) -> Result<Self, Self>
+        ensures shaped { IfOk result (λ store. IsClean (Self.Store.view store)
+            → HasShapes (Self.Store.view store)) };
+}
+
+/// The files as they are found when the machine is back.
+fn crashed<D: Crash + Drop>(files: Files<D>) -> Files<D> {
+    let mut files = files;
+    files.log.crash();
+    files.db.crash();
+    files
+}
+
+impl<D: Crash + Drop> Restart for FileStore<D> {
+    type Disks = Files<D>;
+
+    fn made(alloc: Global, files: Files<D>) -> Result<FileStore<D>, Files<D>> {
+        if !files.may_be_used() {
+            return Err(crashed(files));
+        }
+        let options = Options {
+            checkpoint_frames: 8,
+            ..Options::new(7)
+        };
+        match create_files(alloc, files, options) {
+            Ok(store) => Ok(store),
+            Err((_fault, left)) => Err(crashed(left)),
+        }
+    }
+
+    fn checkpoint_log(self) -> (FileStore<D>, bool) {
+        let mut store = self;
+        let is_shut = checkpoint_log(&mut store).is_ok();
+        (store, is_shut)
+    }
+
+    fn back(self) -> Result<FileStore<D>, FileStore<D>> {
+        let mut store = self;
+        if store.crash_and_reopen().is_err() {
+            return Err(store);
+        }
+        match keeps_books(&store) {
+            Ok(true) => Ok(store),
+            _ => Err(store),
+        }
+    }
+}

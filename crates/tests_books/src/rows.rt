@@ -1,0 +1,62 @@
+//! Rows on books.
+
+use crate::lines::Lines;
+use std::alloc::{AllocError, Global};
+use tests_ledgers::answer_standalone;
+use tests_scripts::{Answers, Ask, Named};
+
+/// Books of a row.
+pub(crate) trait Books: Drop {
+    /// The books with which a row begins, if the words say which.
+    fn begun(alloc: Global, words: &[&str]) -> Option<Self>;
+
+    /// Answers a line that is asked of the books. False where it is not one, or can't be read.
+    fn answer(
+        self,
+        lines: &mut Lines,
+        named: &Named,
+        ask: Ask<'_>,
+        out: &mut Vec<u8>,
+    ) -> Result<(Self, bool), AllocError>;
+}
+
+/// A row, or none yet.
+#[derive(Drop)]
+pub(crate) struct BookRows<B: Books> {
+    books: Option<B>,
+    lines: Lines,
+}
+
+impl<B: Books> BookRows<B> {
+    pub(crate) fn new() -> BookRows<B> {
+        BookRows {
+            books: None,
+            lines: Lines::new(),
+        }
+    }
+}
+
+impl<B: Books> Answers for BookRows<B> {
+    fn begin(&mut self, named: &Named, words: &[&str]) -> Result<bool, AllocError> {
+        self.lines = Lines::new();
+        self.books = B::begun(named.alloc(), words);
+        Ok(self.books.is_some())
+    }
+
+    fn answer(
+        &mut self,
+        named: &Named,
+        ask: Ask<'_>,
+        out: &mut Vec<u8>,
+    ) -> Result<bool, AllocError> {
+        if answer_standalone(&mut self.lines.books, named, ask, out)? {
+            return Ok(true);
+        }
+        let Some(books) = self.books.take() else {
+            return Ok(false);
+        };
+        let (books, is_read) = books.answer(&mut self.lines, named, ask, out)?;
+        self.books = Some(books);
+        Ok(is_read)
+    }
+}

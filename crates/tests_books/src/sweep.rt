@@ -1,0 +1,183 @@
+//! A run over files that may fail: what is found when the machine is back, and how the same
+//! commands then end.
+
+use crate::restart::Restart;
+use crate::run::{NOT_BEGUN, Progress, Run};
+use crate::trees::Trees;
+use crate::uninterrupted::{Books, Mismatch, Uninterrupted, snapshot_of};
+use book_core::{Ledger, LedgerFault, ShaNames};
+use std::alloc::Global;
+use table_ledger::TableLedger;
+
+/// What is left of books: their store, or the files of a disk that failed before it was made.
+#[derive(Drop)]
+enum Remains<S: Restart> {
+    Store(S),
+    Files(S::Disks),
+}
+
+/// The trees in which no books were opened or made, by a fault of the store.
+fn left_by<S: Restart>(fault: LedgerFault, trees: Trees<S>) -> Result<Opened<S>, Mismatch> {
+    match fault {
+        LedgerFault::Store => Ok(Err(trees)),
+        _ => Err(Mismatch("OTHER ANSWERS")),
+    }
+}
+
+/// Books that were opened, or their trees on a disk that failed.
+type Opened<S> = Result<Books<S>, Trees<S>>;
+
+/// New books in trees that have none.
+fn create_in<S: Restart>(alloc: Global, trees: Trees<S>) -> Result<Opened<S>, Mismatch> {
+    match TableLedger::create(alloc, trees.into_store(), ShaNames) {
+        Ok(books) => Ok(Ok(books)),
+        Err((fault, store)) => left_by(fault, Trees::over(store)),
+    }
+}
+
+/// The books in trees, new ones where there are none.
+fn open_in<S: Restart>(alloc: Global, trees: Trees<S>) -> Result<Opened<S>, Mismatch> {
+    match TableLedger::open(alloc, trees.into_store(), ShaNames) {
+        Ok(books) => Ok(Ok(books)),
+        Err((LedgerFault::NotBooks, store)) => create_in(alloc, Trees::over(store)),
+        Err((fault, store)) => left_by(fault, Trees::over(store)),
+    }
+}
+
+/// Gives books the commands, up to a stop.
+fn work<L: Ledger>(run: Run<'_>, ledger: &mut L) -> Result<Progress, Mismatch> {
+    let progress = run.give_from(ledger, 0)?;
+    let is_lost = progress.stopped && ledger.periods().err() != Some(LedgerFault::Reopen);
+    if progress.is_consistent && !is_lost {
+        Ok(progress)
+    } else {
+        Err(Mismatch("OTHER ANSWERS"))
+    }
+}
+
+/// Makes books in files that hold nothing and works on them, and gives back what is left of them.
+fn start<S: Restart>(run: Run<'_>, files: S::Disks) -> Result<(Progress, Remains<S>), Mismatch> {
+    let alloc = run.named.alloc();
+    let trees = match S::made(alloc, files) {
+        Ok(store) => Trees::over(store),
+        Err(files) => return Ok((NOT_BEGUN, Remains::Files(files))),
+    };
+    match open_in(alloc, trees)? {
+        Ok(mut books) => {
+            let progress = work(run, &mut books)?;
+            Ok((progress, Remains::Store(books.close_store())))
+        }
+        Err(trees) => Ok((NOT_BEGUN, Remains::Store(trees.into_store()))),
+    }
+}
+
+/// What is left of books after the end of the work on them, and whether that was reached without a
+/// stop.
+fn checkpoint_log<S: Restart>(left: Remains<S>) -> (Remains<S>, bool) {
+    match left {
+        Remains::Store(store) => {
+            let (store, is_shut) = store.checkpoint_log();
+            (Remains::Store(store), is_shut)
+        }
+        Remains::Files(files) => (Remains::Files(files), false),
+    }
+}
+
+/// The trees as they are found when the machine is back, new ones where there are none; or what is
+/// left where the disk stops once more.
+fn trees_after_crash<S: Restart>(alloc: Global, left: Remains<S>) -> Result<Trees<S>, Remains<S>> {
+    match left {
+        Remains::Store(store) => match store.back() {
+            Ok(store) => Ok(Trees::over(store)),
+            Err(store) => Err(Remains::Store(store)),
+        },
+        Remains::Files(files) => match S::made(alloc, files) {
+            Ok(store) => Ok(Trees::over(store)),
+            Err(files) => Err(Remains::Files(files)),
+        },
+    }
+}
+
+/// The books as they are found when the machine is back, or what is left where the disk stops once
+/// more.
+fn books_after_crash<S: Restart>(
+    alloc: Global,
+    left: Remains<S>,
+) -> Result<Result<Books<S>, Remains<S>>, Mismatch> {
+    match trees_after_crash(alloc, left) {
+        Ok(trees) => match open_in(alloc, trees)? {
+            Ok(books) => Ok(Ok(books)),
+            Err(trees) => Ok(Err(Remains::Store(trees.into_store()))),
+        },
+        Err(left) => Ok(Err(left)),
+    }
+}
+
+/// The books as they are found in the end, and whether the disk stopped once more on the way there.
+/// It does so once.
+fn reopen<S: Restart>(alloc: Global, left: Remains<S>) -> Result<(Books<S>, bool), Mismatch> {
+    let left = match books_after_crash(alloc, left)? {
+        Ok(books) => return Ok((books, false)),
+        Err(left) => left,
+    };
+    match books_after_crash(alloc, left)? {
+        Ok(books) => Ok((books, true)),
+        Err(_) => Err(Mismatch("NOT OPENED AGAIN")),
+    }
+}
+
+/// Gives the books that are left the command in progress once more and those after it, which brings
+/// them to the end.
+fn finish<S: Restart>(
+    run: Run<'_>,
+    whole: &Uninterrupted,
+    stopped: Progress,
+    left: Remains<S>,
+) -> Result<(), Mismatch> {
+    let alloc = run.named.alloc();
+    let (mut books, _) = reopen(alloc, left)?;
+    let progress = run.give_from(&mut books, stopped.commands)?;
+    let (books, _) = reopen(alloc, Remains::Store(books.close_store()))?;
+    let (end, _) = snapshot_of(run, books)?;
+    if progress.is_consistent && !progress.stopped && whole.is_end(&end) {
+        Ok(())
+    } else {
+        Err(Mismatch("ANOTHER END"))
+    }
+}
+
+/// Where a disk stopped.
+#[derive(Clone, Copy)]
+pub(crate) struct Met {
+    /// In the commands of the run, or in the closing after them.
+    pub(crate) stopped: bool,
+    /// On the way back into the books.
+    pub(crate) again: bool,
+}
+
+/// Makes a run on books in files that may fail, and answers where it was stopped, if what is found
+/// and how it ends are as they have to be. Where `twice` says so, that is checked only after a
+/// second stop on the way back.
+pub(crate) fn try_stops<S: Restart>(
+    run: Run<'_>,
+    whole: &Uninterrupted,
+    files: S::Disks,
+    twice: bool,
+) -> Result<Met, Mismatch> {
+    let (progress, left) = start::<S>(run, files)?;
+    let (left, is_shut) = checkpoint_log(left);
+    let (books, again) = reopen(run.named.alloc(), left)?;
+    let met = Met {
+        stopped: progress.stopped || !is_shut,
+        again,
+    };
+    if twice && !again {
+        return Ok(met);
+    }
+    let (found, trees) = snapshot_of(run, books)?;
+    if !whole.is_reached(progress, &found) {
+        return Err(Mismatch("OTHER BOOKS"));
+    }
+    finish(run, whole, progress, Remains::Store(trees.into_store()))?;
+    Ok(met)
+}

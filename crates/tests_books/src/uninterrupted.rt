@@ -1,0 +1,157 @@
+//! A run that nothing stops, change by change.
+
+use crate::lines::Lines;
+use crate::run::{Progress, Run, ask_of};
+use crate::shown_rows::all_rows;
+use crate::trees::Trees;
+use book_core::ShaNames;
+use sqlite_trees::store::Store;
+use std::alloc::{AllocError, Global};
+use table_ledger::TableLedger;
+use tests_scripts::Ask;
+
+/// Books in the trees of a store.
+pub(crate) type Books<S> = TableLedger<S, ShaNames>;
+
+/// What is not as it should be.
+#[derive(Clone, Copy)]
+pub(crate) struct Mismatch(pub(crate) &'static str);
+
+impl From<AllocError> for Mismatch {
+    fn from(_: AllocError) -> Mismatch {
+        Mismatch("NO MEMORY")
+    }
+}
+
+/// Books as they are between two changes: all their rows, and all their texts.
+#[derive(Drop, PartialEq)]
+pub(crate) struct Snapshot {
+    pub(crate) rows: Vec<u8>,
+    pub(crate) texts: Vec<u8>,
+}
+
+/// What a run that nothing stops leaves: new books, and those after each change.
+#[derive(Drop)]
+pub(crate) struct Uninterrupted {
+    snapshots: Vec<Snapshot>,
+}
+
+impl Uninterrupted {
+    /// How many changes it makes.
+    pub(crate) fn changes(&self) -> usize {
+        self.snapshots.len().saturating_sub(1)
+    }
+
+    /// These are the books after the last change that was reported to a run, or after the one in
+    /// progress where it was stopped.
+    pub(crate) fn is_reached(&self, progress: Progress, found: &Snapshot) -> bool {
+        let in_hand = if progress.stopped { 2 } else { 1 };
+        let mut reached = self.snapshots.iter().skip(progress.changes).take(in_hand);
+        reached.any(|snapshot| snapshot == found)
+    }
+
+    /// These are the books after a given number of changes.
+    pub(crate) fn is_after(&self, changes: usize, found: &Snapshot) -> bool {
+        self.snapshots.get(changes) == Some(found)
+    }
+
+    /// These are the books at its end.
+    pub(crate) fn is_end(&self, found: &Snapshot) -> bool {
+        self.snapshots.last() == Some(found)
+    }
+
+    /// How many changes it makes, and how often something came in its way: more often than that, or
+    /// how often.
+    pub(crate) fn met(
+        &self,
+        alloc: Global,
+        what: &str,
+        times: usize,
+    ) -> Result<String, AllocError> {
+        let changes = self.changes();
+        if times > changes {
+            format!(in alloc; "CHANGES {changes} {what} MORE")
+        } else {
+            format!(in alloc; "CHANGES {changes} {what} {times}")
+        }
+    }
+}
+
+/// All rows and texts of books, and their trees.
+pub(crate) fn snapshot_of<S: Store + Drop>(
+    run: Run<'_>,
+    books: Books<S>,
+) -> Result<(Snapshot, Trees<S>), Mismatch> {
+    let mut books = books;
+    let texts = run.texts(&mut books)?;
+    let mut trees = Trees::over(books.close_store());
+    match all_rows(run.named.alloc(), &mut trees) {
+        Some(rows) => Ok((Snapshot { rows, texts }, trees)),
+        None => Err(Mismatch("OTHER ROWS")),
+    }
+}
+
+/// Asks the books in trees, and gives the trees back, with what the books answer.
+fn answered<S: Store + Drop>(
+    run: Run<'_>,
+    trees: Trees<S>,
+    ask: Ask<'_>,
+) -> Result<(Trees<S>, Vec<u8>), AllocError> {
+    let mut answers = Vec::new(run.named.alloc());
+    let (trees, _) = trees.ask(&mut Lines::new(), run.named, ShaNames, ask, &mut answers)?;
+    Ok((trees, answers))
+}
+
+/// Adds the books in trees as they are, and gives the trees back. Books whose rows can't be read
+/// are not added.
+fn add_snapshot<S: Store + Drop>(
+    run: Run<'_>,
+    trees: Trees<S>,
+    snapshots: &mut Vec<Snapshot>,
+) -> Result<Trees<S>, AllocError> {
+    let (mut trees, texts) = answered(run, trees, ask_of(&["changes"]))?;
+    if let Some(rows) = all_rows(run.named.alloc(), &mut trees) {
+        snapshots.push(Snapshot { rows, texts })?;
+    }
+    Ok(trees)
+}
+
+/// Gives the books in trees the command of a line, each record of an import by a command of its
+/// own, and adds the books after each change.
+fn take_line<S: Store + Drop>(
+    run: Run<'_>,
+    trees: Trees<S>,
+    words: &[&str],
+    snapshots: &mut Vec<Snapshot>,
+) -> Result<Trees<S>, AllocError> {
+    let mut trees = trees;
+    let ask = ask_of(words);
+    let size = if ask.verb == "import" {
+        1
+    } else {
+        ask.words.len().max(1)
+    };
+    for words in ask.words.chunks(size) {
+        let (then, answers) = answered(run, trees, Ask { words, ..ask })?;
+        trees = then;
+        if run.progress_by(&answers)?.changes == 1 {
+            trees = add_snapshot(run, trees, snapshots)?;
+        }
+    }
+    Ok(trees)
+}
+
+/// What a run that nothing stops leaves, and the trees after it.
+pub(crate) fn run_uninterrupted<S: Store + Drop>(
+    run: Run<'_>,
+    trees: Trees<S>,
+) -> Result<(Uninterrupted, Trees<S>), AllocError> {
+    let alloc = run.named.alloc();
+    let mut snapshots = Vec::new(alloc);
+    let mut trees = add_snapshot(run, trees, &mut snapshots)?;
+    for line in run.body.lines() {
+        let words: Vec<&str> = line.split_whitespace().collect(alloc)?;
+        trees = take_line(run, trees, &words, &mut snapshots)?;
+    }
+    Ok((Uninterrupted { snapshots }, trees))
+}

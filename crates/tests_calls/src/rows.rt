@@ -1,0 +1,211 @@
+//! The worked rows of two variants, of closes and of tariffs, one request after the other.
+
+use crate::lines::{
+    FEBRUARY_ROW, HEADING, IDENTITY, MEMBER_1201, MEMBER_1202, SAMPLE_MEMBER, SAMPLE_MINUS,
+    SAMPLE_PLUS, SAMPLE_ROW, SUM_OF_MINUS, SUM_OF_NONE, SUM_OF_PLUS, TABLE_HEADING, TOTAL_OF_NONE,
+    TOTAL_OF_ONE,
+};
+use crate::runs::{Expected, Step, Steps};
+use crate::sample::Record;
+use book_core::LedgerFault;
+use office::Report;
+
+/// Two currency units for a CPU second, and a twentieth for 1,000 blocks.
+const JANUARY: &str = r#"effective = "2024-01-01"
+[rates]
+step_cpu = 20000
+step_excp = 500
+step_record = 0
+job_cpu = 0
+job_excp = 0
+job_record = 0
+"#;
+
+/// The same rates from the same day on, in another text.
+const JANUARY_AGAIN: &str = r#"# again
+effective = "2024-01-01"
+[rates]
+step_cpu = 20000
+step_excp = 500
+step_record = 0
+job_cpu = 0
+job_excp = 0
+job_record = 0
+"#;
+
+/// The same rates from the day before on.
+const DECEMBER: &str = r#"effective = "2023-12-31"
+[rates]
+step_cpu = 20000
+step_excp = 500
+step_record = 0
+job_cpu = 0
+job_excp = 0
+job_record = 0
+"#;
+
+const TARIFF: (Step, Expected) = (Step::Tariff(JANUARY), Expected::Done);
+
+const SAMPLE: (Step, Expected) = (Step::Import(&[Record::Sample]), Expected::Kept);
+
+const VARIANT: (Step, Expected) = (Step::Import(&[Record::Variant1201]), Expected::Kept);
+
+const CLOSE: (Step, Expected) = (Step::Close(1, "2024-01-31"), Expected::Done);
+
+/// The sample and the variant are in dispute.
+const DISPUTE: (Step, Expected) = (
+    Step::Report(Report::DisputeList),
+    Expected::Lines(&["DISPUTES 1", IDENTITY, MEMBER_1201, SAMPLE_MEMBER]),
+);
+
+/// Nothing is charged in the first period, which is open.
+const NO_CHARGES: (Step, Expected) = (
+    Step::Report(Report::Statement(1)),
+    Expected::Lines(&["STATEMENT PERIOD 1 OPEN", HEADING, TOTAL_OF_NONE]),
+);
+
+/// The sample is charged in the first period, which is closed.
+const CLOSED_CHARGES: (Step, Expected) = (
+    Step::Report(Report::Statement(1)),
+    Expected::Lines(&[
+        "STATEMENT PERIOD 1 CLOSED THROUGH 2024-01-31",
+        HEADING,
+        SAMPLE_ROW,
+        TOTAL_OF_ONE,
+    ]),
+);
+
+/// The sample is taken out of the bill in the second period, which is open.
+const REVERSED: (Step, Expected) = (
+    Step::Report(Report::AdjustmentList(2)),
+    Expected::Lines(&["ADJUSTMENTS PERIOD 2 OPEN", SAMPLE_MINUS, SUM_OF_MINUS]),
+);
+
+const TWO_VARIANTS: Steps = &[TARIFF, SAMPLE, VARIANT, NO_CHARGES, DISPUTE];
+
+const THE_VARIANT_FIRST: Steps = &[TARIFF, VARIANT, SAMPLE, NO_CHARGES, DISPUTE];
+
+/// What the sample's books are asked where the variant comes after the close.
+pub(crate) const VARIANT_AFTER_CLOSE: Steps = &[
+    TARIFF,
+    SAMPLE,
+    CLOSE,
+    VARIANT,
+    CLOSED_CHARGES,
+    (
+        Step::Report(Report::StatementTable(1)),
+        Expected::Lines(&[
+            TABLE_HEADING,
+            "1,2024-01-31,UNASSIGNED,BASE,1,12.34,5000,24.9300",
+        ]),
+    ),
+    REVERSED,
+    DISPUTE,
+    (
+        Step::Report(Report::PeriodList),
+        Expected::Lines(&["PERIODS 2", "1 CLOSED THROUGH 2024-01-31", "2 OPEN"]),
+    ),
+];
+
+const LATE_RECORD_THEN_VARIANT: Steps = &[
+    TARIFF,
+    CLOSE,
+    SAMPLE,
+    (
+        Step::Report(Report::AdjustmentList(2)),
+        Expected::Lines(&["ADJUSTMENTS PERIOD 2 OPEN", SAMPLE_PLUS, SUM_OF_PLUS]),
+    ),
+    VARIANT,
+    (
+        Step::Report(Report::AdjustmentList(2)),
+        Expected::Lines(&["ADJUSTMENTS PERIOD 2 OPEN", SUM_OF_NONE]),
+    ),
+    DISPUTE,
+];
+
+const THIRD_VARIANT: Steps = &[
+    TARIFF,
+    SAMPLE,
+    CLOSE,
+    VARIANT,
+    (Step::Import(&[Record::Variant1202]), Expected::Kept),
+    CLOSED_CHARGES,
+    REVERSED,
+    (Step::Close(2, "2024-02-29"), Expected::Done),
+    (
+        Step::Import(&[Record::Sample, Record::Variant1201, Record::Variant1202]),
+        Expected::Known(3),
+    ),
+    (
+        Step::Report(Report::AdjustmentList(3)),
+        Expected::Lines(&["ADJUSTMENTS PERIOD 3 OPEN", SUM_OF_NONE]),
+    ),
+    (
+        Step::Report(Report::DisputeList),
+        Expected::Lines(&[
+            "DISPUTES 1",
+            IDENTITY,
+            MEMBER_1201,
+            MEMBER_1202,
+            SAMPLE_MEMBER,
+        ]),
+    ),
+];
+
+const DATED_AFTER_CLOSE: Steps = &[
+    TARIFF,
+    (Step::Import(&[Record::February1]), Expected::Kept),
+    CLOSE,
+    (
+        Step::Report(Report::Statement(2)),
+        Expected::Lines(&[
+            "STATEMENT PERIOD 2 OPEN",
+            HEADING,
+            FEBRUARY_ROW,
+            TOTAL_OF_ONE,
+        ]),
+    ),
+    (Step::Close(1, "2024-01-31"), Expected::Already),
+    (
+        Step::Close(1, "2024-02-29"),
+        Expected::Refused(LedgerFault::WrongPeriod(2)),
+    ),
+    (
+        Step::Close(2, "2024-01-31"),
+        Expected::Refused(LedgerFault::NotLater),
+    ),
+    (
+        Step::Report(Report::Statement(3)),
+        Expected::Refused(LedgerFault::NoSuchPeriod),
+    ),
+];
+
+const TARIFFS_IN_ORDER: Steps = &[
+    (Step::Import(&[Record::Sample]), Expected::Unpriced),
+    TARIFF,
+    SAMPLE,
+    (Step::Tariff(JANUARY), Expected::Already),
+    (
+        Step::Tariff(JANUARY_AGAIN),
+        Expected::Refused(LedgerFault::TariffExists),
+    ),
+    (
+        Step::Tariff(DECEMBER),
+        Expected::Refused(LedgerFault::TariffDate),
+    ),
+    (
+        Step::Report(Report::Statement(1)),
+        Expected::Lines(&["STATEMENT PERIOD 1 OPEN", HEADING, SAMPLE_ROW, TOTAL_OF_ONE]),
+    ),
+];
+
+/// All rows, each of new books.
+pub(crate) const ROWS: [Steps; 7] = [
+    TWO_VARIANTS,
+    THE_VARIANT_FIRST,
+    VARIANT_AFTER_CLOSE,
+    LATE_RECORD_THEN_VARIANT,
+    THIRD_VARIANT,
+    DATED_AFTER_CLOSE,
+    TARIFFS_IN_ORDER,
+];

@@ -1,0 +1,64 @@
+//! Imports whose reading fails at each read in turn.
+
+use crate::answers::push_receipt;
+use crate::dump_reading::Reading;
+use book_core::{Ledger, Source};
+use book_import::{Receipt, Stop, import};
+use std::alloc::Global;
+use tests_scripts::{Cases, LineResult, Named, push_line};
+
+/// More reads than a dump of a script takes.
+const ENOUGH: u16 = 10_000;
+
+/// The dump of parts. A word `at:PLACE` puts the number there, in two bytes.
+fn numbered(named: &Named, words: &[&str], number: u16) -> LineResult<Vec<u8>> {
+    let alloc = named.alloc();
+    let mut parts = Vec::new(alloc);
+    for word in words {
+        parts.push(match word.strip_prefix("at:") {
+            Some(place) => format!(in alloc; "{place}:{number:04X}")?,
+            None => String::from_str(alloc, word)?,
+        })?;
+    }
+    let mut words = Vec::new(alloc);
+    for part in &parts {
+        words.push(part.as_str())?;
+    }
+    named.read_dump(&words)
+}
+
+/// Reads a dump into books.
+fn import_once<L: Ledger>(alloc: Global, ledger: &mut L, reading: Reading, dump: &[u8]) -> Receipt {
+    let mut source = Source::new(reading.reader(dump));
+    let reads = reading.allowed();
+    import(alloc, &mut source, reading.layout, reads, ledger)
+}
+
+/// Imports a dump from a reader that fails at its first read, then from one that fails at its
+/// second, and so on up to the first that does not fail; and each time once more, whole.
+pub(crate) fn import_each_read<L: Ledger>(
+    named: &Named,
+    ledger: &mut L,
+    reading: Reading,
+    words: &[&str],
+    out: &mut Vec<u8>,
+) -> LineResult {
+    let alloc = named.alloc();
+    let mut cases = Cases::new(alloc, out, "READS");
+    for reads in 0..ENOUGH {
+        let dump = numbered(named, words, reads)?;
+        let mut text = Vec::new(alloc);
+        let receipt = import_once(alloc, ledger, reading.failing(reads), &dump);
+        push_receipt(&mut text, &receipt)?;
+        push_line(&mut text, "AGAIN")?;
+        push_receipt(
+            &mut text,
+            &import_once(alloc, ledger, reading.whole(), &dump),
+        )?;
+        cases.take(text)?;
+        if receipt.stop != Stop::Read {
+            break;
+        }
+    }
+    cases.say()
+}

@@ -1,0 +1,69 @@
+//! Lines of scripts on books, over any ledger, and lines that need none. `PARTS` are parts of a
+//! dump, `RECORD` is a part that is one record, `TEXT` is a text that is named, and a body follows
+//! its line.
+//!
+//! | A line on books | Is answered with |
+//! |---|---|
+//! | `tariff TEXT..`, with a body before the texts | `DONE`, `ALREADY` or the fault's line |
+//! | `close PERIOD DAY` | the same |
+//! | `closes FROM..END DAY`: a period a day | how many were done, after the first other answer |
+//! | `choose RECORD`, or 64 hexadecimal digits | `DONE`, `ALREADY` or the fault's line |
+//! | `adopt RULE`: the number of a rule of identity | the same |
+//! | `import PARTS..` | the receipt |
+//! | `accept PARTS..` | `KEPT`, `KNOWN`, `UNPRICED` or the fault's line, of each usage record |
+//! | `import-each-read PARTS..` | the receipts where each read fails in turn |
+//! | `list`, with a body of `tariff`, `import`, `close`, `choose`, `adopt` | the answer to each |
+//! | `list TIMES`, with such a body, all of it that many times in one list | the same |
+//! | `statement PERIOD`, `table PERIOD`, `adjustments PERIOD`, `disputes`, `periods` | the text |
+//! | `changes` | each text, but for tables, that is not as at the last `changes` of the row |
+//!
+//! | A line that needs no books | Is answered with |
+//! |---|---|
+//! | `split PARTS..` | how many records there are, the fault's number, and whether that stays |
+//! | `records PARTS..` | the same, and each record's descriptor and name |
+//! | `check PARTS..` | the check list |
+//! | `trial CPU EXCP RECORD PARTS..` | the texts of a trial under these rates |
+//! | `price TEXT PARTS..` | of each usage record the day, centre, shift, CPU time, blocks, amount |
+//! | `plan TEXT CLOSE HELD.. new NEW..` | what each new record changes in kept tables |
+//! | `receipt COUNT.. STOP`, nine counts | the receipt line |
+//! | `write`, with a body | the body |
+//! | `say report FAULT`, `say stop STOP`, `say words ..` | what the program says, and its status |
+//!
+//! From here on in the row dumps are read as `reader WORD..` says: `bdw`, at most `pieces:BYTES` a
+//! read, failing after `fails:READS`, with `reads:READS` allowed, `endless` copies of the dump, and
+//! the reads `counted`. Texts are written as `writer SIZE WRITES` says: at most SIZE bytes in each
+//! of WRITES writes, or `all`; then how much was taken, and in how many writes, is shown. With
+//! `writer SIZE FROM..END` a text is written again and again, and only that is shown of each.
+//!
+//! `import-each-read` imports a dump from a reader whose first read fails, and then whole; then
+//! from one whose second read fails, and so on up to one whose reads all succeed. A word
+//! `at:PLACE` among the parts puts the number of the turn into two bytes there, so that each dump
+//! is a different one. Turns, and commands of a list that is repeated, are counted from 0 on, and
+//! shown as one where they follow each other and had the same answers.
+#![tactic(auto)]
+
+mod answers;
+mod books;
+mod changed_texts;
+mod day;
+mod dump_reading;
+mod dumps;
+mod effect_lines;
+mod failing_reads;
+mod faults;
+mod lines;
+mod messages;
+mod names;
+mod prices;
+mod receipts;
+mod refusing_ledger;
+mod request_lists;
+mod standalone;
+mod standalone_texts;
+mod text_writing;
+mod texts;
+
+pub use books::answer;
+pub use lines::BookLines;
+pub use refusing_ledger::RefusingLedger;
+pub use standalone::answer_standalone;

@@ -1,0 +1,32 @@
+//! Names of records, as words of a line give them.
+
+use book_core::{Naming, ShaNames};
+use program_output::name_of_text;
+use smf_frames::{Layout, split};
+use tests_scripts::{LineFault, LineResult, Named};
+
+/// The one record of the dump that a word names.
+pub(crate) fn record_in(named: &Named, word: &str) -> LineResult<Vec<u8>> {
+    let dump = named.read_dump(&[word])?;
+    let mut parts = split(named.alloc(), Layout::Rdw, &dump)?;
+    let record = parts.records.pop().ok_or(LineFault::NotUnderstood)?;
+    if parts.records.is_empty() {
+        Ok(record)
+    } else {
+        Err(LineFault::NotUnderstood)
+    }
+}
+
+/// The name of a record.
+pub(crate) fn record_name(bytes: &[u8]) -> LineResult<[u8; 32]> {
+    let (_descriptor, data) = bytes.split_at_checked(4).ok_or(LineFault::NotUnderstood)?;
+    Ok(ShaNames.name(data))
+}
+
+/// The name that a word spells, or that of the record which it names.
+pub(crate) fn name_in(named: &Named, word: &str) -> LineResult<[u8; 32]> {
+    match name_of_text(word) {
+        Some(name) => Ok(name),
+        None => record_name(&record_in(named, word)?),
+    }
+}

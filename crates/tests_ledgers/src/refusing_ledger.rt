@@ -1,0 +1,127 @@
+//! Books that refuse one call for lack of memory.
+
+ghost use Rattle.std.specs.Prelude.{List, ℤ, Err};
+ghost use Rattle.book_model.specs.Words.{periods_outcome};
+ghost use Rattle.book_core.specs.Calls.{IsCall};
+
+use book_core::{Accepted, ChargeRow, Dispute, Ledger, LedgerFault, Line, Ruled};
+
+/// Passes a given number of calls on to a ledger, answers the next that memory ran out, with
+/// nothing done, and passes on all after that.
+#[derive(Drop)]
+pub struct RefusingLedger<'a, L: Ledger> {
+    inner: &'a mut L,
+    /// The calls before the refused one; none is refused any more where there is no number.
+    calls_left: Option<u32>,
+}
+
+impl<'a, L: Ledger> RefusingLedger<'a, L> {
+    /// Books that refuse the call after a given number.
+    pub fn new(inner: &'a mut L, calls: u32) -> RefusingLedger<'a, L> {
+        RefusingLedger {
+            inner,
+            calls_left: Some(calls),
+        }
+    }
+
+    /// They have refused a call.
+    pub fn has_refused(&self) -> bool {
+        self.calls_left.is_none()
+    }
+}
+
+/// Counts a call, and answers whether it is the one to refuse.
+fn is_due(calls_left: &mut Option<u32>) -> bool {
+    match *calls_left {
+        None => false,
+        Some(0) => {
+            *calls_left = None;
+            true
+        }
+        Some(calls) => {
+            *calls_left = Some(calls - 1);
+            false
+        }
+    }
+}
+
+/// Why a call is refused: memory ran out. A ledger that has to be opened again says so to every
+/// call, so it is asked for its periods first, which changes nothing.
+fn refusal<L: Ledger>(ledger: &mut L) -> LedgerFault
+    ensures { IsCall (λ (days : List ℤ). days) (L.seen ledger.old) (L.seen ledger.new) (Err result)
+        periods_outcome }
+{
+    match ledger.periods() {
+        Ok(_) => return LedgerFault::Memory,
+        Err(fault) => return fault,
+    }
+}
+
+impl<L: Ledger> Ledger for RefusingLedger<'_, L> {
+    ghost seen = { λ ledger. L.seen ledger.inner.now };
+
+    fn tariff(&mut self, text: &str) -> Result<Ruled, LedgerFault> {
+        if is_due(&mut self.calls_left) {
+            return Err(refusal(&mut *self.inner));
+        }
+        self.inner.tariff(text)
+    }
+
+    fn close(&mut self, period: u16, through: i32) -> Result<Ruled, LedgerFault> {
+        if is_due(&mut self.calls_left) {
+            return Err(refusal(&mut *self.inner));
+        }
+        self.inner.close(period, through)
+    }
+
+    fn choose(&mut self, name: [u8; 32]) -> Result<Ruled, LedgerFault> {
+        if is_due(&mut self.calls_left) {
+            return Err(refusal(&mut *self.inner));
+        }
+        self.inner.choose(name)
+    }
+
+    fn adopt_identity(&mut self, rule: u8) -> Result<Ruled, LedgerFault> {
+        if is_due(&mut self.calls_left) {
+            return Err(refusal(&mut *self.inner));
+        }
+        self.inner.adopt_identity(rule)
+    }
+
+    fn accept(&mut self, bytes: &[u8]) -> Result<Accepted, LedgerFault> {
+        if is_due(&mut self.calls_left) {
+            return Err(refusal(&mut *self.inner));
+        }
+        self.inner.accept(bytes)
+    }
+
+    fn charges(&mut self, period: u16) -> Result<Vec<ChargeRow>, LedgerFault> {
+        if is_due(&mut self.calls_left) {
+            return Err(refusal(&mut *self.inner));
+        }
+        self.inner.charges(period)
+    }
+
+    fn adjustments(&mut self, period: u16) -> Result<Vec<Line>, LedgerFault> {
+        if is_due(&mut self.calls_left) {
+            return Err(refusal(&mut *self.inner));
+        }
+        self.inner.adjustments(period)
+    }
+
+    fn disputes(&mut self) -> Result<Vec<Dispute>, LedgerFault> {
+        if is_due(&mut self.calls_left) {
+            return Err(refusal(&mut *self.inner));
+        }
+        self.inner.disputes()
+    }
+
+    fn periods(&mut self) -> Result<Vec<i32>, LedgerFault> {
+        if is_due(&mut self.calls_left) {
+            return Err(refusal(&mut *self.inner));
+        }
+        self.inner.periods()
+    }
+
+    ghost settled = { λ ledger. L.settled ledger.inner.now };
+}

@@ -1,0 +1,85 @@
+//! Lists of requests.
+
+ghost use Rattle.std.specs.Prelude.{All, IfOk};
+ghost use Rattle.office.specs.Runs.{IsAskableWithoutReader};
+
+use crate::answers::push_answer;
+use crate::day::Day;
+use crate::names::name_in;
+use book_core::Ledger;
+use office::{Asked, run};
+use smf_frames::Layout;
+use tests_scripts::{Cases, LineFault, LineResult, Named};
+
+/// The request of a line.
+fn request_of(named: &Named, layout: Layout, line: &str) -> LineResult<Asked>
+    ensures { IfOk result IsAskableWithoutReader }
+{
+    let words: Vec<&str> = line.split_whitespace().collect(named.alloc())?;
+    match words.as_slice() {
+        ["tariff", names @ ..] => Ok(Asked::Tariff(named.read_texts(names, "")?)),
+        ["import", parts @ ..] => {
+            let bytes = named.read_dump(parts)?;
+            Ok(Asked::ImportBytes { layout, bytes })
+        }
+        ["close", period, day] => {
+            let (period, day) = (period.parse::<u16>()?, Day::of(day)?);
+            let through = day.number;
+            Ok(Asked::Close { period, through })
+        }
+        ["choose", word] => Ok(Asked::Choose(name_in(named, word)?)),
+        ["adopt", word] => Ok(Asked::Adopt(word.parse::<u8>()?)),
+        _ => Err(LineFault::NotUnderstood),
+    }
+}
+
+/// The requests of the lines of a body.
+fn requests(named: &Named, layout: Layout, body: &str) -> LineResult<Vec<Asked>>
+    ensures { IfOk result (λ list. All IsAskableWithoutReader list.items) }
+{
+    let mut list = Vec::new(named.alloc());
+    for line in body.lines() {
+        list.push(request_of(named, layout, line)?)?;
+    }
+    Ok(list)
+}
+
+/// Asks the requests of a body of books, and adds the answer to each.
+pub(crate) fn push_answers<L: Ledger>(
+    named: &Named,
+    layout: Layout,
+    ledger: &mut L,
+    body: &str,
+    out: &mut Vec<u8>,
+) -> LineResult {
+    let requests = requests(named, layout, body)?;
+    for answer in &run(named.alloc(), ledger, &requests)? {
+        push_answer(out, answer)?;
+    }
+    Ok(())
+}
+
+/// Asks the requests of a body of books, all of them that many times in one list. Adds the answers,
+/// once where some that follow each other are the same.
+pub(crate) fn push_repeated<L: Ledger>(
+    named: &Named,
+    layout: Layout,
+    ledger: &mut L,
+    body: &str,
+    times: &str,
+    out: &mut Vec<u8>,
+) -> LineResult {
+    let alloc = named.alloc();
+    let mut bodies = String::new(alloc);
+    for _ in 0..times.parse::<u16>()? {
+        bodies.push_str(body)?;
+    }
+    let requests = requests(named, layout, bodies.as_str())?;
+    let mut cases = Cases::new(alloc, out, "COMMANDS");
+    for answer in &run(alloc, ledger, &requests)? {
+        let mut text = Vec::new(alloc);
+        push_answer(&mut text, answer)?;
+        cases.take(text)?;
+    }
+    cases.say()
+}

@@ -1,0 +1,54 @@
+//! Texts of books.
+
+use crate::text_writing::{Writes, Written};
+use book_core::{Ledger, Sink};
+use book_import::Stop;
+use book_reports::{adjustment_list, dispute_list, period_list, statement, statement_csv};
+use std::alloc::Global;
+use tests_scripts::{LimitedWriter, Limits, LineFault, LineResult};
+
+/// A text of books.
+#[derive(Clone, Copy, PartialEq, Eq, PartialOrd, Ord)]
+pub(crate) enum BookText {
+    Statement(u16),
+    Table(u16),
+    Adjustments(u16),
+    Disputes,
+    Periods,
+}
+
+impl BookText {
+    /// The text that a line asks for.
+    pub(crate) fn of(verb: &str, words: &[&str]) -> LineResult<BookText> {
+        match (verb, words) {
+            ("statement", [period]) => Ok(BookText::Statement(period.parse::<u16>()?)),
+            ("table", [period]) => Ok(BookText::Table(period.parse::<u16>()?)),
+            ("adjustments", [period]) => Ok(BookText::Adjustments(period.parse::<u16>()?)),
+            ("disputes", []) => Ok(BookText::Disputes),
+            ("periods", []) => Ok(BookText::Periods),
+            _ => Err(LineFault::NotUnderstood),
+        }
+    }
+}
+
+/// A text of these books.
+#[derive(Drop)]
+pub(crate) struct TextOf<'a, L: Ledger> {
+    pub(crate) ledger: &'a mut L,
+    pub(crate) text: BookText,
+}
+
+impl<L: Ledger> Writes for TextOf<'_, L> {
+    fn write_to(&mut self, alloc: Global, limits: Limits) -> LineResult<Written> {
+        let mut sink = Sink::new(LimitedWriter::new(alloc, limits));
+        let ledger = &mut *self.ledger;
+        let answer = match self.text {
+            BookText::Statement(period) => statement(alloc, ledger, period, &mut sink),
+            BookText::Table(period) => statement_csv(alloc, ledger, period, &mut sink),
+            BookText::Adjustments(period) => adjustment_list(alloc, ledger, period, &mut sink),
+            BookText::Disputes => dispute_list(alloc, ledger, &mut sink),
+            BookText::Periods => period_list(alloc, ledger, &mut sink),
+        };
+        Ok(Written::of(alloc, sink, answer.map(|()| Stop::End)))
+    }
+}

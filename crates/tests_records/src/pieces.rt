@@ -1,0 +1,180 @@
+//! A joiner that gets a dump in pieces: their sizes make no difference.
+
+use crate::answer::Answer;
+use crate::spelled_words::split_words;
+use smf_frames::{FrameFault, Joiner, Layout, Split, split};
+use std::alloc::{AllocError, Global};
+use tests_scripts::{LineFault, LineResult, Named};
+
+/// More pieces and records than any dump of a script has.
+const ROUNDS: u32 = 200_000;
+
+/// Gives a joiner a piece of this many bytes. Answers what it left.
+fn take_piece<'a>(
+    joiner: &mut Joiner,
+    bytes: &'a [u8],
+    size: usize,
+) -> Result<&'a [u8], FrameFault> {
+    let (piece, _) = bytes.split_at(size.min(bytes.len()));
+    let taken = joiner.feed(piece)?;
+    Ok(&bytes[taken..])
+}
+
+/// Adds the record at which the joiner stands, and moves past it. False where there is none.
+fn take_record(
+    alloc: Global,
+    joiner: &mut Joiner,
+    records: &mut Vec<Vec<u8>>,
+) -> Result<bool, AllocError> {
+    let Some(bytes) = joiner.record() else {
+        return Ok(false);
+    };
+    records.push(bytes.to_vec(alloc)?)?;
+    joiner.next();
+    Ok(true)
+}
+
+/// Adds the records that a joiner makes of a dump that it gets in pieces of this many bytes.
+/// Answers the fault at which it stops, if it does.
+fn take_records(
+    alloc: Global,
+    joiner: &mut Joiner,
+    records: &mut Vec<Vec<u8>>,
+    dump: &[u8],
+    size: usize,
+) -> Result<Option<FrameFault>, AllocError> {
+    let mut rest = dump;
+    for _ in 0..ROUNDS {
+        match take_piece(joiner, rest, size) {
+            Ok(later) => rest = later,
+            Err(fault) => return Ok(Some(fault)),
+        }
+        if !take_record(alloc, joiner, records)? && rest.is_empty() {
+            break;
+        }
+    }
+    Ok(None)
+}
+
+/// What a joiner makes of a dump that it gets in pieces of this many bytes.
+fn in_pieces(alloc: Global, layout: Layout, dump: &[u8], size: usize) -> Result<Split, AllocError> {
+    let mut joiner = Joiner::new(alloc, layout)?;
+    let mut records = Vec::new(alloc);
+    let fault = take_records(alloc, &mut joiner, &mut records, dump, size)?;
+    Ok(Split {
+        records,
+        fault: fault.or(joiner.finish().err()),
+        is_broken: fault.is_some(),
+    })
+}
+
+/// A dump, and what is to be made of it.
+#[derive(Drop)]
+struct ExpectedSplit {
+    layout: Layout,
+    dump: Vec<u8>,
+    whole: Split,
+}
+
+/// What a dump of parts is cut into.
+pub(crate) fn split_of(named: &Named, layout: Layout, parts: &[&str]) -> LineResult<Split> {
+    let dump = named.read_dump(parts)?;
+    Ok(split(named.alloc(), layout, &dump)?)
+}
+
+impl ExpectedSplit {
+    /// For the dump of some parts, what the dump of others is cut into.
+    fn of(
+        named: &Named,
+        layout: Layout,
+        parts: &[&str],
+        other: &[&str],
+    ) -> LineResult<ExpectedSplit> {
+        let whole = split_of(named, layout, other)?;
+        let dump = named.read_dump(parts)?;
+        Ok(ExpectedSplit {
+            layout,
+            dump,
+            whole,
+        })
+    }
+
+    /// A joiner makes it of pieces of this many bytes.
+    fn is_made_in(&self, alloc: Global, size: usize) -> Result<bool, AllocError> {
+        let parts = in_pieces(alloc, self.layout, &self.dump, size)?;
+        Ok(
+            parts.records == self.whole.records
+                && parts.fault == self.whole.fault
+                && parts.is_broken == self.whole.is_broken,
+        )
+    }
+}
+
+/// Sizes of pieces.
+#[derive(Drop)]
+struct Sizes {
+    /// With which a joiner makes of a dump what is expected.
+    same: Vec<usize>,
+    other: Vec<usize>,
+}
+
+impl Sizes {
+    /// Adds a size that a word spells.
+    fn add(&mut self, alloc: Global, expected: &ExpectedSplit, word: &str) -> LineResult {
+        let size = word.parse::<usize>()?;
+        let sizes = if expected.is_made_in(alloc, size)? {
+            &mut self.same
+        } else {
+            &mut self.other
+        };
+        Ok(sizes.push(size)?)
+    }
+
+    /// Adds the sizes that words spell, a comma between two.
+    fn add_all(&mut self, alloc: Global, expected: &ExpectedSplit, words: &str) -> LineResult {
+        for word in words.split(',') {
+            self.add(alloc, expected, word)?;
+        }
+        Ok(())
+    }
+}
+
+/// Adds a line of sizes, if there are any.
+fn push_sizes(out: &mut Answer, what: &str, sizes: &[usize]) {
+    if sizes.is_empty() {
+        return;
+    }
+    out.text(what);
+    for size in sizes {
+        out.value(" ", *size);
+    }
+    out.text("\n");
+}
+
+/// Adds the sizes of pieces with which a joiner makes what is expected, and the others.
+fn push_made(out: &mut Answer, expected: &ExpectedSplit, words: &str) -> LineResult {
+    let mut sizes = Sizes {
+        same: Vec::new(out.alloc()),
+        other: Vec::new(out.alloc()),
+    };
+    sizes.add_all(out.alloc(), expected, words)?;
+    push_sizes(out, "SAME IN", &sizes.same);
+    push_sizes(out, "OTHER IN", &sizes.other);
+    out.end("")
+}
+
+/// Adds the sizes of pieces with which a joiner makes of a dump what `split` makes of it, or of the
+/// dump after a colon, and the others.
+pub(crate) fn push_pieces(
+    named: &Named,
+    out: &mut Answer,
+    layout: Layout,
+    words: &[&str],
+) -> LineResult {
+    let [sizes, parts @ ..] = words else {
+        return Err(LineFault::NotUnderstood);
+    };
+    let (parts, other) = split_words(parts, ":").unwrap_or((parts, parts));
+    let expected = ExpectedSplit::of(named, layout, parts, other)?;
+    push_made(out, &expected, sizes)
+}

@@ -1,0 +1,182 @@
+//! Tariff files: which are read, the first fault of one that is not, and what records cost by them.
+
+use crate::answer::Answer;
+use crate::spelled_words::{split_words, text_of};
+use smf_frames::{Layout, split};
+use smf_type30::{Class, Type30, class};
+use std::alloc::Global;
+use tariff_rules::{Priced, Tariff, TariffFault, price};
+use tests_scripts::{Ask, LineFault, LineResult, Named};
+
+/// The most copies of a piece.
+const MOST_PIECES: usize = 2_000_000;
+
+/// A text with another in the first place of one.
+fn replaced(alloc: Global, text: &str, old: &str, new: &str) -> LineResult<String> {
+    if text.contains(old) {
+        Ok(text.replacen(alloc, old, new, 1)?)
+    } else {
+        Err(LineFault::NotUnderstood)
+    }
+}
+
+/// A text with the text of words in the first place of that of others, an arrow between the two.
+fn changed_by(alloc: Global, text: &str, words: &[&str]) -> LineResult<String> {
+    let Some((old, new)) = split_words(words, "->") else {
+        return Err(LineFault::NotUnderstood);
+    };
+    let old = text_of(alloc, old)?;
+    let new = text_of(alloc, new)?;
+    replaced(alloc, text, old.as_str(), new.as_str())
+}
+
+/// A text that is named, with another text in the first place of one.
+fn changed(named: &Named, words: &[&str]) -> LineResult<String> {
+    let [name, words @ ..] = words else {
+        return Err(LineFault::NotUnderstood);
+    };
+    match named.text(name) {
+        Some(text) => changed_by(named.alloc(), text, words),
+        None => Err(LineFault::NotUnderstood),
+    }
+}
+
+/// A given number of copies of a piece.
+fn copies(alloc: Global, count: &str, piece: &str) -> LineResult<String> {
+    let count = count.parse::<usize>()?;
+    if count > MOST_PIECES {
+        return Err(LineFault::NotUnderstood);
+    }
+    let piece = text_of(alloc, &[piece])?;
+    Ok(piece.as_str().repeat(alloc, count)?)
+}
+
+/// Texts that are named, and a given number of copies of a piece after them.
+fn repeated(named: &Named, words: &[&str]) -> LineResult<String> {
+    let [count, piece, names @ ..] = words else {
+        return Err(LineFault::NotUnderstood);
+    };
+    let copies = copies(named.alloc(), count, piece)?;
+    let mut text = named.read_texts(names, "")?;
+    text.push_str(copies.as_str())?;
+    Ok(text)
+}
+
+/// The text of a tariff file that a line gives.
+fn file_of(named: &Named, ask: Ask<'_>) -> LineResult<String> {
+    match ask.verb {
+        "file" => named.read_texts(ask.words, ask.body),
+        "changed" => changed(named, ask.words),
+        _ => repeated(named, ask.words),
+    }
+}
+
+/// Adds the number of a fault, and what it says.
+fn push_fault(out: &mut Answer, fault: TariffFault) -> LineResult {
+    out.value("FAULT ", fault.number());
+    out.value_line(": ", fault)
+}
+
+/// Adds what is said where there is no memory for a tariff file.
+pub(crate) fn push_message(out: &mut Answer, words: &[&str]) -> LineResult {
+    match words {
+        ["memory"] => push_fault(out, TariffFault::Memory),
+        _ => Err(LineFault::NotUnderstood),
+    }
+}
+
+/// Adds the first day of a tariff.
+fn push_first_day(out: &mut Answer, tariff: &Tariff) -> LineResult {
+    out.day("FROM ", tariff.effective());
+    out.end("\n")
+}
+
+/// Adds what is read of a tariff file.
+pub(crate) fn push_file(out: &mut Answer, text: &str) -> LineResult {
+    match Tariff::parse(out.alloc(), text) {
+        Ok(tariff) => push_first_day(out, &tariff),
+        Err(fault) => push_fault(out, fault),
+    }
+}
+
+/// Adds what is read of the tariff file that a line gives.
+pub(crate) fn push_file_of(named: &Named, out: &mut Answer, ask: Ask<'_>) -> LineResult {
+    push_file(out, file_of(named, ask)?.as_str())
+}
+
+/// Adds a price: the day, the centre, the shift, hundredths of a second of CPU time, blocks, and
+/// the amount in ten-thousandths.
+fn push_priced(out: &mut Answer, priced: &Priced) -> LineResult {
+    out.value(" ", priced.centre.text());
+    out.value(" ", priced.shift.text());
+    out.value(" ", priced.cpu);
+    out.value(" ", priced.excp);
+    out.value_line(" ", priced.amount)
+}
+
+/// Adds what a usage record costs by a tariff: the day, and the price.
+fn push_cost(out: &mut Answer, tariff: &Tariff, usage: &Type30<'_>) -> LineResult {
+    let priced = price(tariff, usage);
+    out.day("", priced.day);
+    push_priced(out, &priced)
+}
+
+/// Adds what a record costs by a tariff, if it is a usage record.
+fn push_cost_of(out: &mut Answer, tariff: &Tariff, bytes: &[u8]) -> LineResult {
+    if class(bytes) != Class::Usage {
+        return Ok(());
+    }
+    match Type30::read(bytes) {
+        Ok(usage) => push_cost(out, tariff, &usage),
+        Err(_) => Ok(()),
+    }
+}
+
+/// Adds what each usage record of a dump costs by a tariff.
+fn push_costs(out: &mut Answer, tariff: &Tariff, dump: &[u8]) -> LineResult {
+    let parts = split(out.alloc(), Layout::Rdw, dump)?;
+    for bytes in &parts.records {
+        push_cost_of(out, tariff, bytes)?;
+    }
+    Ok(())
+}
+
+/// Adds the first day of a tariff, and what records cost by it.
+fn push_days(out: &mut Answer, tariff: &Tariff, dump: &[u8]) -> LineResult {
+    push_first_day(out, tariff)?;
+    push_costs(out, tariff, dump)
+}
+
+/// The tariff of three rates, if there is one.
+fn flat_of(alloc: Global, rates: [&str; 3]) -> LineResult<Option<Tariff>> {
+    let [cpu, excp, record] = rates;
+    let cpu = cpu.parse::<u64>()?;
+    let excp = excp.parse::<u64>()?;
+    let record = record.parse::<u64>()?;
+    Ok(Tariff::flat(alloc, cpu, excp, record))
+}
+
+/// Adds the tariff of three rates, and what records cost by it.
+fn push_flat_days(out: &mut Answer, rates: [&str; 3], dump: &[u8]) -> LineResult {
+    match flat_of(out.alloc(), rates)? {
+        Some(tariff) => push_days(out, &tariff, dump),
+        None => out.line("NO TARIFF"),
+    }
+}
+
+/// The same of three rates, and a dump.
+pub(crate) fn push_flat(named: &Named, out: &mut Answer, words: &[&str]) -> LineResult {
+    let [cpu, excp, record, parts @ ..] = words else {
+        return Err(LineFault::NotUnderstood);
+    };
+    let dump = named.read_dump(parts)?;
+    push_flat_days(out, [*cpu, *excp, *record], &dump)
+}
+
+/// Adds what records cost by a tariff file.
+pub(crate) fn push_prices(out: &mut Answer, text: &str, dump: &[u8]) -> LineResult {
+    match Tariff::parse(out.alloc(), text) {
+        Ok(tariff) => push_costs(out, &tariff, dump),
+        Err(fault) => push_fault(out, fault),
+    }
+}

@@ -1,0 +1,202 @@
+//! Columns that are read into types of the books. What does not fit is an ill-formed row.
+
+ghost use Rattle.std.specs.Prelude.{◌≡◌, ◌≢◌, ◌<◌, ◌+◌, ◌++◌, ◌^◌, IfErr, IfOk, IfSome, None, OnOk};
+ghost use Rattle.std.specs.Prelude.{ℤ, length, map, pos, slice_set, string_bytes};
+ghost use Rattle.sqlite_value.specs.Order.{column};
+ghost use Rattle.sqlite_value.specs.Value.{owned};
+ghost use Rattle.sqlite_value.specs.declared.value.Value.TheVariants.{Blob, Int, Text};
+ghost use Rattle.tree_tables.specs.Columns.{flag};
+ghost use Rattle.tree_tables.specs.Fits.{HasBytes, HasCount, HasDay, HasHash, HasMark, HasName};
+ghost use Rattle.tree_tables.specs.Fits.{HasChoiceNumber, HasPeriod, HasText};
+
+use smf_text::Name;
+use sqlite_trees::error::StoreError;
+use sqlite_value::row::Row;
+use sqlite_value::value::ValueRef;
+use std::alloc::Global;
+
+/// The number in a column.
+fn int_at(row: &Row, at: usize) -> Result<i64, StoreError>
+    ensures read { IfOk result (λ n. column row.now at ≡ Int n) }
+    ensures taken { IfErr result (λ error. (n : ℤ) → column row.now at ≢ Int n) }
+{
+    match row.get(at) {
+        ValueRef::Int(n) => Ok(n),
+        _ => Err(StoreError::Corrupt),
+    }
+}
+
+/// The number in a column, where it is not below 0.
+pub fn count_at(row: &Row, at: usize) -> Result<u64, StoreError>
+    ensures read { IfOk result (λ n. column row.now at ≡ Int (pos n)) }
+    ensures small { IfOk result (λ n. n < 2 ^ 63) }
+    ensures taken { IfErr result (λ error. ¬ HasCount (column row.now at)) }
+{
+    let n = int_at(row, at)?;
+    u64::try_from(n).map_err(|_| StoreError::Corrupt)
+}
+
+/// The numbers in three columns, one after the other.
+#[derive(Clone, Copy)]
+pub(crate) struct Counts {
+    pub(crate) first: u64,
+    pub(crate) second: u64,
+    pub(crate) third: u64,
+}
+
+/// The numbers in three columns from one on, where none is below 0.
+pub(crate) fn counts_at(row: &Row, at: usize) -> Result<Counts, StoreError>
+    requires { at < 2 ^ 32 }
+    ensures first { IfOk result (λ counts. column row.now at ≡ Int (pos counts.first)) }
+    ensures second { IfOk result (λ counts. column row.now (at + 1) ≡ Int (pos counts.second)) }
+    ensures third { IfOk result (λ counts. column row.now (at + 2) ≡ Int (pos counts.third)) }
+    ensures small { IfOk result (λ counts. (counts.first < 2 ^ 63) × (counts.second < 2 ^ 63)
+        × (counts.third < 2 ^ 63)) }
+    ensures taken { IfErr result (λ error. HasCount (column row.now at)
+        → HasCount (column row.now (at + 1)) → HasCount (column row.now (at + 2)) → ⊥) }
+{
+    Ok(Counts {
+        first: count_at(row, at)?,
+        second: count_at(row, at + 1)?,
+        third: count_at(row, at + 2)?,
+    })
+}
+
+/// The period in a column.
+pub fn period_at(row: &Row, at: usize) -> Result<u16, StoreError>
+    ensures read { IfOk result (λ n. column row.now at ≡ Int (pos n)) }
+    ensures taken { IfErr result (λ error. ¬ HasPeriod (column row.now at)) }
+{
+    let n = int_at(row, at)?;
+    u16::try_from(n).map_err(|_| StoreError::Corrupt)
+}
+
+/// The number of a choice in a column.
+pub fn number_at(row: &Row, at: usize) -> Result<u32, StoreError>
+    ensures read { IfOk result (λ n. column row.now at ≡ Int (pos n)) }
+    ensures taken { IfErr result (λ error. ¬ HasChoiceNumber (column row.now at)) }
+{
+    let n = int_at(row, at)?;
+    u32::try_from(n).map_err(|_| StoreError::Corrupt)
+}
+
+/// The day in a column.
+pub fn day_at(row: &Row, at: usize) -> Result<i32, StoreError>
+    ensures read { IfOk result (λ day. column row.now at ≡ Int day) }
+    ensures taken { IfErr result (λ error. ¬ HasDay (column row.now at)) }
+{
+    let n = int_at(row, at)?;
+    i32::try_from(n).map_err(|_| StoreError::Corrupt)
+}
+
+/// The mark in a column, which is 1 or 0.
+pub fn mark_at(row: &Row, at: usize) -> Result<bool, StoreError>
+    ensures read { IfOk result (λ mark. column row.now at ≡ Int (pos (flag mark))) }
+    ensures taken { IfErr result (λ error. ¬ HasMark (column row.now at)) }
+{
+    match int_at(row, at)? {
+        0 => Ok(false),
+        1 => Ok(true),
+        _ => Err(StoreError::Corrupt),
+    }
+}
+
+/// The bytes in a column, left in place.
+pub(crate) fn blob_at<'a>(row: &'a Row, at: usize) -> Result<&'a [u8], StoreError>
+    ensures read { IfOk result (λ bytes. column row.now at ≡ Blob bytes.now) }
+    ensures taken { IfErr result (λ error. ¬ HasBytes (column row.now at)) }
+{
+    match row.get(at) {
+        ValueRef::Blob(bytes) => Ok(bytes),
+        _ => Err(StoreError::Corrupt),
+    }
+}
+
+/// The bytes in a column.
+pub fn bytes_at(row: &Row, at: usize, alloc: Global) -> Result<Vec<u8>, StoreError>
+    ensures read { IfOk result (λ bytes. column row.now at ≡ Blob bytes.items) }
+    ensures taken { IfErr result (λ error. HasBytes (column row.now at)
+        → error ≡ StoreError.OutOfMemory) }
+{
+    let bytes = blob_at(row, at)?;
+    Ok(Vec::from_slice(alloc, bytes)?)
+}
+
+/// The 32 bytes in a column.
+pub fn hash_at(row: &Row, at: usize) -> Result<[u8; 32], StoreError>
+    ensures read { IfOk result (λ bytes. column row.now at ≡ Blob bytes) }
+    ensures taken { IfErr result (λ error. ¬ HasHash (column row.now at)) }
+{
+    match row.get(at) {
+        ValueRef::Blob(bytes) => hash_of(bytes).ok_or(StoreError::Corrupt),
+        _ => Err(StoreError::Corrupt),
+    }
+}
+
+/// The 32 bytes that stand for data.
+fn hash_of(bytes: &[u8]) -> Option<[u8; 32]>
+    ensures value { IfSome result (λ hash. hash ≡ bytes.now) }
+    ensures taken { result ≡ None → length bytes.now ≢ 32 }
+{
+    if bytes.len() != 32 {
+        return None;
+    }
+    bytes.first_chunk().copied()
+}
+
+/// The text in a column.
+fn str_at<'a>(row: &'a Row, at: usize) -> Result<&'a str, StoreError>
+    ensures read { IfOk result (λ text. column row.now at ≡ Text text.now) }
+    ensures taken { IfErr result (λ error. ¬ HasText (column row.now at)) }
+{
+    match row.get(at) {
+        ValueRef::Text(bytes) => str::from_utf8(bytes).map_err(|_| StoreError::Corrupt),
+        _ => Err(StoreError::Corrupt),
+    }
+}
+
+/// The text in a column.
+pub fn text_at(row: &Row, at: usize, alloc: Global) -> Result<String, StoreError>
+    ensures read { IfOk result (λ text. column row.now at ≡ Text (string_bytes text)) }
+    ensures taken { IfErr result (λ error. HasText (column row.now at)
+        → error ≡ StoreError.OutOfMemory) }
+{
+    let text = str_at(row, at)?;
+    Ok(String::from_str(alloc, text)?)
+}
+
+/// The name in a column.
+pub fn name_at(row: &Row, at: usize) -> Result<Name, StoreError>
+    ensures read { IfOk result (λ name. column row.now at ≡ Text name) }
+    ensures taken { IfErr result (λ error. ¬ HasName (column row.now at)) }
+{
+    let text = str_at(row, at)?;
+    Name::of(text).ok_or(StoreError::Corrupt)
+}
+
+/// Values join a row.
+pub(crate) fn push_all(row: &mut Row, values: &[ValueRef<'_>]) -> Result<(), StoreError>
+    ensures { OnOk result (row.new ≡ row.old ++ map owned values.now) }
+{
+    for value in values {
+        row.push(*value)?;
+    }
+    Ok(())
+}
+
+/// Makes a row that is another one but for the value in one column.
+pub(crate) fn with_column(
+    row: &mut Row,
+    other: &Row,
+    at: usize,
+    value: ValueRef<'_>,
+) -> Result<(), StoreError>
+    ensures { OnOk result (row.new ≡ slice_set other.now at (owned value.entry)) }
+{
+    row.clear();
+    for place in 0..other.len() {
+        let value = if place == at { value } else { other.get(place) };
+        row.push(value)?;
+    }
+    Ok(())
+}
