@@ -195,26 +195,26 @@ module _ (naming : Naming) (was : Summary) (bytes name : List ℕ) (usage : IsUs
       || nat_lt most_cost (sym ready.remembers.total i + priced.amount) then Err Full else Ok Kept)
 
   -- There is no room for it.
-  pub try_full : {old new : State} (priced : Priced)
+  pub try_full : {old new : State} {full : Bool} (priced : Priced)
       → price_under was.tariffs.items bytes ≡ Some priced
-      → remembered_full priced.amount ≡ true
+      → full ≡ remembered_full priced.amount → full ≡ true
       → Saw old new (λ tables. FindsRecord name tables None)
       → Attempts (λ (accepted : Accepted). accepted) naming was was old new
       (accept_outcome naming bytes) (Ok (Err Full))
-  try_full priced price full saw =
+  try_full priced price is full saw =
       try_other (Err Full) saw (record { stored = refl; served = refl }) (λ is. cc)
       (λ book ready known. priced_by book priced ready price known
-      ∙ ap (λ (b : Bool). if b then Err Full else Ok Kept) full)
+      ∙ ap (λ (b : Bool). if b then Err Full else Ok Kept) (sym is ∙ full))
 
   module _ (priced : Priced) (price : price_under was.tariffs.items bytes ≡ Some priced)
-      (room : remembered_full priced.amount ≡ false) where
+      {full : Bool} (full_is : full ≡ remembered_full priced.amount) (room : full ≡ false) where
     -- the record is kept
     pub accept_kept : (book : Book) {view : View} → IsReadyAt naming was view book
         → FindsRecord name (tables_of naming book) None
         → accept_answer naming book bytes ≡ Ok Kept
     accept_kept book ready known =
         priced_by book priced ready price known
-        ∙ ap (λ (b : Bool). if b then Err Full else Ok Kept) room
+        ∙ ap (λ (b : Bool). if b then Err Full else Ok Kept) (sym full_is ∙ room)
 
     -- its price by the book
     book_price : (book : Book) → Remembers was book → price_in book.rulings bytes ≡ Some priced

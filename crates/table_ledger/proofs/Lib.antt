@@ -20,7 +20,6 @@ mod KeptNames
 mod WalksOf
 mod DueCharges
 mod AdoptTries
-mod Inserting
 mod DayLooks
 mod Repriced
 mod NewEntries

@@ -1,6 +1,6 @@
 -- What a function that stops at a refusal answers: an error, whichever it is.
 use Rattle.std.proofs.Common.{◌≡◌, true≢false, sym, subst, Result, Ok, Err, Option, Some, None}
-use Rattle.std.specs.Prelude.{IsErr, IfSome}
+use Rattle.std.specs.Prelude.{IsErr, IfOk, IfSome}
 use Rattle.std.specs.Option.{ok_or}
 use Rattle.sqlite_trees.specs.declared.error.StoreError.{StoreError}
 use Rattle.table_model.specs.Tables.{Tables}
@@ -13,6 +13,12 @@ use Rattle.table_ledger.proofs.UnchangedStores.{stands_kept}
 use Rattle.table_ledger.proofs.StepLemmas.{makes_none}
 use Rattle.table_ledger.proofs.SurvivalLemmas.{clean_before, survives_so, survives_then}
 use Rattle.table_ledger.proofs.TryLemmas.{looks_known, looks_stopped}
+
+-- what is said of an answer says nothing of an error
+pub said_of_none : {A : Type 0} (Said : A → Type 0) (result : Result A StoreError) → IsErr result
+    → IfOk result Said
+said_of_none Said (Err error) failed = tt
+said_of_none Said (Ok value) failed = absurd (true≢false (sym failed))
 
 -- a look that is refused
 pub looks_failed : {A B : Type 0} {old new : State} {Answers : Tables → A → Type 0}
@@ -53,19 +59,19 @@ does_failed (Err other) failed does = record {
 }
 does_failed (Ok value) failed does = absurd (true≢false (sym failed))
 
--- a step that is refused behind another one
-pub does_failed_behind : {A T U : Type 0} {first middle last : State}
+-- a step that is refused after another one
+pub does_failed_next : {A T U : Type 0} {first middle last : State}
     {First After When : Tables → Type 0} {one other change : Tables → Tables} {done : A}
     {error : StoreError} (result : Result U StoreError) → IsErr result
     → Does (Ok done) first middle First one → Does {T = T} (Err error) middle last After other
     → Does result first last When change
-does_failed_behind (Err other) failed early late = record {
+does_failed_next (Err other) failed early late = record {
   survives = survives_then early.survives late.survives;
   done = λ clean. tt;
   refused = λ clean.
       kept_after (early.done (clean_before late.survives clean)).only (late.refused clean);
 }
-does_failed_behind (Ok value) failed early late = absurd (true≢false (sym failed))
+does_failed_next (Ok value) failed early late = absurd (true≢false (sym failed))
 
 -- a look that is refused, before a step
 pub does_unseen : {A U : Type 0} {old new : State} {When : Tables → Type 0}
@@ -86,20 +92,20 @@ commit_unmade (Err other) failed does = record {
 }
 commit_unmade (Ok value) failed does = absurd (true≢false (sym failed))
 
--- a look that is refused behind others
-pub looks_failed_behind : {A B : Type 0} {old middle new : State} {Known : Tables → Type 0}
+-- a look that is refused after others
+pub looks_failed_next : {A B : Type 0} {old middle new : State} {Known : Tables → Type 0}
     {Answers : Tables → A → Type 0} {Others : Tables → B → Type 0} {error : StoreError}
     (result : Result A StoreError) → IsErr result → Saw old middle Known
     → Looks {A = B} (Err error) middle new Others → Looks result old new Answers
-looks_failed_behind (Err other) failed saw looks = record {
+looks_failed_next (Err other) failed saw looks = record {
   survives = survives_then saw.survives looks.survives;
   found = λ clean. tt;
   refused = λ clean.
       kept_behind (saw.seen (clean_before looks.survives clean)).same (looks.refused clean);
 }
-looks_failed_behind (Ok value) failed saw looks = absurd (true≢false (sym failed))
+looks_failed_next (Ok value) failed saw looks = absurd (true≢false (sym failed))
 
--- looks, behind which something else fails
+-- looks, after which something else fails
 pub looks_failed_after : {A : Type 0} {old new : State} {Known : Tables → Type 0}
     {Answers : Tables → A → Type 0} (result : Result A StoreError) → IsErr result
     → Saw old new Known → Looks result old new Answers

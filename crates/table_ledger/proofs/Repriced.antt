@@ -1,5 +1,5 @@
 -- What a record's new price changes, and what the costs of all records add up to.
-use Rattle.std.proofs.Common.{◌≡◌, ◌∙◌, ℕ, ◌<◌, ◌≤◌, List, true, false, cond, Some, None, sym}
+use Rattle.std.proofs.Common.{◌≡◌, ◌∙◌, ◌^◌, ℕ, ◌<◌, ◌≤◌, List, true, false, cond, Some, None, sym}
 use Rattle.std.proofs.Common.{ap, arith}
 use Rattle.std.specs.Prelude.{int_lt, nat_lt}
 use Rattle.std.proofs.lemmas.Bool.Decides.{nat_tests}
@@ -68,3 +68,10 @@ too_much m n more = grind (arith, nat_tests, more)
 
 pub has_no_room : (sum : ℕ) → most_cost < sum → None ≡ if_room sum
 has_no_room sum more = ap (λ b. cond b None (Some sum)) (sym (too_much most_cost sum more))
+
+-- nor has a sum a part of which is more
+pub part_too_much : (part sum : ℕ) → most_cost < part → part ≤ sum → None ≡ if_room sum
+part_too_much part sum more least = has_no_room sum (omega arith)
+
+pub part_overflows : (part sum : ℕ) → ¬ (part < 2 ^ 64) → part ≤ sum → None ≡ if_room sum
+part_overflows part sum over least = has_no_room sum (omega (arith, over))

@@ -1,11 +1,9 @@
 -- Walks over all records whose steps depend on the tables before the first one, as calls on a store
 -- make them.
 use Rattle.std.proofs.Common.{◌≡◌, ℕ, List, Option, Some, None, Result, Ok, Err, refl, sym, subst}
-use Rattle.std.proofs.Common.{true≢false, ap, ◌∙◌, Bool, true, false, cond, map, [], ◌∷◌}
-use Rattle.std.specs.Prelude.{IsErr, filter}
-use Rattle.std.specs.FinMap.{entries, keys}
-use Rattle.std.specs.Ordering.{is_lt}
-use Rattle.book_model.specs.Words.{by_bytes}
+use Rattle.std.proofs.Common.{true≢false, ap, ◌∙◌, true, false}
+use Rattle.std.specs.Prelude.{IsErr}
+use Rattle.std.specs.FinMap.{keys}
 use Rattle.sqlite_trees.specs.View.{KeepsCommitted, OnlyWrites}
 use Rattle.sqlite_trees.specs.declared.error.StoreError.{StoreError}
 use Rattle.table_model.specs.TableChanges.{walk}
@@ -17,7 +15,8 @@ use Rattle.tree_tables.specs.Steps.{Does, Looks}
 use Rattle.tree_tables.specs.declared.stored_record.StoredRecord.{StoredRecord}
 use Rattle.tree_tables.proofs.Looking.{held_behind, kept_after, kept_by}
 use Rattle.tree_tables.proofs.Looking.{only_both, only_looks, survives_both, was_clean}
-use Rattle.tree_tables.proofs.WalkNames.{IsWalking, KeepsNames, names_left, next_names, walking_ends}
+use Rattle.tree_tables.proofs.WalkNames.{IsWalking, KeepsNames, names_stay}
+use Rattle.tree_tables.proofs.WalkNames.{next_names, walking_ends}
 use Rattle.table_ledger.proofs.SurvivalLemmas.{survives_none}
 
 -- what is known of any error is known of one
@@ -27,30 +26,6 @@ does_err : {T : Type 0} {When : Tables → Type 0} {change : Tables → Tables} 
 does_err (Ok value) failed survives kept = absurd (true≢false (sym failed))
 does_err (Err error) failed survives kept =
     record { survives = survives; done = λ clean. tt; refused = kept }
-
--- keys that pass a test are those of the entries whose keys pass it
-keys_passing : {K V : Type 0} (p : K → Bool) (es : List (K × V))
-    → map (λ (e : K × V). e.0) (filter (λ (e : K × V). p e.0) es)
-    ≡ filter p (map (λ (e : K × V). e.0) es)
-keys_passing p [] = refl
-keys_passing {K} {V} p (e ∷ es) =
-    elim (p e.0) as (λ b.
-    map (λ (e : K × V). e.0) (cond b (e ∷ filter (λ (e : K × V). p e.0) es)
-    (filter (λ (e : K × V). p e.0) es))
-    ≡ cond b (e.0 ∷ filter p (map (λ (e : K × V). e.0) es))
-    (filter p (map (λ (e : K × V). e.0) es))) [
-      | true ↦ ap (λ rest. e.0 ∷ rest) (keys_passing p es)
-      | false ↦ keys_passing p es
-    ]
-
--- so the same names are left if the names are the same
-names_stay : (last : Option (List ℕ)) (one other : Tables)
-    → keys one.records ≡ keys other.records → names_left last one ≡ names_left last other
-names_stay None one other same = same
-names_stay (Some name) one other same =
-    keys_passing (λ k. is_lt (by_bytes name k)) (entries one.records)
-    ∙ ap (filter (λ k. is_lt (by_bytes name k))) same
-    ∙ sym (keys_passing (λ k. is_lt (by_bytes name k)) (entries other.records))
 
 -- A walk has reached a name. Nothing is committed; and of the tables as they are now this still holds,
 -- by those before the walk.

@@ -1,12 +1,14 @@
 //! Tariffs that are submitted.
 
-ghost use Rattle.std.specs.Prelude.{◌≡◌, ◌<◌, ◌^◌, IfErr, IfOk, Ok};
+ghost use Rattle.std.specs.Prelude.{◌≡◌, ◌<◌, ◌^◌, IfErr, IfOk, Ok, OnOk, string_bytes};
+ghost use Rattle.std.specs.Prelude.{vec_len, vec_capacity};
 ghost use Rattle.tree_tables.specs.States.{state};
 ghost use Rattle.book_model.specs.Words.{terms_in, tariff_outcome, Naming};
 ghost use Rattle.table_model.specs.Steps.{tariff_by_steps};
 ghost use Rattle.tree_tables.specs.Steps.{Does};
 ghost use Rattle.table_ledger.specs.Commits.{CommitsOne};
 ghost use Rattle.table_ledger.specs.Repricing.{CountsRecords};
+ghost use Rattle.table_ledger.specs.Summaries.{ruled_in, terms_ruled};
 ghost use Rattle.table_ledger.specs.TariffRefusals.{IsNoTariff};
 ghost use Rattle.table_ledger.specs.Attempts.{Attempts};
 
@@ -74,6 +76,51 @@ fn tariff_of(alloc: Global, text: &str) -> Result<Tariff, LedgerFault>
     }
 }
 
+/// Takes the memory that one more tariff needs: room for it, and its text.
+fn take_memory(
+    tariffs: &mut Vec<AcceptedTariff>,
+    alloc: Global,
+    text: &str,
+) -> Result<String, StoreError>
+    ensures same { tariffs.new.items ≡ tariffs.old.items }
+    ensures room { OnOk result (vec_len tariffs.new < vec_capacity tariffs.new) }
+    ensures own { IfOk result (λ own. string_bytes own ≡ text.now) }
+{
+    tariffs.reserve(1)?;
+    Ok(String::from_str(alloc, text)?)
+}
+
+/// Puts a tariff in force that may be, if the books can hold what the records cost under it.
+fn put_in_force<S: Store>(
+    tables: &mut TreeTables<S>,
+    summary: &mut Summary,
+    alloc: Global,
+    text: &str,
+    tariff: Tariff,
+) -> Result<Result<Ruled, LedgerFault>, StoreError>
+    requires said { terms_in text.now ≡ Ok tariff }
+    requires done { terms_ruled (ruled_in summary.old) text.now tariff ≡ Ok Ruled.Done }
+    ensures tries { (naming : Naming) → Attempts (λ ruled. ruled) naming summary.old summary.new
+        (state S.Store tables.old.store) (state S.Store tables.new.store) (tariff_outcome text.now) result }
+{
+    let Some(amount) = cost_under(tables, alloc, &tariff)? else {
+        return Ok(Err(LedgerFault::Full));
+    };
+    // The memory is taken first: if there is too little, the books stay as they were.
+    let own = take_memory(&mut summary.tariffs, alloc, text)?;
+    let sums = Sums {
+        held: summary.held as u64,
+        amount,
+    };
+    keep_tariff(tables, alloc, summary.open_number(), text, &tariff, &sums)?;
+    summary.tariffs.push_reserved(AcceptedTariff {
+        text: Some(own),
+        tariff,
+    });
+    summary.total = amount;
+    Ok(Ok(Ruled::Done))
+}
+
 /// Answers a tariff file, and puts the tariff in force if it is later than all that was ruled and
 /// the books can hold what the records cost under it.
 pub(crate) fn try_tariff<S: Store>(
@@ -93,20 +140,5 @@ pub(crate) fn try_tariff<S: Store>(
     if !is_done(&answer) {
         return Ok(answer);
     }
-    let Some(amount) = cost_under(tables, alloc, &tariff)? else {
-        return Ok(Err(LedgerFault::Full));
-    };
-    // The memory is taken first: if there is too little, the books stay as they were.
-    let own = Some(String::from_str(alloc, text)?);
-    summary.tariffs.reserve(1)?;
-    let sums = Sums {
-        held: summary.held as u64,
-        amount,
-    };
-    keep_tariff(tables, alloc, summary.open_number(), text, &tariff, &sums)?;
-    summary
-        .tariffs
-        .push_reserved(AcceptedTariff { text: own, tariff });
-    summary.total = amount;
-    Ok(Ok(Ruled::Done))
+    put_in_force(tables, summary, alloc, text, tariff)
 }

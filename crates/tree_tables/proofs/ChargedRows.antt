@@ -33,7 +33,7 @@ use Rattle.tree_rows.proofs.Maps.{first, second, then_assoc}
 use Rattle.tree_rows.proofs.Runs.{finds_run, run_by_front}
 use Rattle.tree_tables.specs.Answers.{FindsCharged, FindsRecord, HasCharged, charged_with, is_charged}
 use Rattle.tree_tables.specs.Columns.{charged_part, flag, mark_columns}
-use Rattle.tree_tables.specs.Fits.{EachFits, HasHash}
+use Rattle.tree_tables.specs.Fits.{EachFits, HasHash, IsNamed}
 use Rattle.tree_tables.specs.Holds.{mark_key, marks}
 use Rattle.tree_tables.specs.States.{state}
 use Rattle.tree_tables.specs.Steps.{Looks}
@@ -305,11 +305,9 @@ module _ (tables : Tables) (identity name : List ℕ) (names : NamesCharged iden
         found ∙ ap (option_map (λ (row : RecordRow). (name, row))) names.there
         ∙ ap (λ es. slice_get es 0) (sym names.first)
 
-    -- and is not missed
-    pub never_lost : FindsRecord name tables None → ⊥
-    never_lost missed =
-        let both = missed ∙ ap (option_map (λ (row : RecordRow). (name, row))) names.there in
-        absurd (let e = both in cc)
+    -- which fits where each does
+    pub charged_is_named : EachFits tables → IsNamed name tables
+    charged_is_named fit = (names.row, names.there, fit name names.row names.there)
 
 -- what a look-up of these columns shows, if it shows something
 pub mark_found : (Clean : Type 0) (key part row : Row) (rows : List Row)

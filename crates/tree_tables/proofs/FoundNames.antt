@@ -20,7 +20,7 @@ use Rattle.tree_rows.specs.Indexes.{IsKeyOf}
 use Rattle.tree_rows.proofs.Maps.{first, second, less}
 use Rattle.tree_tables.specs.Answers.{FindsNamed, FindsRecord}
 use Rattle.tree_tables.specs.Columns.{record_columns}
-use Rattle.tree_tables.specs.Fits.{AllNamed, NamedFits, RecordFits}
+use Rattle.tree_tables.specs.Fits.{AllNamed, IsNamed, NamedFits, RecordFits}
 use Rattle.tree_tables.specs.Stored.{stored_entry}
 use Rattle.tree_tables.specs.declared.found_names.FoundName.{FoundName}
 use Rattle.tree_tables.specs.declared.stored_record.StoredRecord.{StoredRecord}
@@ -51,31 +51,26 @@ named_more names i default tables all more one within more_is so_far found =
     subst (λ front. FindsNamed front tables more) (sym (take_more names i default within))
     (subst (FindsNamed (take i names ++ get_or names i default ∷ []) tables) (sym more_is) both)
 
--- where each of some names is that of a record that fits, the record of one fits,
-pub named_fits : (tables : Tables) (names : List FoundName) (i : ℕ) (default : FoundName)
-    → i < length names → AllNamed names tables
-    → NamedFits (get_or names i default).name tables
-named_fits tables names i default within all row there =
-    let named = get_or names i default in
-    let here = all-get_or (λ (named : FoundName). (row : RecordRow)
-    × (get tables.records named.name ≡ Some row)
-    × RecordFits (record_columns (named.name, row))) names i default all within in
-    let same : here.0 ≡ row = same_some here.0 row (sym here.1 ∙ there) in
-    subst (λ (row : RecordRow). RecordFits (record_columns (named.name, row))) same here.2
+-- where each of some names is that of a record, one of them is
+pub one_named : (tables : Tables) (names : List FoundName) (i : ℕ) (default : FoundName)
+    → i < length names → AllNamed names tables → IsNamed (get_or names i default).name tables
+one_named tables names i default within all =
+    all-get_or (λ (named : FoundName). IsNamed named.name tables) names i default all within
+
+-- the record of a name that has one fits,
+pub named_fits : (tables : Tables) (name : List ℕ) → IsNamed name tables → NamedFits name tables
+named_fits tables name named row there =
+    subst (λ (row : RecordRow). RecordFits (record_columns (name, row)))
+    (same_some named.0 row (sym named.1 ∙ there)) named.2
   where
     same_some : (one other : RecordRow) → Some one ≡ Some other → one ≡ other
     same_some one other same = cc
 
 -- and is not missed
-pub never_missed : (tables : Tables) (names : List FoundName) (i : ℕ) (default : FoundName)
-    → i < length names → AllNamed names tables
-    → FindsRecord (get_or names i default).name tables None → ⊥
-never_missed tables names i default within all missed =
-    let named = get_or names i default in
-    let here = all-get_or (λ (named : FoundName). (row : RecordRow)
-    × (get tables.records named.name ≡ Some row)
-    × RecordFits (record_columns (named.name, row))) names i default all within in
-    let both = missed ∙ ap (option_map (λ (row : RecordRow). (named.name, row))) here.1 in
+pub never_missed : (tables : Tables) (name : List ℕ) → IsNamed name tables
+    → FindsRecord name tables None → ⊥
+never_missed tables name named missed =
+    let both = missed ∙ ap (option_map (λ (row : RecordRow). (name, row))) named.1 in
     absurd (let e = both in cc)
 
 -- the records that were found are those of the names

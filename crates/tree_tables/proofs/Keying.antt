@@ -242,6 +242,23 @@ module _ (tables : Tables) {old : Trees} {key : Row} (so_far : IsKeying tables o
                 ∙ found) refl;
           }
 
+-- the rows that are rewritten in the two trees are those of the entry and of its mark
+pub moves_keys : {old mid new : View} {row entry identity from to : Row}
+    → Rewrites old mid 6 (insert_entry plain identity (remove_entry plain entry (old.trees 6)))
+    → Rewrites mid new 7 (insert_entry plain to (remove_entry plain from (mid.trees 7)))
+    → identity ≡ column row 1 ∷ column entry 1 ∷ []
+    → from ≡ column row 9 ∷ column entry 0 ∷ column entry 1 ∷ []
+    → to ≡ column row 9 ∷ column row 1 ∷ column entry 1 ∷ []
+    → MovesKeys old new row entry
+moves_keys {old} {mid} {new} {entry = entry} first second identity_is from_is to_is = record {
+  mid = mid;
+  identity = subst (λ (one : Row). Rewrites old mid 6
+      (insert_entry plain one (remove_entry plain entry (old.trees 6)))) identity_is first;
+  mark = subst (λ (one : Row × Row). Rewrites mid new 7
+      (insert_entry plain one.0 (remove_entry plain one.1 (mid.trees 7))))
+      (λ i. (to_is i, from_is i)) second;
+}
+
 -- A step of the walk: what was read after its key, and what was found of the record.
 module _ (old mid : View) (key entry : Row) (looked : IsUnchanged old mid) where
   same_trees : mid.trees ≡ old.trees

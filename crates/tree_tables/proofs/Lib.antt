@@ -1,6 +1,7 @@
 -- The lemmas: the tables as sorted maps; what holds the tables still where one tree is rewritten;
 -- looks at them, and steps of them, by what becomes of rows; what is read of rows; and then a file
 -- a table.
+pub mod Inserting
 pub mod Layouts
 pub mod Holding
 pub mod Looking

@@ -88,6 +88,18 @@ pub err_so : {A : Type 0} {One Other : StoreError → Type 0} (result : Result A
 err_so (Ok answer) one so = tt
 err_so (Err error) one so = so error one
 
+-- what a call makes that succeeds may be said in other words
+pub ok_so : {A One Other : Type 0} (result : Result A StoreError) → OnOk result One
+    → (One → Other) → OnOk result Other
+ok_so (Ok answer) one so = so one
+ok_so (Err error) one so = tt
+
+-- and so may what one leaves that fails
+pub failed_so : {A One Other : Type 0} (result : Result A StoreError) → OnErr result One
+    → (One → Other) → OnErr result Other
+failed_so (Ok answer) one so = tt
+failed_so (Err error) one so = so one
+
 -- a call that fails leaves what was committed
 pub kept_failed : {A : Type 0} (old new : View) (result : Result A StoreError)
     → IfErr result (λ error. IsClean new → IsFailure old new error)
@@ -239,6 +251,30 @@ looks_also {old = old} one two both = record {
             (after.known tables (held_behind old.view before.same holds));
       };
   refused = λ clean. tt;
+}
+
+-- what a look has answered, in other words
+pub looks_so : {A B : Type 0} {First : Tables → A → Type 0} {Second : Tables → B → Type 0}
+    {first : A} {second : B} {old new : State} → Looks (Ok first) old new First
+    → ((tables : Tables) → First tables first → Second tables second)
+    → Looks (Ok second) old new Second
+looks_so one so = record {
+  survives = one.survives;
+  found = λ clean. record {
+    same = (one.found clean).same;
+    known = λ tables holds. so tables ((one.found clean).known tables holds);
+  };
+  refused = λ clean. tt;
+}
+
+-- a look after which a call fails, since what it answers is not enough
+pub looks_damaged : {A B : Type 0} {First : Tables → A → Type 0} {Second : Tables → B → Type 0}
+    {first : A} {error : StoreError} {old new : State} → Looks (Ok first) old new First
+    → Looks (Err error) old new Second
+looks_damaged one = record {
+  survives = one.survives;
+  found = λ clean. tt;
+  refused = λ clean. kept_same (one.found clean).same;
 }
 
 module _ {S : Type 0} (ghosts : Ghosts S) where

@@ -5,16 +5,19 @@ use Rattle.std.specs.Cmp.{tied_itself}
 use Rattle.std.specs.Ordering.{is_eq, is_lt}
 use Rattle.std.specs.declared.cmp.Ordering.TheVariants.{Equal}
 use Rattle.sqlite_trees.specs.Tree.{from_key, insert_entry, remove_entry}
+use Rattle.sqlite_trees.specs.View.{View}
 use Rattle.sqlite_value.proofs.KeyLemmas.{entry_cmp_total}
 use Rattle.sqlite_value.proofs.OrderLemmas.{row_cmp_total}
 use Rattle.sqlite_value.specs.Keys.{plain, prefix_cmp}
 use Rattle.sqlite_value.specs.Order.{Row, column}
 use Rattle.sqlite_value.specs.declared.value.Value.TheVariants.{Int}
-use Rattle.table_model.specs.Tables.{BookRow}
-use Rattle.tree_rows.specs.Rows.{Finds, IsFirst}
+use Rattle.table_model.specs.Tables.{BookRow, Tables}
+use Rattle.tree_rows.specs.Rows.{Finds, IsFirst, IsUnchanged, Rewrites}
 use Rattle.tree_rows.proofs.Maps.{begins_with, prefix_of}
+use Rattle.tree_tables.proofs.Holding.{with_book}
 use Rattle.tree_tables.specs.Columns.{book_columns}
 use Rattle.tree_tables.specs.Fits.{BookFits}
+use Rattle.tree_tables.specs.Holds.{Holds}
 use Rattle.tree_tables.specs.Stored.{book_entry}
 use Rattle.tree_tables.specs.declared.book_row.StoredBook.{StoredBook}
 
@@ -58,6 +61,20 @@ book_changed rows book row is =
     ap (λ some. insert_entry plain row (remove_entry plain (book_columns book) some)) is
     ∙ ap (λ b. insert_entry plain row (cond b (book_columns book ∷ []) []))
     (ap (λ o. not (is_eq o)) (tied_itself (entry_cmp_total plain) (book_columns book)))
+
+-- after a look, the row of the book makes way for the one that it has now
+pub book_rewritten : (old : View) {look new : View} {tables : Tables} (now : BookRow)
+    {found made : Row} → IsUnchanged old look
+    → Rewrites old new 0 (insert_entry plain made (remove_entry plain found (look.trees 0)))
+    → found ≡ book_columns tables.book → made ≡ book_columns now → Holds old.trees tables
+    → Holds new.trees (record tables { book = now })
+book_rewritten old {tables = tables} now {made = made} same rewritten found_is made_is holds =
+    with_book holds now rewritten.others
+    (rewritten.rows_now
+    ∙ ap₂ (λ one rows. insert_entry plain made (remove_entry plain one rows)) found_is
+    (ap (λ (v : View). v.trees 0) same)
+    ∙ book_changed (old.trees 0) tables.book made holds.book
+    ∙ ap (λ row. row ∷ []) made_is)
 
 -- numbers that one column says are one
 same_number : (m n : ℕ) → Int (pos m) ≡ Int (pos n) → m ≡ n

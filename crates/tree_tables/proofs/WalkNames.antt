@@ -209,7 +209,7 @@ KeepsNames step =
     (name : List ℕ) (tables : Tables) → keys (step name tables).records ≡ keys tables.records
 
 -- so the same names are left after it
-names_stay : (last : Option (List ℕ)) (one other : Tables)
+pub names_stay : (last : Option (List ℕ)) (one other : Tables)
     → keys one.records ≡ keys other.records → names_left last one ≡ names_left last other
 names_stay None one other same = same
 names_stay (Some name) one other same =

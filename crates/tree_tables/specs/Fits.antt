@@ -131,6 +131,11 @@ abbrev pub NamedFits : List ℕ → Tables → Type 0
 NamedFits name tables =
     (row : RecordRow) → get tables.records name ≡ Some row → RecordFits (record_columns (name, row))
 
+-- a name is that of a record, which fits
+abbrev pub IsNamed : List ℕ → Tables → Type 0
+IsNamed name tables =
+    (row : RecordRow) × (get tables.records name ≡ Some row) × RecordFits (record_columns (name, row))
+
 -- each record fits
 abbrev pub EachFits : Tables → Type 0
 EachFits tables = (name : List ℕ) → NamedFits name tables
@@ -138,8 +143,7 @@ EachFits tables = (name : List ℕ) → NamedFits name tables
 -- each of some names is that of a record, which fits
 abbrev pub AllNamed : List FoundName → Tables → Type 0
 AllNamed names tables =
-    AllByRecursion (λ named. (row : RecordRow) × (get tables.records named.name ≡ Some row)
-    × RecordFits (record_columns (named.name, row))) names
+    AllByRecursion (λ named. IsNamed named.name tables) names
 
 -- all records fit, and they are no more than are listed at once
 pub record RecordsFit (tables : Tables) : Type 0 where

@@ -7,7 +7,7 @@ ghost use Rattle.tree_tables.specs.Columns.{book_columns};
 ghost use Rattle.tree_tables.specs.Fits.{BookFits};
 ghost use Rattle.tree_tables.specs.Stored.{book_entry};
 
-use crate::column_values::{count_at, push_all};
+use crate::column_values::{count_at, make_row};
 use crate::keys::number_key;
 use crate::tables::TreeTables;
 use sqlite_trees::error::StoreError;
@@ -47,8 +47,7 @@ fn book_row(row: &mut Row, book: &StoredBook) -> Result<(), StoreError>
     requires amount { book.now.amount < 2 ^ 63 }
     ensures { OnOk result (row.new ≡ book_columns (book_entry book.now)) }
 {
-    row.clear();
-    push_all(
+    make_row(
         row,
         &[
             ValueRef::Int(FIRST),

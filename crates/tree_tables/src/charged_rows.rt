@@ -91,9 +91,6 @@ impl<S: Store> TreeTables<S> {
         }
         let name = hash_at(&self.row, NAME)?;
         // A mark has its record, unless the disk lies.
-        let Some(record) = self.find_record(alloc, &name)? else {
-            return Err(StoreError::Corrupt);
-        };
-        Ok(Some(record))
+        Ok(Some(self.record_named(alloc, &name)?))
     }
 }

@@ -4,7 +4,7 @@ ghost use Rattle.std.specs.Prelude.{◌≡◌, OnOk};
 ghost use Rattle.tree_tables.specs.Columns.{closed_columns};
 ghost use Rattle.tree_tables.specs.Stored.{close_entry};
 
-use crate::column_values::{day_at, period_at, push_all};
+use crate::column_values::{day_at, make_row, period_at};
 use crate::keys::period_key;
 use crate::tables::TreeTables;
 use sqlite_trees::error::StoreError;
@@ -28,8 +28,7 @@ pub struct Close {
 fn close_row(row: &mut Row, close: &Close) -> Result<(), StoreError>
     ensures { OnOk result (row.new ≡ closed_columns (close_entry close.now)) }
 {
-    row.clear();
-    push_all(
+    make_row(
         row,
         &[
             ValueRef::Int(i64::from(close.period)),

@@ -33,32 +33,32 @@ pub fn count_at(row: &Row, at: usize) -> Result<u64, StoreError>
     ensures taken { IfErr result (λ error. ¬ HasCount (column row.now at)) }
 {
     let n = int_at(row, at)?;
-    u64::try_from(n).map_err(|_| StoreError::Corrupt)
+    u64::try_from(n).ok().ok_or(StoreError::Corrupt)
 }
 
-/// The numbers in three columns, one after the other.
+/// What a charge comes from, and what it is: the processor time, the blocks, and the amount.
 #[derive(Clone, Copy)]
 pub(crate) struct Counts {
-    pub(crate) first: u64,
-    pub(crate) second: u64,
-    pub(crate) third: u64,
+    pub(crate) cpu: u64,
+    pub(crate) blocks: u64,
+    pub(crate) amount: u64,
 }
 
-/// The numbers in three columns from one on, where none is below 0.
+/// The counts in three columns from one on, where none is below 0.
 pub(crate) fn counts_at(row: &Row, at: usize) -> Result<Counts, StoreError>
     requires { at < 2 ^ 32 }
-    ensures first { IfOk result (λ counts. column row.now at ≡ Int (pos counts.first)) }
-    ensures second { IfOk result (λ counts. column row.now (at + 1) ≡ Int (pos counts.second)) }
-    ensures third { IfOk result (λ counts. column row.now (at + 2) ≡ Int (pos counts.third)) }
-    ensures small { IfOk result (λ counts. (counts.first < 2 ^ 63) × (counts.second < 2 ^ 63)
-        × (counts.third < 2 ^ 63)) }
+    ensures cpu { IfOk result (λ counts. column row.now at ≡ Int (pos counts.cpu)) }
+    ensures blocks { IfOk result (λ counts. column row.now (at + 1) ≡ Int (pos counts.blocks)) }
+    ensures amount { IfOk result (λ counts. column row.now (at + 2) ≡ Int (pos counts.amount)) }
+    ensures small { IfOk result (λ counts. (counts.cpu < 2 ^ 63) × (counts.blocks < 2 ^ 63)
+        × (counts.amount < 2 ^ 63)) }
     ensures taken { IfErr result (λ error. HasCount (column row.now at)
         → HasCount (column row.now (at + 1)) → HasCount (column row.now (at + 2)) → ⊥) }
 {
     Ok(Counts {
-        first: count_at(row, at)?,
-        second: count_at(row, at + 1)?,
-        third: count_at(row, at + 2)?,
+        cpu: count_at(row, at)?,
+        blocks: count_at(row, at + 1)?,
+        amount: count_at(row, at + 2)?,
     })
 }
 
@@ -68,7 +68,7 @@ pub fn period_at(row: &Row, at: usize) -> Result<u16, StoreError>
     ensures taken { IfErr result (λ error. ¬ HasPeriod (column row.now at)) }
 {
     let n = int_at(row, at)?;
-    u16::try_from(n).map_err(|_| StoreError::Corrupt)
+    u16::try_from(n).ok().ok_or(StoreError::Corrupt)
 }
 
 /// The number of a choice in a column.
@@ -77,7 +77,7 @@ pub fn number_at(row: &Row, at: usize) -> Result<u32, StoreError>
     ensures taken { IfErr result (λ error. ¬ HasChoiceNumber (column row.now at)) }
 {
     let n = int_at(row, at)?;
-    u32::try_from(n).map_err(|_| StoreError::Corrupt)
+    u32::try_from(n).ok().ok_or(StoreError::Corrupt)
 }
 
 /// The day in a column.
@@ -86,7 +86,7 @@ pub fn day_at(row: &Row, at: usize) -> Result<i32, StoreError>
     ensures taken { IfErr result (λ error. ¬ HasDay (column row.now at)) }
 {
     let n = int_at(row, at)?;
-    i32::try_from(n).map_err(|_| StoreError::Corrupt)
+    i32::try_from(n).ok().ok_or(StoreError::Corrupt)
 }
 
 /// The mark in a column, which is 1 or 0.
@@ -150,7 +150,7 @@ fn str_at<'a>(row: &'a Row, at: usize) -> Result<&'a str, StoreError>
     ensures taken { IfErr result (λ error. ¬ HasText (column row.now at)) }
 {
     match row.get(at) {
-        ValueRef::Text(bytes) => str::from_utf8(bytes).map_err(|_| StoreError::Corrupt),
+        ValueRef::Text(bytes) => str::from_utf8(bytes).ok().ok_or(StoreError::Corrupt),
         _ => Err(StoreError::Corrupt),
     }
 }
@@ -182,6 +182,14 @@ pub(crate) fn push_all(row: &mut Row, values: &[ValueRef<'_>]) -> Result<(), Sto
         row.push(*value)?;
     }
     Ok(())
+}
+
+/// Makes a row of values.
+pub(crate) fn make_row(row: &mut Row, values: &[ValueRef<'_>]) -> Result<(), StoreError>
+    ensures { OnOk result (row.new ≡ map owned values.now) }
+{
+    row.clear();
+    push_all(row, values)
 }
 
 /// Makes a row that is another one but for the value in one column.

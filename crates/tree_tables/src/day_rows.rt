@@ -9,7 +9,7 @@ ghost use Rattle.tree_tables.specs.Days.{RowFits, SaysDay};
 ghost use Rattle.tree_tables.specs.Fits.{ChargeFits};
 
 use crate::closed_rows::Close;
-use crate::column_values::{count_at, counts_at, day_at, name_at, push_all};
+use crate::column_values::{count_at, counts_at, day_at, make_row, name_at, push_all};
 use crate::keys::period_key;
 use crate::tables::TreeTables;
 use book_model::{ChargeRow, RowKey};
@@ -55,8 +55,7 @@ fn place_in(charge: &ChargeRow) -> RowKey
 fn place_key(key: &mut Row, period: u32, place: &RowKey) -> Result<(), StoreError>
     ensures { OnOk result (key.new ≡ day_key_columns (period, place.now)) }
 {
-    key.clear();
-    push_all(
+    make_row(
         key,
         &[
             ValueRef::Int(i64::from(period)),
@@ -89,8 +88,7 @@ fn later_key(key: &mut Row, close: &Close) -> Result<(), StoreError>
     ensures { OnOk result (key.new
         ≡ Int (pos close.now.period) ∷ Int (close.now.through +ℤ pos 1) ∷ []) }
 {
-    key.clear();
-    push_all(
+    make_row(
         key,
         &[
             ValueRef::Int(i64::from(close.period)),
@@ -121,9 +119,9 @@ fn read_day(row: &Row) -> Result<ChargeRow, StoreError>
         centre: name_at(row, 2)?,
         shift: name_at(row, 3)?,
         count: count_at(row, 4)?,
-        cpu: counts.first,
-        blocks: counts.second,
-        amount: counts.third,
+        cpu: counts.cpu,
+        blocks: counts.blocks,
+        amount: counts.amount,
     })
 }
 
@@ -146,11 +144,15 @@ impl ReadRow for StoredDay {
 }
 
 /// The charge rows that were read.
-fn charges(days: Vec<StoredDay>, alloc: Global) -> Result<Vec<ChargeRow>, StoreError>
-    ensures made { IfOk result (λ list. list.items ≡ map (λ day. day.charge) days.items) }
+fn charges(days: &[StoredDay], alloc: Global) -> Result<Vec<ChargeRow>, StoreError>
+    ensures made { IfOk result (λ list. list.items ≡ map (λ day. day.charge) days.now) }
     ensures memory { IfErr result (λ error. error ≡ StoreError.OutOfMemory) }
 {
-    Ok(days.into_iter().map(|day| day.charge).collect(alloc)?)
+    let mut list = Vec::new(alloc);
+    for day in days {
+        list.push(day.charge)?;
+    }
+    Ok(list)
 }
 
 impl<S: Store> TreeTables<S> {
@@ -184,7 +186,7 @@ impl<S: Store> TreeTables<S> {
     {
         period_key(&mut self.key, period)?;
         let days = list_run(&mut self.store, DAYS, &self.key, &mut self.row, alloc)?;
-        charges(days, alloc)
+        charges(&days, alloc)
     }
 
     /// A charge row is put at its place in the period, in the place of the one that was there.

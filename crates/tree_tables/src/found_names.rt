@@ -33,12 +33,30 @@ impl ReadRow for FoundName {
 }
 
 impl<S: Store> TreeTables<S> {
-    ghost use Rattle.tree_tables.specs.Answers.{FindsNamed};
+    ghost use Rattle.std.specs.Prelude.{Some};
+    ghost use Rattle.tree_tables.specs.Answers.{FindsNamed, FindsRecord};
     ghost use Rattle.tree_tables.specs.States.{state};
-    ghost use Rattle.tree_tables.specs.Fits.{AllNamed};
+    ghost use Rattle.tree_tables.specs.Fits.{AllNamed, IsNamed};
     ghost use Rattle.tree_tables.specs.Steps.{FailsByStore, Looks};
 
-    /// The records of these names, in their order. A name that has none is an ill-formed row.
+    /// The record of a name that a row says. Where there is none, the file is damaged.
+    pub(crate) fn record_named(
+        &mut self,
+        alloc: Global,
+        name: &[u8],
+    ) -> Result<StoredRecord, StoreError>
+        ensures looks { Looks result (state S.Store self.old.store) (state S.Store self.new.store)
+            (λ tables stored. FindsRecord name.now tables (Some stored)) }
+        ensures cause { FailsByStore result (state S.Store self.old.store)
+            (state S.Store self.new.store) (IsNamed name.now) }
+    {
+        let Some(record) = self.find_record(alloc, name)? else {
+            return Err(StoreError::Corrupt);
+        };
+        Ok(record)
+    }
+
+    /// The records of these names, in their order.
     pub(crate) fn read_named(
         &mut self,
         alloc: Global,
@@ -51,9 +69,7 @@ impl<S: Store> TreeTables<S> {
     {
         let mut all = Vec::new(alloc);
         for named in names {
-            let Some(record) = self.find_record(alloc, &named.name)? else {
-                return Err(StoreError::Corrupt);
-            };
+            let record = self.record_named(alloc, &named.name)?;
             all.push(record)?;
         }
         Ok(all)

@@ -7,8 +7,8 @@ ghost use Rattle.sqlite_value.specs.Order.{column};
 ghost use Rattle.table_model.specs.TableChanges.{by_second_rule};
 ghost use Rattle.tree_tables.specs.Walks.{RenewsRow};
 
-use crate::column_values::{blob_at, with_column};
-use crate::record_rows::{CHARGED, IDENTITIES, MARKS, RECORDS, identity_row, mark_row};
+use crate::column_values::{blob_at, make_row, with_column};
+use crate::record_rows::{CHARGED, IDENTITIES, RECORDS, change_mark};
 use crate::record_walks::{MOST_STEPS, NAME, column_key, first_past};
 use crate::stored_usage::usage_bytes;
 use crate::tables::TreeTables;
@@ -108,7 +108,7 @@ impl<S: Store> TreeTables<S> {
         if !first_past(&mut self.store, IDENTITIES, last, &mut self.row)? {
             return Ok(false);
         }
-        identity_row(last, self.row.get(0), self.row.get(1))?;
+        make_row(last, &[self.row.get(0), self.row.get(1)])?;
         column_key(&mut self.key, &self.row, 1)?;
         if !find_row(&mut self.store, RECORDS, &self.key, &mut self.before)? {
             // Only a disk that lies has an entry of no record.
@@ -135,11 +135,15 @@ impl<S: Store> TreeTables<S> {
         let name = entry.get(1);
         let mark = self.before.get(CHARGED);
         let identity = self.before.get(IDENTITY);
-        identity_row(&mut self.row, identity, name)?;
+        make_row(&mut self.row, &[identity, name])?;
         change_row(&mut self.store, IDENTITIES, entry, &self.row)?;
-        mark_row(&mut self.key, mark, entry.get(0), name)?;
-        mark_row(&mut self.row, mark, identity, name)?;
-        change_row(&mut self.store, MARKS, &self.key, &self.row)
+        change_mark(
+            &mut self.store,
+            &mut self.key,
+            &mut self.row,
+            &[mark, entry.get(0), name],
+            &[mark, identity, name],
+        )
     }
 
     /// Each record is found by the identity that its row says by the second rule.

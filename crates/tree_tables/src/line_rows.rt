@@ -6,7 +6,7 @@ ghost use Rattle.tree_tables.specs.Columns.{line_columns};
 ghost use Rattle.tree_tables.specs.Fits.{LineFits};
 ghost use Rattle.tree_tables.specs.Stored.{SaysLine};
 
-use crate::column_values::{hash_at, mark_at, push_all};
+use crate::column_values::{hash_at, make_row, mark_at};
 use crate::keys::period_key;
 use crate::tables::TreeTables;
 use sqlite_trees::error::StoreError;
@@ -39,8 +39,7 @@ pub struct StoredLine {
 fn line_key(key: &mut Row, spot: &LineKey<'_>) -> Result<(), StoreError>
     ensures { OnOk result (key.new ≡ Int (pos spot.now.period) ∷ Blob spot.now.name.now ∷ []) }
 {
-    key.clear();
-    push_all(
+    make_row(
         key,
         &[
             ValueRef::Int(i64::from(spot.period)),

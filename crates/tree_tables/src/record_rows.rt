@@ -1,17 +1,21 @@
 //! Records by name, and the two trees that find them by identity and by mark.
 
-ghost use Rattle.std.specs.Prelude.{◌≡◌, ◌∷◌, ◌++◌, [], OnOk, pos, slice_set};
+ghost use Rattle.std.specs.Prelude.{◌≡◌, ◌∷◌, ◌++◌, [], OnErr, OnOk, map, pos, slice_set};
+ghost use Rattle.sqlite_trees.specs.Tree.{insert_entry, remove_entry};
+ghost use Rattle.sqlite_trees.specs.View.{IsClean, IsQuiet, KeepsCommitted, KeepsSchema};
+ghost use Rattle.sqlite_value.specs.Keys.{plain};
 ghost use Rattle.sqlite_value.specs.Value.{owned};
 ghost use Rattle.sqlite_value.specs.declared.value.Value.TheVariants.{Blob, Int, Text};
+ghost use Rattle.tree_rows.specs.Rows.{Rewrites};
 ghost use Rattle.tree_tables.specs.Columns.{flag, record_columns};
 ghost use Rattle.tree_tables.specs.Stored.{new_entry, priced_entry};
 
-use crate::column_values::{push_all, with_column};
+use crate::column_values::{make_row, with_column};
 use crate::keys::{bytes_key, number_key};
 use crate::stored_record::{StoredRecord, read_record};
 use crate::tables::TreeTables;
 use sqlite_trees::error::StoreError;
-use sqlite_trees::store::Store;
+use sqlite_trees::store::{Shape, Store};
 use sqlite_value::row::Row;
 use sqlite_value::value::ValueRef;
 use std::alloc::Global;
@@ -80,8 +84,7 @@ fn mark_value<'a>(mark: bool) -> ValueRef<'a>
 fn record_row(row: &mut Row, kept: &NewRecord<'_>) -> Result<(), StoreError>
     ensures { OnOk result (row.new ≡ record_columns (new_entry kept.now)) }
 {
-    row.clear();
-    push_all(
+    make_row(
         row,
         &[
             ValueRef::Blob(kept.name),
@@ -112,30 +115,30 @@ fn with_price<'a>(stored: &'a StoredRecord, priced: &Priced) -> NewRecord<'a>
     }
 }
 
-/// Makes the row that finds a record by its identity.
-pub(crate) fn identity_row(
-    row: &mut Row,
-    identity: ValueRef<'_>,
-    name: ValueRef<'_>,
+/// In the tree of marks, the row of the values `old` makes way for that of `new`. The two rows are
+/// made in `from` and `to`.
+pub(crate) fn change_mark<S: Store>(
+    store: &mut S,
+    from: &mut Row,
+    to: &mut Row,
+    old: &[ValueRef<'_>],
+    new: &[ValueRef<'_>],
 ) -> Result<(), StoreError>
-    ensures { OnOk result (row.new ≡ owned identity.entry ∷ owned name.entry ∷ []) }
+    requires { IsClean (S.Store.view store.old)
+        → (S.Store.view store.old).shape MARKS ≡ Shape.Index plain }
+    ensures done { OnOk result (IsClean (S.Store.view store.new)
+        → Rewrites (S.Store.view store.old) (S.Store.view store.new) MARKS
+        (insert_entry plain (map owned new.now) (remove_entry plain (map owned old.now)
+        ((S.Store.view store.old).trees MARKS)))) }
+    ensures kept { OnErr result (IsClean (S.Store.view store.new)
+        → KeepsCommitted (S.Store.view store.old) (S.Store.view store.new)) }
+    ensures schema { KeepsSchema (S.Store.view store.old) (S.Store.view store.new) }
+    ensures quiet { IsQuiet S.Store.view S.Store.faults S.Store.recovers S.Store.is_shielded
+        store.old store.new }
 {
-    row.clear();
-    push_all(row, &[identity, name])
-}
-
-/// Makes the row that finds a record by its mark.
-pub(crate) fn mark_row(
-    row: &mut Row,
-    mark: ValueRef<'_>,
-    identity: ValueRef<'_>,
-    name: ValueRef<'_>,
-) -> Result<(), StoreError>
-    ensures { OnOk result (row.new
-        ≡ owned mark.entry ∷ owned identity.entry ∷ owned name.entry ∷ []) }
-{
-    row.clear();
-    push_all(row, &[mark, identity, name])
+    make_row(from, old)?;
+    make_row(to, new)?;
+    change_row(store, MARKS, from, to)
 }
 
 /// Makes the row of a record anew, charged or not.
@@ -218,9 +221,9 @@ impl<S: Store> TreeTables<S> {
         add_row(&mut self.store, RECORDS, &self.row)?;
         let identity = ValueRef::Blob(kept.identity);
         let name = ValueRef::Blob(kept.name);
-        identity_row(&mut self.row, identity, name)?;
+        make_row(&mut self.row, &[identity, name])?;
         add_row(&mut self.store, IDENTITIES, &self.row)?;
-        mark_row(&mut self.row, mark_value(kept.charged), identity, name)?;
+        make_row(&mut self.row, &[mark_value(kept.charged), identity, name])?;
         add_row(&mut self.store, MARKS, &self.row)
     }
 
@@ -264,8 +267,12 @@ impl<S: Store> TreeTables<S> {
         change_row(&mut self.store, RECORDS, &self.before, &self.row)?;
         let identity = self.before.get(1);
         let name = self.before.get(0);
-        mark_row(&mut self.key, self.before.get(CHARGED), identity, name)?;
-        mark_row(&mut self.row, mark_value(mark), identity, name)?;
-        change_row(&mut self.store, MARKS, &self.key, &self.row)
+        change_mark(
+            &mut self.store,
+            &mut self.key,
+            &mut self.row,
+            &[self.before.get(CHARGED), identity, name],
+            &[mark_value(mark), identity, name],
+        )
     }
 }

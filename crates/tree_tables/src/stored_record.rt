@@ -44,9 +44,9 @@ fn read_price(row: &Row) -> Result<Priced, StoreError>
         day: day_at(row, 3)?,
         shift: name_at(row, 4)?,
         centre: name_at(row, 5)?,
-        cpu: counts.first,
-        excp: counts.second,
-        amount: counts.third,
+        cpu: counts.cpu,
+        excp: counts.blocks,
+        amount: counts.amount,
     })
 }
 
@@ -59,10 +59,11 @@ pub fn read_record(row: &Row, alloc: Global) -> Result<StoredRecord, StoreError>
 {
     Ok(StoredRecord {
         name: hash_at(row, 0)?,
-        identity: bytes_at(row, 1, alloc)?,
-        data_bytes: bytes_at(row, 2, alloc)?,
         priced: read_price(row)?,
         charged: mark_at(row, 9)?,
         posted: mark_at(row, 10)?,
+        // What owns memory comes last, so that a row that does not fit has taken none.
+        identity: bytes_at(row, 1, alloc)?,
+        data_bytes: bytes_at(row, 2, alloc)?,
     })
 }

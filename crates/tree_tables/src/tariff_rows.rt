@@ -3,7 +3,7 @@
 ghost use Rattle.std.specs.Prelude.{◌≡◌, OnOk, Some};
 ghost use Rattle.tree_tables.specs.Columns.{tariff_columns};
 
-use crate::column_values::{day_at, push_all, text_at};
+use crate::column_values::{day_at, make_row, text_at};
 use crate::keys::day_key;
 use crate::tables::TreeTables;
 use sqlite_trees::error::StoreError;
@@ -34,8 +34,7 @@ pub struct StoredTariff {
 fn tariff_row(row: &mut Row, tariff: &TariffText<'_>) -> Result<(), StoreError>
     ensures { OnOk result (row.new ≡ tariff_columns (tariff.now.day, Some tariff.now.body.now)) }
 {
-    row.clear();
-    push_all(
+    make_row(
         row,
         &[
             ValueRef::Int(i64::from(tariff.day)),

@@ -1,7 +1,6 @@
-use Rattle.std.proofs.Common.{◌∙◌, sym, refl}
+use Rattle.std.proofs.Common.{refl}
 use Rattle.table_ledger.proofs.AcceptTries.{try_unread, try_known, try_unpriced, try_full}
 use Rattle.table_ledger.proofs.AcceptTries.{price_is, saw_as, try_unkept, try_kept}
-use Rattle.table_ledger.proofs.TryLemmas.{}
 use Rattle.table_ledger.proofs.accept.try_accept.Goals as goal
 
 pub returns-in_err-stored : goal.returns-in_err-stored
@@ -38,7 +37,7 @@ returns-then-is_full g c = record {
       c.in-Some-price_in.is in
       try_full (g.N.Naming.name_of c.args.naming.now) c.args.summary.now c.args.bytes.now
       c.name_of-name.result c.requires.usage c.name_of-name.ensures
-      c.in-Some-price_in.priced price (sym c.is_full.ensures ∙ c.if-is_full.true)
+      c.in-Some-price_in.priced price c.is_full.ensures c.if-is_full.true
       (saw_as c.name_of-name.result c.in_default.is c.in_ok-stored.ensures.looks);
 }
 
@@ -49,7 +48,7 @@ returns-in_err-keep_new g c = record {
       c.in-Some-price_in.is in
       try_unkept (g.N.Naming.name_of c.args.naming.now) c.args.summary.now c.args.bytes.now
       c.name_of-name.result c.requires.usage c.name_of-name.ensures
-      c.in-Some-price_in.priced price (sym c.is_full.ensures ∙ c.if-is_full.false)
+      c.in-Some-price_in.priced price c.is_full.ensures c.if-is_full.false
       c.from_residual-in_err-keep_new.result c.from_residual-in_err-keep_new.ensures.0
       c.in-Some-price_in.ensures.bounds
       (saw_as c.name_of-name.result c.in_default.is c.in_ok-stored.ensures.looks)
@@ -63,7 +62,7 @@ returns g c = record {
       c.in-Some-price_in.is in
       try_kept (g.N.Naming.name_of c.args.naming.now) c.args.summary.now c.args.bytes.now
       c.name_of-name.result c.requires.usage c.name_of-name.ensures
-      c.in-Some-price_in.priced price (sym c.is_full.ensures ∙ c.if-is_full.false) _
+      c.in-Some-price_in.priced price c.is_full.ensures c.if-is_full.false _
       c.in-Some-price_in.ensures.bounds
       (saw_as c.name_of-name.result c.in_default.is c.in_ok-stored.ensures.looks)
       c.in_ok-keep_new.ensures.commits refl refl refl refl refl refl;

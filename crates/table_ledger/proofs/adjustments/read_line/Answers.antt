@@ -1,4 +1,4 @@
-use Rattle.std.proofs.Common.{◌≡◌, ◌∙◌, Some, None, ap, rules, subst, sym}
+use Rattle.std.proofs.Common.{◌≡◌, ◌∙◌, Some, None, ap, subst, sym}
 use Rattle.std.proofs.lemmas.Result.{err_from_is_err_and}
 use Rattle.book_model.specs.Words.{record_with, job_of}
 use Rattle.table_ledger.proofs.LineReadings.{found_there, line_found, look_refused}
@@ -37,7 +37,9 @@ pub returns-clause-looks : goal.returns-clause-looks
 returns-clause-looks g c =
     looks_known (saw_found c.in_ok-held.ensures.looks) (λ tables finds.
     let job : c.copied.result ≡ job_of (record_with c.in-Some.held.data_bytes.items) =
-    search rules in
+    c.copied.ensures ∙ c.job.ensures.value
+    ∙ ap job_of (c.of_usage-usage.ensures ∙ c.deref-2.ensures.value ∙ c.in_ok-bytes.ensures.bytes
+    ∙ ap record_with c.deref.ensures.value) in
     ap (λ (said : _). Some (record {
       plus = c.args.stored.now.plus;
       name = c.args.stored.now.name;

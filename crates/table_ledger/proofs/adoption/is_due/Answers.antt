@@ -1,4 +1,5 @@
-use Rattle.std.proofs.Common.{◌≡◌, false, rules, true}
+use Rattle.std.proofs.Common.{◌≡◌, ◌∙◌, ap, false, subst, sym, true}
+use Rattle.std.specs.Prelude.{◌==◌}
 use Rattle.tree_tables.specs.Answers.{FindsSharing}
 use Rattle.table_ledger.specs.Adoptions.{is_last}
 use Rattle.table_ledger.proofs.DueCharges.{due_alone, due_chosen}
@@ -11,7 +12,9 @@ pub returns-then-is_last : goal.returns-then-is_last
 returns-then-is_last g c = record {
   looks =
       let stored = c.args.stored.now in
-      let is : is_last c.args.chosen.now stored.identity.items stored.name ≡ true = search rules in
+      let is : is_last c.args.chosen.now stored.identity.items stored.name ≡ true =
+      (λ i. is_last c.args.chosen.now (sym c.deref.ensures.value i) stored.name)
+      ∙ sym c.is_last.ensures ∙ c.if-is_last.true in
       looks_known (saw_none {state = state g.S.Store c.args.tables.now.store})
       (λ tables known stands lasts. due_chosen stored tables c.args.chosen.now is stands lasts);
 }
@@ -22,11 +25,14 @@ returns g c = record {
       let stored = c.args.stored.now in
       let sharing = c.in_ok-sharing.sharing.items in
       let is : is_last c.args.chosen.now stored.identity.items stored.name ≡ false =
-      search rules in
+      (λ i. is_last c.args.chosen.now (sym c.deref.ensures.value i) stored.name)
+      ∙ sym c.is_last.ensures ∙ c.if-is_last.false in
       looks_known (saw_found c.in_ok-sharing.ensures.looks)
       (λ tables shared stands lasts.
-      let own : FindsSharing stored.identity.items tables sharing = search rules in
-      due_alone stored tables c.args.chosen.now sharing _ is own (search rules) stands lasts);
+      let own : FindsSharing stored.identity.items tables sharing =
+      subst (λ identity. FindsSharing identity tables sharing) c.deref-2.ensures.value shared in
+      due_alone stored tables c.args.chosen.now sharing _ is own
+      (ap (λ n. n == 1) (c.len.ensures ∙ c.in_ok-sharing.sharing.ok.0)) stands lasts);
 }
 
 pub returns-in_err-sharing : goal.returns-in_err-sharing

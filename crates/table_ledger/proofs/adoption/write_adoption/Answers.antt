@@ -6,7 +6,7 @@ use Rattle.std.specs.FinMap.{keys}
 use Rattle.tree_tables.specs.States.{state}
 use Rattle.tree_tables.specs.Steps.{Always, Does}
 use Rattle.table_ledger.proofs.StepLemmas.{does_then}
-use Rattle.table_ledger.proofs.Refusals.{does_failed, does_failed_behind}
+use Rattle.table_ledger.proofs.Refusals.{does_failed, does_failed_next}
 use Rattle.table_ledger.proofs.adoption.write_adoption.Goals as goal
 
 -- the identities, what is charged by them, and the rule
@@ -34,7 +34,7 @@ returns-in_err-rename_records g c = record {
 pub returns-in_err-charge_due : goal.returns-in_err-charge_due
 returns-in_err-charge_due g c = record {
   does =
-      does_failed_behind c.from_residual-in_err-charge_due.result
+      does_failed_next c.from_residual-in_err-charge_due.result
       c.from_residual-in_err-charge_due.ensures.0 c.in_ok-rename_records.ensures.does
       c.in_err-charge_due.ensures.does;
 }

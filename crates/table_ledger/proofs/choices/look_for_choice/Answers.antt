@@ -1,6 +1,4 @@
-use Rattle.std.proofs.Common.{◌∙◌, ap}
 use Rattle.table_ledger.proofs.Refusals.{looks_failed}
-use Rattle.table_ledger.proofs.TryLemmas.{looks_known, saw_found}
 use Rattle.table_ledger.proofs.choices.look_for_choice.Goals as goal
 
 pub returns-in_err-current : goal.returns-in_err-current

@@ -1,4 +1,4 @@
-use Rattle.std.proofs.Common.{◌≡◌, ◌∙◌, ◌≤◌, ◌<◌, ◌+◌, ap, length, refl, rules, Err, Ok, Option}
+use Rattle.std.proofs.Common.{◌∙◌, ◌≤◌, ◌<◌, ◌+◌, ap, length, refl, subst, Err, Ok, Option}
 use Rattle.std.specs.Prelude.{slice_get, ℤ}
 use Rattle.std.specs.Option.{option_map}
 use Rattle.book_core.specs.Effects.{choice_effects}
@@ -60,7 +60,8 @@ returns-then-len-lt2 g c = record {
       let name = c.args.name in
       let stored = c.in-Some.stored in
       let sharing = c.in_ok-sharing.sharing.items in
-      let few : length sharing < 2 = search rules in
+      let few : length sharing < 2 =
+      subst (λ n. n < 2) (c.len.ensures ∙ c.in_ok-sharing.sharing.ok.0) c.if-len-lt2.true in
       try_answered view naming summary (choose_outcome naming name)
       (saw_shared name stored c.in-Some.is c.deref.ensures.value c.in_ok-stored.ensures.looks
       c.in_ok-sharing.ensures.looks)
@@ -79,7 +80,8 @@ returns-then-stored g c = record {
       let name = c.args.name in
       let stored = c.in-Some.stored in
       let sharing = c.in_ok-sharing.sharing.items in
-      let many : 2 ≤ length sharing = search rules in
+      let many : 2 ≤ length sharing =
+      subst (λ n. 2 ≤ n) (c.len.ensures ∙ c.in_ok-sharing.sharing.ok.0) c.if-len-lt2.false in
       try_answered view naming summary (choose_outcome naming name)
       (saw_shared name stored c.in-Some.is c.deref.ensures.value c.in_ok-stored.ensures.looks
       c.in_ok-sharing.ensures.looks)
@@ -99,8 +101,9 @@ returns-then-summary-ge-MAX_CHOICES g c = record {
       let name = c.args.name in
       let stored = c.in-Some.stored in
       let sharing = c.in_ok-sharing.sharing.items in
-      let many : 2 ≤ length sharing = search rules in
-      let most : most_choices ≤ summary.choices = search rules in
+      let many : 2 ≤ length sharing =
+      subst (λ n. 2 ≤ n) (c.len.ensures ∙ c.in_ok-sharing.sharing.ok.0) c.if-len-lt2.false in
+      let most : most_choices ≤ summary.choices = c.if-summary-ge-MAX_CHOICES.true in
       try_answered view naming summary (choose_outcome naming name)
       (saw_shared name stored c.in-Some.is c.deref.ensures.value c.in_ok-stored.ensures.looks
       c.in_ok-sharing.ensures.looks)
@@ -135,8 +138,9 @@ returns-in_err-keep_choice g c = record {
       let name = c.args.name in
       let stored = c.in-Some.stored in
       let sharing = c.in_ok-sharing.sharing.items in
-      let many : 2 ≤ length sharing = search rules in
-      let room : summary.choices < most_choices = search rules in
+      let many : 2 ≤ length sharing =
+      subst (λ n. 2 ≤ n) (c.len.ensures ∙ c.in_ok-sharing.sharing.ok.0) c.if-len-lt2.false in
+      let room : summary.choices < most_choices = c.if-summary-ge-MAX_CHOICES.false in
       let effects = c.in_ok-effects.effects in
       let outcome = choose_outcome naming name in
       tries_err view naming summary outcome c.from_residual-in_err-keep_choice.result
@@ -168,8 +172,9 @@ returns g c = record {
       let name = c.args.name in
       let stored = c.in-Some.stored in
       let sharing = c.in_ok-sharing.sharing.items in
-      let many : 2 ≤ length sharing = search rules in
-      let room : summary.choices < most_choices = search rules in
+      let many : 2 ≤ length sharing =
+      subst (λ n. 2 ≤ n) (c.len.ensures ∙ c.in_ok-sharing.sharing.ok.0) c.if-len-lt2.false in
+      let room : summary.choices < most_choices = c.if-summary-ge-MAX_CHOICES.false in
       let effects = c.in_ok-effects.effects in
       try_done view naming summary (choose_outcome naming name)
       (state g.S.Store c.keep_choice.new.tables.store) (IsNext (summary.choices + 1))

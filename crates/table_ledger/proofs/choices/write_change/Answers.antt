@@ -2,7 +2,7 @@ use Rattle.tree_tables.specs.States.{state}
 use Rattle.tree_tables.specs.Steps.{Always, Does}
 use Rattle.table_ledger.specs.RecordWrites.{write_line, write_mark}
 use Rattle.table_ledger.proofs.StepLemmas.{does_then}
-use Rattle.table_ledger.proofs.Refusals.{does_failed, does_failed_behind}
+use Rattle.table_ledger.proofs.Refusals.{does_failed, does_failed_next}
 use Rattle.table_ledger.proofs.choices.write_change.Goals as goal
 
 -- the charge row, the line and the mark
@@ -29,7 +29,7 @@ returns-in_err-change_day g c = record {
 pub returns-in_err-write_line : goal.returns-in_err-write_line
 returns-in_err-write_line g c = record {
   does =
-      does_failed_behind c.from_residual-in_err-write_line.result
+      does_failed_next c.from_residual-in_err-write_line.result
       c.from_residual-in_err-write_line.ensures.0 c.in_ok-change_day.ensures.does
       c.in_err-write_line.ensures.does;
 }

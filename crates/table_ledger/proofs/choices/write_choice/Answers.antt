@@ -9,7 +9,7 @@ use Rattle.tree_tables.specs.States.{state}
 use Rattle.tree_tables.specs.Steps.{Does}
 use Rattle.table_ledger.specs.RecordWrites.{IsNext}
 use Rattle.table_ledger.proofs.StepLemmas.{does_so, does_then}
-use Rattle.table_ledger.proofs.Refusals.{does_failed, does_failed_behind}
+use Rattle.table_ledger.proofs.Refusals.{does_failed, does_failed_next}
 use Rattle.table_ledger.proofs.choices.write_choice.Goals as goal
 
 -- effects leave the choices alone
@@ -61,7 +61,7 @@ returns-in_err-withdraw g c = record {
 pub returns-in_err-charge : goal.returns-in_err-charge
 returns-in_err-charge g c = record {
   does =
-      does_failed_behind c.from_residual-in_err-charge.result
+      does_failed_next c.from_residual-in_err-charge.result
       c.from_residual-in_err-charge.ensures.0 c.in_ok-withdraw.ensures.does
       c.in_err-charge.ensures.does;
 }

@@ -5,7 +5,7 @@ use Rattle.tree_tables.specs.States.{state}
 use Rattle.tree_tables.specs.Steps.{Always, Does}
 use Rattle.table_ledger.proofs.CodeDays.{kept_day}
 use Rattle.table_ledger.proofs.StepLemmas.{does_then}
-use Rattle.table_ledger.proofs.Refusals.{does_failed, does_failed_behind}
+use Rattle.table_ledger.proofs.Refusals.{does_failed, does_failed_next}
 use Rattle.table_ledger.proofs.close.write_close.Goals as goal
 
 pub returns : goal.returns
@@ -35,7 +35,7 @@ returns-in_err-put_close g c = record {
 pub returns-in_err-post_records : goal.returns-in_err-post_records
 returns-in_err-post_records g c = record {
   does =
-      does_failed_behind c.from_residual-in_err-post_records.result
+      does_failed_next c.from_residual-in_err-post_records.result
       c.from_residual-in_err-post_records.ensures.0 c.in_ok-put_close.ensures.does
       c.in_err-post_records.ensures.does;
 }

@@ -1,4 +1,4 @@
-use Rattle.std.proofs.Common.{◌≡◌, ◌∙◌, ◌++◌, ◌∷◌, [], true, false, ap, rules, map, List}
+use Rattle.std.proofs.Common.{◌≡◌, ◌∙◌, ◌++◌, ◌∷◌, [], true, false, ap, sym, map, List}
 use Rattle.book_model.specs.declared.dispute.Dispute.{Dispute}
 use Rattle.book_model.specs.declared.dispute.Variant.{Variant}
 use Rattle.book_model.specs.Words.{dispute_shown, same_bytes}
@@ -10,7 +10,8 @@ pub returns-in_ok-push-3-clause-joined : goal.returns-in_ok-push-3-clause-joined
 returns-in_ok-push-3-clause-joined c =
     let last = c.in-Some.last in
     let same : same_bytes last.identity.items c.args.stored.now.identity.items ≡ true =
-    search rules in
+    (λ i. same_bytes (sym c.as_slice.ensures.value i) (sym c.as_slice-2.ensures.value i))
+    ∙ sym c.eq.ensures ∙ c.if-eq.true in
     let members = c.in_ok-push-2.ensures.items
     ∙ ap (λ (one : Variant). last.members.items ++ one ∷ []) c.in_ok-variant.ensures.read in
     ap (λ (all : List Dispute). map dispute_shown all) c.in_ok-push-3.ensures.items
@@ -22,7 +23,8 @@ pub returns-in_ok-push-5-clause-joined : goal.returns-in_ok-push-5-clause-joined
 returns-in_ok-push-5-clause-joined c =
     let last = c.in-Some.last in
     let differ : same_bytes last.identity.items c.args.stored.now.identity.items ≡ false =
-    search rules in
+    (λ i. same_bytes (sym c.as_slice.ensures.value i) (sym c.as_slice-2.ensures.value i))
+    ∙ sym c.eq.ensures ∙ c.if-eq.false in
     ap (λ (all : List Dispute). map dispute_shown all) (c.in_ok-push-5.ensures.items
     ∙ ap (λ (front : List Dispute). front ++ c.in_ok-single_dispute-2.field-0 ∷ [])
     c.in_ok-push-4.ensures.items)

@@ -1,4 +1,4 @@
-use Rattle.std.proofs.Common.{◌≡◌, ◌∙◌, ◌⊎◌, ◌≤◌, ◌<◌, arith, inl, inr, length, rules, subst, sym}
+use Rattle.std.proofs.Common.{◌≡◌, ◌∙◌, ◌⊎◌, ◌≤◌, ◌<◌, arith, inl, inr, length, subst, sym}
 use Rattle.table_ledger.specs.Loaded.{SaysRule}
 use Rattle.book_model.specs.Words.{last_period, most_choices}
 use Rattle.table_ledger.proofs.LoadLemmas.{all_days}
@@ -21,7 +21,9 @@ returns-then-not-is_kept-clause-refused c = λ store rulings are.
           c.in_ok-closes.ensures.have are.closes in
           let few = are.few in
           let told : (last_period ≤ length c.in_ok-closes.closes.items)
-          ⊎ (most_choices < c.args.choices) = search rules in
+          ⊎ (most_choices < c.args.choices) =
+          subst (λ days. (last_period ≤ length days) ⊎ (most_choices < c.args.choices))
+          w.deref.ensures.value (w.are_few.ensures.many w.if-not-are_few.true) in
           elim told [
             | inl many ↦ absurd (omega (arith, same, few, many))
             | inr more ↦
@@ -36,6 +38,6 @@ returns-in_default-clause-refused c = λ store rulings are.
     let closes = c.in_ok-closes.closes.items in
     let same : length closes ≡ length rulings.closes =
     as_many c.args.closes.now closes rulings.closes c.in_ok-closes.ensures.have are.closes in
-    let len : c.len.result ≡ length closes = search rules in
+    let len : c.len.result ≡ length closes = c.len.ensures ∙ c.in_ok-closes.closes.ok.0 in
     c.adopted_by.ensures.refused c.in_default.is rulings.adopted
     (subst (λ n. SaysRule n c.args.row.now rulings.adopted) (sym (len ∙ same)) are.adopted)

@@ -1,11 +1,12 @@
-use Rattle.std.proofs.Common.{◌+◌, ◌∙◌, Err, refl, sym, ap, arith, rules, true≢false}
+use Rattle.std.proofs.Common.{◌+◌, ◌∙◌, Err, refl, sym, ap, arith, true≢false}
 use Rattle.sqlite_trees.specs.declared.error.StoreError.TheVariants.{Corrupt}
 use Rattle.table_model.specs.TableChanges.{amount_under}
 use Rattle.tree_tables.specs.States.{state}
 use Rattle.tree_tables.proofs.Walked.{sums_all, sums_blind, sums_enough, sums_no_more, sums_none}
 use Rattle.tree_tables.proofs.Walked.{sums_on, sums_still}
 use Rattle.table_ledger.specs.Repricing.{CanCost}
-use Rattle.table_ledger.proofs.Repriced.{has_no_room, has_room}
+use Rattle.table_ledger.proofs.Repriced.{has_room, part_overflows, part_too_much}
+use Rattle.table_ledger.proofs.Refusals.{said_of_none}
 use Rattle.table_ledger.proofs.repricing.cost_under.Goals as goal
 
 pub records-init : goal.records-init
@@ -18,7 +19,7 @@ records-init g c = record {
 -- the next record is not found, because the store failed
 pub returns-in_err-stored : goal.returns-in_err-stored
 returns-in_err-stored g c = record {
-  small = search rules;
+  small = said_of_none _ c.from_residual.result c.from_residual.ensures.0;
   looks = sums_blind (amount_under c.args.tariff.now) (CanCost c.args.tariff.now)
       c.records.invariant.sums c.from_residual.result c.from_residual.ensures.0
       c.in_err-stored.ensures.looks;
@@ -42,7 +43,8 @@ returns-in_err-amount g c =
     let f = amount_under c.args.tariff.now in
     let Told = CanCost c.args.tariff.now in
     record {
-      small = search rules;
+      small = said_of_none _ c.from_residual-in_err-amount.result
+          c.from_residual-in_err-amount.ensures.0;
       looks = sums_no_more f Told
           (sums_still f Told c.records.invariant.sums c.in_ok-stored.ensures.looks)
           c.from_residual-in_err-amount.result c.from_residual-in_err-amount.ensures.0;
@@ -62,8 +64,8 @@ returns-in_default-checked_add g c =
           (ap (λ n. c.records.cost + n) c.in_ok-amount.ensures.amount)
           c.in_ok-amount.ensures.can)
           (λ tables least. record {
-            cost = has_no_room _ (let over = c.in_default-checked_add.ensures in
-                omega (arith, least, over));
+            cost = part_overflows (c.records.cost + c.in_ok-amount.amount) _
+                c.in_default-checked_add.ensures least;
             can = λ none. absurd (true≢false (sym none));
           });
     }
@@ -81,8 +83,7 @@ returns-then-more-gt-MAX_COST g c =
           (c.in-Some-checked_add.ensures.1 ∙ ap (λ n. c.records.cost + n) c.in_ok-amount.ensures.amount)
           c.in_ok-amount.ensures.can)
           (λ tables least. record {
-            cost = has_no_room _ (let over = c.if-more-gt-MAX_COST.true in
-                omega (arith, least, over));
+            cost = part_too_much c.in-Some-checked_add.more _ c.if-more-gt-MAX_COST.true least;
             can = λ none. absurd (true≢false (sym none));
           });
     }
@@ -97,7 +98,7 @@ records-preserved g c =
           (rw c.in-Some.is at c.in_ok-stored.ensures.looks)
           (c.in-Some-checked_add.ensures.1 ∙ ap (λ n. c.records.cost + n) c.in_ok-amount.ensures.amount)
           c.in_ok-amount.ensures.can;
-      small = (let small = c.if-more-gt-MAX_COST.false in omega (arith, small));
+      small = c.if-more-gt-MAX_COST.false;
     }
 
 -- there are too many

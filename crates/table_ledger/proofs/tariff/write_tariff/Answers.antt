@@ -5,7 +5,7 @@ use Rattle.table_model.specs.TableChanges.{reprice_step, walk}
 use Rattle.tree_tables.specs.Steps.{Always}
 use Rattle.table_ledger.proofs.CodeDays.{kept_day}
 use Rattle.table_ledger.proofs.StepLemmas.{does_so, does_then}
-use Rattle.table_ledger.proofs.Refusals.{does_failed, does_failed_behind}
+use Rattle.table_ledger.proofs.Refusals.{does_failed, does_failed_next}
 use Rattle.table_ledger.proofs.tariff.write_tariff.Goals as goal
 
 -- the prices, the tariff's row and the sums
@@ -38,7 +38,7 @@ returns-in_err-reprice_all g c = record {
 pub returns-in_err-put_tariff : goal.returns-in_err-put_tariff
 returns-in_err-put_tariff g c = record {
   does =
-      does_failed_behind c.from_residual-in_err-put_tariff.result
+      does_failed_next c.from_residual-in_err-put_tariff.result
       c.from_residual-in_err-put_tariff.ensures.0 c.in_ok-reprice_all.ensures.does
       c.in_err-put_tariff.ensures.does;
 }

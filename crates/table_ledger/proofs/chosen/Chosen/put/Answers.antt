@@ -2,7 +2,7 @@ use Rattle.std.proofs.Common.{◌∙◌, ap, sym, cond, Some}
 use Rattle.std.specs.Cmp.Lexicographic.{texts_ties}
 use Rattle.std.specs.Map.{lookup}
 use Rattle.table_ledger.specs.Adoptions.{last_chosen}
-use Rattle.table_ledger.proofs.Inserting.{lookup-insert_entry}
+use Rattle.tree_tables.proofs.Inserting.{lookup-insert_entry}
 use Rattle.table_ledger.proofs.chosen.Chosen.put.Goals as goal
 
 pub returns : goal.returns

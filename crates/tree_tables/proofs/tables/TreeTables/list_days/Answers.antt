@@ -1,4 +1,4 @@
-use Rattle.std.proofs.Common.{◌∙◌, ◌≤◌, ◌^◌, List, length, rules, subst, sym}
+use Rattle.std.proofs.Common.{◌∙◌, ◌≤◌, ◌^◌, List, ap, length, map, rules, subst, sym}
 use Rattle.std.specs.List.{AllByRecursion}
 use Rattle.sqlite_value.specs.Order.{Row}
 use Rattle.table_model.specs.Tables.{Tables}
@@ -6,6 +6,7 @@ use Rattle.tree_tables.specs.Fits.{ChargeFits, DaysFit}
 use Rattle.tree_tables.specs.Holds.{Holds}
 use Rattle.tree_tables.specs.States.{HasCleanDisk, state}
 use Rattle.tree_tables.specs.Steps.{IsCaused}
+use Rattle.tree_tables.specs.declared.day_rows.StoredDay.{StoredDay}
 use Rattle.tree_tables.proofs.DayRows.{days_read, days_run}
 use Rattle.tree_tables.proofs.Looking.{caused_memory, err_so, looks_read}
 use Rattle.tree_tables.proofs.tables.TreeTables.list_days.Goals as goal
@@ -14,7 +15,9 @@ pub returns : goal.returns
 returns g c = record {
   looks = looks_read g.S.Store c.charges.result c.list_run.ensures.quiet
       c.in_ok-days.ensures.same c.charges.ensures.made
-      (λ list made clean tables holds. made ∙ days_read c.args.period tables
+      (λ list made clean tables holds. made
+      ∙ ap (map (λ (day : StoredDay). day.charge)) c.deref.ensures.value
+      ∙ days_read c.args.period tables
       ((g.S.Store.view c.args.self.now.store).trees 4) c.period_key.new.key
       c.in_ok-days.days.items holds.days holds.placed
       c.in_ok-period_key.ensures.made (c.in_ok-days.ensures.found clean));

@@ -1,36 +1,36 @@
-use Rattle.std.proofs.Common.{rules}
 use Rattle.std.proofs.lemmas.Result.{err_from_is_err_and}
-use Rattle.sqlite_trees.specs.declared.error.StoreError.TheVariants.{Corrupt}
 use Rattle.table_model.specs.Tables.{Tables}
 use Rattle.tree_tables.specs.Fits.{AllNamed}
 use Rattle.tree_tables.specs.Holds.{Holds}
 use Rattle.tree_tables.specs.States.{HasCleanDisk, state}
 use Rattle.tree_tables.specs.Steps.{IsCaused}
-use Rattle.tree_tables.proofs.FoundNames.{named_fits, named_more, never_missed}
+use Rattle.tree_tables.proofs.FoundNames.{named_more, one_named}
 use Rattle.tree_tables.proofs.Looking.{fails_behind, looks_also}
 use Rattle.tree_tables.proofs.tables.TreeTables.read_named.Goals as goal
 
 -- one more record is found
 pub loop-named-preserved : goal.loop-named-preserved
 loop-named-preserved g c =
-    looks_also c.loop-named.invariant (rw c.in-Some.is at c.in_ok-record.ensures.looks)
+    looks_also c.loop-named.invariant c.in_ok-record.ensures.looks
     (λ tables so_far found. named_more c.args.names.now c.loop-named.named-index _ tables
-    c.loop-named.all.items c.push.new.self.items c.in-Some.record c.loop-named-test.true
+    c.loop-named.all.items c.push.new.self.items c.in_ok-record.record c.loop-named-test.true
     c.in_ok-push.ensures.items so_far found)
 
 -- why a record was not found, after the others
 pub returns-in_err-record-clause-cause : goal.returns-in_err-record-clause-cause
 returns-in_err-record-clause-cause g c =
     let start = state g.S.Store c.args.self.now.store in
-    let end = state g.S.Store c.find_record.new.self.store in
+    let end = state g.S.Store c.record_named.new.self.store in
     let names = c.args.names.now in
     let cause : HasCleanDisk end → (tables : Tables) → Holds start.view.trees tables
     → AllNamed names tables → IsCaused start end c.in_err-record.field-0.0 =
     fails_behind {When = AllNamed names} _ c.loop-named.invariant
     c.in_err-record.ensures.looks.survives (λ clean tables holds so_far all.
     c.in_err-record.ensures.cause clean tables holds
-    (named_fits tables names c.loop-named.named-index _ c.loop-named-test.true all)) in
-    search rules
+    (one_named tables names c.loop-named.named-index _ c.loop-named-test.true all)) in
+    let p = err_from_is_err_and c.from_residual.result
+    c.from_residual.ensures.1 in
+    rw (p.1, p.2) cause
 
 -- for the list only memory may be lacking
 pub returns-in_err-push-clause-cause : goal.returns-in_err-push-clause-cause
@@ -38,12 +38,3 @@ returns-in_err-push-clause-cause g c =
     let p = err_from_is_err_and c.from_residual-in_err-push.result
     c.from_residual-in_err-push.ensures.1 in
     rw (p.1, p.2) (λ clean tables holds all. tt)
-
--- a name that has a record is not missed
-pub returns-in_default-clause-cause : goal.returns-in_default-clause-cause
-returns-in_default-clause-cause g c =
-    let names = c.args.names.now in
-    let missed = rw c.in_default.is at c.in_ok-record.ensures.looks in
-    fails_behind {When = AllNamed names} Corrupt c.loop-named.invariant missed.survives
-    (λ clean tables holds so_far all. absurd (never_missed tables names c.loop-named.named-index _
-    c.loop-named-test.true all ((missed.found clean).known tables holds)))

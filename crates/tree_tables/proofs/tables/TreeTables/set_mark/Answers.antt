@@ -1,5 +1,6 @@
-use Rattle.std.proofs.Common.{◌≡◌, ◌∷◌, [], ◌∙◌, ap, pos}
+use Rattle.std.proofs.Common.{◌≡◌, ◌∷◌, [], ap, pos}
 use Rattle.sqlite_value.specs.Order.{column}
+use Rattle.sqlite_value.specs.Value.{owned}
 use Rattle.sqlite_value.specs.declared.value.Value.TheVariants.{Int}
 use Rattle.table_model.specs.RowChanges.{mark_at}
 use Rattle.tree_tables.specs.Columns.{flag}
@@ -28,20 +29,20 @@ returns g c = record {
       let old = ghosts.view c.args.self.now.store in
       let look = c.find_row.ensures.quiet in
       let step = c.change_row.ensures.quiet in
-      let last = c.change_row-2.ensures.quiet in
+      let last = c.change_mark.ensures.quiet in
       let name = column c.find_row.new.row 0 in
       let identity = column c.find_row.new.row 1 in
-      let from_is : c.mark_row.new.row ≡ column c.find_row.new.row 9 ∷ identity ∷ name ∷ [] =
-      c.in_ok-mark_row.ensures
-      ∙ (λ i. c.get.ensures i ∷ c.get-identity.ensures i ∷ c.get-name.ensures i ∷ []) in
-      let to_is : c.mark_row-2.new.row ≡ Int (pos (flag c.args.mark)) ∷ identity ∷ name ∷ [] =
-      c.in_ok-mark_row-2.ensures
-      ∙ (λ i. c.mark_value.ensures i ∷ c.get-identity.ensures i ∷ c.get-name.ensures i ∷ []) in
-      does_after ghosts c.change_row-2.result (quiet_both ghosts look step)
+      let from_is : owned c.get.result ∷ owned c.get-identity.result ∷ owned c.get-name.result ∷ []
+      ≡ column c.find_row.new.row 9 ∷ identity ∷ name ∷ [] =
+      λ i. c.get.ensures i ∷ c.get-identity.ensures i ∷ c.get-name.ensures i ∷ [] in
+      let to_is : owned c.mark_value.result ∷ owned c.get-identity.result
+      ∷ owned c.get-name.result ∷ [] ≡ Int (pos (flag c.args.mark)) ∷ identity ∷ name ∷ [] =
+      λ i. c.mark_value.ensures i ∷ c.get-identity.ensures i ∷ c.get-name.ensures i ∷ [] in
+      does_after ghosts c.change_mark.result (quiet_both ghosts look step)
       (λ clean. (rewrites_behind {old = old}
       (c.in_ok-find_row.ensures.same (clean_before ghosts step clean))
       (c.in_ok-change_row.ensures.done clean)).only)
-      last c.change_row-2.ensures.kept c.change_row-2.ensures.done
+      last c.change_mark.ensures.kept c.change_mark.ensures.done
       (λ clean rewritten tables holds when.
       let after = clean_before ghosts last clean in
       let before = clean_before ghosts step after in

@@ -1,10 +1,6 @@
-use Rattle.std.proofs.Common.{◌∙◌, [], ◌∷◌, ap}
-use Rattle.sqlite_trees.specs.View.{View}
-use Rattle.sqlite_trees.specs.Tree.{insert_entry, remove_entry}
-use Rattle.sqlite_value.specs.Keys.{plain}
-use Rattle.tree_tables.proofs.Holding.{with_book}
+use Rattle.std.proofs.Common.{◌∙◌}
 use Rattle.tree_tables.proofs.Looking.{does_behind, clean_before}
-use Rattle.tree_tables.proofs.TheBook.{book_there, book_changed, book_ruled, sums_said}
+use Rattle.tree_tables.proofs.TheBook.{book_there, book_rewritten, book_ruled, sums_said}
 use Rattle.tree_tables.proofs.tables.TreeTables.set_rule.Goals as goal
 
 pub returns : goal.returns
@@ -21,17 +17,11 @@ returns g c = record {
       c.in_ok-read_book.field-0.amount there.1 c.in_ok-read_book.ensures.held
       c.in_ok-read_book.ensures.amount in
       let made = c.with_rule-book.ensures in
-      with_book holds (record tables.book {
+      book_rewritten (g.S.Store.view c.args.self.now.store) (record tables.book {
         rule = c.args.rule;
         adopted = c.args.period;
-      }) rewritten.others
-      (rewritten.rows_now
-      ∙ ap (λ (v : View). insert_entry plain c.book_row.new.row
-      (remove_entry plain c.find_row.new.row (v.trees 0))) (c.in_ok-find_row.ensures.same before)
-      ∙ ap (λ one. insert_entry plain c.book_row.new.row
-      (remove_entry plain one ((g.S.Store.view c.args.self.now.store).trees 0))) there.1
-      ∙ book_changed _ tables.book c.book_row.new.row holds.book
-      ∙ ap (λ row. row ∷ []) (book_ruled c.book_row.new.row tables.book c.with_rule-book.result
+      }) (c.in_ok-find_row.ensures.same before) rewritten there.1
+      (book_ruled c.book_row.new.row tables.book c.with_rule-book.result
       c.args.rule c.args.period c.in_ok-book_row.ensures
-      made.rule made.adopted (made.held ∙ said.0) (made.amount ∙ said.1))));
+      made.rule made.adopted (made.held ∙ said.0) (made.amount ∙ said.1)) holds);
 }
