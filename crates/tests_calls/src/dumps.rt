@@ -70,15 +70,15 @@ fn a_spanned_record_is_joined(rt: HostRuntime) -> Result<(), Fail> {
     Ok(())
 }
 
-/// Tries the sample, and gives what was answered and written.
-fn trial_result(alloc: Global) -> Result<(Result<Receipt, ReportFault>, Page), Fail> {
-    let sample = Record::Sample.bytes();
+/// Tries a dump, and gives what was answered and written.
+pub(crate) fn trial_result(
+    alloc: Global,
+    dump: Pieces<'_>,
+    page: Page,
+) -> Result<(Result<Receipt, ReportFault>, Page), Fail> {
     let tariff = Tariff::flat(alloc, 20_000, 500, 0).ok_or("no tariff")?;
-    let mut source = Source::new(Pieces {
-        left: &sample,
-        size: LEN,
-    });
-    let mut sink = Sink::new(Page::new());
+    let mut source = Source::new(dump);
+    let mut sink = Sink::new(page);
     let answer = trial(
         alloc,
         &mut source,
@@ -100,9 +100,10 @@ fn is_refused(answer: Result<Receipt, ReportFault>) -> bool {
 
 #[test]
 fn a_record_is_tried(rt: HostRuntime) -> Result<(), Fail> {
-    let first = trial_result(rt.alloc())?;
+    let sample = Record::Sample.bytes();
+    let first = trial_result(rt.alloc(), Pieces::new(&sample, LEN), Page::new())?;
     let (answer, page) = if is_refused(first.0) {
-        trial_result(rt.alloc())?
+        trial_result(rt.alloc(), Pieces::new(&sample, LEN), Page::new())?
     } else {
         first
     };
@@ -122,27 +123,33 @@ fn a_record_is_tried(rt: HostRuntime) -> Result<(), Fail> {
     Ok(())
 }
 
-/// Checks step 2 and the first segment of another record after it, and gives what was answered
-/// and written.
-fn check_result(alloc: Global) -> (Result<Stop, ReportFault>, Page) {
-    let mut dump = [0; TORN];
-    put(&mut dump, 0, &Record::Step2.bytes());
-    // There is room for its first segment alone.
-    put(&mut dump, LEN, &spanned());
-    let mut source = Source::new(Pieces {
-        left: &dump,
-        size: LEN,
-    });
-    let mut sink = Sink::new(Page::new());
+/// Checks a dump, and gives what was answered and written.
+pub(crate) fn check_result(
+    alloc: Global,
+    dump: Pieces<'_>,
+    page: Page,
+) -> (Result<Stop, ReportFault>, Page) {
+    let mut source = Source::new(dump);
+    let mut sink = Sink::new(page);
     let answer = check_list(alloc, &mut source, Layout::Rdw, MAX_READS, &mut sink);
     (answer, sink.into_inner())
 }
 
+/// Step 2, and the first segment of another record after it.
+fn torn() -> [u8; TORN] {
+    let mut dump = [0; TORN];
+    put(&mut dump, 0, &Record::Step2.bytes());
+    // There is room for its first segment alone.
+    put(&mut dump, LEN, &spanned());
+    dump
+}
+
 #[test]
 fn a_torn_end_is_checked(rt: HostRuntime) {
-    let first = check_result(rt.alloc());
+    let dump = torn();
+    let first = check_result(rt.alloc(), Pieces::new(&dump, LEN), Page::new());
     let (answer, page) = if first.0 == Err(ReportFault::Memory) {
-        check_result(rt.alloc())
+        check_result(rt.alloc(), Pieces::new(&dump, LEN), Page::new())
     } else {
         first
     };

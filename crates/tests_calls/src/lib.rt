@@ -8,8 +8,6 @@ mod books;
 #[cfg(test)]
 mod dumps;
 #[cfg(test)]
-mod headers;
-#[cfg(test)]
 mod lines;
 #[cfg(test)]
 mod long_dumps;
@@ -27,6 +25,8 @@ mod sample;
 mod serving;
 #[cfg(test)]
 mod tables;
+#[cfg(test)]
+mod tariffs;
 #[cfg(test)]
 mod test_streams;
 #[cfg(test)]

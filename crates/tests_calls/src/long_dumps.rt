@@ -1,16 +1,26 @@
 //! Dumps of any length: how much memory is asked for while they are read, and how much is in use.
 
-use crate::headers::Headers;
-use book_core::{LedgerFault, PlainLedger, ShaNames, Sink, Source};
+use crate::dumps::{check_result, trial_result};
+use crate::test_streams::{Page, Pieces};
+use book_core::{LedgerFault, PlainLedger, ShaNames, Source};
 use book_import::{MAX_READS, Receipt, Stop, import};
-use program_output::{check_list, trial};
 use smf_frames::Layout;
 use std::alloc::Global;
+use std::fs;
 use std::process::Abort;
 use std::rt::Files;
 use std::test::Fail;
-use std::{fs, io};
-use tariff_rules::Tariff;
+
+/// How long a dump header is.
+const LEN: usize = 18;
+
+/// A dump header of 2024-01-31, 08:00, as a dump has it.
+const HEADER: [u8; LEN] = [
+    // 0: length 18, complete; flag, type 2, time 08:00
+    0x00, 0x12, 0x00, 0x00, 0x00, 0x02, 0x00, 0x2B, 0xF2, 0x00,
+    // 10: date 2024-01-31, system SYSA
+    0x01, 0x24, 0x03, 0x1F, 0xE2, 0xE8, 0xE2, 0xC1,
+];
 
 /// This many dump headers have 72 MB.
 const MANY: u32 = 4_000_000;
@@ -31,7 +41,7 @@ fn headers(count: u32) -> Receipt {
 fn import_headers(rt: &impl Abort, alloc: Global, count: u32) -> Result<(), Fail> {
     let mut ledger = PlainLedger::new(alloc, ShaNames)?;
     for _ in 0..2 {
-        let mut source = Source::new(Headers::of(count));
+        let mut source = Source::new(Pieces::repeated(&HEADER, count));
         let receipt = import(alloc, &mut source, Layout::Rdw, MAX_READS, &mut ledger);
         if receipt.stop != Stop::Ledger(LedgerFault::Memory) {
             assert_eq!(rt; receipt, headers(count));
@@ -75,25 +85,13 @@ fn assert_little_more<R: Files + AllocGlobal + Abort>(rt: &R, before: u64) -> Re
 
 /// Checks a given number of dump headers, and keeps nothing of the list.
 fn check_headers(rt: &impl Abort, alloc: Global, count: u32) {
-    let mut source = Source::new(Headers::of(count));
-    let mut sink = Sink::new(io::sink());
-    let answer = check_list(alloc, &mut source, Layout::Rdw, MAX_READS, &mut sink);
+    let (answer, _) = check_result(alloc, Pieces::repeated(&HEADER, count), Page::none());
     assert_eq!(rt; answer, Ok(Stop::End));
 }
 
 /// Tries a given number of dump headers, and keeps nothing of the texts.
 fn try_headers(rt: &impl Abort, alloc: Global, count: u32) -> Result<(), Fail> {
-    let tariff = Tariff::flat(alloc, 20_000, 500, 0).ok_or("no tariff")?;
-    let mut source = Source::new(Headers::of(count));
-    let mut sink = Sink::new(io::sink());
-    let answer = trial(
-        alloc,
-        &mut source,
-        Layout::Rdw,
-        MAX_READS,
-        tariff,
-        &mut sink,
-    );
+    let (answer, _) = trial_result(alloc, Pieces::repeated(&HEADER, count), Page::none())?;
     assert_eq!(rt; answer, Ok(headers(count)));
     Ok(())
 }

@@ -30,10 +30,7 @@ const TOTAL: &str = "\n\
 
 /// Serves a request that comes in pieces, and gives what was served and written.
 fn served<L: Ledger>(alloc: Global, ledger: &mut L, request: &[u8], size: usize) -> (Served, Page) {
-    let mut source = Source::new(Pieces {
-        left: request,
-        size,
-    });
+    let mut source = Source::new(Pieces::new(request, size));
     let mut sink = Sink::new(Page::new());
     let served = serve_one(alloc, &mut source, &mut sink, ledger);
     (served, sink.into_inner())

@@ -7,42 +7,9 @@ use crate::lines::{
 };
 use crate::runs::{Expected, Step, Steps};
 use crate::sample::Record;
+use crate::tariffs::{DECEMBER, JANUARY, JANUARY_AGAIN};
 use book_core::LedgerFault;
 use office::Report;
-
-/// Two currency units for a CPU second, and a twentieth for 1,000 blocks.
-const JANUARY: &str = r#"effective = "2024-01-01"
-[rates]
-step_cpu = 20000
-step_excp = 500
-step_record = 0
-job_cpu = 0
-job_excp = 0
-job_record = 0
-"#;
-
-/// The same rates from the same day on, in another text.
-const JANUARY_AGAIN: &str = r#"# again
-effective = "2024-01-01"
-[rates]
-step_cpu = 20000
-step_excp = 500
-step_record = 0
-job_cpu = 0
-job_excp = 0
-job_record = 0
-"#;
-
-/// The same rates from the day before on.
-const DECEMBER: &str = r#"effective = "2023-12-31"
-[rates]
-step_cpu = 20000
-step_excp = 500
-step_record = 0
-job_cpu = 0
-job_excp = 0
-job_record = 0
-"#;
 
 const TARIFF: (Step, Expected) = (Step::Tariff(JANUARY), Expected::Done);
 

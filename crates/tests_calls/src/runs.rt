@@ -6,6 +6,7 @@ ghost use Rattle.std.specs.Prelude.{IfSome};
 ghost use Rattle.office.specs.Runs.{IsAskableWithoutReader};
 
 use crate::sample::Record;
+use crate::tariffs::tariff_text;
 use crate::test_streams::has_lines;
 use book_core::{Ledger, LedgerFault, Ruled};
 use book_import::{Receipt, Stop};
@@ -19,6 +20,7 @@ use std::test::Fail;
 /// A request of a row.
 #[derive(Clone, Copy)]
 pub(crate) enum Step {
+    /// A tariff file that begins so.
     Tariff(&'static str),
     Import(&'static [Record]),
     Close(u16, &'static str),
@@ -54,7 +56,7 @@ fn request_of(alloc: Global, step: Step) -> Option<Asked>
     ensures { IfSome result IsAskableWithoutReader }
 {
     match step {
-        Step::Tariff(text) => Some(Asked::Tariff(String::from_str(alloc, text).ok()?)),
+        Step::Tariff(begin) => Some(Asked::Tariff(tariff_text(alloc, begin, "").ok()?)),
         Step::Import(records) => {
             let (layout, bytes) = (Layout::Rdw, dump_of(alloc, records).ok()?);
             Some(Asked::ImportBytes { layout, bytes })

@@ -2,27 +2,11 @@
 //! that was refused is made again.
 
 use crate::sample::Record;
+use crate::tariffs::{JANUARY, NIGHTS, tariff_text};
 use smf_text::{day_text, show};
 use smf_type30::{Class, Type30, class};
 use std::test::Fail;
 use tariff_rules::{Tariff, TariffFault, price};
-
-/// Half the prices from 18:00 on, on working days.
-const NIGHTS: &str = r#"effective = "2024-01-01"
-[rates]
-step_cpu = 20000
-step_excp = 500
-step_record = 0
-job_cpu = 0
-job_excp = 0
-job_record = 0
-[[shift]]
-name = "NIGHT"
-days = [1, 2, 3, 4, 5]
-from = "18:00"
-to = "24:00"
-percent = 50
-"#;
 
 /// 2024-01-31, in days since 1970-01-01.
 const LAST_OF_JANUARY: i32 = 19_753;
@@ -60,8 +44,12 @@ fn amount(tariff: &Tariff, record: Record) -> Option<u64> {
 
 #[test]
 fn a_tariff_with_a_shift_is_read(rt: HostRuntime) -> Result<(), Fail> {
-    let tariff = match Tariff::parse(rt.alloc(), NIGHTS) {
-        Err(TariffFault::Memory) => Tariff::parse(rt.alloc(), NIGHTS)?,
+    let text = match tariff_text(rt.alloc(), JANUARY, NIGHTS) {
+        Ok(text) => text,
+        Err(_refused) => tariff_text(rt.alloc(), JANUARY, NIGHTS)?,
+    };
+    let tariff = match Tariff::parse(rt.alloc(), text.as_str()) {
+        Err(TariffFault::Memory) => Tariff::parse(rt.alloc(), text.as_str())?,
         read => read?,
     };
     assert!(rt; tariff.effective() == LAST_OF_JANUARY - 30);

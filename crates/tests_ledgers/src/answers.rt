@@ -5,14 +5,12 @@ use book_import::Receipt;
 use book_reports::receipt_line_text;
 use office::Answer;
 use program_output::ledger_refused;
-use std::io::Write;
 use tests_scripts::{LineResult, push_line};
 
 /// Adds bytes, two digits each.
 pub(crate) fn push_hex(out: &mut Vec<u8>, bytes: &[u8]) -> LineResult {
-    for byte in bytes {
-        write!(out, "{byte:02x}")?;
-    }
+    let digits = hex::encode(*out.allocator(), bytes)?;
+    out.extend_from_slice(digits.as_bytes())?;
     Ok(())
 }
 

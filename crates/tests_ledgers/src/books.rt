@@ -1,7 +1,7 @@
 //! Lines on books.
 
 use crate::answers::{push_accepted, push_receipt, push_ruled};
-use crate::changed_texts::push_changes;
+use crate::changed_texts::{ShownTexts, push_changes};
 use crate::day::Day;
 use crate::dump_reading::Reading;
 use crate::failing_reads::import_each_read;
@@ -15,21 +15,21 @@ use book_import::import;
 use smf_frames::{Layout, split};
 use smf_type30::{Class, class};
 use std::alloc::{AllocError, Global};
-use std::collections::BTreeMap;
 use std::io::Write;
 use tests_scripts::{Ask, LineFault, LineResult, Named, if_read};
 
-/// Closes the periods `FROM..END`, the first through a day, each other one through the next day, up
-/// to the first close that is not done. Adds the answer to that one, and how many were done.
-fn close_each<L: Ledger>(
+/// Closes the periods from one up to another, the first through a day, each other one through the
+/// next day, up to the first close that is not done. Adds the answer to that one. Answers how many
+/// were done.
+fn close_periods<L: Ledger>(
     ledger: &mut L,
-    periods: &str,
+    from: u16,
+    end: u16,
     first: Day,
     out: &mut Vec<u8>,
-) -> LineResult {
-    let (from, end) = periods.split_once("..").ok_or(LineFault::NotUnderstood)?;
+) -> LineResult<u16> {
     let mut done: u16 = 0;
-    for period in from.parse::<u16>()?..end.parse::<u16>()? {
+    for period in from..end {
         let Some(day) = first.days_later(done) else {
             break;
         };
@@ -41,21 +41,70 @@ fn close_each<L: Ledger>(
             }
         }
     }
+    Ok(done)
+}
+
+/// Closes the periods `FROM..END`, and adds how many were done.
+fn close_each<L: Ledger>(ledger: &mut L, words: &[&str], out: &mut Vec<u8>) -> LineResult {
+    let [periods, day] = words else {
+        return Err(LineFault::NotUnderstood);
+    };
+    let (from, end) = periods.split_once("..").ok_or(LineFault::NotUnderstood)?;
+    let (from, end) = (from.parse::<u16>()?, end.parse::<u16>()?);
+    let done = close_periods(ledger, from, end, Day::of(day)?, out)?;
     writeln!(out, "DONE {done}")?;
     Ok(())
 }
 
-/// Reads a dump into books.
-fn import_dump<L: Ledger>(
-    alloc: Global,
+/// Submits a tariff.
+fn push_tariff<L: Ledger>(
+    named: &Named,
     ledger: &mut L,
-    reading: Reading,
-    dump: &[u8],
+    ask: Ask<'_>,
     out: &mut Vec<u8>,
 ) -> LineResult {
-    let mut source = Source::new(reading.reader(dump));
+    let text = named.read_texts(ask.words, ask.body)?;
+    push_ruled(out, ledger.tariff(text.as_str()))
+}
+
+/// Closes a period through a day.
+fn push_close<L: Ledger>(ledger: &mut L, words: &[&str], out: &mut Vec<u8>) -> LineResult {
+    let [period, day] = words else {
+        return Err(LineFault::NotUnderstood);
+    };
+    let (period, day) = (period.parse::<u16>()?, Day::of(day)?);
+    push_ruled(out, ledger.close(period, day.number))
+}
+
+/// Chooses a record, or adopts a rule.
+fn push_choice<L: Ledger>(
+    named: &Named,
+    ledger: &mut L,
+    ask: Ask<'_>,
+    out: &mut Vec<u8>,
+) -> LineResult {
+    let [word] = ask.words else {
+        return Err(LineFault::NotUnderstood);
+    };
+    let answer = match ask.verb {
+        "choose" => ledger.choose(name_in(named, word)?),
+        _ => ledger.adopt_identity(word.parse::<u8>()?),
+    };
+    push_ruled(out, answer)
+}
+
+/// Reads the dump of parts into books.
+fn import_dump<L: Ledger>(
+    named: &Named,
+    ledger: &mut L,
+    reading: Reading,
+    parts: &[&str],
+    out: &mut Vec<u8>,
+) -> LineResult {
+    let dump = named.read_dump(parts)?;
+    let mut source = Source::new(reading.reader(&dump));
     let reads = reading.allowed();
-    let receipt = import(alloc, &mut source, reading.layout, reads, ledger);
+    let receipt = import(named.alloc(), &mut source, reading.layout, reads, ledger);
     push_receipt(out, &receipt)?;
     reading.push_asked(out, source.asked())
 }
@@ -76,7 +125,50 @@ fn accept_each<L: Ledger>(
     Ok(())
 }
 
+/// Asks books the requests of a body: as one list, or as one that repeats them.
+fn push_list<L: Ledger>(
+    named: &Named,
+    layout: Layout,
+    ledger: &mut L,
+    ask: Ask<'_>,
+    out: &mut Vec<u8>,
+) -> LineResult {
+    match ask.words {
+        [times] => push_repeated(named, layout, ledger, ask.body, times, out),
+        _ => push_answers(named, layout, ledger, ask.body, out),
+    }
+}
+
 impl BookLines {
+    /// Adds the texts that changed since they were last shown.
+    fn push_new_texts<L: Ledger>(
+        &mut self,
+        alloc: Global,
+        ledger: &mut L,
+        words: &[&str],
+        out: &mut Vec<u8>,
+    ) -> LineResult {
+        if !words.is_empty() {
+            return Err(LineFault::NotUnderstood);
+        }
+        let shown_texts = self
+            .shown_texts
+            .get_or_insert_with(|| ShownTexts::none(alloc));
+        push_changes(alloc, shown_texts, ledger, out)
+    }
+
+    /// Adds a text.
+    fn push_book_text<L: Ledger>(
+        &self,
+        alloc: Global,
+        ledger: &mut L,
+        ask: Ask<'_>,
+        out: &mut Vec<u8>,
+    ) -> LineResult {
+        let text = BookText::of(ask.verb, ask.words)?;
+        push_text(alloc, &mut TextOf { ledger, text }, self.writing, out)
+    }
+
     /// Answers a line, each by one call of the books but for `list`, `accept`, `changes` and what a
     /// row does many times.
     fn answer<L: Ledger>(
@@ -86,34 +178,18 @@ impl BookLines {
         ask: Ask<'_>,
         out: &mut Vec<u8>,
     ) -> LineResult {
-        let (alloc, reading) = (named.alloc(), self.reading);
-        match (ask.verb, ask.words) {
-            ("tariff", names) => {
-                let text = named.read_texts(names, ask.body)?;
-                push_ruled(out, ledger.tariff(text.as_str()))
-            }
-            ("close", [period, day]) => {
-                let (period, day) = (period.parse::<u16>()?, Day::of(day)?);
-                push_ruled(out, ledger.close(period, day.number))
-            }
-            ("choose", [word]) => push_ruled(out, ledger.choose(name_in(named, word)?)),
-            ("adopt", [word]) => push_ruled(out, ledger.adopt_identity(word.parse::<u8>()?)),
-            ("closes", [periods, day]) => close_each(ledger, periods, Day::of(day)?, out),
-            ("import", parts) => import_dump(alloc, ledger, reading, &named.read_dump(parts)?, out),
-            ("accept", parts) => accept_each(alloc, ledger, &named.read_dump(parts)?, out),
-            ("import-each-read", words) => import_each_read(named, ledger, reading, words, out),
-            ("list", [times]) => {
-                push_repeated(named, reading.layout, ledger, ask.body, times, out)
-            }
-            ("list", _) => push_answers(named, reading.layout, ledger, ask.body, out),
-            ("changes", []) => {
-                let shown_texts = self.shown_texts.get_or_insert_with(|| BTreeMap::new(alloc));
-                push_changes(alloc, shown_texts, ledger, out)
-            }
-            (verb, words) => {
-                let text = BookText::of(verb, words)?;
-                push_text(alloc, &mut TextOf { ledger, text }, self.writing, out)
-            }
+        let (alloc, reading, words) = (named.alloc(), self.reading, ask.words);
+        match ask.verb {
+            "tariff" => push_tariff(named, ledger, ask, out),
+            "close" => push_close(ledger, words, out),
+            "choose" | "adopt" => push_choice(named, ledger, ask, out),
+            "closes" => close_each(ledger, words, out),
+            "import" => import_dump(named, ledger, reading, words, out),
+            "accept" => accept_each(alloc, ledger, &named.read_dump(words)?, out),
+            "import-each-read" => import_each_read(named, ledger, reading, words, out),
+            "list" => push_list(named, reading.layout, ledger, ask, out),
+            "changes" => self.push_new_texts(alloc, ledger, words, out),
+            _ => self.push_book_text(alloc, ledger, ask, out),
         }
     }
 }

@@ -39,17 +39,33 @@ impl Reading {
     pub(crate) fn of(words: &[&str]) -> LineResult<Reading> {
         let mut reading = Reading::plain();
         for word in words {
-            match (*word, word.split_once(':')) {
-                ("bdw", _) => reading.layout = Layout::Bdw,
-                ("endless", _) => reading.is_endless = true,
-                ("counted", _) => reading.is_counted = true,
-                (_, Some(("pieces", size))) => reading.limits.size = size.parse::<u32>()? as usize,
-                (_, Some(("fails", reads))) => reading.limits.calls = reads.parse::<u32>()?,
-                (_, Some(("reads", reads))) => reading.reads = reads.parse::<u32>()?,
-                _ => return Err(LineFault::NotUnderstood),
-            }
+            reading.set(word)?;
         }
         Ok(reading)
+    }
+
+    /// Sets what a word says.
+    fn set(&mut self, word: &str) -> LineResult {
+        match word {
+            "bdw" => self.layout = Layout::Bdw,
+            "endless" => self.is_endless = true,
+            "counted" => self.is_counted = true,
+            _ => return self.set_number(word),
+        }
+        Ok(())
+    }
+
+    /// Sets the number that a word says.
+    fn set_number(&mut self, word: &str) -> LineResult {
+        let (key, number) = word.split_once(':').ok_or(LineFault::NotUnderstood)?;
+        let number = number.parse::<u32>()?;
+        match key {
+            "pieces" => self.limits.size = number as usize,
+            "fails" => self.limits.calls = number,
+            "reads" => self.reads = number,
+            _ => return Err(LineFault::NotUnderstood),
+        }
+        Ok(())
     }
 
     /// The same, except that each read after a given number fails.

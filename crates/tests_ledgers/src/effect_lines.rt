@@ -63,40 +63,50 @@ fn view_of(through: Option<i32>, held: &[Member]) -> View
 }
 
 /// Adds what is done, and the name of a record.
-fn push_named(out: &mut Vec<u8>, done: &[u8], name: &[u8; 32]) -> LineResult {
-    out.extend_from_slice(done)?;
+fn push_named(out: &mut Vec<u8>, done: &str, name: &[u8; 32]) -> LineResult {
+    out.extend_from_slice(done.as_bytes())?;
     push_hex(out, name)
 }
 
-/// Adds what is done, and a price.
-fn push_price(out: &mut Vec<u8>, done: &[u8], priced: &Priced) -> LineResult {
-    out.extend_from_slice(done)?;
+/// Adds what is done to a charge row, and the price.
+fn push_day_change(out: &mut Vec<u8>, change: &DayChange) -> LineResult {
+    let (done, priced) = match change {
+        DayChange::Add(priced) => (" ADD ", priced),
+        DayChange::Take(priced) => (" TAKE ", priced),
+    };
+    out.extend_from_slice(done.as_bytes())?;
     push_priced(out, priced)
+}
+
+/// Adds what is done to an adjustment line, and the name of its record.
+fn push_line_change(out: &mut Vec<u8>, change: &LineChange) -> LineResult {
+    let (done, name) = match change {
+        LineChange::AddPlus(name) => (" PLUS ", name),
+        LineChange::DropPlus(name) => (" NO PLUS ", name),
+        LineChange::AddMinus(name) => (" MINUS ", name),
+        LineChange::DropMinus(name) => (" NO MINUS ", name),
+    };
+    push_named(out, done, name)
 }
 
 /// Adds all that changes: marks, charge rows, adjustment lines.
 fn push_effects(out: &mut Vec<u8>, effects: &Effects) -> LineResult {
-    if !effects.charged {
-        out.extend_from_slice(b"NOT ")?;
-    }
-    out.extend_from_slice(b"CHARGED")?;
+    let charged = if effects.charged {
+        "CHARGED"
+    } else {
+        "NOT CHARGED"
+    };
+    out.extend_from_slice(charged.as_bytes())?;
     if let Some(name) = &effects.unmark {
-        push_named(out, b" UNMARK ", name)?;
+        push_named(out, " UNMARK ", name)?;
     }
-    match &effects.day {
-        Some(DayChange::Add(priced)) => push_price(out, b" ADD ", priced)?,
-        Some(DayChange::Take(priced)) => push_price(out, b" TAKE ", priced)?,
-        None => {}
+    if let Some(change) = &effects.day {
+        push_day_change(out, change)?;
     }
-    match &effects.line {
-        Some(LineChange::AddPlus(name)) => push_named(out, b" PLUS ", name)?,
-        Some(LineChange::DropPlus(name)) => push_named(out, b" NO PLUS ", name)?,
-        Some(LineChange::AddMinus(name)) => push_named(out, b" MINUS ", name)?,
-        Some(LineChange::DropMinus(name)) => push_named(out, b" NO MINUS ", name)?,
-        None => {}
+    if let Some(change) = &effects.line {
+        push_line_change(out, change)?;
     }
-    push_line(out, "")?;
-    Ok(())
+    Ok(push_line(out, "")?)
 }
 
 /// Adds what each record after the word `new` changes.
@@ -116,20 +126,30 @@ fn push_plans(
     Ok(())
 }
 
+/// Adds what each new record of `HELD.. new NEW..` changes under a tariff.
+fn answer_under(
+    named: &Named,
+    tariff: &Tariff,
+    through: Option<i32>,
+    words: &[&str],
+    out: &mut Vec<u8>,
+) -> LineResult {
+    let at = words.iter().position(|word| *word == "new");
+    let (held, new) = words.split_at(at.ok_or(LineFault::NotUnderstood)?);
+    let held = held_records(named, tariff, held)?;
+    push_plans(named, tariff, &view_of(through, &held), new, out)
+}
+
 /// Answers `plan TEXT CLOSE HELD.. new NEW..`: what each new record changes under the tariff.
 pub(crate) fn answer_plan(named: &Named, words: &[&str], out: &mut Vec<u8>) -> LineResult {
     let [name, close, words @ ..] = words else {
         return Err(LineFault::NotUnderstood);
     };
     match tariff_of(named, name)? {
-        Ok(tariff) => {
-            let at = words.iter().position(|word| *word == "new");
-            let (held, new) = words.split_at(at.ok_or(LineFault::NotUnderstood)?);
-            let through = close_of(close)?;
-            let held = held_records(named, &tariff, held)?;
-            push_plans(named, &tariff, &view_of(through, &held), new, out)?;
+        Ok(tariff) => answer_under(named, &tariff, close_of(close)?, words, out),
+        Err(fault) => {
+            push_fault(out, fault.into());
+            Ok(())
         }
-        Err(fault) => push_fault(out, fault.into()),
     }
-    Ok(())
 }

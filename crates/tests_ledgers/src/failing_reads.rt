@@ -34,6 +34,23 @@ fn import_once<L: Ledger>(alloc: Global, ledger: &mut L, reading: Reading, dump:
     import(alloc, &mut source, reading.layout, reads, ledger)
 }
 
+/// Imports a dump from a reader that fails after a given number of reads, and once more whole. Adds
+/// both receipts, and answers whether the first import came to the failing read.
+fn push_turn<L: Ledger>(
+    alloc: Global,
+    ledger: &mut L,
+    reading: Reading,
+    reads: u16,
+    dump: &[u8],
+    out: &mut Vec<u8>,
+) -> LineResult<bool> {
+    let receipt = import_once(alloc, ledger, reading.failing(reads), dump);
+    push_receipt(out, &receipt)?;
+    push_line(out, "AGAIN")?;
+    push_receipt(out, &import_once(alloc, ledger, reading.whole(), dump))?;
+    Ok(receipt.stop == Stop::Read)
+}
+
 /// Imports a dump from a reader that fails at its first read, then from one that fails at its
 /// second, and so on up to the first that does not fail; and each time once more, whole.
 pub(crate) fn import_each_read<L: Ledger>(
@@ -48,15 +65,9 @@ pub(crate) fn import_each_read<L: Ledger>(
     for reads in 0..ENOUGH {
         let dump = numbered(named, words, reads)?;
         let mut text = Vec::new(alloc);
-        let receipt = import_once(alloc, ledger, reading.failing(reads), &dump);
-        push_receipt(&mut text, &receipt)?;
-        push_line(&mut text, "AGAIN")?;
-        push_receipt(
-            &mut text,
-            &import_once(alloc, ledger, reading.whole(), &dump),
-        )?;
+        let has_failed = push_turn(alloc, ledger, reading, reads, &dump, &mut text)?;
         cases.take(text)?;
-        if receipt.stop != Stop::Read {
+        if !has_failed {
             break;
         }
     }

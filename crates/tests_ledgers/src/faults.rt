@@ -39,58 +39,75 @@ fn key_of(word: &str) -> LineResult<Key> {
     Err(LineFault::NotUnderstood)
 }
 
+/// The value that a word names.
+fn value_of<T: Copy>(values: &[(&str, T)], word: &str) -> LineResult<T> {
+    for (name, value) in values {
+        if *name == word {
+            return Ok(*value);
+        }
+    }
+    Err(LineFault::NotUnderstood)
+}
+
+/// The faults of a tariff file that name no key.
+const TARIFF_FAULTS: [(&str, TariffFault); 5] = [
+    ("syntax", TariffFault::Syntax),
+    ("name", TariffFault::Name),
+    ("shift_conflict", TariffFault::ShiftConflict),
+    ("too_many", TariffFault::TooMany),
+    ("memory", TariffFault::Memory),
+];
+
 /// The fault of a tariff file.
 fn tariff_fault(words: &[&str]) -> LineResult<TariffFault> {
-    Ok(match words {
-        ["syntax"] => TariffFault::Syntax,
-        ["missing", key] => TariffFault::Missing(key_of(key)?),
-        ["range", key] => TariffFault::Range(key_of(key)?),
-        ["name"] => TariffFault::Name,
-        ["shift_conflict"] => TariffFault::ShiftConflict,
-        ["too_many"] => TariffFault::TooMany,
-        ["memory"] => TariffFault::Memory,
-        _ => return Err(LineFault::NotUnderstood),
-    })
+    match words {
+        ["missing", key] => Ok(TariffFault::Missing(key_of(key)?)),
+        ["range", key] => Ok(TariffFault::Range(key_of(key)?)),
+        [word] => value_of(&TARIFF_FAULTS, word),
+        _ => Err(LineFault::NotUnderstood),
+    }
 }
+
+/// The faults of books that are a word alone.
+const LEDGER_FAULTS: [(&str, LedgerFault); 14] = [
+    ("memory", LedgerFault::Memory),
+    ("store", LedgerFault::Store),
+    ("reopen", LedgerFault::Reopen),
+    ("full", LedgerFault::Full),
+    ("digest_clash", LedgerFault::DigestClash),
+    ("tariff_date", LedgerFault::TariffDate),
+    ("tariff_exists", LedgerFault::TariffExists),
+    ("records_dated", LedgerFault::RecordsDated),
+    ("not_later", LedgerFault::NotLater),
+    ("no_such_period", LedgerFault::NoSuchPeriod),
+    ("no_such_record", LedgerFault::NoSuchRecord),
+    ("not_disputed", LedgerFault::NotDisputed),
+    ("old_rule", LedgerFault::OldRule),
+    ("not_books", LedgerFault::NotBooks),
+];
 
 /// The fault of books: `tariff` with a tariff's fault, `wrong_period` with the open period, or a
 /// word alone.
 fn ledger_fault(words: &[&str]) -> LineResult<LedgerFault> {
-    Ok(match words {
-        ["tariff", fault @ ..] => LedgerFault::TariffRefused(tariff_fault(fault)?),
-        ["wrong_period", open] => LedgerFault::WrongPeriod(open.parse::<u16>()?),
-        ["memory"] => LedgerFault::Memory,
-        ["store"] => LedgerFault::Store,
-        ["reopen"] => LedgerFault::Reopen,
-        ["full"] => LedgerFault::Full,
-        ["digest_clash"] => LedgerFault::DigestClash,
-        ["tariff_date"] => LedgerFault::TariffDate,
-        ["tariff_exists"] => LedgerFault::TariffExists,
-        ["records_dated"] => LedgerFault::RecordsDated,
-        ["not_later"] => LedgerFault::NotLater,
-        ["no_such_period"] => LedgerFault::NoSuchPeriod,
-        ["no_such_record"] => LedgerFault::NoSuchRecord,
-        ["not_disputed"] => LedgerFault::NotDisputed,
-        ["old_rule"] => LedgerFault::OldRule,
-        ["not_books"] => LedgerFault::NotBooks,
-        _ => return Err(LineFault::NotUnderstood),
-    })
+    match words {
+        ["tariff", fault @ ..] => Ok(LedgerFault::TariffRefused(tariff_fault(fault)?)),
+        ["wrong_period", open] => Ok(LedgerFault::WrongPeriod(open.parse::<u16>()?)),
+        [word] => value_of(&LEDGER_FAULTS, word),
+        _ => Err(LineFault::NotUnderstood),
+    }
 }
 
-/// The fault of a dump's segments.
-fn frame_fault(word: &str) -> LineResult<FrameFault> {
-    Ok(match word {
-        "segment_length" => FrameFault::SegmentLength,
-        "block_length" => FrameFault::BlockLength,
-        "extended_block" => FrameFault::ExtendedBlock,
-        "segment_crosses_block" => FrameFault::SegmentCrossesBlock,
-        "orphan_segment" => FrameFault::OrphanSegment,
-        "missing_last" => FrameFault::MissingLast,
-        "record_too_long" => FrameFault::RecordTooLong,
-        "truncated" => FrameFault::Truncated,
-        _ => return Err(LineFault::NotUnderstood),
-    })
-}
+/// The faults of a dump's segments.
+const FRAME_FAULTS: [(&str, FrameFault); 8] = [
+    ("segment_length", FrameFault::SegmentLength),
+    ("block_length", FrameFault::BlockLength),
+    ("extended_block", FrameFault::ExtendedBlock),
+    ("segment_crosses_block", FrameFault::SegmentCrossesBlock),
+    ("orphan_segment", FrameFault::OrphanSegment),
+    ("missing_last", FrameFault::MissingLast),
+    ("record_too_long", FrameFault::RecordTooLong),
+    ("truncated", FrameFault::Truncated),
+];
 
 /// The fault of a report: `write`, `memory`, or `ledger` with the fault of books.
 pub(crate) fn report_fault(words: &[&str]) -> LineResult<ReportFault> {
@@ -109,7 +126,7 @@ pub(crate) fn stop_of(words: &[&str]) -> LineResult<Stop> {
         ["end"] => Ok(Stop::End),
         ["read"] => Ok(Stop::Read),
         ["read_limit"] => Ok(Stop::ReadLimit),
-        ["frame", fault] => Ok(Stop::Frame(frame_fault(fault)?)),
+        ["frame", fault] => Ok(Stop::Frame(value_of(&FRAME_FAULTS, fault)?)),
         ["ledger", fault @ ..] => Ok(Stop::Ledger(ledger_fault(fault)?)),
         _ => Err(LineFault::NotUnderstood),
     }

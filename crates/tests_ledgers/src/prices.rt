@@ -23,20 +23,36 @@ pub(crate) fn tariff_of(named: &Named, name: &str) -> LineResult<Result<Tariff, 
     Ok(Tariff::parse(named.alloc(), text))
 }
 
-/// Adds a price: the day, the centre, the shift, hundredths of a second of CPU time, blocks, and
-/// the amount in ten-thousandths.
-pub(crate) fn push_priced(out: &mut Vec<u8>, priced: &Priced) -> LineResult {
-    let day = priced.day;
+/// Adds a day.
+fn push_day(out: &mut Vec<u8>, day: i32) -> LineResult {
     if FIRST_DAY <= day && day <= LAST_DAY {
         let text = day_text(*out.allocator(), day)?;
         out.extend_from_slice(text.as_bytes())?;
     } else {
         out.extend_from_slice(b"NO DAY")?;
     }
-    let (centre, shift) = (priced.centre.text(), priced.shift.text());
-    let (cpu, blocks, amount) = (priced.cpu, priced.excp, priced.amount);
-    write!(out, " {centre} {shift} {cpu} {blocks} {amount}")?;
     Ok(())
+}
+
+/// Adds the centre and the shift of a price.
+fn push_place(out: &mut Vec<u8>, priced: &Priced) -> LineResult {
+    let (centre, shift) = (priced.centre.text(), priced.shift.text());
+    write!(out, " {centre} {shift}")?;
+    Ok(())
+}
+
+/// Adds hundredths of a second of CPU time, blocks, and the amount in ten-thousandths.
+fn push_amounts(out: &mut Vec<u8>, priced: &Priced) -> LineResult {
+    let (cpu, blocks, amount) = (priced.cpu, priced.excp, priced.amount);
+    write!(out, " {cpu} {blocks} {amount}")?;
+    Ok(())
+}
+
+/// Adds a price: the day, the centre, the shift, the CPU time, the blocks, and the amount.
+pub(crate) fn push_priced(out: &mut Vec<u8>, priced: &Priced) -> LineResult {
+    push_day(out, priced.day)?;
+    push_place(out, priced)?;
+    push_amounts(out, priced)
 }
 
 /// Adds what each usage record of a dump costs by a tariff.

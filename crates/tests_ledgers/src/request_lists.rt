@@ -11,25 +11,53 @@ use office::{Asked, run};
 use smf_frames::Layout;
 use tests_scripts::{Cases, LineFault, LineResult, Named};
 
+/// The request to import the dump of parts.
+fn import_by(named: &Named, layout: Layout, parts: &[&str]) -> LineResult<Asked>
+    ensures { IfOk result IsAskableWithoutReader }
+{
+    let bytes = named.read_dump(parts)?;
+    Ok(Asked::ImportBytes { layout, bytes })
+}
+
+/// The request to close a period through a day.
+fn close_by(words: &[&str]) -> LineResult<Asked>
+    ensures { IfOk result IsAskableWithoutReader }
+{
+    let [period, day] = words else {
+        return Err(LineFault::NotUnderstood);
+    };
+    let (period, day) = (period.parse::<u16>()?, Day::of(day)?);
+    let through = day.number;
+    Ok(Asked::Close { period, through })
+}
+
+/// The request that a verb and one word make.
+fn asked_by_word(named: &Named, verb: &str, words: &[&str]) -> LineResult<Asked>
+    ensures { IfOk result IsAskableWithoutReader }
+{
+    let [word] = words else {
+        return Err(LineFault::NotUnderstood);
+    };
+    match verb {
+        "choose" => Ok(Asked::Choose(name_in(named, word)?)),
+        "adopt" => Ok(Asked::Adopt(word.parse::<u8>()?)),
+        _ => Err(LineFault::NotUnderstood),
+    }
+}
+
 /// The request of a line.
 fn request_of(named: &Named, layout: Layout, line: &str) -> LineResult<Asked>
     ensures { IfOk result IsAskableWithoutReader }
 {
     let words: Vec<&str> = line.split_whitespace().collect(named.alloc())?;
-    match words.as_slice() {
-        ["tariff", names @ ..] => Ok(Asked::Tariff(named.read_texts(names, "")?)),
-        ["import", parts @ ..] => {
-            let bytes = named.read_dump(parts)?;
-            Ok(Asked::ImportBytes { layout, bytes })
-        }
-        ["close", period, day] => {
-            let (period, day) = (period.parse::<u16>()?, Day::of(day)?);
-            let through = day.number;
-            Ok(Asked::Close { period, through })
-        }
-        ["choose", word] => Ok(Asked::Choose(name_in(named, word)?)),
-        ["adopt", word] => Ok(Asked::Adopt(word.parse::<u8>()?)),
-        _ => Err(LineFault::NotUnderstood),
+    let [verb, words @ ..] = words.as_slice() else {
+        return Err(LineFault::NotUnderstood);
+    };
+    match *verb {
+        "tariff" => Ok(Asked::Tariff(named.read_texts(words, "")?)),
+        "import" => import_by(named, layout, words),
+        "close" => close_by(words),
+        verb => asked_by_word(named, verb, words),
     }
 }
 

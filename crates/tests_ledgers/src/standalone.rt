@@ -6,28 +6,38 @@ use crate::effect_lines::answer_plan;
 use crate::lines::BookLines;
 use crate::messages::push_message;
 use crate::prices::answer_price;
-use crate::receipts::receipt_of;
+use crate::receipts::{read_numbers, receipt_of};
 use crate::standalone_texts::StandaloneText;
 use crate::text_writing::{Writing, push_text};
+use smf_frames::Layout;
 use std::alloc::AllocError;
 use tests_scripts::{Ask, LineFault, LineResult, Named, if_read};
+
+/// The trial of the dump of parts under three rates.
+fn trial_of<'a>(named: &Named, reading: Reading, ask: Ask<'a>) -> LineResult<StandaloneText<'a>> {
+    let (words, parts) = ask
+        .words
+        .split_at_checked(3)
+        .ok_or(LineFault::NotUnderstood)?;
+    let mut rates = [0u64; 3];
+    read_numbers(&mut rates, words)?;
+    Ok(StandaloneText::Trial(reading, rates, named.read_dump(parts)?))
+}
+
+/// Adds what a dump is cut into, with its records if the line asks for these.
+fn push_dump(named: &Named, layout: Layout, ask: Ask<'_>, out: &mut Vec<u8>) -> LineResult {
+    let dump = named.read_dump(ask.words)?;
+    push_split(named.alloc(), layout, &dump, ask.verb == "records", out)
+}
 
 impl BookLines {
     /// The text that a line asks for.
     fn standalone_text<'a>(&self, named: &Named, ask: Ask<'a>) -> LineResult<StandaloneText<'a>> {
-        let reading = self.reading;
-        match (ask.verb, ask.words) {
-            ("write", []) => Ok(StandaloneText::Text(ask.body)),
-            ("receipt", words) => Ok(StandaloneText::Receipt(receipt_of(words)?)),
-            ("check", parts) => Ok(StandaloneText::Check(reading, named.read_dump(parts)?)),
-            ("trial", [cpu, excp, record, parts @ ..]) => {
-                let rates = [
-                    cpu.parse::<u64>()?,
-                    excp.parse::<u64>()?,
-                    record.parse::<u64>()?,
-                ];
-                Ok(StandaloneText::Trial(reading, rates, named.read_dump(parts)?))
-            }
+        match ask.verb {
+            "write" if ask.words.is_empty() => Ok(StandaloneText::Text(ask.body)),
+            "receipt" => Ok(StandaloneText::Receipt(receipt_of(ask.words)?)),
+            "check" => Ok(StandaloneText::Check(self.reading, named.read_dump(ask.words)?)),
+            "trial" => trial_of(named, self.reading, ask),
             _ => Err(LineFault::NotUnderstood),
         }
     }
@@ -38,20 +48,16 @@ impl BookLines {
         match ask.verb {
             "reader" => self.reading = Reading::of(words)?,
             "writer" => self.writing = Writing::of(words)?,
-            "split" | "records" => {
-                let dump = named.read_dump(words)?;
-                let layout = self.reading.layout;
-                push_split(alloc, layout, &dump, ask.verb == "records", out)?;
-            }
-            "price" => answer_price(named, words, out)?,
-            "plan" => answer_plan(named, words, out)?,
-            "say" => push_message(words, out)?,
-            _ => push_text(
+            "split" | "records" => return push_dump(named, self.reading.layout, ask, out),
+            "price" => return answer_price(named, words, out),
+            "plan" => return answer_plan(named, words, out),
+            "say" => return push_message(words, out),
+            _ => return push_text(
                 alloc,
                 &mut self.standalone_text(named, ask)?,
                 self.writing,
                 out,
-            )?,
+            ),
         }
         Ok(())
     }

@@ -111,6 +111,15 @@ fn push_each<T: Writes>(
     Ok(())
 }
 
+/// Adds what a writer took, in whole lines.
+fn push_taken(out: &mut Vec<u8>, taken: &[u8]) -> LineResult {
+    out.extend_from_slice(taken)?;
+    if !matches!(taken.last(), None | Some(b'\n')) {
+        push_line(out, "")?;
+    }
+    Ok(())
+}
+
 /// Writes as was set, and adds the result.
 pub(crate) fn push_text<T: Writes>(
     alloc: Global,
@@ -124,10 +133,7 @@ pub(crate) fn push_text<T: Writes>(
         Writing::Each { limits, end } => return push_each(alloc, text, limits, end, out),
     };
     let written = text.write_to(alloc, limits)?;
-    out.extend_from_slice(&written.writer.taken)?;
-    if !matches!(written.writer.taken.last(), None | Some(b'\n')) {
-        push_line(out, "")?;
-    }
+    push_taken(out, &written.writer.taken)?;
     if let Writing::To(_) = writing {
         push_took(out, &written)?;
         push_line(out, "")?;

@@ -8,7 +8,7 @@ use std::alloc::Global;
 use tests_scripts::{LimitedWriter, Limits, LineFault, LineResult};
 
 /// A text of books.
-#[derive(Clone, Copy, PartialEq, Eq, PartialOrd, Ord)]
+#[derive(Clone, Copy)]
 pub(crate) enum BookText {
     Statement(u16),
     Table(u16),
