@@ -6,7 +6,7 @@ use tests_ledgers::answer_standalone;
 use tests_scripts::{Answers, Ask, Named};
 
 /// Books of a row.
-pub(crate) trait Books: Drop {
+pub trait Books: Drop {
     /// The books with which a row begins, if the words say which.
     fn begun(alloc: Global, words: &[&str]) -> Option<Self>;
 
@@ -22,13 +22,14 @@ pub(crate) trait Books: Drop {
 
 /// A row, or none yet.
 #[derive(Drop)]
-pub(crate) struct BookRows<B: Books> {
+pub struct BookRows<B: Books> {
     books: Option<B>,
     lines: Lines,
 }
 
 impl<B: Books> BookRows<B> {
-    pub(crate) fn new() -> BookRows<B> {
+    /// No row yet.
+    pub fn new() -> BookRows<B> {
         BookRows {
             books: None,
             lines: Lines::new(),

@@ -8,7 +8,7 @@ use tests_scripts::{Ask, Named};
 
 /// How dumps are read, texts are written and requests come from here on in a row.
 #[derive(Drop)]
-pub(crate) struct Lines {
+pub struct Lines {
     pub(crate) books: BookLines,
     requests: RequestLines,
 }

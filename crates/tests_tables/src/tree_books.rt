@@ -21,7 +21,7 @@ use tree_tables::trees_in_memory;
 
 /// The trees, while no books are open on them.
 #[derive(Drop)]
-pub(crate) struct TreeBooks {
+pub struct TreeBooks {
     trees: Trees<MemStore>,
     names: Names,
 }

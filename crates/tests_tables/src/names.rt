@@ -4,7 +4,7 @@ use book_core::{Naming, ShaNames};
 
 /// Names records as the program does, or gives every record one name.
 #[derive(Clone, Copy)]
-pub(crate) struct Names {
+pub struct Names {
     has_one: bool,
 }
 

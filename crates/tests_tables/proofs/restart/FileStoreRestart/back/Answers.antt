@@ -1,5 +1,5 @@
 use Rattle.book_trees.proofs.Trees.{has_trees}
-use Rattle.tests_books.proofs.restart.FileStoreRestart.back.Goals as goal
+use Rattle.tests_tables.proofs.restart.FileStoreRestart.back.Goals as goal
 
 -- a store that keeps books has their trees
 pub returns-in-Ok-true : goal.returns-in-Ok-true
