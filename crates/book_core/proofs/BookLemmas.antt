@@ -1,5 +1,5 @@
 -- The book of a plain ledger: a period of it by its number, and what a close and a record change.
-use Rattle.std.proofs.Common.{◌≡◌, ◌∙◌, ℕ, ◌+◌, ◌-◌, ◌≤◌, List, [], ◌∷◌, ◌++◌, length, map, refl}
+use Rattle.std.proofs.Common.{◌≡◌, ◌≢◌, ◌∙◌, ℕ, ◌+◌, ◌-◌, ◌≤◌, List, [], ◌∷◌, ◌++◌, length, map, refl}
 use Rattle.std.proofs.Common.{sym, ap, Bool, true, false, Option, Some, None, slice_get, arith, inl}
 use Rattle.std.proofs.Common.{inr, zero, suc, ◌<◌, take, get_or, add-one, Result, Ok, Err}
 use Rattle.std.specs.Prelude.{◌==◌, ℤ, int_lt, not, if◌then◌else◌, ok_or}
@@ -12,6 +12,7 @@ use Rattle.std.proofs.lemmas.Bool.Decides.{nat_tests}
 use Rattle.std.proofs.lemmas.List.{length-map, map-append}
 use Rattle.std.proofs.lemmas.Option.{slice_get-map, slice_get_past, slice_get_cases}
 use Rattle.book_model.specs.declared.fault.LedgerFault.{LedgerFault}
+use Rattle.book_model.specs.declared.answer.Ruled.TheVariants.{Already, Done}
 use Rattle.book_model.specs.declared.fault.LedgerFault.TheVariants.{NoSuchPeriod}
 use Rattle.book_model.specs.Words.{Book, open_number, open_period, period_of, IsBookCall}
 use Rattle.book_model.specs.Words.{close_event, close_outcome, last_period, close_answer, is_closed}
@@ -194,7 +195,7 @@ module _ {naming : Naming} (tariffs : List AcceptedTerms) (closed : List ClosedP
       ∙ ap (λ d. close d (book_with tariffs entries posted closed choices adopted)) is_day
 
 -- a close that was asked for, by what it answered and by the event of that answer
-close_calls : (number : ℕ) (day : ℤ) (old new : Book) (result : Result Ruled LedgerFault)
+pub close_calls : (number : ℕ) (day : ℤ) (old new : Book) (result : Result Ruled LedgerFault)
     → close_answer old number day ≡ result → new ≡ after_any (close_event day result) old
     → IsBookCall (λ (value : Ruled). value) old new result (close_outcome number day)
 close_calls number day old new result answer book =
@@ -202,39 +203,12 @@ close_calls number day old new result answer book =
     (λ answer is. ap (close_event day) is) (λ fault. refl)
     (answers_itself result _ answer) book
 
--- a day is early where it is not after the last close
-early_by : (last : Option ℤ) (day : ℤ)
-    → not (option_map_or (λ close. int_lt close day) last true)
-    ≡ option_map_or (λ close. not (int_lt close day)) last false
-early_by None day = refl
-early_by (Some close) day = refl
-
--- the same by the tests in their order, on what the ledger keeps
-pub close_calls-by : (tariffs : List AcceptedTerms) (entries : List Entry) (posted : Names)
-    (periods : List ClosedPeriod) (choices : List ChosenRecord) (adopted : Option ℕ)
-    (number : ℕ) (day : ℤ) (new : Book) (next : ℕ) (closed is_open late full : Bool)
-    → next ≡ length periods + 1
-    → closed ≡ is_closed number day (ruled_by tariffs periods choices adopted)
-    → is_open ≡ (number == next)
-    → late ≡ option_map_or (λ close. int_lt close day)
-    (last_close (ruled_by tariffs periods choices adopted)) true
-    → full ≡ (number == last_period)
-    → new ≡ after_any (close_event day (close_by next closed is_open (not late) full))
-    (book_with tariffs entries posted periods choices adopted)
-    → IsBookCall (λ (value : Ruled). value)
-    (book_with tariffs entries posted periods choices adopted) new
-    (close_by next closed is_open (not late) full) (close_outcome number day)
-close_calls-by tariffs entries posted periods choices adopted number day new next closed is_open
-    late full is_next is_closed' is_open' is_late is_full changed =
-    let book = book_with tariffs entries posted periods choices adopted in
-    let last = last_close (ruled_by tariffs periods choices adopted) in
-    let same : next ≡ open_number book =
-    is_next ∙ sym (open_number-by tariffs entries posted periods choices adopted) in
-    let early = ap not is_late ∙ early_by last day in
-    close_calls number day book new _
-    (λ i. close_by (sym same i) (sym is_closed' i) (sym (is_open' ∙ ap (λ n. number == n) same) i)
-    (sym early i) (sym is_full i))
-    changed
+-- an answer that is not Done changes no book
+pub close_leaves : (day : ℤ) (answer : Result Ruled LedgerFault) (book : Book) → answer ≢ Ok Done
+    → book ≡ after_any (close_event day answer) book
+close_leaves day (Ok Done) book other = absurd (other refl)
+close_leaves day (Ok Already) book other = refl
+close_leaves day (Err fault) book other = refl
 
 -- no close changes how the entries are kept, no choice does, and no adoption
 pub kept-ruled : {naming : Naming} {tariffs : List AcceptedTerms} (closed after : List ClosedPeriod)

@@ -20,6 +20,7 @@ mod plain;
 mod pricing;
 mod record_cache;
 mod repricing;
+mod rulings;
 mod treatment;
 mod variant;
 
@@ -28,7 +29,7 @@ pub use book_model::{
 };
 // What a ledger of another crate needs to keep the same books.
 pub use acceptance::{is_full, name_of};
-pub use accepted_tariff::{AcceptedTariff, are_before, has_day_of, has_text};
+pub use accepted_tariff::{AcceptedTariff, are_before};
 pub use effects::{
     ChoiceEffects, DayChange, Effects, LineChange, Member, View, plan, plan_charge, plan_choice,
 };
@@ -38,5 +39,6 @@ pub use lines::sort_lines;
 pub use period_end::is_after;
 pub use plain::PlainLedger;
 pub use pricing::price_in;
+pub use rulings::{adopt_answer, close_answer, is_done, tariff_answer};
 pub use streams::{Sink, Source};
 pub use variant::copied;

@@ -17,7 +17,7 @@ use Rattle.std.specs.Int.Digits.{digits_of}
 use Rattle.std.specs.Str.Parse.{IsNumeral, digits_value}
 use Rattle.book_http.specs.Numbers.{is_number, decimal_value}
 use Rattle.book_http.specs.Paths.{IsPathPeriod}
-use Rattle.book_http.specs.Routes.{period, period_after}
+use Rattle.book_http.specs.Routes.{period, path_period}
 
 -- the test of digits is std's
 pub are_digits : IsNumeralModel (λ text. list_all is_ascii_digit text ≡ true) (digits_value 10)
@@ -77,8 +77,8 @@ period_named text = by (starts_with nat_eq text (codes "0")) refl
 
 -- a path that names a period after a prefix is that prefix and the number's text
 pub behind_named : (front path : List ℕ)
-    → IfSome (period_after front path) (λ n. (path ≡ front ++ decimal n) × IsPathPeriod n)
-unfolding period_after
+    → IfSome (path_period front path) (λ n. (path ≡ front ++ decimal n) × IsPathPeriod n)
+unfolding path_period
 behind_named front path =
     by (starts_with nat_eq path front) refl (period (drop (length front) path))
     (period_named (drop (length front) path))
@@ -130,8 +130,8 @@ period_found n named =
 
 -- and so it does after a prefix
 pub behind_found : (front : List ℕ) (n : ℕ) → IsPathPeriod n
-    → period_after front (front ++ decimal n) ≡ Some n
-unfolding period_after
+    → path_period front (front ++ decimal n) ≡ Some n
+unfolding path_period
 behind_found front n named =
     let starts : starts_with nat_eq (front ++ decimal n) front ≡ true =
     (bytes_eq-Decides front (take (length front) (front ++ decimal n))).1

@@ -27,14 +27,14 @@ unfoldable pub period : List ℕ → Option ℕ
 period text = if starts_with nat_eq text (codes "0") then None else decimal_value 4 text
 
 -- the period that a path names after its prefix
-unfoldable pub period_after : List ℕ → List ℕ → Option ℕ
-period_after prefix path =
+unfoldable pub path_period : List ℕ → List ℕ → Option ℕ
+path_period prefix path =
     if starts_with nat_eq path prefix then period (drop (length prefix) path) else None
 
 -- the report on the period that a path names after its prefix
 abbrev pub report_after : (ℕ → Report) → List ℕ → List ℕ → Option Route
 report_after report prefix path =
-    option_map (λ n. route_to.Report (report n)) (period_after prefix path)
+    option_map (λ n. route_to.Report (report n)) (path_period prefix path)
 
 -- what a page is for at a path
 unfoldable pub route_at : Page → List ℕ → Option Route

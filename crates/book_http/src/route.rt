@@ -92,9 +92,9 @@ fn period(text: &[u8]) -> Option<u16>
 }
 
 /// The period that a path names after its prefix.
-#[tactic(auto, unfolding(crate::specs::Routes::period_after))]
-fn period_after(prefix: &[u8], path: &[u8]) -> Option<u16>
-    ensures { result ≡ spec.period_after prefix.now path.now }
+#[tactic(auto, unfolding(crate::specs::Routes::path_period))]
+fn path_period(prefix: &[u8], path: &[u8]) -> Option<u16>
+    ensures { result ≡ spec.path_period prefix.now path.now }
 {
     if !path.starts_with(prefix) {
         return None;
@@ -110,15 +110,15 @@ fn route_at(page: Page, path: &[u8]) -> Option<Route>
     match page {
         Page::Periods => Some(Route::Report(Report::PeriodList)),
         Page::Statement => {
-            let period = period_after(b"/statement/", path)?;
+            let period = path_period(b"/statement/", path)?;
             Some(Route::Report(Report::Statement(period)))
         }
         Page::StatementCsv => {
-            let period = period_after(b"/statement-csv/", path)?;
+            let period = path_period(b"/statement-csv/", path)?;
             Some(Route::Report(Report::StatementTable(period)))
         }
         Page::Adjustments => {
-            let period = period_after(b"/adjustments/", path)?;
+            let period = path_period(b"/adjustments/", path)?;
             Some(Route::Report(Report::AdjustmentList(period)))
         }
         Page::Disputes => Some(Route::Report(Report::DisputeList)),

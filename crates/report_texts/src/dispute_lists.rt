@@ -36,7 +36,7 @@ fn push_job(alloc: Global, out: &mut String, identity: &[u8]) -> Result<(), Allo
     push_shown(alloc, out, part(identity, 4, 8))
 }
 
-/// Appends a word, and a time and a date behind it.
+/// Appends a word, then a time and a date.
 #[tactic(auto, unfolding(crate::specs::DisputeLists::moment_text))]
 fn push_moment(
     alloc: Global,

@@ -4,13 +4,12 @@ use Rattle.std.specs.Prelude.{ℕ, ◌+◌, ◌==◌, Bool, not, ◌&&◌, ◌||
 use Rattle.std.specs.Prelude.{Option, Some, None, Result, Ok, Err, ℤ, int_lt, nat_le, nat_lt}
 use Rattle.std.specs.Prelude.{sum_by}
 use Rattle.std.specs.FinMap.{get, values}
-use Rattle.std.specs.List.{last_or, list_any}
-use Rattle.book_model.specs.Words.{Terms, has_text, is_effective, is_later, most_choices, most_cost}
-use Rattle.book_model.specs.Words.{Rulings}
+use Rattle.std.specs.List.{last_or}
+use Rattle.book_model.specs.RulingAnswers.{terms_ruled}
+use Rattle.book_model.specs.Words.{Rulings, Terms, last_close, most_choices, most_cost}
 use Rattle.book_model.specs.declared.answer.Ruled.{Ruled}
 use Rattle.book_model.specs.declared.answer.Ruled.TheVariants.{Done, Already}
 use Rattle.book_model.specs.declared.fault.LedgerFault.{LedgerFault}
-use Rattle.book_model.specs.declared.fault.LedgerFault.TheVariants.{TariffDate, TariffExists}
 use Rattle.book_model.specs.declared.fault.LedgerFault.TheVariants.{Full, NoSuchRecord, NotDisputed}
 use Rattle.book_core.specs.Effects.{choice_effects}
 use Rattle.table_model.specs.TableChanges.{amount_under, put_choice}
@@ -25,11 +24,7 @@ cost_too_much terms records =
 -- the answer to a tariff's text and terms
 abbrev pub terms_read : Rulings → RecordTable → List ℕ → Terms → Result Ruled LedgerFault
 terms_read rulings records text terms =
-    if list_any (has_text text) rulings.tariffs then Ok Already
-    else if list_any (is_effective terms.effective) rulings.tariffs then Err TariffExists
-    else if not (is_later terms.effective rulings) then Err TariffDate
-    else if cost_too_much terms records then Err Full
-    else Ok Done
+    terms_ruled rulings.tariffs (last_close rulings) (cost_too_much terms records) text terms
 
 -- the row is the only one of its identity
 abbrev pub is_lone_row : RecordTable → RecordRow → Bool

@@ -33,7 +33,7 @@ use Rattle.table_laws.proofs.RulingLemmas.{closing_follows}
 use Rattle.table_model.specs.Steps.{post_by}
 use Rattle.tree_tables.specs.Days.{NoneNext}
 use Rattle.sqlite_trees.specs.View.{View}
-use Rattle.table_ledger.specs.CloseWrites.{close_by_steps}
+use Rattle.table_model.specs.Steps.{close_by_steps}
 use Rattle.table_ledger.specs.Ready.{IsReadyAt, Remembers}
 use Rattle.table_ledger.specs.Summaries.{book_ruled}
 use Rattle.table_ledger.specs.Attempts.{LeavesOpen}

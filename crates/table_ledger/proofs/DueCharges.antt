@@ -24,7 +24,8 @@ use Rattle.tree_tables.specs.Steps.{Does}
 use Rattle.tree_tables.specs.Stored.{IsAsRead, choice_entry, stored_entry}
 use Rattle.tree_tables.specs.declared.choice_rows.StoredChoice.{StoredChoice}
 use Rattle.tree_tables.specs.declared.stored_record.StoredRecord.{StoredRecord}
-use Rattle.tree_tables.proofs.Looking.{kept_behind, only_both, only_looks}
+use Rattle.tree_rows.proofs.Calls.{kept_after_look}
+use Rattle.tree_tables.proofs.Looking.{only_both, only_looks}
 use Rattle.table_ledger.specs.Adoptions.{IsLast, IsLastOf, is_last, last_chosen}
 use Rattle.table_ledger.specs.Commits.{Saw}
 use Rattle.table_ledger.specs.declared.chosen.Chosen.{Chosen}
@@ -54,7 +55,7 @@ does_seen {old = old} {middle = middle} {new = new} (Err error) saw does = recor
   survives = survives_then saw.survives does.survives;
   done = λ clean. tt;
   refused = λ clean.
-      kept_behind (saw.seen (clean_before does.survives clean)).same (does.refused clean);
+      kept_after_look (saw.seen (clean_before does.survives clean)).same (does.refused clean);
 }
 
 -- ---- the records that were chosen last

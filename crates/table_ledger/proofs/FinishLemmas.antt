@@ -31,16 +31,16 @@ ready_back {naming} {was} {is} {book} old middle new ready refused back = record
 module _ {S V A : Type 0} (ghosts : Ghosts S) (view : V → A) (naming : Naming) (was is : Summary)
     (first middle last : S) (outcome : Book → Outcome A) where
   -- the ledger before the call, and after it
-  abbrev shelf_before : Bool → LedgerState
-  shelf_before flag = record {
+  abbrev state_before : Bool → LedgerState
+  state_before flag = record {
     naming = naming;
     state = state ghosts first;
     must_reopen = flag;
     summary = was;
   }
 
-  abbrev shelf_behind : Bool → LedgerState
-  shelf_behind flag = record {
+  abbrev state_after : Bool → LedgerState
+  state_after flag = record {
     naming = naming;
     state = state ghosts last;
     must_reopen = flag;
@@ -54,7 +54,7 @@ module _ {S V A : Type 0} (ghosts : Ghosts S) (view : V → A) (naming : Naming)
       → Survives (state ghosts middle) (state ghosts last) (λ trees. ⊥)
       → Ends result false flag (last ≡ middle)
       (IsClean (ghosts.view last) → IsRolledBack (ghosts.view middle) (ghosts.view last)) tried
-      → Serves view (shelf_before false) (shelf_behind flag) outcome result
+      → Serves view (state_before false) (state_after flag) outcome result
   serves_by flag (Ok answer) result tries survives ends = record {
     naming = refl;
     served = ap is_reopen ends.0 ∙ tries.plain.served;
@@ -96,7 +96,7 @@ module _ {S V A : Type 0} (ghosts : Ghosts S) (view : V → A) (naming : Naming)
       (result : Result V LedgerFault)
       → Attempts view naming was is (state ghosts first) (state ghosts middle) outcome tried
       → Finishes ghosts middle last false flag tried result
-      → Serves view (shelf_before false) (shelf_behind flag) outcome result
+      → Serves view (state_before false) (state_after flag) outcome result
   served flag tried result tries settles =
       serves_by flag tried result tries settles.survives settles.ends
 
@@ -105,10 +105,10 @@ module _ {S V A : Type 0} (ghosts : Ghosts S) (view : V → A) (naming : Naming)
       (result : Result V LedgerFault) → before ≡ false → LeavesTheLast (ghosts.view first) (ghosts.recovers first)
       → Attempts view naming was is (state ghosts first) (state ghosts middle) outcome tried
       → Finishes ghosts middle last before flag tried result
-      → IsCall view (seen_on (shelf_before before)) (seen_on (shelf_behind flag)) result outcome
+      → IsCall view (seen_on (state_before before)) (seen_on (state_after flag)) result outcome
   call_settled before flag tried result is_open leaves tries =
       subst (λ open_flag. Finishes ghosts middle last open_flag flag tried result
-      → IsCall view (seen_on (shelf_before open_flag)) (seen_on (shelf_behind flag)) result outcome)
+      → IsCall view (seen_on (state_before open_flag)) (seen_on (state_after flag)) result outcome)
       (sym is_open)
-      (λ settles. call_served view (shelf_before false) (shelf_behind flag) outcome result refl leaves
+      (λ settles. call_served view (state_before false) (state_after flag) outcome result refl leaves
       (served flag tried result tries settles))

@@ -19,12 +19,12 @@ use Rattle.tree_tables.specs.declared.stored_record.StoredRecord.{StoredRecord}
 use Rattle.table_ledger.specs.DisputeReads.{IsShownRow}
 
 -- a row after disputes joins the last of them, or comes after it
-pub join_behind : (front : List Disputed) (last : Disputed) (row : NamedRow)
+pub join_after : (front : List Disputed) (last : Disputed) (row : NamedRow)
     → join_last (front ++ last ∷ []) row ≡ front ++ join_last (last ∷ []) row
-join_behind [] last row = refl
-join_behind (first ∷ []) last row = refl
-join_behind (first ∷ next ∷ others) last row =
-    ap (λ (rest : List Disputed). first ∷ rest) (join_behind (next ∷ others) last row)
+join_after [] last row = refl
+join_after (first ∷ []) last row = refl
+join_after (first ∷ next ∷ others) last row =
+    ap (λ (rest : List Disputed). first ∷ rest) (join_after (next ∷ others) last row)
 
 -- the last dispute with one more row, if both have one identity
 pub join_same : (last : Disputed) (row : NamedRow)
@@ -57,7 +57,7 @@ joined_same olds news last joined row is same made =
     map-append dispute_shown news (joined ∷ [])
     ∙ ap (λ (one : Disputed). front ++ one ∷ []) made
     ∙ ap (λ (rest : List Disputed). front ++ rest) (sym (join_same (dispute_shown last) row same))
-    ∙ sym (join_behind front (dispute_shown last) row)
+    ∙ sym (join_after front (dispute_shown last) row)
     ∙ ap (λ (all : List Disputed). join_last all row)
     (sym (map-append dispute_shown news (last ∷ [])))
     ∙ ap (λ (all : List Dispute). join_last (map dispute_shown all) row) (sym is)
@@ -74,7 +74,7 @@ joined_other olds news last one row is differ made =
     ∙ map-append dispute_shown news (last ∷ one ∷ [])
     ∙ ap (λ (behind : Disputed). front ++ dispute_shown last ∷ behind ∷ []) made
     ∙ ap (λ (rest : List Disputed). front ++ rest) (sym (join_other (dispute_shown last) row differ))
-    ∙ sym (join_behind front (dispute_shown last) row)
+    ∙ sym (join_after front (dispute_shown last) row)
     ∙ ap (λ (all : List Disputed). join_last all row)
     (sym (map-append dispute_shown news (last ∷ [])))
     ∙ ap (λ (all : List Dispute). join_last (map dispute_shown all) row) (sym is)

@@ -37,13 +37,13 @@ use Rattle.table_ledger.proofs.UnchangedStores.{holds_on}
 use Rattle.table_ledger.proofs.SurvivalLemmas.{clean_before, survives_then}
 
 -- what fails after looks at tables has a cause in the store as it was before them
-pub fails_behind : {old middle new : State} {Known When : Tables → Type 0} (error : StoreError)
+pub fails_after_look : {old middle new : State} {Known When : Tables → Type 0} (error : StoreError)
     → Saw old middle Known → Survives middle new (λ trees. ⊥)
     → (HasCleanDisk new → (tables : Tables) → Holds middle.view.trees tables → When tables
     → IsCaused middle new error)
     → HasCleanDisk new → (tables : Tables) → Holds old.view.trees tables → When tables
     → IsCaused old new error
-fails_behind {old} {middle} {new} error saw survives cause clean tables holds when =
+fails_after_look {old} {middle} {new} error saw survives cause clean tables holds when =
     let seen = saw.seen (clean_before survives clean) in
     caused_after old.view middle.view old.faults middle.faults new.faults error seen.same
     saw.survives.counts

@@ -8,7 +8,8 @@ use Rattle.tree_tables.specs.States.{State, Survives}
 use Rattle.tree_tables.specs.Steps.{Does, Looks}
 use Rattle.table_ledger.specs.Commits.{Saw, CommitsOne}
 use Rattle.table_ledger.specs.NewBooks.{MakesNew}
-use Rattle.tree_tables.proofs.Looking.{kept_after, kept_behind}
+use Rattle.tree_rows.proofs.Calls.{kept_after_look}
+use Rattle.tree_tables.proofs.Looking.{kept_after}
 use Rattle.table_ledger.proofs.UnchangedStores.{stands_kept}
 use Rattle.table_ledger.proofs.StepLemmas.{makes_none}
 use Rattle.table_ledger.proofs.SurvivalLemmas.{clean_before, survives_so, survives_then}
@@ -101,7 +102,7 @@ looks_failed_next (Err other) failed saw looks = record {
   survives = survives_then saw.survives looks.survives;
   found = λ clean. tt;
   refused = λ clean.
-      kept_behind (saw.seen (clean_before looks.survives clean)).same (looks.refused clean);
+      kept_after_look (saw.seen (clean_before looks.survives clean)).same (looks.refused clean);
 }
 looks_failed_next (Ok value) failed saw looks = absurd (true≢false (sym failed))
 

@@ -16,6 +16,7 @@ use Rattle.book_model.proofs.CallLemmas.{by_tests}
 use Rattle.book_model.proofs.LatestLemmas.{later-before, rising-behind}
 use Rattle.book_core.specs.Repricing.{if_room}
 use Rattle.book_core.specs.Calls.{Makes}
+use Rattle.book_core.proofs.TariffLemmas.{done_by, later_by, other_by}
 use Rattle.table_model.specs.Tables.{Tables}
 use Rattle.table_model.specs.TablesOf.{tables_of}
 use Rattle.table_laws.proofs.CallsLemmas.{calls_stay}
@@ -31,7 +32,7 @@ use Rattle.tree_rows.proofs.Maps.{not_none}
 use Rattle.tree_rows.proofs.Taking.{some_is}
 use Rattle.table_ledger.specs.Repricing.{CostUnder, CountsRecords}
 use Rattle.table_ledger.specs.Ready.{IsReadyAt, Remembers}
-use Rattle.table_ledger.specs.Summaries.{ruled_in, terms_ruled}
+use Rattle.table_ledger.specs.Summaries.{ruled_in, tariff_ruled}
 use Rattle.table_ledger.specs.Attempts.{LeavesOpen}
 use Rattle.table_ledger.specs.TariffRefusals.{IsNoTariff}
 use Rattle.table_ledger.specs.declared.summary.Summary.{Summary}
@@ -68,29 +69,6 @@ plain_by false false false much = record { stored = refl; served = refl }
 plain_by false false true true = record { stored = refl; served = refl }
 plain_by false false true false = record { stored = refl; served = refl }
 
--- an answer that is not Done depends on no cost
-other_by : (told there later much : Bool) → by_tests told there later false ≢ Ok Done
-    → by_tests told there later much ≡ by_tests told there later false
-other_by true there later much other = refl
-other_by false true later much other = refl
-other_by false false false much other = refl
-other_by false false true much other = absurd (other refl)
-
--- if all is Done but for the cost, the cost decides,
-done_by : (told there later much : Bool) → by_tests told there later false ≡ Ok Done
-    → by_tests told there later much ≡ (if much then Err Full else Ok Done)
-done_by true there later much done = cc
-done_by false true later much done = cc
-done_by false false false much done = cc
-done_by false false true much done = refl
-
--- then the day is later
-later_by : (told there later : Bool) → by_tests told there later false ≡ Ok Done → later ≡ true
-later_by true there later done = cc
-later_by false true later done = cc
-later_by false false true done = refl
-later_by false false false done = cc
-
 -- what a cost says about room
 no_room : (cost : ℕ) → None ≡ if_room cost → nat_lt most_cost cost ≡ true
 no_room cost is =
@@ -117,14 +95,14 @@ module _ (summary : Summary) (text : List ℕ) (terms : Terms) where
       (is_later terms.effective rulings) much
 
   -- an answer without a look at the records leaves the books open
-  pub tariff_plain : LeavesOpen (terms_ruled (ruled_in summary) text terms)
+  pub tariff_plain : LeavesOpen (tariff_ruled summary text terms)
   tariff_plain =
       plain_by (list_any (has_text text) summary.tariffs.items)
       (list_any (is_effective terms.effective) summary.tariffs.items)
       (is_later terms.effective (ruled_in summary)) false
 
   -- a tariff that is Done but for the cost comes after the others
-  pub tariff_rising : terms_ruled (ruled_in summary) text terms ≡ Ok Done
+  pub tariff_rising : tariff_ruled summary text terms ≡ Ok Done
       → are_rising (summary.tariffs.items ++ record { text = Some text; terms = terms } ∷ []) ≡ true
   tariff_rising done =
       rising-behind summary.tariffs.items (record { text = Some text; terms = terms })
@@ -160,7 +138,7 @@ module _ (summary : Summary) (text : List ℕ) (terms : Terms) where
 
     -- an answer that is not Done, given without a look at the records
     pub tariff_other : (answer : Result Ruled LedgerFault)
-        → terms_ruled (ruled_in summary) text terms ≡ answer → answer ≢ Ok Done
+        → tariff_ruled summary text terms ≡ answer → answer ≢ Ok Done
         → (tariff_outcome text book).answer ≡ answer
     tariff_other answer is other =
         let without : answer_by book.rulings false ≡ answer =
@@ -171,7 +149,7 @@ module _ (summary : Summary) (text : List ℕ) (terms : Terms) where
         ∙ without
 
     -- else the cost decides
-    decided : terms_ruled (ruled_in summary) text terms ≡ Ok Done → (found : Bool)
+    decided : tariff_ruled summary text terms ≡ Ok Done → (found : Bool)
         → much ≡ found
         → (tariff_outcome text book).answer ≡ (if found then Err Full else Ok Done)
     decided done found is =
@@ -182,13 +160,13 @@ module _ (summary : Summary) (text : List ℕ) (terms : Terms) where
         ∙ ap (λ (found : Bool). if found then Err Full else Ok Done) is
 
     -- so it is Full if there is no room
-    pub tariff_full : terms_ruled (ruled_in summary) text terms ≡ Ok Done
+    pub tariff_full : tariff_ruled summary text terms ≡ Ok Done
         → CostUnder terms (tables_of naming book) None
         → (tariff_outcome text book).answer ≡ Err Full
     tariff_full done known = decided done true (no_room cost known.cost)
 
     -- and Done if there is
-    pub tariff_done : terms_ruled (ruled_in summary) text terms ≡ Ok Done → (amount : ℕ)
+    pub tariff_done : tariff_ruled summary text terms ≡ Ok Done → (amount : ℕ)
         → CostUnder terms (tables_of naming book) (Some amount)
         → (tariff_outcome text book).answer ≡ Ok Done
     tariff_done done amount known = decided done false (room cost amount known.cost).0
@@ -198,12 +176,12 @@ module _ (summary : Summary) (text : List ℕ) (terms : Terms) where
     terms_told = sym (ap (tariff_answer book text) said)
 
     -- the tables after a tariff that is Done
-    pub tables_behind : terms_answer book text terms ≡ Ok Done
+    pub tables_follow : terms_answer book text terms ≡ Ok Done
         → tables_of naming (put_in_force (Some text) terms book)
         ≡ put_tariff (open_number book) (Some text) terms (tables_of naming book)
-    tables_behind done = terms_follow.done naming book text terms readable done
+    tables_follow done = terms_follow.done naming book text terms readable done
 
-    module _ (done : terms_ruled (ruled_in summary) text terms ≡ Ok Done) (amount : ℕ)
+    module _ (done : tariff_ruled summary text terms ≡ Ok Done) (amount : ℕ)
         (known : CostUnder terms (tables_of naming book) (Some amount)) where
       pub answer : terms_answer book text terms ≡ Ok Done
       answer = terms_told ∙ tariff_done done amount known
@@ -240,8 +218,8 @@ module _ (summary : Summary) (text : List ℕ) (terms : Terms) where
         tables = ap (λ number. tariff_by_steps number text terms amount (tables_of naming book))
             (number_is ∙ ap (λ (closes : List ℤ). length closes + 1) ready.remembers.closes)
             ∙ tariff_is_steps (open_number book) text terms amount (tables_of naming book)
-            (sum_is ∙ ap (λ (tables : Tables). tables.book.amount) (tables_behind answer))
-            ∙ sym (tables_behind answer);
+            (sum_is ∙ ap (λ (tables : Tables). tables.book.amount) (tables_follow answer))
+            ∙ sym (tables_follow answer);
       }
 
       -- and it is remembered

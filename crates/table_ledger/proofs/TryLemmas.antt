@@ -15,13 +15,13 @@ use Rattle.tree_rows.specs.Rows.{IsUnchanged}
 use Rattle.tree_tables.specs.Holds.{Holds}
 use Rattle.tree_tables.specs.States.{State, HasCleanDisk, Survives}
 use Rattle.tree_tables.specs.Steps.{Looks}
-use Rattle.tree_tables.proofs.Looking.{kept_behind}
+use Rattle.tree_rows.proofs.Calls.{kept_after_look, kept_same, unchanged_both}
 use Rattle.table_ledger.specs.Commits.{Saw, MayWrite, IsDone, CommitsOne}
 use Rattle.table_ledger.specs.Ready.{IsReadyAt, IsStoredIn, Remembers}
 use Rattle.table_ledger.specs.Attempts.{MayKeep, LeavesOpen, AnsweredOrRefused, Attempts}
 use Rattle.table_ledger.specs.declared.summary.Summary.{Summary}
-use Rattle.table_ledger.proofs.UnchangedStores.{holds_on, kept_same, rest_on, stands_kept, stands_same}
-use Rattle.table_ledger.proofs.UnchangedStores.{stands_then, trees_same, unchanged_none, unchanged_then}
+use Rattle.table_ledger.proofs.UnchangedStores.{holds_on, rest_on, stands_kept, stands_same}
+use Rattle.table_ledger.proofs.UnchangedStores.{stands_then, trees_same, unchanged_none}
 use Rattle.table_ledger.proofs.SurvivalLemmas.{clean_before, survives_both, survives_none}
 use Rattle.table_ledger.proofs.SurvivalLemmas.{survives_so}
 
@@ -49,7 +49,7 @@ saw_then {first} {middle} {last} {One} {Other} one other = record {
       let early = one.seen (clean_before other.survives clean) in
       let late = other.seen clean in
       record {
-        same = unchanged_then first.view middle.view last.view early.same late.same;
+        same = unchanged_both first.view early.same late.same;
         known = λ tables holds.
             (early.known tables holds, late.known tables (holds_on first.view middle.view tables early.same holds));
       };
@@ -85,7 +85,7 @@ pub looks_stopped : {A : Type 0} {old new : State} {Known : Tables → Type 0}
 looks_stopped {old = old} {new = new} saw = record {
   survives = saw.survives;
   found = λ clean. tt;
-  refused = λ clean. kept_same old.view new.view (saw.seen clean).same;
+  refused = λ clean. kept_same (saw.seen clean).same;
 }
 
 -- looks, the last of which is refused
@@ -98,7 +98,7 @@ looks_refused saw looks = record {
       (λ clean trees none. none);
   found = λ clean. tt;
   refused = λ clean.
-      kept_behind (saw.seen (clean_before looks.survives clean)).same (looks.refused clean);
+      kept_after_look (saw.seen (clean_before looks.survives clean)).same (looks.refused clean);
 }
 
 -- ---- commits after looks

@@ -19,14 +19,9 @@ committed_same old new same = ap (λ (v : View). v.committed) same
 pub open_same : (old new : View) → IsUnchanged old new → new.is_open ≡ old.is_open
 open_same old new same = ap (λ (v : View). v.is_open) same
 
--- no call changes nothing, nor do two that change nothing
+-- no call changes nothing
 pub unchanged_none : (view : View) → IsUnchanged view view
 unchanged_none view = refl
-
-pub unchanged_then : (first middle last : View) → IsUnchanged first middle
-    → IsUnchanged middle last → IsUnchanged first last
-unchanged_then first middle last one two =
-    two ∙ ap (λ (v : View). record v { cursors = last.cursors }) one
 
 -- trees that hold the tables still hold them
 pub holds_on : (old new : View) (tables : Tables) → IsUnchanged old new → Holds old.trees tables
@@ -59,17 +54,4 @@ pub stands_then : {first middle last : View} → KeepsLastCommit first middle �
 stands_then one two = record {
   was_open = λ is_open. one.was_open (two.was_open is_open);
   committed = λ is_open. two.committed is_open ∙ one.committed (two.was_open is_open);
-}
-
--- each call that changes nothing keeps the last commit
-pub kept_same : (old new : View) → IsUnchanged old new → KeepsCommitted old new
-kept_same old new same = record {
-  shape = ap (λ (v : View). v.shape) same;
-  reals = ap (λ (v : View). v.reals) same;
-  committed_shape = ap (λ (v : View). v.committed_shape) same;
-  committed_reals = ap (λ (v : View). v.committed_reals) same;
-  numbered = ap (λ (v : View). v.is_numbered) same;
-  was_open = λ is_open. sym (open_same old new same) ∙ is_open;
-  committed = λ is_open. committed_same old new same;
-  marks = λ is_open. ap (λ (v : View). v.marks) same;
 }

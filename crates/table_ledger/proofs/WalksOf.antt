@@ -13,7 +13,7 @@ use Rattle.tree_tables.specs.Holds.{Holds}
 use Rattle.tree_tables.specs.States.{HasCleanDisk, State, Survives}
 use Rattle.tree_tables.specs.Steps.{Does, Looks}
 use Rattle.tree_tables.specs.declared.stored_record.StoredRecord.{StoredRecord}
-use Rattle.tree_tables.proofs.Looking.{held_behind, kept_after, kept_by}
+use Rattle.tree_tables.proofs.Looking.{held_after_look, kept_after, kept_by}
 use Rattle.tree_tables.proofs.Looking.{only_both, only_looks, survives_both, was_clean}
 use Rattle.tree_tables.proofs.WalkNames.{IsWalking, KeepsNames, names_stay}
 use Rattle.tree_tables.proofs.WalkNames.{next_names, walking_ends}
@@ -64,7 +64,7 @@ module _ (When : Tables → Type 0) (Still : Tables → Tables → Type 0)
           let so_far = both.0 in (
             record {
               now = so_far.now;
-              holds = held_behind mid.view (looks.found clean).same so_far.holds;
+              holds = held_after_look mid.view (looks.found clean).same so_far.holds;
               whole = so_far.whole;
             },
             both.1,
@@ -101,7 +101,7 @@ module _ (When : Tables → Type 0) (Still : Tables → Tables → Type 0)
             record {
               now = next;
               holds = subst (Holds new.view.trees) steps.1
-                  ((does.done clean).made now (held_behind mid.view look.same so_far.holds)
+                  ((does.done clean).made now (held_after_look mid.view look.same so_far.holds)
                   steps.0);
               whole = ap (λ names. walk (step tables) names next)
                   (names_stay (Some name) next now (keeps tables name now))
@@ -126,7 +126,7 @@ module _ (When : Tables → Type 0) (Still : Tables → Tables → Type 0)
             let both = walks.walking (was_clean looks.survives clean) tables holds when in
             let so_far = both.0 in
             let look = looks.found clean in
-            held_behind mid.view look.same
+            held_after_look mid.view look.same
             (walking_ends (step tables) tables last so_far (look.known so_far.now so_far.holds));
       };
       refused = λ clean. tt;

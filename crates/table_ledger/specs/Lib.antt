@@ -12,7 +12,6 @@ pub mod DayWrites
 pub mod RecordWrites
 pub mod Repricing
 pub mod NewRecords
-pub mod CloseWrites
 pub mod Adoptions
 pub mod TariffRefusals
 pub mod TotalsFit

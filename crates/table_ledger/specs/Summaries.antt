@@ -1,12 +1,9 @@
 -- The rulings that a summary has.
-use Rattle.std.specs.Prelude.{ℕ, not, if◌then◌else◌, List, Result, Ok, Err}
-use Rattle.std.specs.List.{list_any}
-use Rattle.book_model.specs.Words.{Terms, Book, new_book, has_text, is_effective, is_later, Rulings}
-use Rattle.book_model.specs.Words.{no_rulings}
+use Rattle.std.specs.Prelude.{ℕ, false, List, Result}
+use Rattle.book_model.specs.RulingAnswers.{terms_ruled}
+use Rattle.book_model.specs.Words.{Book, Rulings, Terms, last_close, new_book, no_rulings}
 use Rattle.book_model.specs.declared.answer.Ruled.{Ruled}
-use Rattle.book_model.specs.declared.answer.Ruled.TheVariants.{Done, Already}
 use Rattle.book_model.specs.declared.fault.LedgerFault.{LedgerFault}
-use Rattle.book_model.specs.declared.fault.LedgerFault.TheVariants.{TariffDate, TariffExists}
 use Rattle.table_ledger.specs.declared.summary.Summary.{Summary}
 
 -- The tariffs, the closes and the rule of identity that a ledger remembers. Of the choices it
@@ -18,13 +15,11 @@ ruled_in summary = record no_rulings {
   adopted = summary.adopted;
 }
 
--- what is answered to a tariff by some rulings, if the books can hold the records' costs under it
-abbrev pub terms_ruled : Rulings → List ℕ → Terms → Result Ruled LedgerFault
-terms_ruled rulings text terms =
-    if list_any (has_text text) rulings.tariffs then Ok Already
-    else if list_any (is_effective terms.effective) rulings.tariffs then Err TariffExists
-    else if not (is_later terms.effective rulings) then Err TariffDate
-    else Ok Done
+-- what is answered to a tariff by the rulings of a summary, if the books can hold the records' costs
+-- under it
+abbrev pub tariff_ruled : Summary → List ℕ → Terms → Result Ruled LedgerFault
+tariff_ruled summary text terms =
+    terms_ruled summary.tariffs.items (last_close (ruled_in summary)) false text terms
 
 -- a book of these rulings that holds no record
 abbrev pub book_ruled : Summary → Book

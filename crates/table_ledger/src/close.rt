@@ -5,12 +5,12 @@ ghost use Rattle.book_model.specs.Words.{IsDay, close_outcome, Naming};
 ghost use Rattle.tree_tables.specs.Days.{NoneNext};
 ghost use Rattle.tree_tables.specs.States.{state};
 ghost use Rattle.tree_tables.specs.Steps.{Does};
-ghost use Rattle.table_ledger.specs.CloseWrites.{close_by_steps};
+ghost use Rattle.table_model.specs.Steps.{close_by_steps};
 ghost use Rattle.table_ledger.specs.Commits.{CommitsOne};
 ghost use Rattle.table_ledger.specs.Attempts.{Attempts};
 
-use crate::summary::{Summary, is_done};
-use book_core::{LedgerFault, Ruled};
+use crate::summary::Summary;
+use book_core::{LedgerFault, Ruled, is_done};
 use sqlite_trees::error::StoreError;
 use sqlite_trees::store::Store;
 use tree_tables::{Close, TreeTables};

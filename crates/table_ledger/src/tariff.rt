@@ -8,13 +8,13 @@ ghost use Rattle.table_model.specs.Steps.{tariff_by_steps};
 ghost use Rattle.tree_tables.specs.Steps.{Does};
 ghost use Rattle.table_ledger.specs.Commits.{CommitsOne};
 ghost use Rattle.table_ledger.specs.Repricing.{CountsRecords};
-ghost use Rattle.table_ledger.specs.Summaries.{ruled_in, terms_ruled};
+ghost use Rattle.table_ledger.specs.Summaries.{tariff_ruled};
 ghost use Rattle.table_ledger.specs.TariffRefusals.{IsNoTariff};
 ghost use Rattle.table_ledger.specs.Attempts.{Attempts};
 
 use crate::repricing::{cost_under, reprice_all};
-use crate::summary::{Summary, is_done};
-use book_core::{AcceptedTariff, LedgerFault, Ruled};
+use crate::summary::Summary;
+use book_core::{AcceptedTariff, LedgerFault, Ruled, is_done};
 use sqlite_trees::error::StoreError;
 use sqlite_trees::store::Store;
 use std::alloc::Global;
@@ -99,7 +99,7 @@ fn put_in_force<S: Store>(
     tariff: Tariff,
 ) -> Result<Result<Ruled, LedgerFault>, StoreError>
     requires said { terms_in text.now ≡ Ok tariff }
-    requires done { terms_ruled (ruled_in summary.old) text.now tariff ≡ Ok Ruled.Done }
+    requires done { tariff_ruled summary.old text.now tariff ≡ Ok Ruled.Done }
     ensures tries { (naming : Naming) → Attempts (λ ruled. ruled) naming summary.old summary.new
         (state S.Store tables.old.store) (state S.Store tables.new.store) (tariff_outcome text.now) result }
 {

@@ -117,6 +117,12 @@ abbrev pub move_day_rows : ℕ → ℤ → Tables → Tables
 move_day_rows period day tables =
     record tables { days = moved (move_on period day) tables.days }
 
+-- A close in steps: its day is stored under the period, what is charged by then is posted, and later
+-- rows move on.
+abbrev pub close_by_steps : ℕ → ℤ → Tables → Tables
+close_by_steps period day tables =
+    move_day_rows period day (post_rows day (put_close_row period day tables))
+
 abbrev pub put_line_row : ℕ → List ℕ → Bool → Tables → Tables
 put_line_row period name plus tables =
     record tables { lines = insert tables.lines (period, name) plus }

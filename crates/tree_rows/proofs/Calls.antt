@@ -17,15 +17,15 @@ unchanged_but old placed =
     (sym (ap (λ (v : View). v.cursors) placed))
 
 -- two looks, one after the other, only move cursors
-pub unchanged_both : (old mid new : View) → IsUnchanged old mid → IsUnchanged mid new
+pub unchanged_both : (old : View) {mid new : View} → IsUnchanged old mid → IsUnchanged mid new
     → IsUnchanged old new
-unchanged_both old mid new one two =
+unchanged_both old {new} one two =
     two ∙ ap (λ (v : View). record v { cursors = new.cursors }) one
 
--- what stands behind a look stood before it
-pub kept_behind : {old mid new : View} → IsUnchanged old mid → KeepsCommitted mid new
+-- what is there after a look was there before it
+pub kept_after_look : {old mid new : View} → IsUnchanged old mid → KeepsCommitted mid new
     → KeepsCommitted old new
-kept_behind {old} {mid} {new} same kept =
+kept_after_look {old} {mid} {new} same kept =
     by_same mid.cursors (subst (λ v. KeepsCommitted v new) same kept)
   where
     by_same : (cursors : ℕ → Option (List Row))
@@ -55,7 +55,7 @@ kept_same {old} {new} same =
       marks = λ is_open. refl;
     })
 
--- the schema stands behind two calls
+-- the schema stands after two calls
 pub schema_both : {old mid new : View} → KeepsSchema old mid → KeepsSchema mid new
     → KeepsSchema old new
 schema_both one two = record {
@@ -71,7 +71,7 @@ module _ {S : Type 0} (ghosts : Ghosts S) where
   abbrev pub Quiet : S → S → Type 0
   Quiet = IsQuiet ghosts.view ghosts.faults ghosts.recovers ghosts.is_shielded
 
-  -- the disk was clean before a call, if it is behind it
+  -- the disk was clean before a call, if it is after it
   pub clean_before : {old new : S} → Quiet old new → IsClean (ghosts.view new)
       → IsClean (ghosts.view old)
   clean_before call clean =
@@ -98,15 +98,14 @@ module _ {S : Type 0} (ghosts : Ghosts S) where
     outcomes = λ trees left. one.outcomes trees (two.outcomes trees left);
   }
 
-  -- a call that only moves cursors, behind others
+  -- a call that only moves cursors, after others
   pub unchanged_on : (old : S) {mid new : S}
       → (IsClean (ghosts.view mid) → IsUnchanged (ghosts.view old) (ghosts.view mid))
       → Quiet mid new
       → (IsClean (ghosts.view new) → IsUnchanged (ghosts.view mid) (ghosts.view new))
       → IsClean (ghosts.view new) → IsUnchanged (ghosts.view old) (ghosts.view new)
   unchanged_on old {mid} {new} before call same clean =
-      unchanged_both (ghosts.view old) (ghosts.view mid) (ghosts.view new)
-      (before (clean_before call clean)) (same clean)
+      unchanged_both (ghosts.view old) (before (clean_before call clean)) (same clean)
 
   -- a cursor that moves on where it was placed
   pub unchanged_next : (old : S) {mid new : S} {cursor : ℕ} {cursors : ℕ → Option (List Row)}
@@ -119,14 +118,14 @@ module _ {S : Type 0} (ghosts : Ghosts S) where
       unchanged_on old (λ clean. unchanged_but (ghosts.view old) (placed clean)) call
       (λ clean. (moves clean).same)
 
-  -- a call that leaves what was committed, behind looks
+  -- a call that leaves what was committed, after looks
   pub kept_on : (old : S) {mid new : S}
       → (IsClean (ghosts.view mid) → IsUnchanged (ghosts.view old) (ghosts.view mid))
       → Quiet mid new → KeepsCommitted (ghosts.view mid) (ghosts.view new)
       → IsClean (ghosts.view new) → KeepsCommitted (ghosts.view old) (ghosts.view new)
-  kept_on old before call kept clean = kept_behind (before (clean_before call clean)) kept
+  kept_on old before call kept clean = kept_after_look (before (clean_before call clean)) kept
 
-  -- a failure behind looks
+  -- a failure after looks
   pub failed_on : (old : S) {mid new : S} (error : StoreError)
       → (IsClean (ghosts.view mid) → IsUnchanged (ghosts.view old) (ghosts.view mid))
       → Quiet mid new → IsFailure (ghosts.view mid) (ghosts.view new) error
@@ -135,7 +134,7 @@ module _ {S : Type 0} (ghosts : Ghosts S) where
       failed_after (ghosts.view old) (ghosts.view mid) (ghosts.view new) (ghosts.view mid).cursors
       error (before (clean_before call clean)) failed
 
-  -- why a call failed behind looks
+  -- why a call failed after looks
   pub caused_on : (old : S) {mid new : S} (error : StoreError) → Quiet old mid
       → (IsClean (ghosts.view mid) → IsUnchanged (ghosts.view old) (ghosts.view mid))
       → Quiet mid new

@@ -40,7 +40,8 @@ use Rattle.tree_tables.specs.Steps.{Looks}
 use Rattle.tree_tables.specs.declared.stored_record.StoredRecord.{StoredRecord}
 use Rattle.tree_tables.proofs.FoundNames.{Entry, entries_had}
 use Rattle.tree_tables.proofs.Layouts.{mark_layout, numbers}
-use Rattle.tree_tables.proofs.Looking.{Quiet, looks_found}
+use Rattle.tree_rows.proofs.Calls.{Quiet}
+use Rattle.tree_tables.proofs.Looking.{looks_found}
 use Rattle.tree_tables.proofs.RecordIndexes.{mark_named}
 use Rattle.tree_tables.proofs.RecordLists.{mark_rows}
 

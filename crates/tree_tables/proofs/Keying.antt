@@ -30,7 +30,7 @@ use Rattle.tree_rows.proofs.Taking.{some_is}
 use Rattle.tree_rows.proofs.Updating.{get_updated, updated_done, updated_step}
 use Rattle.tree_tables.proofs.Holding.{SameButRecords, apart, with_records}
 use Rattle.tree_tables.proofs.Layouts.{identity_layout, mark_layout, record_layout}
-use Rattle.tree_tables.proofs.Looking.{only_both, only_looks, rewrites_behind}
+use Rattle.tree_tables.proofs.Looking.{only_both, only_looks, rewrites_after_look}
 use Rattle.tree_tables.proofs.RecordIndexes.{identity_named, index_row_changed, mark_named}
 use Rattle.tree_tables.proofs.Records.{record_there}
 use Rattle.tree_tables.proofs.Renewing.{held_by_same}
@@ -293,7 +293,7 @@ module _ (old mid : View) (key entry : Row) (looked : IsUnchanged old mid) where
       -- it makes way
       pub keys_one : (new : View) → MovesKeys mid new row next → KeysNext old new key next true
       keys_one new moves =
-          let one = rewrites_behind {old = old} looked moves.identity in
+          let one = rewrites_after_look {old = old} looked moves.identity in
           let two = moves.mark in
           record {
             only = only_both old one.only two.only;

@@ -12,15 +12,16 @@ use Rattle.sqlite_trees.specs.declared.error.StoreError.TheVariants.{OutOfMemory
 use Rattle.sqlite_trees.specs.declared.store.Store.{Ghosts}
 use Rattle.table_model.specs.Tables.{Tables}
 use Rattle.tree_rows.specs.Rows.{Finds, IsUnchanged, Rewrites}
+use Rattle.tree_rows.proofs.Calls.{Quiet, clean_before, kept_after_look, kept_same, quiet_both, unchanged_both, unchanged_on}
 use Rattle.tree_rows.proofs.Failing.{caused_after, caused_by_memory}
 use Rattle.tree_tables.specs.Holds.{Holds}
 use Rattle.tree_tables.specs.States.{HasCleanDisk, State, Survives, state}
 use Rattle.tree_tables.specs.Steps.{Changes, Does, IsCaused, Looks}
 
 -- a tree that is rewritten after a look is rewritten
-pub rewrites_behind : {old mid new : View} {tree : ℕ} {rows : List Row} → IsUnchanged old mid
+pub rewrites_after_look : {old mid new : View} {tree : ℕ} {rows : List Row} → IsUnchanged old mid
     → Rewrites mid new tree rows → Rewrites old new tree rows
-rewrites_behind {old} {mid} {new} {tree} {rows} same rewrites =
+rewrites_after_look {old} {mid} {new} {tree} {rows} same rewrites =
     by_same mid.cursors (subst (λ v. Rewrites v new tree rows) same rewrites)
   where
     by_same : (cursors : ℕ → Option (List Row))
@@ -31,26 +32,7 @@ rewrites_behind {old} {mid} {new} {tree} {rows} same rewrites =
       only = done.only;
     }
 
--- what is there after a look was there before it
-pub kept_behind : {old mid new : View} → IsUnchanged old mid → KeepsCommitted mid new
-    → KeepsCommitted old new
-kept_behind {old} {mid} {new} same kept =
-    by_same mid.cursors (subst (λ v. KeepsCommitted v new) same kept)
-  where
-    by_same : (cursors : ℕ → Option (List Row))
-        → KeepsCommitted (record old { cursors = cursors }) new → KeepsCommitted old new
-    by_same cursors kept = record {
-      shape = kept.shape;
-      reals = kept.reals;
-      committed_shape = kept.committed_shape;
-      committed_reals = kept.committed_reals;
-      numbered = kept.numbered;
-      was_open = kept.was_open;
-      committed = kept.committed;
-      marks = kept.marks;
-    }
-
--- or after a step
+-- what is there after a step was there before it
 pub kept_after : {old mid new : View} → OnlyWrites old mid → KeepsCommitted mid new
     → KeepsCommitted old new
 kept_after {old} {mid} {new} only kept =
@@ -107,20 +89,6 @@ pub kept_failed : {A : Type 0} (old new : View) (result : Result A StoreError)
 kept_failed old new (Ok answer) failed = tt
 kept_failed old new (Err error) failed = λ clean. (failed clean).kept
 
--- a look alone leaves what was committed
-pub kept_same : {old new : View} → IsUnchanged old new → KeepsCommitted old new
-kept_same {old} {new} same =
-    subst (KeepsCommitted old) (sym same) (record {
-      shape = refl;
-      reals = refl;
-      committed_shape = refl;
-      committed_reals = refl;
-      numbered = refl;
-      was_open = λ is_open. is_open;
-      committed = λ is_open. refl;
-      marks = λ is_open. refl;
-    })
-
 -- two steps, one after the other, write only
 pub only_both : (old : View) {mid new : View} → OnlyWrites old mid → OnlyWrites mid new
     → OnlyWrites old new
@@ -133,26 +101,14 @@ only_looks old {new} same =
     same ∙ ap (λ (trees : Trees). record old { trees = trees; cursors = new.cursors })
     (sym (ap (λ (v : View). v.trees) same))
 
--- two looks, one after the other, only move cursors
-pub unchanged_both : (old mid new : View) → IsUnchanged old mid → IsUnchanged mid new
-    → IsUnchanged old new
-unchanged_both old mid new one two =
-    two ∙ ap (λ (v : View). record v { cursors = new.cursors }) one
-
 -- steps alone leave what was committed
 pub kept_by : {old new : View} → OnlyWrites old new → KeepsCommitted old new
 kept_by {new = new} only = kept_after only (kept_same {old = new} {new = new} refl)
 
--- two looks, one after the other, are one
-pub same_both : (old : View) {mid new : View} → IsUnchanged old mid → IsUnchanged mid new
-    → IsUnchanged old new
-same_both old {new = new} one two =
-    two ∙ ap (λ (v : View). record v { cursors = new.cursors }) one
-
 -- the tables that a store holds are held after a look
-pub held_behind : (old : View) {new : View} {tables : Tables} → IsUnchanged old new
+pub held_after_look : (old : View) {new : View} {tables : Tables} → IsUnchanged old new
     → Holds old.trees tables → Holds new.trees tables
-held_behind old {tables = tables} same holds =
+held_after_look old {tables = tables} same holds =
     subst (λ (trees : Trees). Holds trees tables) (sym (ap (λ (v : View). v.trees) same)) holds
 
 -- what is found after a look was there before it
@@ -194,43 +150,43 @@ survives_both one two = record {
 }
 
 -- what fails after a look has a cause of the store as it was before it
-pub fails_behind : {A : Type 0} {old mid new : State} {Answers : Tables → A → Type 0} {answer : A}
+pub fails_after_look : {A : Type 0} {old mid new : State} {Answers : Tables → A → Type 0} {answer : A}
     {When : Tables → Type 0} (error : StoreError) → Looks (Ok answer) old mid Answers
     → Survives mid new (λ trees. ⊥)
     → (HasCleanDisk new → (tables : Tables) → Holds mid.view.trees tables
     → Answers tables answer → When tables → IsCaused mid new error)
     → HasCleanDisk new → (tables : Tables) → Holds old.view.trees tables → When tables
     → IsCaused old new error
-fails_behind {old = old} {mid = mid} {new = new} error looks survives cause clean tables holds
+fails_after_look {old = old} {mid = mid} {new = new} error looks survives cause clean tables holds
     when =
     let seen = looks.found (was_clean survives clean) in
     caused_after old.view mid.view old.faults mid.faults new.faults error seen.same
     looks.survives.counts
-    (cause clean tables (held_behind old.view seen.same holds) (seen.known tables holds) when)
+    (cause clean tables (held_after_look old.view seen.same holds) (seen.known tables holds) when)
 
 -- a look after another, which says more by what the other has answered
-pub looks_behind : {A B : Type 0} {First : Tables → A → Type 0} {Second Both : Tables → B → Type 0}
+pub looks_after_look : {A B : Type 0} {First : Tables → A → Type 0} {Second Both : Tables → B → Type 0}
     {first : A} {old mid new : State} (result : Result B StoreError)
     → Looks (Ok first) old mid First → Looks result mid new Second
     → ((tables : Tables) (second : B) → First tables first → Second tables second
     → Both tables second)
     → Looks result old new Both
-looks_behind {old = old} (Ok second) one two both = record {
+looks_after_look {old = old} (Ok second) one two both = record {
   survives = survives_both one.survives two.survives;
   found = λ clean.
       let before = one.found (was_clean two.survives clean) in
       let after = two.found clean in
       record {
-        same = same_both old.view before.same after.same;
+        same = unchanged_both old.view before.same after.same;
         known = λ tables holds. both tables second (before.known tables holds)
-            (after.known tables (held_behind old.view before.same holds));
+            (after.known tables (held_after_look old.view before.same holds));
       };
   refused = λ clean. tt;
 }
-looks_behind (Err error) one two both = record {
+looks_after_look (Err error) one two both = record {
   survives = survives_both one.survives two.survives;
   found = λ clean. tt;
-  refused = λ clean. kept_behind (one.found (was_clean two.survives clean)).same
+  refused = λ clean. kept_after_look (one.found (was_clean two.survives clean)).same
       (two.refused clean);
 }
 
@@ -246,9 +202,9 @@ looks_also {old = old} one two both = record {
       let before = one.found (was_clean two.survives clean) in
       let after = two.found clean in
       record {
-        same = same_both old.view before.same after.same;
+        same = unchanged_both old.view before.same after.same;
         known = λ tables holds. both tables (before.known tables holds)
-            (after.known tables (held_behind old.view before.same holds));
+            (after.known tables (held_after_look old.view before.same holds));
       };
   refused = λ clean. tt;
 }
@@ -278,18 +234,7 @@ looks_damaged one = record {
 }
 
 module _ {S : Type 0} (ghosts : Ghosts S) where
-  -- a call that commits nothing
-  abbrev pub Quiet : S → S → Type 0
-  Quiet = IsQuiet ghosts.view ghosts.faults ghosts.recovers ghosts.is_shielded
-
-  -- the disk was clean before a call, if it is after it
-  pub clean_before : {old new : S} → Quiet old new → IsClean (ghosts.view new)
-      → IsClean (ghosts.view old)
-  clean_before call clean =
-      let less = call.clean in
-      omega (arith, less, clean)
-
-  pub survives : {old new : S} → Quiet old new
+  pub survives : {old new : S} → Quiet ghosts old new
       → Survives (state ghosts old) (state ghosts new) (λ trees. ⊥)
   survives call = record {
     clean = call.clean;
@@ -299,39 +244,9 @@ module _ {S : Type 0} (ghosts : Ghosts S) where
     crash = λ clean trees left. inl (call.outcomes trees left);
   }
 
-  -- two calls that commit nothing, one after the other
-  pub quiet_both : {old mid new : S} → Quiet old mid → Quiet mid new → Quiet old new
-  quiet_both one two = record {
-    shield = λ shielded. two.shield (one.shield shielded);
-    clean = (let a = one.clean in let b = two.clean in omega (arith, a, b));
-    counts = (let a = one.counts in let b = two.counts in omega (arith, a, b));
-    closes = λ clean is_open.
-        let before = clean_before two clean in
-        let a = one.counts in
-        let b = two.counts in
-        elim (one.closes before is_open) [
-          | inl still ↦ elim (two.closes clean still) [
-            | inl stays ↦ inl stays
-            | inr more ↦ inr (search rules)
-          ]
-          | inr more ↦ inr (search rules)
-        ];
-    outcomes = λ trees left. one.outcomes trees (two.outcomes trees left);
-  }
-
-  -- a call that only moves cursors, after others
-  pub unchanged_on : (old : S) {mid new : S}
-      → (IsClean (ghosts.view mid) → IsUnchanged (ghosts.view old) (ghosts.view mid))
-      → Quiet mid new
-      → (IsClean (ghosts.view new) → IsUnchanged (ghosts.view mid) (ghosts.view new))
-      → IsClean (ghosts.view new) → IsUnchanged (ghosts.view old) (ghosts.view new)
-  unchanged_on old {mid} {new} before call same clean =
-      unchanged_both (ghosts.view old) (ghosts.view mid) (ghosts.view new)
-      (before (clean_before call clean)) (same clean)
-
   -- a look that was answered
   pub looks_found : {A : Type 0} {Answers : Tables → A → Type 0} {answer : A} {old new : S}
-      → Quiet old new
+      → Quiet ghosts old new
       → (IsClean (ghosts.view new) → IsUnchanged (ghosts.view old) (ghosts.view new))
       → (IsClean (ghosts.view new) → (tables : Tables) → Holds (ghosts.view old).trees tables
       → Answers tables answer)
@@ -344,7 +259,7 @@ module _ {S : Type 0} (ghosts : Ghosts S) where
 
   -- a look that failed
   pub looks_refused : {A : Type 0} {Answers : Tables → A → Type 0} {old new : S}
-      (result : Result A StoreError) → IsErr result → Quiet old new
+      (result : Result A StoreError) → IsErr result → Quiet ghosts old new
       → (IsClean (ghosts.view new) → KeepsCommitted (ghosts.view old) (ghosts.view new))
       → Looks result (state ghosts old) (state ghosts new) Answers
   looks_refused (Ok answer) failed call kept = absurd (cc)
@@ -356,7 +271,7 @@ module _ {S : Type 0} (ghosts : Ghosts S) where
 
   -- a step that was tried
   pub does_so : {T : Type 0} {When : Tables → Type 0} {change : Tables → Tables} {old new : S}
-      (result : Result T StoreError) → Quiet old new
+      (result : Result T StoreError) → Quiet ghosts old new
       → (IsClean (ghosts.view new) → OnErr result
       (KeepsCommitted (ghosts.view old) (ghosts.view new)))
       → (IsClean (ghosts.view new) → OnOk result
@@ -365,10 +280,10 @@ module _ {S : Type 0} (ghosts : Ghosts S) where
   does_so result call kept done = record { survives = survives call; done = done; refused = kept }
 
   -- a step that rewrites one tree, after a look
-  pub does_behind : {T : Type 0} {When : Tables → Type 0} {change : Tables → Tables}
+  pub does_after_look : {T : Type 0} {When : Tables → Type 0} {change : Tables → Tables}
       {old mid new : S} {tree : ℕ} {rows : List Row} (result : Result T StoreError)
-      → Quiet old mid → (IsClean (ghosts.view mid) → IsUnchanged (ghosts.view old) (ghosts.view mid))
-      → Quiet mid new
+      → Quiet ghosts old mid → (IsClean (ghosts.view mid) → IsUnchanged (ghosts.view old) (ghosts.view mid))
+      → Quiet ghosts mid new
       → OnErr result (IsClean (ghosts.view new)
       → KeepsCommitted (ghosts.view mid) (ghosts.view new))
       → OnOk result (IsClean (ghosts.view new)
@@ -377,22 +292,22 @@ module _ {S : Type 0} (ghosts : Ghosts S) where
       → (tables : Tables) → Holds (ghosts.view old).trees tables → When tables
       → Holds (ghosts.view new).trees (change tables))
       → Does result (state ghosts old) (state ghosts new) When change
-  does_behind (Ok value) look same step kept done holds = record {
-    survives = survives (quiet_both look step);
+  does_after_look (Ok value) look same step kept done holds = record {
+    survives = survives (quiet_both ghosts look step);
     done = λ clean.
-        let rewritten = rewrites_behind (same (clean_before step clean)) (done clean) in
+        let rewritten = rewrites_after_look (same (clean_before ghosts step clean)) (done clean) in
         record { only = rewritten.only; made = holds clean rewritten };
     refused = λ clean. tt;
   }
-  does_behind (Err error) look same step kept done holds = record {
-    survives = survives (quiet_both look step);
+  does_after_look (Err error) look same step kept done holds = record {
+    survives = survives (quiet_both ghosts look step);
     done = λ clean. tt;
-    refused = λ clean. kept_behind (same (clean_before step clean)) (kept clean);
+    refused = λ clean. kept_after_look (same (clean_before ghosts step clean)) (kept clean);
   }
 
   -- a step that is one call
   pub does_alone : {T Made : Type 0} {When : Tables → Type 0} {change : Tables → Tables}
-      {old new : S} (result : Result T StoreError) → Quiet old new
+      {old new : S} (result : Result T StoreError) → Quiet ghosts old new
       → OnErr result (IsClean (ghosts.view new)
       → KeepsCommitted (ghosts.view old) (ghosts.view new))
       → OnOk result (IsClean (ghosts.view new) → Made)
@@ -412,7 +327,7 @@ module _ {S : Type 0} (ghosts : Ghosts S) where
 
   -- a look that has its rows read into an answer, or that is refused
   pub looks_read : {A : Type 0} {Made : A → Type 0} {Answers : Tables → A → Type 0} {old new : S}
-      (result : Result A StoreError) → Quiet old new
+      (result : Result A StoreError) → Quiet ghosts old new
       → (IsClean (ghosts.view new) → IsUnchanged (ghosts.view old) (ghosts.view new))
       → IfOk result Made
       → ((answer : A) → Made answer → IsClean (ghosts.view new) → (tables : Tables)
@@ -427,7 +342,7 @@ module _ {S : Type 0} (ghosts : Ghosts S) where
 
   -- a look that is one call
   pub looks_alone : {A : Type 0} {Made : A → Type 0} {Answers : Tables → A → Type 0}
-      {old new : S} (result : Result A StoreError) → Quiet old new
+      {old new : S} (result : Result A StoreError) → Quiet ghosts old new
       → OnOk result (IsClean (ghosts.view new)
       → IsUnchanged (ghosts.view old) (ghosts.view new))
       → OnErr result (IsClean (ghosts.view new)
@@ -447,8 +362,8 @@ module _ {S : Type 0} (ghosts : Ghosts S) where
   -- a step that rewrites one tree, after other steps
   pub does_after : {T : Type 0} {When : Tables → Type 0} {change : Tables → Tables}
       {old mid new : S} {tree : ℕ} {rows : List Row} (result : Result T StoreError)
-      → Quiet old mid → (IsClean (ghosts.view mid) → OnlyWrites (ghosts.view old) (ghosts.view mid))
-      → Quiet mid new
+      → Quiet ghosts old mid → (IsClean (ghosts.view mid) → OnlyWrites (ghosts.view old) (ghosts.view mid))
+      → Quiet ghosts mid new
       → OnErr result (IsClean (ghosts.view new)
       → KeepsCommitted (ghosts.view mid) (ghosts.view new))
       → OnOk result (IsClean (ghosts.view new)
@@ -458,24 +373,24 @@ module _ {S : Type 0} (ghosts : Ghosts S) where
       → Holds (ghosts.view new).trees (change tables))
       → Does result (state ghosts old) (state ghosts new) When change
   does_after {old = old} (Ok value) first only step kept done holds = record {
-    survives = survives (quiet_both first step);
+    survives = survives (quiet_both ghosts first step);
     done = λ clean.
         let rewritten = done clean in
         record {
-          only = only_both (ghosts.view old) (only (clean_before step clean)) rewritten.only;
+          only = only_both (ghosts.view old) (only (clean_before ghosts step clean)) rewritten.only;
           made = holds clean rewritten;
         };
     refused = λ clean. tt;
   }
   does_after (Err error) first only step kept done holds = record {
-    survives = survives (quiet_both first step);
+    survives = survives (quiet_both ghosts first step);
     done = λ clean. tt;
-    refused = λ clean. kept_after (only (clean_before step clean)) (kept clean);
+    refused = λ clean. kept_after (only (clean_before ghosts step clean)) (kept clean);
   }
 
   -- a step that has nothing to do, as a look has shown
   pub does_nothing : {T : Type 0} {When : Tables → Type 0} {change : Tables → Tables} {value : T}
-      {old new : S} → Quiet old new
+      {old new : S} → Quiet ghosts old new
       → (IsClean (ghosts.view new) → IsUnchanged (ghosts.view old) (ghosts.view new))
       → (IsClean (ghosts.view new) → (tables : Tables) → Holds (ghosts.view old).trees tables
       → change tables ≡ tables)
@@ -495,14 +410,14 @@ module _ {S : Type 0} (ghosts : Ghosts S) where
 
   -- a step that succeeded
   pub does_well : {T : Type 0} {When : Tables → Type 0} {change : Tables → Tables} {value : T}
-      {old new : S} → Quiet old new
+      {old new : S} → Quiet ghosts old new
       → (IsClean (ghosts.view new) → Changes (ghosts.view old) (ghosts.view new) When change)
       → Does (Ok value) (state ghosts old) (state ghosts new) When change
   does_well call done = record { survives = survives call; done = done; refused = λ clean. tt }
 
   -- a step that failed
   pub does_fail : {T : Type 0} {When : Tables → Type 0} {change : Tables → Tables} {old new : S}
-      (result : Result T StoreError) → IsErr result → Quiet old new
+      (result : Result T StoreError) → IsErr result → Quiet ghosts old new
       → (IsClean (ghosts.view new) → KeepsCommitted (ghosts.view old) (ghosts.view new))
       → Does result (state ghosts old) (state ghosts new) When change
   does_fail (Ok value) fails call kept = absurd (true≢false (sym fails))

@@ -22,7 +22,8 @@ use Rattle.tree_tables.specs.Holds.{Holds, choice_name_key, identity_key, mark_k
 use Rattle.tree_tables.specs.States.{state}
 use Rattle.tree_tables.specs.Steps.{HasNoRows, Makes}
 use Rattle.tree_tables.proofs.Layouts.{by_chosen_exact, by_chosen_total}
-use Rattle.tree_tables.proofs.Looking.{Quiet, survives}
+use Rattle.tree_rows.proofs.Calls.{Quiet}
+use Rattle.tree_tables.proofs.Looking.{survives}
 
 -- a list of no length has nothing
 no_length : {X : Type 0} (xs : List X) → length xs ≡ 0 → xs ≡ []

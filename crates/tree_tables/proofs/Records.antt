@@ -19,7 +19,7 @@ use Rattle.tree_rows.proofs.Maps.{inserted}
 use Rattle.tree_rows.proofs.Taking.{changed}
 use Rattle.tree_tables.proofs.Holding.{apart, with_records}
 use Rattle.tree_tables.proofs.Layouts.{record_layout, identity_layout, mark_layout}
-use Rattle.tree_tables.proofs.Looking.{rewrites_behind}
+use Rattle.tree_tables.proofs.Looking.{rewrites_after_look}
 use Rattle.tree_tables.proofs.RecordIndexes.{identity_named, mark_named}
 use Rattle.tree_tables.proofs.RecordIndexes.{index_row_added, index_row_changed}
 use Rattle.tree_tables.specs.Answers.{FindsRecord}
@@ -111,7 +111,7 @@ record_marked old {look} {mid} {new} tables name mark row {before} {made} {from}
     let value = Int (pos (flag mark)) in
     let now = marked mark row in
     let behind : Rewrites old mid 3 (insert_entry plain made (remove_entry plain before
-    (look.trees 3))) = rewrites_behind {old = old} same first in
+    (look.trees 3))) = rewrites_after_look {old = old} same first in
     let rows_are : look.trees 3 ≡ old.trees 3 = ap (λ (v : View). v.trees 3) same in
     subst (λ found. Holds new.trees (record tables { records = mark_at mark name found records }))
     (sym some)

@@ -24,7 +24,7 @@ use Rattle.tree_rows.proofs.Updating.{updated_step, done_step, done_start, done_
 use Rattle.tree_rows.proofs.Updating.{get_updated}
 use Rattle.tree_tables.proofs.Holding.{SameBut, apart}
 use Rattle.tree_tables.proofs.Layouts.{record_layout}
-use Rattle.tree_tables.proofs.Looking.{only_looks, rewrites_behind}
+use Rattle.tree_tables.proofs.Looking.{only_looks, rewrites_after_look}
 use Rattle.tree_tables.proofs.RecordIndexes.{identity_named, mark_named}
 use Rattle.tree_tables.specs.Columns.{record_columns, identity_columns, mark_columns}
 use Rattle.tree_tables.specs.Holds.{Holds, identity_key, identity_index, mark_key, marks}
@@ -118,9 +118,9 @@ from_none [] = refl
 from_none (row ∷ rows) = refl
 
 -- and so does a walk
-pub from_is_behind : (key : Row) (rows : List Row) → key ≡ []
+pub from_no_key : (key : Row) (rows : List Row) → key ≡ []
     → from_key plain key rows ≡ rows_past key rows
-from_is_behind key rows empty =
+from_no_key key rows empty =
     ap (λ one. from_key plain one rows) empty ∙ from_none rows
     ∙ ap (λ one. rows_past one rows) (sym empty)
 
@@ -237,7 +237,7 @@ module _ (change : RecordRow → RecordRow)
           → Rewrites mid new 3 (insert_entry plain made (remove_entry plain row (mid.trees 3)))
           → RenewsNext change old new key next true
       renews_one new next made begins named made_is written =
-          let rewritten = rewrites_behind {old = old} looked written in
+          let rewritten = rewrites_after_look {old = old} looked written in
           record {
             only = rewritten.only;
             renews = λ tables so_far.

@@ -17,8 +17,9 @@ use Rattle.tree_tables.specs.States.{HasCleanDisk, State, Survives}
 use Rattle.tree_tables.specs.Steps.{Always, Does, Looks}
 use Rattle.tree_tables.specs.Stored.{stored_entry}
 use Rattle.tree_tables.specs.declared.stored_record.StoredRecord.{StoredRecord}
-use Rattle.tree_tables.proofs.Looking.{held_behind, kept_after, kept_behind, kept_by, kept_same}
-use Rattle.tree_tables.proofs.Looking.{only_both, only_looks, same_both, survives_both, was_clean}
+use Rattle.tree_rows.proofs.Calls.{kept_after_look, kept_same, unchanged_both}
+use Rattle.tree_tables.proofs.Looking.{held_after_look, kept_after, kept_by}
+use Rattle.tree_tables.proofs.Looking.{only_both, only_looks, survives_both, was_clean}
 use Rattle.tree_tables.proofs.WalkNames.{IsWalking, KeepsNames, next_sum, next_told, none_left}
 use Rattle.tree_tables.proofs.WalkNames.{rows_left, told_all, walking_ends, walking_on}
 use Rattle.tree_tables.proofs.WalkNames.{walking_starts}
@@ -80,7 +81,7 @@ module _ (step : List ℕ → Tables → Tables) where
           let so_far = walks.walking (was_clean looks.survives clean) tables holds in
           record {
             now = so_far.now;
-            holds = held_behind mid.view (looks.found clean).same so_far.holds;
+            holds = held_after_look mid.view (looks.found clean).same so_far.holds;
             whole = so_far.whole;
           };
     }
@@ -109,7 +110,7 @@ module _ (step : List ℕ → Tables → Tables) where
           walking_on step tables last so_far stored keeps found
           (subst (Holds new.view.trees) steps.1
           ((does.done clean).made so_far.now
-          (held_behind mid.view look.same so_far.holds) steps.0));
+          (held_after_look mid.view look.same so_far.holds) steps.0));
     }
 
     -- the next record is found, at which the step changes nothing
@@ -129,7 +130,7 @@ module _ (step : List ℕ → Tables → Tables) where
           let found = look.known so_far.now so_far.holds in
           walking_on step tables last so_far stored keeps found
           (subst (Holds new.view.trees) (stays so_far.now found)
-          (held_behind mid.view look.same so_far.holds));
+          (held_after_look mid.view look.same so_far.holds));
     }
 
     -- none is found: all steps are taken, one for each name, in order
@@ -144,7 +145,7 @@ module _ (step : List ℕ → Tables → Tables) where
         made = λ tables holds when.
             let so_far = walks.walking (was_clean looks.survives clean) tables holds in
             let look = looks.found clean in
-            held_behind mid.view look.same
+            held_after_look mid.view look.same
             (walking_ends step tables last so_far (look.known so_far.now so_far.holds));
       };
       refused = λ clean. tt;
@@ -220,7 +221,7 @@ module _ (f : RecordRow → ℕ) (Told : RecordRow → Type 0) where
     sums_still looks = record {
       survives = survives_both sums.survives looks.survives;
       same = λ clean.
-          same_both old.view (sums.same (was_clean looks.survives clean)) (looks.found clean).same;
+          unchanged_both old.view (sums.same (was_clean looks.survives clean)) (looks.found clean).same;
       known = λ clean tables holds. sums.known (was_clean looks.survives clean) tables holds;
     }
 
@@ -236,7 +237,7 @@ module _ (f : RecordRow → ℕ) (Told : RecordRow → Type 0) where
         → IsErr result → Looks {A = B} (Err why) mid new Others → Looks result old new Answers
     sums_blind result failed looks =
         looks_err result failed (survives_both sums.survives looks.survives) (λ clean.
-        kept_behind (sums.same (was_clean looks.survives clean)) (looks.refused clean))
+        kept_after_look (sums.same (was_clean looks.survives clean)) (looks.refused clean))
 
     -- the next record is found and reported, and its part joins the sum
     pub sums_on : {new : State} (stored : StoredRecord) (more : ℕ)
@@ -246,11 +247,11 @@ module _ (f : RecordRow → ℕ) (Told : RecordRow → Type 0) where
     sums_on {new = new} stored more looks is tells = record {
       survives = survives_both sums.survives looks.survives;
       same = λ clean.
-          same_both old.view (sums.same (was_clean looks.survives clean)) (looks.found clean).same;
+          unchanged_both old.view (sums.same (was_clean looks.survives clean)) (looks.found clean).same;
       known = λ clean tables holds.
           let before = was_clean looks.survives clean in
           let look = looks.found clean in
-          let found = look.known tables (held_behind old.view (sums.same before) holds) in
+          let found = look.known tables (held_after_look old.view (sums.same before) holds) in
           let so = sums.known before tables holds in
           record {
             sum = (let all = so.sum in
@@ -288,9 +289,9 @@ module _ (f : RecordRow → ℕ) (Told : RecordRow → Type 0) where
           let before = was_clean looks.survives clean in
           let look = looks.found clean in
           record {
-            same = same_both old.view (sums.same before) look.same;
+            same = unchanged_both old.view (sums.same before) look.same;
             known = λ tables holds.
-                let found = look.known tables (held_behind old.view (sums.same before) holds) in
+                let found = look.known tables (held_after_look old.view (sums.same before) holds) in
                 let so = sums.known before tables holds in
                 let all = so.sum in
                 let none : sum_by f (rows_left last tables) ≡ 0 =

@@ -6,34 +6,23 @@ ghost use Rattle.book_core.specs.Plain.{ruled_by};
 
 use super::PlainLedger;
 use super::lists::last_close;
-use crate::accepted_tariff::{AcceptedTariff, are_before, has_day_of, has_text};
+use crate::accepted_tariff::AcceptedTariff;
 use crate::closed::ClosedPeriod;
-use crate::limits::LAST_PERIOD;
-use crate::period_end::is_after;
 use crate::repricing::{cost_under, reprice};
+use crate::rulings::{close_answer, is_done, tariff_answer};
 use book_model::{LedgerFault, Naming, Ruled};
 use std::alloc::AllocError;
 use tariff_rules::Tariff;
 
-/// A tariff begins later than every other one, and after the last close.
-fn is_later(tariffs: &[AcceptedTariff], closed: &[ClosedPeriod], tariff: &Tariff) -> bool
-    ensures { result
-        ≡ spec.is_later tariff.now.effective (ruled_by tariffs.now closed.now [] None) }
-{
-    are_before(tariffs, tariff) && is_after(last_close(closed), tariff.effective())
-}
-
-/// The period is closed, through this day.
-fn is_closed(closed: &[ClosedPeriod], period: u16, through: i32) -> bool
-    ensures { result ≡ spec.is_closed period through (ruled_by [] closed.now [] None) }
+/// The day through which a period was closed, if it was.
+fn through_of(closed: &[ClosedPeriod], period: u16) -> Option<i32>
+    ensures { result ≡ spec.through_of period (ruled_by [] closed.now [] None) }
 {
     if period == 0 {
-        return false;
+        return None;
     }
-    match closed.get(period as usize - 1) {
-        Some(closed) => through == closed.through,
-        None => false,
-    }
+    let closed = closed.get(period as usize - 1)?;
+    Some(closed.through)
 }
 
 impl<N: Naming + Drop> PlainLedger<N> {
@@ -66,14 +55,9 @@ impl<N: Naming + Drop> PlainLedger<N> {
         ensures cost { IfOk result (λ found. IfSome found
             (λ cost. cost ≡ cost_anew tariff.now (values self.now.held))) }
     {
-        if has_text(&self.tariffs, text) {
-            return Ok(None);
-        }
-        if has_day_of(&self.tariffs, tariff) {
-            return Err(LedgerFault::TariffExists);
-        }
-        if !is_later(&self.tariffs, &self.closed, tariff) {
-            return Err(LedgerFault::TariffDate);
+        match tariff_answer(&self.tariffs, last_close(&self.closed), text, tariff)? {
+            Ruled::Already => return Ok(None),
+            Ruled::Done => {}
         }
         let Some(cost) = cost_under(&self.held, tariff) else {
             return Err(LedgerFault::Full);
@@ -106,18 +90,12 @@ impl<N: Naming + Drop> PlainLedger<N> {
         ensures { IsPlainCall (λ ruled. ruled) self.old self.new result
             (close_outcome period through) }
     {
-        if is_closed(&self.closed, period, through) {
-            return Ok(Ruled::Already);
-        }
-        let number = self.closed.len() as u16 + 1;
-        if period != number {
-            return Err(LedgerFault::WrongPeriod(number));
-        }
-        if !is_after(last_close(&self.closed), through) {
-            return Err(LedgerFault::NotLater);
-        }
-        if period == LAST_PERIOD {
-            return Err(LedgerFault::Full);
+        let current = self.closed.len() as u16 + 1;
+        let closed = through_of(&self.closed, period);
+        let last = last_close(&self.closed);
+        let answer = close_answer(current, closed, last, period, through);
+        if !is_done(&answer) {
+            return answer;
         }
         self.end_period(through)?;
         Ok(Ruled::Done)

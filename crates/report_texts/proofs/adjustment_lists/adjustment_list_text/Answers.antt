@@ -4,7 +4,7 @@ use Rattle.report_texts.specs.Periods.{title_line}
 use Rattle.report_texts.proofs.PartLemmas.{three_parts}
 use Rattle.report_texts.proofs.adjustment_lists.adjustment_list_text.Goals as goal
 
--- the three parts, one behind the other
+-- the three parts, one after the other
 pub returns : goal.returns
 returns c =
     let lines = c.args.lines.now in

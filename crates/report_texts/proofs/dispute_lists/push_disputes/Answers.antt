@@ -12,7 +12,7 @@ push_dispute-requires c =
     at_map IsDispute dispute_shown c.args.disputes.now index dispute
     c.requires (omega arith) c.dispute-item.is
 
--- its lines are behind those so far
+-- its lines come after those so far
 pub loop-dispute-preserved : goal.loop-dispute-preserved
 loop-dispute-preserved c =
     one_more_shown dispute_lines dispute_shown c.args.disputes.now c.loop-dispute.dispute-index

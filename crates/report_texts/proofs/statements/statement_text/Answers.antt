@@ -4,7 +4,7 @@ use Rattle.report_texts.specs.Statements.{heading, row_line, total_line}
 use Rattle.report_texts.proofs.PartLemmas.{four_parts}
 use Rattle.report_texts.proofs.statements.statement_text.Goals as goal
 
--- the four parts, one behind the other
+-- the four parts, one after the other
 pub returns : goal.returns
 returns c =
     let rows = c.args.rows.now in

@@ -14,7 +14,7 @@ use Rattle.tree_tables.specs.Holds.{Holds}
 use Rattle.tree_tables.specs.States.{HasCleanDisk, state}
 use Rattle.tree_tables.specs.Steps.{IsCaused}
 use Rattle.table_ledger.specs.RecordReads.{CanBeRead}
-use Rattle.table_ledger.proofs.OwnBooks.{fails_behind}
+use Rattle.table_ledger.proofs.OwnBooks.{fails_after_look}
 use Rattle.table_ledger.proofs.adjustments.read_lines.Goals as goal
 use Rattle.table_ledger.proofs.adjustments.read_lines.Goals.{in-Some+in_ok-push, in_default}
 
@@ -68,7 +68,7 @@ returns-in_err-line-clause-cause g c =
     let end = state g.S.Store c.read_line.new.tables.store in
     let cause : HasCleanDisk end → (tables : Tables) → Holds start.view.trees tables
     → CanBeRead tables → IsCaused start end c.in_err-line.field-0.0 =
-    fails_behind _ c.loop-stored.invariant.saw c.in_err-line.ensures.looks.survives
+    fails_after_look _ c.loop-stored.invariant.saw c.in_err-line.ensures.looks.survives
     c.in_err-line.ensures.cause in
     let p = err_from_is_err_and c.from_residual.result c.from_residual.ensures.1 in
     rw (p.1, p.2) cause

@@ -15,7 +15,7 @@ use Rattle.table_model.specs.TablesOf.{tables_of}
 use Rattle.tree_tables.specs.States.{HasCleanDisk, state}
 use Rattle.tree_tables.specs.Steps.{IsCaused}
 use Rattle.table_ledger.specs.Ready.{IsReadyAt}
-use Rattle.table_ledger.proofs.OwnBooks.{fails_behind}
+use Rattle.table_ledger.proofs.OwnBooks.{fails_after_look}
 use Rattle.table_ledger.proofs.BookLists.{own_lines, own_records, own_rise, own_shown}
 use Rattle.table_ledger.proofs.adjustments.try_adjustments.Goals as goal
 
@@ -84,7 +84,7 @@ returns-in_err-lines-clause-own g c = λ naming wide.
     let cause : HasCleanDisk end → (book : Book)
     → IsReadyAt naming c.args.summary.now start.view book
     → IsCaused start end c.in_err-lines.field-0.0 =
-    λ clean book ready. fails_behind _ (saw_found c.in_ok-found.ensures.looks)
+    λ clean book ready. fails_after_look _ (saw_found c.in_ok-found.ensures.looks)
     c.in_err-lines.ensures.looks.survives c.in_err-lines.ensures.cause clean
     (tables_of naming book) ready.kept.holds (own_records ready wide) in
     let p = err_from_is_err_and c.from_residual-in_err-lines.result

@@ -1,6 +1,6 @@
 use Rattle.std.proofs.Common.{List, map, subst}
 use Rattle.tree_tables.specs.declared.choice_rows.StoredChoice.{StoredChoice}
-use Rattle.tree_tables.proofs.Looking.{looks_behind}
+use Rattle.tree_tables.proofs.Looking.{looks_after_look}
 use Rattle.table_ledger.specs.Adoptions.{IsLastOf}
 use Rattle.table_ledger.proofs.DueCharges.{last_listed}
 use Rattle.table_ledger.proofs.Refusals.{looks_failed}
@@ -9,7 +9,7 @@ use Rattle.table_ledger.proofs.chosen.look_for_chosen.Goals as goal
 -- the last of all choices that were listed
 pub returns : goal.returns
 returns g c = record {
-  looks = looks_behind c.last_of.result c.in_ok-choices.ensures.looks c.last_of.ensures.looks
+  looks = looks_after_look c.last_of.result c.in_ok-choices.ensures.looks c.last_of.ensures.looks
       (λ tables chosen lists lasts.
       last_listed c.in_ok-choices.choices.items chosen tables lists
       (subst (λ (list : List StoredChoice).

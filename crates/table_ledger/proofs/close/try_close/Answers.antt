@@ -12,7 +12,7 @@ use Rattle.tree_tables.specs.States.{state}
 use Rattle.book_model.specs.declared.answer.Ruled.{Ruled}
 use Rattle.book_model.specs.declared.answer.Ruled.TheVariants.{Done}
 use Rattle.tree_tables.specs.Days.{NoneNext}
-use Rattle.table_ledger.specs.CloseWrites.{close_by_steps}
+use Rattle.table_model.specs.Steps.{close_by_steps}
 use Rattle.table_ledger.specs.Attempts.{LeavesOpen}
 use Rattle.table_ledger.proofs.CloseTries.{close_is_event, close_plain, close_makes}
 use Rattle.table_ledger.proofs.CloseTries.{close_remembered, close_room}

@@ -17,7 +17,7 @@ use Rattle.tree_tables.specs.declared.stored_record.StoredRecord.{StoredRecord}
 use Rattle.table_ledger.specs.DisputeReads.{IsShownRow}
 use Rattle.tree_tables.specs.UsageData.{IsUsageData}
 use Rattle.table_ledger.proofs.JoinLemmas.{grouped_more}
-use Rattle.table_ledger.proofs.OwnBooks.{fails_behind}
+use Rattle.table_ledger.proofs.OwnBooks.{fails_after_look}
 use Rattle.table_ledger.proofs.TryLemmas.{saw_found, saw_so, saw_then}
 use Rattle.table_ledger.proofs.disputes.grouped.Goals as goal
 use Rattle.table_ledger.proofs.disputes.grouped.Goals.{then-not-branch+in_ok-join, else-not-branch}
@@ -30,7 +30,7 @@ returns-in_err-has_charged-clause-cause g c =
     let Usage : StoredRecord → Type 0 = λ row. IsUsageData row.data_bytes.items in
     let cause : HasCleanDisk end → (tables : Tables) → Holds start.view.trees tables
     → All Usage c.args.rows.now → IsCaused start end c.in_err-has_charged.field-0.0 =
-    fails_behind _ c.loop-stored.invariant.saw c.in_err-has_charged.ensures.looks.survives
+    fails_after_look _ c.loop-stored.invariant.saw c.in_err-has_charged.ensures.looks.survives
     (λ clean tables holds when. c.in_err-has_charged.ensures.cause clean tables holds tt) in
     let p = err_from_is_err_and c.from_residual.result c.from_residual.ensures.1 in
     rw (p.1, p.2) cause

@@ -7,7 +7,7 @@ use Rattle.table_laws.specs.DisputesRead.{disputes_read, grouped, has_none_charg
 use Rattle.table_laws.proofs.DisputeLemmas.{disputes_follow}
 use Rattle.table_ledger.specs.DisputeReads.{IsShownRow}
 use Rattle.table_ledger.proofs.ListReadings.{first_refused, later_refused, list_read}
-use Rattle.table_ledger.proofs.OwnBooks.{fails_behind}
+use Rattle.table_ledger.proofs.OwnBooks.{fails_after_look}
 use Rattle.table_ledger.proofs.SurvivalLemmas.{clean_before}
 use Rattle.table_ledger.proofs.TryLemmas.{saw_found, saw_then, try_stopped}
 use Rattle.book_model.specs.Words.{Book}
@@ -84,7 +84,7 @@ returns-in_err-grouped-clause-own g c = λ naming wide.
     (tables_of naming book) ready.kept.holds in
     let usage = subst (All Usage) (sym c.deref-2.ensures.value)
     (own_usage ready wide c.in_ok-rows.rows.items lists) in
-    fails_behind _ (saw_found c.in_ok-rows.ensures.looks) survives
+    fails_after_look _ (saw_found c.in_ok-rows.ensures.looks) survives
     c.in_err-grouped.ensures.cause clean (tables_of naming book) ready.kept.holds usage in
     let p = err_from_is_err_and c.from_residual-in_err-grouped.result
     c.from_residual-in_err-grouped.ensures.1 in

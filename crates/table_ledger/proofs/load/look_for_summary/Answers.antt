@@ -7,7 +7,7 @@ use Rattle.tree_tables.specs.Holds.{Holds}
 use Rattle.tree_tables.specs.States.{HasCleanDisk, state}
 use Rattle.tree_tables.specs.Steps.{IsCaused}
 use Rattle.table_ledger.specs.Loaded.{CanBeListed}
-use Rattle.table_ledger.proofs.OwnBooks.{fails_behind}
+use Rattle.table_ledger.proofs.OwnBooks.{fails_after_look}
 use Rattle.table_ledger.proofs.LoadLemmas.{never_missed, recalled_by, refused_at}
 use Rattle.table_ledger.proofs.TryLemmas.{looks_known, saw_found, saw_none, saw_then}
 use Rattle.table_ledger.proofs.load.look_for_summary.Goals as goal
@@ -65,7 +65,7 @@ returns-in_err-tariffs-clause-cause g c =
     let end = state g.S.Store c.list_tariffs.new.self.store in
     let cause : HasCleanDisk end → (tables : Tables) → Holds start.view.trees tables
     → CanBeListed tables → IsCaused start end c.in_err-tariffs.field-0.0 =
-    fails_behind _ (saw_found c.in_ok-row.ensures.looks) c.in_err-tariffs.ensures.looks.survives
+    fails_after_look _ (saw_found c.in_ok-row.ensures.looks) c.in_err-tariffs.ensures.looks.survives
     (λ clean tables holds when. c.in_err-tariffs.ensures.cause clean tables holds when.tariffs) in
     let p = err_from_is_err_and c.from_residual-in_err-tariffs.result
     c.from_residual-in_err-tariffs.ensures.1 in
@@ -78,7 +78,7 @@ returns-in_err-closes-clause-cause g c =
     let end = state g.S.Store c.list_closes.new.self.store in
     let cause : HasCleanDisk end → (tables : Tables) → Holds start.view.trees tables
     → CanBeListed tables → IsCaused start end c.in_err-closes.field-0.0 =
-    fails_behind _ (saw_then (saw_found c.in_ok-row.ensures.looks)
+    fails_after_look _ (saw_then (saw_found c.in_ok-row.ensures.looks)
     (saw_found c.in_ok-tariffs.ensures.looks)) c.in_err-closes.ensures.looks.survives
     (λ clean tables holds when. c.in_err-closes.ensures.cause clean tables holds when.closes) in
     let p = err_from_is_err_and c.from_residual-in_err-closes.result
@@ -92,7 +92,7 @@ returns-in_err-choices-clause-cause g c =
     let end = state g.S.Store c.last_choice.new.self.store in
     let cause : HasCleanDisk end → (tables : Tables) → Holds start.view.trees tables
     → CanBeListed tables → IsCaused start end c.in_err-choices.field-0.0 =
-    fails_behind _ (saw_then (saw_then (saw_found c.in_ok-row.ensures.looks)
+    fails_after_look _ (saw_then (saw_then (saw_found c.in_ok-row.ensures.looks)
     (saw_found c.in_ok-tariffs.ensures.looks)) (saw_found c.in_ok-closes.ensures.looks))
     c.in_err-choices.ensures.looks.survives
     (λ clean tables holds when. c.in_err-choices.ensures.cause clean tables holds when.choices) in

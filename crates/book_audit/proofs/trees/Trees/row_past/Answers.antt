@@ -3,7 +3,7 @@ use Rattle.sqlite_trees.specs.Tree.{from_key}
 use Rattle.sqlite_trees.specs.View.{IsClean}
 use Rattle.sqlite_value.specs.Keys.{plain}
 use Rattle.tree_rows.specs.Rows.{IsFirst}
-use Rattle.tree_tables.proofs.Renewing.{from_is_behind}
+use Rattle.tree_tables.proofs.Renewing.{from_no_key}
 use Rattle.book_audit.specs.Trees.{tree_number}
 use Rattle.book_audit.proofs.trees.Trees.row_past.Goals as goal
 
@@ -17,5 +17,5 @@ returns-then-is_empty-clause-found g c =
     c.number-number.ensures.value c.first_from.ensures.found in
     subst (λ rows. IfOk c.first_from.result (λ there.
     IsClean (g.S.Store.view c.first_from.new.store) → IsFirst rows c.first_from.new.row there))
-    (from_is_behind key (trees (tree_number c.args.tree)) (search rules))
+    (from_no_key key (trees (tree_number c.args.tree)) (search rules))
     found

@@ -6,7 +6,7 @@ use Rattle.tree_tables.specs.States.{HasCleanDisk, state}
 use Rattle.tree_tables.specs.Steps.{IsCaused}
 use Rattle.tree_tables.proofs.ChargedRows.{charged_fits, charged_is, charged_is_named}
 use Rattle.tree_tables.proofs.ChargedRows.{charged_none, name_looked}
-use Rattle.tree_tables.proofs.Looking.{fails_behind, looks_also, looks_found}
+use Rattle.tree_tables.proofs.Looking.{fails_after_look, looks_also, looks_found}
 use Rattle.tree_tables.proofs.tables.TreeTables.find_charged.Goals as goal
 
 -- no record of the identity is charged
@@ -54,7 +54,7 @@ returns-in_err-record_named-clause-cause g c =
     c.in_ok-name.ensures.read in
     let cause : HasCleanDisk end → (tables : Tables) → Holds start.view.trees tables
     → EachFits tables → IsCaused start end c.in_err-record_named.field-0.0 =
-    fails_behind {When = EachFits} _ named c.in_err-record_named.ensures.looks.survives
+    fails_after_look {When = EachFits} _ named c.in_err-record_named.ensures.looks.survives
     (λ clean tables holds names fit. c.in_err-record_named.ensures.cause clean tables holds
     (charged_is_named tables c.args.identity.now c.in_ok-name.name names fit)) in
     let p = err_from_is_err_and c.from_residual-in_err-record_named.result

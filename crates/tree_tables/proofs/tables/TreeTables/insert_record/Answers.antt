@@ -1,6 +1,7 @@
 use Rattle.std.proofs.Common.{◌≡◌, ◌∷◌, [], ◌∙◌, ap}
 use Rattle.sqlite_value.specs.declared.value.Value.TheVariants.{Blob}
-use Rattle.tree_tables.proofs.Looking.{clean_before, does_after, only_both, quiet_both}
+use Rattle.tree_rows.proofs.Calls.{clean_before, quiet_both}
+use Rattle.tree_tables.proofs.Looking.{does_after, only_both}
 use Rattle.tree_tables.proofs.Records.{record_added}
 use Rattle.tree_tables.specs.Columns.{mark_columns}
 use Rattle.tree_tables.specs.Holds.{mark_key}

@@ -1,6 +1,7 @@
 use Rattle.std.proofs.Common.{◌∷◌, [], ◌∙◌}
 use Rattle.tree_tables.proofs.Keying.{keys_kept, keys_none, keys_one}
-use Rattle.tree_tables.proofs.Looking.{clean_before, found_before, same_both}
+use Rattle.tree_rows.proofs.Calls.{clean_before, unchanged_both}
+use Rattle.tree_tables.proofs.Looking.{found_before}
 use Rattle.tree_tables.proofs.tables.TreeTables.key_next.Goals as goal
 
 -- no entry is left
@@ -18,7 +19,7 @@ returns-then-branch-clause-keys g c clean =
     let before = clean_before g.S.Store c.find_row.ensures.quiet clean in
     let first = c.in_ok-first_past.ensures.same before in
     keys_kept old (g.S.Store.view c.find_row.new.store) c.args.last.now c.first_past.new.row
-    (same_both old first (c.in_ok-find_row.ensures.same clean)) c.make_row.new.row
+    (unchanged_both old first (c.in_ok-find_row.ensures.same clean)) c.make_row.new.row
     (rw c.if-not-branch.false at (c.in_ok-first_past.ensures.found before))
     (c.in_ok-make_row.ensures ∙ (λ i. c.get.ensures i ∷ c.get-2.ensures i ∷ []))
     c.in_ok-column_key.ensures
@@ -34,7 +35,7 @@ returns-clause-keys g c clean =
     let before = clean_before g.S.Store c.find_row.ensures.quiet after in
     let first = c.in_ok-first_past.ensures.same before in
     keys_one old (g.S.Store.view c.find_row.new.store) c.args.last.now c.first_past.new.row
-    (same_both old first (c.in_ok-find_row.ensures.same after)) c.make_row.new.row
+    (unchanged_both old first (c.in_ok-find_row.ensures.same after)) c.make_row.new.row
     (rw c.if-not-branch.false at (c.in_ok-first_past.ensures.found before))
     (c.in_ok-make_row.ensures ∙ (λ i. c.get.ensures i ∷ c.get-2.ensures i ∷ []))
     c.in_ok-column_key.ensures

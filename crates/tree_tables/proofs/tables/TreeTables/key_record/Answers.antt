@@ -1,6 +1,7 @@
 use Rattle.std.proofs.Common.{◌∷◌, [], ◌∙◌}
 use Rattle.tree_tables.proofs.Keying.{moves_keys}
-use Rattle.tree_tables.proofs.Looking.{clean_before, failed_so, kept_after, ok_so, quiet_both}
+use Rattle.tree_rows.proofs.Calls.{clean_before, quiet_both}
+use Rattle.tree_tables.proofs.Looking.{failed_so, kept_after, ok_so}
 use Rattle.tree_tables.proofs.tables.TreeTables.key_record.Goals as goal
 
 -- the entry and the mark have made way

@@ -1,7 +1,8 @@
 use Rattle.std.proofs.Common.{rules}
 use Rattle.table_model.specs.Steps.{rename_rows}
 use Rattle.tree_tables.proofs.Keying.{keying_starts}
-use Rattle.tree_tables.proofs.Looking.{clean_before, only_both}
+use Rattle.tree_rows.proofs.Calls.{clean_before}
+use Rattle.tree_tables.proofs.Looking.{only_both}
 use Rattle.tree_tables.proofs.tables.TreeTables.key_records.Goals as goal
 
 pub entries-init : goal.entries-init

@@ -6,7 +6,7 @@ use Rattle.tree_tables.specs.Fits.{AllNamed, EndsInName, RecordsFit, RowsFit}
 use Rattle.tree_tables.specs.Holds.{Holds}
 use Rattle.tree_tables.specs.States.{HasCleanDisk, state}
 use Rattle.tree_tables.specs.Steps.{IsCaused, Looks}
-use Rattle.tree_tables.proofs.Looking.{caused_memory, err_so, fails_behind, looks_behind, looks_found}
+use Rattle.tree_tables.proofs.Looking.{caused_memory, err_so, fails_after_look, looks_after_look, looks_found}
 use Rattle.tree_tables.proofs.RecordLists.{EndIn, all_named, mark_rows, marks_fit, uncharged_found}
 use Rattle.tree_tables.proofs.tables.TreeTables.list_uncharged.Goals as goal
 
@@ -23,12 +23,12 @@ returns g c =
     (λ clean tables holds. subst (λ rows. EndIn (run_of key rows) names.items)
     holds.marks (c.in_ok-names.ensures.found clean)) in
     record {
-      looks = looks_behind c.read_named.result listed c.read_named.ensures.looks
+      looks = looks_after_look c.read_named.result listed c.read_named.ensures.looks
           (λ tables found ends all. uncharged_found tables key names.items found.items
           c.in_ok-number_key.ensures.made ends
           (subst (λ some. FindsNamed some tables found.items) c.deref.ensures.value all));
       cause = err_so c.read_named.result c.read_named.ensures.cause (λ error cause.
-          fails_behind {When = RecordsFit} error listed c.read_named.ensures.looks.survives
+          fails_after_look {When = RecordsFit} error listed c.read_named.ensures.looks.survives
           (λ clean tables holds ends fit. cause clean tables holds
           (subst (λ some. AllNamed some tables) (sym c.deref.ensures.value)
           (all_named tables fit key names.items c.in_ok-number_key.ensures.made ends))));

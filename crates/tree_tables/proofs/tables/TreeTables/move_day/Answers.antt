@@ -2,7 +2,7 @@ use Rattle.std.proofs.Common.{◌≡◌, ◌∙◌, ◌+◌, suc, sym, ap, arith
 use Rattle.table_model.specs.TablesOf.{row_key}
 use Rattle.tree_tables.specs.Columns.{day_columns}
 use Rattle.tree_tables.proofs.MoveDays.{none_found, one_moved, other_found, some_looked, some_more}
-use Rattle.tree_tables.proofs.Looking.{clean_before}
+use Rattle.tree_rows.proofs.Calls.{clean_before}
 use Rattle.tree_tables.proofs.tables.TreeTables.move_day.Goals as goal
 
 -- a look changes nothing

@@ -1,6 +1,6 @@
 use Rattle.std.proofs.Common.{refl, rules}
-use Rattle.tree_tables.proofs.Looking.{clean_before, does_fail, does_well, kept_after, kept_by}
-use Rattle.tree_tables.proofs.Looking.{quiet_both}
+use Rattle.tree_rows.proofs.Calls.{clean_before, quiet_both}
+use Rattle.tree_tables.proofs.Looking.{does_fail, does_well, kept_after, kept_by}
 use Rattle.tree_tables.proofs.MoveDays.{all_moved, some_looked, some_more}
 use Rattle.tree_tables.proofs.tables.TreeTables.move_days.Goals as goal
 

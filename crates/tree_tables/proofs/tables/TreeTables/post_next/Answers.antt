@@ -2,7 +2,7 @@ use Rattle.std.proofs.Common.{true, false, subst, w32}
 use Rattle.std.proofs.lemmas.Int.{to_z-of_z}
 use Rattle.table_model.specs.Steps.{post_by}
 use Rattle.tree_tables.specs.Walks.{RenewsRow}
-use Rattle.tree_tables.proofs.Looking.{clean_before}
+use Rattle.tree_rows.proofs.Calls.{clean_before}
 use Rattle.tree_tables.proofs.Renewing.{post_again, renews_kept, renews_none, renews_one}
 use Rattle.tree_tables.proofs.tables.TreeTables.post_next.Goals as goal
 

@@ -1,7 +1,8 @@
 use Rattle.std.proofs.Common.{false, rules, subst, w32}
 use Rattle.std.proofs.lemmas.Int.{to_z-of_z}
 use Rattle.table_model.specs.Steps.{post_by}
-use Rattle.tree_tables.proofs.Looking.{clean_before, does_well, only_both, quiet_both}
+use Rattle.tree_rows.proofs.Calls.{clean_before, quiet_both}
+use Rattle.tree_tables.proofs.Looking.{does_well, only_both}
 use Rattle.tree_tables.proofs.Renewing.{posted_held, renewing_starts}
 use Rattle.tree_tables.specs.Walks.{IsRenewing, RenewsNext}
 use Rattle.tree_tables.proofs.tables.TreeTables.post_records.Goals as goal

@@ -1,5 +1,6 @@
 use Rattle.tree_tables.proofs.ChoiceRows.{choice_added}
-use Rattle.tree_tables.proofs.Looking.{clean_before, does_after}
+use Rattle.tree_rows.proofs.Calls.{clean_before}
+use Rattle.tree_tables.proofs.Looking.{does_after}
 use Rattle.tree_tables.proofs.tables.TreeTables.put_choice.Goals as goal
 
 -- the two rows are there

@@ -5,7 +5,7 @@ use Rattle.tree_tables.specs.Holds.{Holds}
 use Rattle.tree_tables.specs.States.{HasCleanDisk, state}
 use Rattle.tree_tables.specs.Steps.{IsCaused}
 use Rattle.tree_tables.proofs.FoundNames.{named_more, one_named}
-use Rattle.tree_tables.proofs.Looking.{fails_behind, looks_also}
+use Rattle.tree_tables.proofs.Looking.{fails_after_look, looks_also}
 use Rattle.tree_tables.proofs.tables.TreeTables.read_named.Goals as goal
 
 -- one more record is found
@@ -24,7 +24,7 @@ returns-in_err-record-clause-cause g c =
     let names = c.args.names.now in
     let cause : HasCleanDisk end → (tables : Tables) → Holds start.view.trees tables
     → AllNamed names tables → IsCaused start end c.in_err-record.field-0.0 =
-    fails_behind {When = AllNamed names} _ c.loop-named.invariant
+    fails_after_look {When = AllNamed names} _ c.loop-named.invariant
     c.in_err-record.ensures.looks.survives (λ clean tables holds so_far all.
     c.in_err-record.ensures.cause clean tables holds
     (one_named tables names c.loop-named.named-index _ c.loop-named-test.true all)) in

@@ -1,6 +1,6 @@
 use Rattle.std.proofs.Common.{false, refl, true}
 use Rattle.table_model.specs.TableChanges.{by_second_rule}
-use Rattle.tree_tables.proofs.Looking.{clean_before}
+use Rattle.tree_rows.proofs.Calls.{clean_before}
 use Rattle.tree_tables.proofs.Renewing.{renews_none, renews_one}
 use Rattle.tree_tables.proofs.tables.TreeTables.rename_next.Goals as goal
 

@@ -1,6 +1,7 @@
 use Rattle.std.proofs.Common.{rules}
 use Rattle.table_model.specs.TableChanges.{by_second_rule}
-use Rattle.tree_tables.proofs.Looking.{clean_before, only_both}
+use Rattle.tree_rows.proofs.Calls.{clean_before}
+use Rattle.tree_tables.proofs.Looking.{only_both}
 use Rattle.tree_tables.proofs.Renewing.{renewing_starts}
 use Rattle.tree_tables.proofs.tables.TreeTables.rename_rows.Goals as goal
 

@@ -4,8 +4,9 @@ use Rattle.sqlite_value.specs.Value.{owned}
 use Rattle.sqlite_value.specs.declared.value.Value.TheVariants.{Int}
 use Rattle.table_model.specs.RowChanges.{mark_at}
 use Rattle.tree_tables.specs.Columns.{flag}
-use Rattle.tree_tables.proofs.Looking.{clean_before, does_after, does_nothing, quiet_both}
-use Rattle.tree_tables.proofs.Looking.{rewrites_behind}
+use Rattle.tree_rows.proofs.Calls.{clean_before, quiet_both}
+use Rattle.tree_tables.proofs.Looking.{does_after, does_nothing}
+use Rattle.tree_tables.proofs.Looking.{rewrites_after_look}
 use Rattle.tree_tables.proofs.Records.{record_missing, record_there, record_marked}
 use Rattle.tree_tables.proofs.tables.TreeTables.set_mark.Goals as goal
 
@@ -39,7 +40,7 @@ returns g c = record {
       ∷ owned c.get-name.result ∷ [] ≡ Int (pos (flag c.args.mark)) ∷ identity ∷ name ∷ [] =
       λ i. c.mark_value.ensures i ∷ c.get-identity.ensures i ∷ c.get-name.ensures i ∷ [] in
       does_after ghosts c.change_mark.result (quiet_both ghosts look step)
-      (λ clean. (rewrites_behind {old = old}
+      (λ clean. (rewrites_after_look {old = old}
       (c.in_ok-find_row.ensures.same (clean_before ghosts step clean))
       (c.in_ok-change_row.ensures.done clean)).only)
       last c.change_mark.ensures.kept c.change_mark.ensures.done

@@ -1,11 +1,12 @@
 use Rattle.std.proofs.Common.{◌∙◌}
-use Rattle.tree_tables.proofs.Looking.{does_behind, clean_before}
+use Rattle.tree_rows.proofs.Calls.{clean_before}
+use Rattle.tree_tables.proofs.Looking.{does_after_look}
 use Rattle.tree_tables.proofs.TheBook.{book_there, book_rewritten, book_said, book_row_is}
 use Rattle.tree_tables.proofs.tables.TreeTables.set_sums.Goals as goal
 
 pub returns : goal.returns
 returns g c = record {
-  does = does_behind g.S.Store c.change_row.result c.find_row.ensures.quiet
+  does = does_after_look g.S.Store c.change_row.result c.find_row.ensures.quiet
       c.in_ok-find_row.ensures.same c.change_row.ensures.quiet c.change_row.ensures.kept
       c.change_row.ensures.done
       (λ clean rewritten tables holds when.

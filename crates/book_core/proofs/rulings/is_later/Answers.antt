@@ -1,12 +1,10 @@
-use Rattle.std.proofs.Common.{[], ◌∙◌, ◌&&◌, sym, ap, true, Bool, Option, None, w32}
+use Rattle.std.proofs.Common.{◌∙◌, ◌&&◌, sym, ap, true, Bool, Option, w32}
 use Rattle.std.proofs.lemmas.Int.{to_z-of_z}
 use Rattle.std.specs.Option.{option_map_or}
 use Rattle.std.specs.Prelude.{int_lt, ℤ}
-use Rattle.book_model.specs.Words.{last_close}
-use Rattle.book_core.specs.Plain.{ruled_by}
 use Rattle.book_model.proofs.DayLemmas.{day_fits}
-use Rattle.book_model.proofs.LatestLemmas.{is_later-by}
-use Rattle.book_core.proofs.plain.rulings.is_later.Goals as goal
+use Rattle.book_model.proofs.LatestLemmas.{is_after_all-by}
+use Rattle.book_core.proofs.rulings.is_later.Goals as goal
 
 -- a day is later than a close, if there was one
 abbrev late : ℤ → Option ℤ → Bool
@@ -15,17 +13,18 @@ late day close = option_map_or (λ close. int_lt close day) close true
 pub returns-then-are_before : goal.returns-then-are_before
 returns-then-are_before c =
     let day = c.args.tariff.now.effective in
+    let last = c.args.last_close in
     let before = sym c.are_before.ensures ∙ c.if-are_before.true in
-    sym (is_later-by day (ruled_by c.args.tariffs.now c.args.closed.now [] None)
-    ∙ (λ i. before i && late (sym c.effective.ensures.value i) (sym c.last_close.ensures i))
-    ∙ ap (λ day. late day c.last_close.result) (sym (to_z-of_z w32 c.effective.result
+    sym (is_after_all-by day c.args.tariffs.now last
+    ∙ (λ i. before i && late (sym c.effective.ensures.value i) last)
+    ∙ ap (λ day. late day last) (sym (to_z-of_z w32 c.effective.result
     (day_fits c.effective.result c.effective.ensures.day)))
     ∙ sym c.is_after.ensures)
 
 pub returns-else-are_before : goal.returns-else-are_before
 returns-else-are_before c =
     let day = c.args.tariff.now.effective in
-    let rulings = ruled_by c.args.tariffs.now c.args.closed.now [] None in
     let before = sym c.are_before.ensures ∙ c.if-are_before.false in
     c.if-are_before.false
-    ∙ sym (is_later-by day rulings ∙ (λ i. before i && late day (last_close rulings)))
+    ∙ sym (is_after_all-by day c.args.tariffs.now c.args.last_close
+    ∙ (λ i. before i && late day c.args.last_close))
