@@ -31,7 +31,8 @@ impl<S: Store> Trees<S> {
     ghost use Rattle.sqlite_trees.specs.View.{IsClean};
     ghost use Rattle.sqlite_value.specs.Order.{column};
     ghost use Rattle.sqlite_value.specs.declared.value.Value.TheVariants.{Blob, Int};
-    ghost use Rattle.tree_rows.specs.Rows.{Finds, IsFirst, IsUnchanged};
+    ghost use Rattle.tree_rows.specs.Calls.{OnlyLooks};
+    ghost use Rattle.tree_rows.specs.Rows.{Finds, IsFirst};
     ghost use Rattle.tree_tables.specs.Columns.{flag};
     ghost use Rattle.tree_tables.specs.Holds.{HasShapes};
     ghost use Rattle.tree_tables.specs.Walks.{rows_past};
@@ -67,8 +68,7 @@ impl<S: Store> Trees<S> {
         ensures found { IfOk result (λ there. IsClean (S.Store.view self.new.store)
             → IsFirst (rows_past key.now ((S.Store.view self.old.store).trees (tree_number tree)))
             row.new there) }
-        ensures same { OnOk result (IsClean (S.Store.view self.new.store)
-            → IsUnchanged (S.Store.view self.old.store) (S.Store.view self.new.store)) }
+        ensures same { OnOk result (OnlyLooks S.Store self.old.store self.new.store) }
     {
         let number = tree.number();
         if key.is_empty() {
@@ -82,8 +82,7 @@ impl<S: Store> Trees<S> {
         ensures found { IfOk result (λ hit. IsClean (S.Store.view self.new.store)
             → Finds self.old.key ((S.Store.view self.old.store).trees (tree_number tree))
             self.new.found hit) }
-        ensures same { OnOk result (IsClean (S.Store.view self.new.store)
-            → IsUnchanged (S.Store.view self.old.store) (S.Store.view self.new.store)) }
+        ensures same { OnOk result (OnlyLooks S.Store self.old.store self.new.store) }
     {
         find_row(&mut self.store, tree.number(), &self.key, &mut self.found)
     }
@@ -93,8 +92,7 @@ impl<S: Store> Trees<S> {
         ensures found { IfOk result (λ hit. IsClean (S.Store.view self.new.store)
             → Finds (Blob stored.now.identity.items ∷ Blob stored.now.name ∷ [])
             ((S.Store.view self.old.store).trees 6) self.new.found hit) }
-        ensures same { OnOk result (IsClean (S.Store.view self.new.store)
-            → IsUnchanged (S.Store.view self.old.store) (S.Store.view self.new.store)) }
+        ensures same { OnOk result (OnlyLooks S.Store self.old.store self.new.store) }
     {
         identity_key(&mut self.key, stored)?;
         self.finds(Tree::Identities)
@@ -106,8 +104,7 @@ impl<S: Store> Trees<S> {
             → Finds (Int (pos (flag stored.now.charged)) ∷ Blob stored.now.identity.items
             ∷ Blob stored.now.name ∷ []) ((S.Store.view self.old.store).trees 7)
             self.new.found hit) }
-        ensures same { OnOk result (IsClean (S.Store.view self.new.store)
-            → IsUnchanged (S.Store.view self.old.store) (S.Store.view self.new.store)) }
+        ensures same { OnOk result (OnlyLooks S.Store self.old.store self.new.store) }
     {
         mark_key(&mut self.key, stored)?;
         self.finds(Tree::Marks)
@@ -122,8 +119,7 @@ impl<S: Store> Trees<S> {
         ensures found { IfOk result (λ hit. IsClean (S.Store.view self.new.store)
             → Finds (Blob name.now ∷ Int (pos number) ∷ [])
             ((S.Store.view self.old.store).trees 9) self.new.found hit) }
-        ensures same { OnOk result (IsClean (S.Store.view self.new.store)
-            → IsUnchanged (S.Store.view self.old.store) (S.Store.view self.new.store)) }
+        ensures same { OnOk result (OnlyLooks S.Store self.old.store self.new.store) }
     {
         choice_name_key(&mut self.key, name, number)?;
         self.finds(Tree::ChoiceNames)
@@ -135,8 +131,7 @@ impl<S: Store> Trees<S> {
         ensures found { IfOk result (λ shared. IsClean (S.Store.view self.new.store)
             → FindsTwo (Blob identity.now ∷ []) ((S.Store.view self.old.store).trees 6)
             self.new.found shared) }
-        ensures same { OnOk result (IsClean (S.Store.view self.new.store)
-            → IsUnchanged (S.Store.view self.old.store) (S.Store.view self.new.store)) }
+        ensures same { OnOk result (OnlyLooks S.Store self.old.store self.new.store) }
     {
         bytes_key(&mut self.key, identity)?;
         let there = first_after(&mut self.store, IDENTITIES, &self.key, &mut self.found)?;
@@ -149,8 +144,7 @@ impl<S: Store> Trees<S> {
         period: u16,
         name: &[u8; 32],
     ) -> Result<Option<bool>, StoreError>
-        ensures same { OnOk result (IsClean (S.Store.view self.new.store)
-            → IsUnchanged (S.Store.view self.old.store) (S.Store.view self.new.store)) }
+        ensures same { OnOk result (OnlyLooks S.Store self.old.store self.new.store) }
     {
         line_key(&mut self.key, period, name)?;
         if !self.finds(Tree::Lines)? {
@@ -170,8 +164,7 @@ impl<S: Store> Trees<S> {
             self.new.found (is_some identity)) }
         ensures read { IfOk result (λ identity. IfSome identity (λ bytes.
             column self.new.found 1 ≡ Blob bytes.items)) }
-        ensures same { OnOk result (IsClean (S.Store.view self.new.store)
-            → IsUnchanged (S.Store.view self.old.store) (S.Store.view self.new.store)) }
+        ensures same { OnOk result (OnlyLooks S.Store self.old.store self.new.store) }
     {
         bytes_key(&mut self.key, name)?;
         if !self.finds(Tree::Records)? {
@@ -186,8 +179,7 @@ impl<S: Store> Trees<S> {
         alloc: Global,
         name: &[u8; 32],
     ) -> Result<Option<StoredRecord>, StoreError>
-        ensures same { OnOk result (IsClean (S.Store.view self.new.store)
-            → IsUnchanged (S.Store.view self.old.store) (S.Store.view self.new.store)) }
+        ensures same { OnOk result (OnlyLooks S.Store self.old.store self.new.store) }
     {
         bytes_key(&mut self.key, name)?;
         if !self.finds(Tree::Records)? {

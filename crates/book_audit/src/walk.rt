@@ -31,7 +31,8 @@ pub(crate) struct Walk {
 impl Walk {
     ghost use Rattle.std.specs.Prelude.{◌≡◌, IfOk, OnOk};
     ghost use Rattle.sqlite_trees.specs.View.{IsClean};
-    ghost use Rattle.tree_rows.specs.Rows.{IsFirst, IsUnchanged};
+    ghost use Rattle.tree_rows.specs.Calls.{OnlyLooks};
+    ghost use Rattle.tree_rows.specs.Rows.{IsFirst};
     ghost use Rattle.tree_tables.specs.Walks.{rows_past};
     ghost use Rattle.book_audit.specs.Trees.{tree_number};
 
@@ -57,8 +58,7 @@ impl Walk {
         ensures next { IfOk result (λ there. IsClean (S.Store.view trees.new.store)
             → IsFirst (rows_past self.old.key
             ((S.Store.view trees.old.store).trees (tree_number self.old.tree))) self.new.row there) }
-        ensures same { OnOk result (IsClean (S.Store.view trees.new.store)
-            → IsUnchanged (S.Store.view trees.old.store) (S.Store.view trees.new.store)) }
+        ensures same { OnOk result (OnlyLooks S.Store trees.old.store trees.new.store) }
     {
         let tree = self.tree;
         let there = trees

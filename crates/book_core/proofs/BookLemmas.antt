@@ -1,33 +1,29 @@
 -- The book of a plain ledger: a period of it by its number, and what a close and a record change.
 use Rattle.std.proofs.Common.{◌≡◌, ◌≢◌, ◌∙◌, ℕ, ◌+◌, ◌-◌, ◌≤◌, List, [], ◌∷◌, ◌++◌, length, map, refl}
 use Rattle.std.proofs.Common.{sym, ap, Bool, true, false, Option, Some, None, slice_get, arith, inl}
-use Rattle.std.proofs.Common.{inr, zero, suc, ◌<◌, take, get_or, add-one, Result, Ok, Err}
-use Rattle.std.specs.Prelude.{◌==◌, ℤ, int_lt, not, if◌then◌else◌, ok_or}
+use Rattle.std.proofs.Common.{inr, Result, Ok, Err}
+use Rattle.std.specs.Prelude.{◌==◌, ℤ, if◌then◌else◌, ok_or}
 use Rattle.std.specs.BTreeMap.{insert_entry}
-use Rattle.std.specs.List.{last_or}
 use Rattle.std.specs.List.Sorted.{IsStrictlySortedBy}
 use Rattle.std.specs.Map.{keys_of}
-use Rattle.std.specs.Option.{option_map, option_map_or}
+use Rattle.std.specs.Option.{option_map}
 use Rattle.std.proofs.lemmas.Bool.Decides.{nat_tests}
-use Rattle.std.proofs.lemmas.List.{length-map, map-append}
+use Rattle.std.proofs.lemmas.List.{map-append}
 use Rattle.std.proofs.lemmas.Option.{slice_get-map, slice_get_past, slice_get_cases}
 use Rattle.book_model.specs.declared.fault.LedgerFault.{LedgerFault}
 use Rattle.book_model.specs.declared.answer.Ruled.TheVariants.{Already, Done}
 use Rattle.book_model.specs.declared.fault.LedgerFault.TheVariants.{NoSuchPeriod}
 use Rattle.book_model.specs.Words.{Book, open_number, open_period, period_of, IsBookCall}
-use Rattle.book_model.specs.Words.{close_event, close_outcome, last_period, close_answer, is_closed}
-use Rattle.book_model.specs.Words.{after_any, keep, close, Period, Naming, by_bytes, AcceptedTerms}
-use Rattle.book_model.specs.Words.{last_close}
+use Rattle.book_model.specs.Words.{close_event, close_outcome, close_answer}
+use Rattle.book_model.specs.Words.{after_any, keep, close, Period, Naming, by_bytes}
+use Rattle.book_model.specs.Words.{Rulings, are_rising, price_under, with_close}
 use Rattle.book_model.specs.declared.answer.Ruled.{Ruled}
-use Rattle.book_model.proofs.CallLemmas.{close_by}
 use Rattle.book_model.proofs.AnswerLemmas.{answers_itself, calls}
-use Rattle.book_model.proofs.ListLemmas.{last_or-is}
-use Rattle.book_core.specs.declared.chosen.ChosenRecord.{ChosenRecord}
 use Rattle.book_core.specs.declared.closed.ClosedPeriod.{ClosedPeriod}
 use Rattle.book_core.specs.declared.period_end.PeriodEnd.{PeriodEnd}
 use Rattle.book_core.specs.declared.held.HeldRecord.{HeldRecord}
 use Rattle.book_core.specs.declared.treatment.Treatment.{Treatment}
-use Rattle.book_core.specs.Plain.{Entry, held_in, record_of, ruled_by, AreBooked}
+use Rattle.book_core.specs.Plain.{Entry, entry_records, held_in, record_of, AreBooked}
 use Rattle.book_core.specs.PlainBook.{book_with}
 use Rattle.book_core.specs.Treatments.{Names, NamesOf, TreatmentsOf, AreNamed, IsPeriodEnd, under_name}
 use Rattle.book_core.specs.Treatments.{charges, has_name_in, period_with, treatment_at, treatment_closed}
@@ -46,41 +42,6 @@ read_of read (Some one) period is =
     unwrap_ok : {P : Type 0} → Result P LedgerFault → P → P
     unwrap_ok (Ok one) other = one
     unwrap_ok (Err fault) other = other
-
--- what is made of the first elements of a list, and of the one after them
-map-take_suc : {X Y : Type 0} (f : X → Y) (xs : List X) (i : ℕ) (x : X) → i < length xs
-    → x ≡ get_or xs i x → map f (take i xs) ++ f x ∷ [] ≡ map f (take (suc i) xs)
-map-take_suc f [] i x within is = absurd (omega arith)
-map-take_suc f (y ∷ ys) zero x within is = ap (λ x. f x ∷ []) is
-map-take_suc f (y ∷ ys) (suc i) x within is =
-    ap (λ days. f y ∷ days) (map-take_suc f ys i x (omega arith) is)
-
-pub map-take_more : {X Y : Type 0} (f : X → Y) (xs : List X) (i : ℕ) (x : X) → i < length xs
-    → x ≡ get_or xs i x → map f (take i xs) ++ f x ∷ [] ≡ map f (take (i + 1) xs)
-map-take_more f xs i x within is = rw add-one (map-take_suc f xs i x within is)
-
--- the last of a list is found at its end
-last_or-found : {X : Type 0} (xs : List X) → last_or None xs ≡ slice_get xs (length xs - 1)
-last_or-found [] = refl
-last_or-found (x ∷ xs) = last_or-is x xs ∙ ap (slice_get (x ∷ xs)) (omega arith)
-
--- the day of the last close, by the last period that is closed
-pub last_close-by : (tariffs : List AcceptedTerms) (closed : List ClosedPeriod)
-    (choices : List ChosenRecord) (adopted : Option ℕ)
-    → last_close (ruled_by tariffs closed choices adopted)
-    ≡ option_map (λ period. period.through) (slice_get closed (length closed - 1))
-last_close-by tariffs closed choices adopted =
-    let day : ClosedPeriod → ℤ = λ period. period.through in
-    last_or-found (map day closed)
-    ∙ ap (λ n. slice_get (map day closed) (n - 1)) (length-map closed day)
-    ∙ slice_get-map day closed (length closed - 1)
-
--- the number of the open period
-pub open_number-by : (tariffs : List AcceptedTerms) (entries : List Entry) (posted : Names)
-    (closed : List ClosedPeriod) (choices : List ChosenRecord) (adopted : Option ℕ)
-    → open_number (book_with tariffs entries posted closed choices adopted) ≡ length closed + 1
-open_number-by tariffs entries posted closed choices adopted =
-    ap (λ n. n + 1) (length-map closed (λ period. period.through))
 
 -- by the tests of its number, a period is the open one, or is among those that are closed
 period_by_tests : (book : Book) (number : ℕ) (none next : Bool)
@@ -127,72 +88,64 @@ is_next {X} xs number some most none =
     never (Some y) x none some = cc
 
 -- a period that is closed, by its number
-pub period_of-closed : (tariffs : List AcceptedTerms) (entries : List Entry) (posted : Names)
-    (closed : List ClosedPeriod) (choices : List ChosenRecord) (adopted : Option ℕ)
-    (number : ℕ) (one : ClosedPeriod)
+pub period_of-closed : (rulings : Rulings) (entries : List Entry) (posted : Names)
+    (closed : List ClosedPeriod) (number : ℕ) (one : ClosedPeriod)
+    → length closed ≡ length rulings.closes
     → 1 ≤ number → slice_get closed (number - 1) ≡ Some one
-    → period_of (book_with tariffs entries posted closed choices adopted) number
+    → period_of (book_with rulings entries posted closed) number
     ≡ Some (period_with (treatment_closed one) entries)
-period_of-closed tariffs entries posted closed choices adopted number one some found =
+period_of-closed rulings entries posted closed number one counted some found =
     let read : ClosedPeriod → Period = λ period. period_with (treatment_closed period) entries in
-    period_by_tests (book_with tariffs entries posted closed choices adopted) number false false
+    period_by_tests (book_with rulings entries posted closed) number false false
     (not_none number some)
-    (ap (λ n. number == n) (open_number-by tariffs entries posted closed choices adopted)
-    ∙ not_next closed number one found)
+    (ap (λ n. number == n + 1) (sym counted) ∙ not_next closed number one found)
     ∙ slice_get-map read closed (number - 1)
     ∙ ap (option_map read) found
 
-module _ {naming : Naming} (tariffs : List AcceptedTerms) (closed : List ClosedPeriod)
-    (choices : List ChosenRecord) (adopted : Option ℕ) {entries : List Entry} {total : ℕ}
-    (kept : AreBooked naming (ruled_by tariffs closed choices adopted) entries total)
-    (rising : IsStrictlySortedBy by_bytes (keys_of entries)) where
+module _ {naming : Naming} {rulings : Rulings} {entries : List Entry} {total : ℕ}
+    (kept : AreBooked naming rulings entries total)
+    (rising : IsStrictlySortedBy by_bytes (keys_of entries)) (posted : Names)
+    (closed : List ClosedPeriod) (period_end : PeriodEnd) where
   -- the open period, by its number
-  pub period_of-open : (posted : Names) (period_end : PeriodEnd) (number : ℕ)
-      → IsPeriodEnd entries (ruled_by tariffs closed choices adopted) None period_end
+  pub period_of-open : (number : ℕ) → IsPeriodEnd entries rulings None period_end
+      → length closed ≡ length rulings.closes
       → 1 ≤ number → number ≤ length closed + 1 → slice_get closed (number - 1) ≡ None
-      → period_of (book_with tariffs entries posted closed choices adopted) number
+      → period_of (book_with rulings entries posted closed) number
       ≡ Some (period_with (λ entry. treatment_at period_end (has_name_in posted entry) entry.1) entries)
-  period_of-open posted period_end number ends some most none =
-      period_by_tests (book_with tariffs entries posted closed choices adopted) number false true
+  period_of-open number ends counted some most none =
+      period_by_tests (book_with rulings entries posted closed) number false true
       (not_none number some)
-      (ap (λ n. number == n) (open_number-by tariffs entries posted closed choices adopted)
-      ∙ is_next closed number some most none)
+      (ap (λ n. number == n + 1) (sym counted) ∙ is_next closed number some most none)
       ∙ ap Some (sym (period-ends kept rising (has_name_in posted) None period_end ends))
 
   -- the book after a close, by the names of the records that it charges and the shares that the
   -- period has
-  pub book-closed : (posted after : Names) (period_end : PeriodEnd) (one : ClosedPeriod)
-      (all : List ClosedPeriod) (told day : ℤ) → all ≡ closed ++ one ∷ [] → told ≡ day
-      → IsPeriodEnd entries (ruled_by tariffs closed choices adopted) (Some told) period_end
+  pub book-closed : (ruled : Rulings) (after : Names) (one : ClosedPeriod) (all : List ClosedPeriod)
+      (day : ℤ) → ruled ≡ with_close day rulings → all ≡ closed ++ one ∷ []
+      → IsPeriodEnd entries rulings (Some day) period_end
       → NamesOf (λ entry. charges period_end entry.1) entries after
       → TreatmentsOf (λ entry. treatment_at period_end (has_name_in posted entry) entry.1) entries one.treatments
-      → one.through ≡ told
-      → book_with tariffs entries after all choices adopted
-      ≡ close day (book_with tariffs entries posted closed choices adopted)
-  book-closed posted after period_end one all told day is_all is_day ends names treatments through =
+      → book_with ruled entries after all ≡ close day (book_with rulings entries posted closed)
+  book-closed ruled after one all day is_ruled is_all ends names treatments =
       let charges_it : Entry → Bool = λ entry. charges period_end entry.1 in
       let treatment : Entry → Option Treatment =
       λ entry. treatment_at period_end (has_name_in posted entry) entry.1 in
       let read : ClosedPeriod → Period = λ period. period_with (treatment_closed period) entries in
-      let day_of : ClosedPeriod → ℤ = λ period. period.through in
-      let closes = map-append day_of closed (one ∷ [])
-      ∙ ap (λ d. map day_of closed ++ d ∷ []) through in
       let now = where-agree (has_name_in after) charges_it entries
       (each_named_by entries rising charges_it after names)
-      ∙ charged-ends kept rising (Some told) period_end ends in
+      ∙ charged-ends kept rising (Some day) period_end ends in
       let ended = with-agree (treatment_closed one) treatment entries
       (each_shared_by entries rising treatment one.treatments treatments)
-      ∙ period-ends kept rising (has_name_in posted) (Some told) period_end ends in
+      ∙ period-ends kept rising (has_name_in posted) (Some day) period_end ends in
       let past = map-append read closed (one ∷ [])
       ∙ ap (λ period. map read closed ++ period ∷ []) ended in
-      ap (λ all. book_with tariffs entries after all choices adopted) is_all
+      (λ i. book_with (is_ruled i) entries after (is_all i))
       ∙ (λ i. record {
-        rulings = record (ruled_by tariffs closed choices adopted) { closes = closes i };
+        rulings = with_close day rulings;
         held = held_in entries;
         posted = now i;
         past = past i;
       })
-      ∙ ap (λ d. close d (book_with tariffs entries posted closed choices adopted)) is_day
 
 -- a close that was asked for, by what it answered and by the event of that answer
 pub close_calls : (number : ℕ) (day : ℤ) (old new : Book) (result : Result Ruled LedgerFault)
@@ -211,32 +164,31 @@ close_leaves day (Ok Already) book other = refl
 close_leaves day (Err fault) book other = refl
 
 -- no close changes how the entries are kept, no choice does, and no adoption
-pub kept-ruled : {naming : Naming} {tariffs : List AcceptedTerms} (closed after : List ClosedPeriod)
-    (choices more : List ChosenRecord) (adopted next : Option ℕ) {entries : List Entry} {total : ℕ}
-    → AreBooked naming (ruled_by tariffs closed choices adopted) entries total
-    → AreBooked naming (ruled_by tariffs after more next) entries total
-kept-ruled closed after choices more adopted next kept = record {
+pub kept_ruled : {naming : Naming} {rulings : Rulings} {entries : List Entry} {total : ℕ}
+    (after : Rulings) → after.tariffs ≡ rulings.tariffs → AreBooked naming rulings entries total
+    → AreBooked naming after entries total
+kept_ruled {rulings = rulings} {entries = entries} after same kept = record {
   named = kept.named;
-  priced = kept.priced;
+  priced = kept.priced
+      ∙ ap (λ tariffs. map (price_under tariffs) (entry_records entries)) (sym same);
   summed = kept.summed;
   small = kept.small;
   few = kept.few;
-  in_order = kept.in_order;
+  in_order = ap are_rising same ∙ kept.in_order;
 }
 
 -- the book with one entry more, under a name that none has
-pub book-kept : (tariffs : List AcceptedTerms) (entries : List Entry) (posted : Names)
-    (closed : List ClosedPeriod) (choices : List ChosenRecord) (adopted : Option ℕ)
-    (name : List ℕ) (h : HeldRecord)
+pub book-kept : (rulings : Rulings) (entries : List Entry) (posted : Names)
+    (closed : List ClosedPeriod) (name : List ℕ) (h : HeldRecord)
     → under_name name entries ≡ None → AreNamed entries posted closed
-    → book_with tariffs (insert_entry by_bytes entries name h) posted closed choices adopted
-    ≡ keep (record_of h) (book_with tariffs entries posted closed choices adopted)
-book-kept tariffs entries posted closed choices adopted name h missing named =
+    → book_with rulings (insert_entry by_bytes entries name h) posted closed
+    ≡ keep (record_of h) (book_with rulings entries posted closed)
+book-kept rulings entries posted closed name h missing named =
     let held = held_in-more entries name h missing in
     let stays = posted-kept entries name h missing posted closed named in
     let past = past-kept entries name h missing posted closed named in
     λ i. record {
-      rulings = ruled_by tariffs closed choices adopted;
+      rulings = rulings;
       held = held i;
       posted = stays i;
       past = past i;

@@ -24,7 +24,7 @@ use Rattle.book_model.proofs.ListLemmas.{filter-map, last_or-behind, list_any-ma
 use Rattle.book_core.specs.declared.chosen.ChosenRecord.{ChosenRecord}
 use Rattle.book_core.specs.declared.held.HeldRecord.{HeldRecord}
 use Rattle.book_core.specs.Choices.{AreLast, ByIdentity, choice_of, is_of, last_of}
-use Rattle.book_core.specs.Plain.{record_of, ruled_by}
+use Rattle.book_core.specs.Plain.{record_of, rulings_of}
 
 -- the choices so far, and the next one
 pub next_choices : (choices : List ChosenRecord) (i : ℕ) (choice : ChosenRecord)
@@ -74,7 +74,7 @@ key_is identity key = sym (texts_ties key identity) ∙ nat_list_eq_equiv.symm k
 module _ (adopted : Option ℕ) where
   -- the rulings of such choices, by the rule in force
   abbrev pub ruled : List ChosenRecord → Rulings
-  ruled choices = ruled_by [] [] choices adopted
+  ruled choices = rulings_of choices adopted
 
   -- a choice is of an identity
   abbrev of_it : List ℕ → ChosenRecord → Bool

@@ -1,5 +1,5 @@
 -- What a plain ledger answers to a choice, by the record that is meant.
-use Rattle.std.proofs.Common.{◌≡◌, ◌∙◌, ◌+◌, ◌++◌, ℕ, List, [], ◌∷◌, length, refl, sym, ap, map}
+use Rattle.std.proofs.Common.{◌≡◌, ◌∙◌, ◌++◌, ℕ, List, [], ◌∷◌, length, refl, sym, ap, map}
 use Rattle.std.proofs.Common.{Bool, true, false, true≢false, cond, Option, Some, None, is_some}
 use Rattle.std.proofs.Common.{Result, Ok, Err, ◌≤◌, ◌<◌, subst, arith}
 use Rattle.std.specs.Prelude.{if◌then◌else◌, All, nat_le}
@@ -8,7 +8,7 @@ use Rattle.std.specs.List.Sorted.{IsStrictlySortedBy}
 use Rattle.std.specs.Map.{keys_of, lookup}
 use Rattle.std.specs.Rc.{rc_slice_items}
 use Rattle.std.proofs.lemmas.Bool.Decides.{nat_tests}
-use Rattle.std.proofs.lemmas.List.{length-map, map-append}
+use Rattle.std.proofs.lemmas.List.{map-append}
 use Rattle.std.proofs.lemmas.List.Elements.{All-head, All-tail}
 use Rattle.std.proofs.lemmas.Map.Lookups.{exact_bytes}
 use Rattle.std.proofs.lemmas.Map.Views.{tells_apart}
@@ -16,8 +16,8 @@ use Rattle.book_model.specs.declared.answer.Ruled.{Ruled}
 use Rattle.book_model.specs.declared.answer.Ruled.TheVariants.{Done, Already}
 use Rattle.book_model.specs.declared.fault.LedgerFault.{LedgerFault}
 use Rattle.book_model.specs.declared.fault.LedgerFault.TheVariants.{Full, NoSuchRecord, NotDisputed}
-use Rattle.book_model.specs.Words.{Book, IsBookCall, Naming, Rulings, AcceptedTerms, after_any, by_bytes}
-use Rattle.book_model.specs.Words.{choose, choose_event, choose_outcome}
+use Rattle.book_model.specs.Words.{Book, Choice, IsBookCall, Naming, Rulings, after_any, by_bytes}
+use Rattle.book_model.specs.Words.{choose_event, choose_outcome, with_choice}
 use Rattle.book_model.specs.Words.{chosen_answer, is_chosen, is_unrivalled}
 use Rattle.book_model.specs.Words.{most_choices, open_by, record_named}
 use Rattle.book_model.proofs.AnswerLemmas.{answers_itself, calls}
@@ -25,7 +25,9 @@ use Rattle.book_model.proofs.SoundLemmas.{named_held}
 use Rattle.book_core.specs.declared.chosen.ChosenRecord.{ChosenRecord}
 use Rattle.book_core.specs.declared.closed.ClosedPeriod.{ClosedPeriod}
 use Rattle.book_core.specs.declared.held.HeldRecord.{HeldRecord}
+use Rattle.book_core.specs.declared.rulings.Rulings.{Rulings as OfficeRulings}
 use Rattle.book_core.specs.Choices.{choice_of}
+use Rattle.book_core.specs.OfficeRulings.{ruled_in}
 use Rattle.book_core.specs.Plain.{AreBooked, Entry, held_in, is_alone, record_of, ruled_by}
 use Rattle.book_core.specs.PlainBook.{book_with}
 use Rattle.book_core.specs.Treatments.{Names, under_name}
@@ -112,68 +114,49 @@ module _ {naming : Naming} {rulings : Rulings} {entries : List Entry} {total : �
             (sym (has-found kept rising one name h named found) ∙ held)))
       ] refl
 
-module _ {naming : Naming} (tariffs : List AcceptedTerms) (closed : List ClosedPeriod)
-    (choices : List ChosenRecord) (adopted : Option ℕ) {entries : List Entry} {total : ℕ}
-    (kept : AreBooked naming (ruled_by tariffs closed choices adopted) entries total)
-    (rising : IsStrictlySortedBy by_bytes (keys_of entries)) where
+module _ {naming : Naming} {rulings : Rulings} {entries : List Entry} {total : ℕ}
+    (kept : AreBooked naming rulings entries total)
+    (rising : IsStrictlySortedBy by_bytes (keys_of entries)) (posted : Names)
+    (closed : List ClosedPeriod) (name : List ℕ) where
+  abbrev book : Book
+  book = book_with rulings entries posted closed
+
   -- the call, where no record has the name
-  pub choose_calls-missing : (posted : Names) (name : List ℕ) → under_name name entries ≡ None
-      → IsBookCall (λ (value : Ruled). value)
-      (book_with tariffs entries posted closed choices adopted)
-      (book_with tariffs entries posted closed choices adopted) (Err NoSuchRecord)
+  pub choose_calls-missing : under_name name entries ≡ None
+      → IsBookCall (λ (value : Ruled). value) book book (Err NoSuchRecord)
       (choose_outcome naming name)
-  choose_calls-missing posted name missing =
-      let book = book_with tariffs entries posted closed choices adopted in
+  choose_calls-missing missing =
       choose_calls naming name book book None (Err NoSuchRecord)
       (named-missing kept rising name missing) refl refl
 
   -- and where one does, by the tests in their order
-  pub choose_calls-found : (posted : Names) (name : List ℕ) (h : HeldRecord) (new : Book)
-      (alone chosen full : Bool) → under_name name entries ≡ Some h
-      → alone ≡ is_alone (ruled_by tariffs closed choices adopted) entries (name, h)
-      → chosen ≡ is_chosen (ruled_by tariffs closed choices adopted) (record_of h)
-      → full ≡ nat_le most_choices (length choices)
-      → new ≡ after_any (choose_event (Some (record_of h)) (chosen_by alone chosen full))
-      (book_with tariffs entries posted closed choices adopted)
-      → IsBookCall (λ (value : Ruled). value)
-      (book_with tariffs entries posted closed choices adopted) new
-      (chosen_by alone chosen full) (choose_outcome naming name)
-  choose_calls-found posted name h new alone chosen full found is_alone' is_chosen' is_full
-      changed =
-      let rulings = ruled_by tariffs closed choices adopted in
-      let book = book_with tariffs entries posted closed choices adopted in
+  pub choose_calls-found : (h : HeldRecord) (new : Book) (alone chosen full : Bool)
+      → under_name name entries ≡ Some h
+      → alone ≡ is_alone rulings entries (name, h)
+      → chosen ≡ is_chosen rulings (record_of h)
+      → full ≡ nat_le most_choices (length rulings.choices)
+      → new ≡ after_any (choose_event (Some (record_of h)) (chosen_by alone chosen full)) book
+      → IsBookCall (λ (value : Ruled). value) book new (chosen_by alone chosen full)
+      (choose_outcome naming name)
+  choose_calls-found h new alone chosen full found is_alone' is_chosen' is_full changed =
       let unrivalled : is_unrivalled rulings (held_in entries) (record_of h)
       ≡ is_alone rulings entries (name, h) =
       found_holds (λ entry. is_unrivalled rulings (held_in entries) (bytes_of entry)
       ≡ is_alone rulings entries entry) (is_at (by_bytes name)) name
       (tells_apart exact_bytes name) entries h (each_unrivalled kept rising) found in
-      let counted = length-map choices choice_of in
       choose_calls naming name book new (Some (record_of h)) (chosen_by alone chosen full)
       (named-found kept rising name h found)
-      (λ i. chosen_by ((unrivalled ∙ sym is_alone') i) (sym is_chosen' i)
-      ((ap (nat_le most_choices) counted ∙ sym is_full) i))
+      (λ i. chosen_by ((unrivalled ∙ sym is_alone') i) (sym is_chosen' i) (sym is_full i))
       changed
 
--- the book with one choice more
-pub book-chosen : (tariffs : List AcceptedTerms) (entries : List Entry) (posted : Names)
-    (closed : List ClosedPeriod) (choices after : List ChosenRecord) (adopted : Option ℕ)
-    (choice : ChosenRecord)
-    (bytes : List ℕ) → after ≡ choices ++ choice ∷ []
-    → rc_slice_items choice.bytes ≡ bytes → choice.period ≡ length closed + 1
-    → book_with tariffs entries posted closed after adopted
-    ≡ choose bytes (book_with tariffs entries posted closed choices adopted)
-book-chosen tariffs entries posted closed choices after adopted choice bytes is_all is_bytes
-    is_open =
-    let all : map choice_of after ≡ map choice_of choices ++ choice_of choice ∷ [] =
-    ap (map choice_of) is_all ∙ map-append choice_of choices (choice ∷ []) in
-    let rulings = ruled_by tariffs closed choices adopted in
-    let number : choice.period ≡ open_by rulings =
-    is_open ∙ ap (λ n. n + 1) (sym (length-map closed (λ (one : ClosedPeriod). one.through))) in
-    let one : choice_of choice ≡ record { chosen = bytes; period = open_by rulings } =
-    λ i. record { chosen = is_bytes i; period = number i } in
-    let book = book_with tariffs entries posted closed choices adopted in
-    λ i. record book {
-      rulings = record rulings {
-        choices = (all ∙ ap (λ last. map choice_of choices ++ last ∷ []) one) i;
-      };
-    }
+-- the rulings with one choice more
+pub ruled-chosen : (rulings : OfficeRulings) (choices after : List ChosenRecord)
+    (choice : ChosenRecord) (bytes : List ℕ) → after ≡ choices ++ choice ∷ []
+    → rc_slice_items choice.bytes ≡ bytes → choice.period ≡ open_by (ruled_in rulings)
+    → ruled_by rulings after ≡ with_choice bytes (ruled_by rulings choices)
+ruled-chosen rulings choices after choice bytes is_all is_bytes is_open =
+    let one : choice_of choice ≡ record { chosen = bytes; period = open_by (ruled_in rulings) } =
+    λ i. record { chosen = is_bytes i; period = is_open i } in
+    ap (λ (all : List Choice). record (ruled_in rulings) { choices = all })
+    (ap (map choice_of) is_all ∙ map-append choice_of choices (choice ∷ [])
+    ∙ ap (λ last. map choice_of choices ++ last ∷ []) one)

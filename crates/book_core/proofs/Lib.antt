@@ -1,5 +1,6 @@
 -- Work on a ledger, and on the books of a history; entries of a map, and what those of a plain
 -- ledger hold, charge and dispute.
+pub mod RulingLemmas
 pub mod TransitionLemmas
 pub mod NamedLemmas
 pub mod FollowLemmas

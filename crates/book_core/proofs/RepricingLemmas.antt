@@ -1,21 +1,20 @@
 -- The records that are held, each at the price that it has under one more tariff: nothing else of
 -- them changes.
-use Rattle.std.proofs.Common.{◌≡◌, ◌∙◌, ℕ, List, [], ◌∷◌, ◌++◌, refl, sym, ap, subst, map, Bool}
+use Rattle.std.proofs.Common.{◌≡◌, ◌∙◌, ℕ, List, [], ◌∷◌, refl, sym, ap, subst, map, Bool}
 use Rattle.std.proofs.Common.{true}
 use Rattle.std.proofs.Common.{false, cond, Option, Some, None, is_some, true≢false}
-use Rattle.std.specs.Prelude.{filter, if◌then◌else◌, nat_lt}
+use Rattle.std.specs.Prelude.{filter, nat_lt}
 use Rattle.std.specs.BTreeMap.{get, is_at}
 use Rattle.std.specs.BTreeSet.{contains}
 use Rattle.std.specs.Map.Calls.{RetainsPairs}
 use Rattle.std.specs.List.{list_any}
 use Rattle.std.proofs.lemmas.Map.Made.{is_some-lookup}
 use Rattle.std.proofs.lemmas.Simd.{map-map}
-use Rattle.book_model.specs.Words.{Terms, AcceptedTerms, most_cost, by_bytes, set_of}
+use Rattle.book_model.specs.Words.{Rulings, Terms, most_cost, by_bytes, set_of}
 use Rattle.book_model.proofs.ListLemmas.{filter-map}
-use Rattle.book_core.specs.declared.chosen.ChosenRecord.{ChosenRecord}
 use Rattle.book_core.specs.declared.closed.ClosedPeriod.{ClosedPeriod}
 use Rattle.book_core.specs.declared.held.HeldRecord.{HeldRecord}
-use Rattle.book_core.specs.Plain.{Entry, entry_records, held_in, record_of, ruled_by}
+use Rattle.book_core.specs.Plain.{Entry, entry_records, held_in, record_of}
 use Rattle.book_core.specs.PlainBook.{book_with}
 use Rattle.book_core.specs.Repricing.{AreRepriced, if_room, price_anew, unpriced}
 use Rattle.book_core.specs.Treatments.{Names, AreNamed, is_counted, is_added, is_taken, has_name_in}
@@ -106,12 +105,10 @@ module _ {terms : Terms} {entries anew : List Entry} (is : AreRepriced terms ent
       λ i. map (λ period. each period i) closed
 
   -- so the book changes only in what its records cost
-  pub book_stays : (tariffs : List AcceptedTerms) (posted : Names) (closed : List ClosedPeriod)
-      (choices : List ChosenRecord) (adopted : Option ℕ)
-      → book_with tariffs anew posted closed choices adopted
-      ≡ book_with tariffs entries posted closed choices adopted
-  book_stays tariffs posted closed choices adopted = λ i. record {
-    rulings = ruled_by tariffs closed choices adopted;
+  pub book_stays : (rulings : Rulings) (posted : Names) (closed : List ClosedPeriod)
+      → book_with rulings anew posted closed ≡ book_with rulings entries posted closed
+  book_stays rulings posted closed = λ i. record {
+    rulings = rulings;
     held = held_stay i;
     posted = posted_stay posted i;
     past = past_stay closed i;
@@ -131,12 +128,6 @@ module _ {terms : Terms} {entries anew : List Entry} (is : AreRepriced terms ent
         posted = λ name none. named.posted name (was_missing name none);
         past = λ k d within name none. named.past k d within name (was_missing name none);
       }
-
--- a list with one more element at the end, where there was room for it
-pub pushed : {X : Type 0} (after now old : List X) (x : X) (ok : Bool)
-    → after ≡ (if ok then now ++ x ∷ [] else now) → ok ≡ true → now ≡ old
-    → after ≡ old ++ x ∷ []
-pushed after now old x ok is room same = is ∙ (λ i. if room i then same i ++ x ∷ [] else same i)
 
 -- there is no room for a cost that passes the limit
 pub no_room : (cost : ℕ) → if_room cost ≡ None → nat_lt most_cost cost ≡ true

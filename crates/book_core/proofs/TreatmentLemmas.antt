@@ -24,7 +24,7 @@ use Rattle.book_model.proofs.SetLemmas.{those-set_of, those-alike, has-texts, sa
 use Rattle.book_core.specs.declared.period_end.PeriodEnd.{PeriodEnd}
 use Rattle.book_core.specs.declared.treatment.Treatment.{Treatment}
 use Rattle.book_core.specs.Plain.{Entry, entry_identity, entry_records, held_in, AreBooked}
-use Rattle.book_core.specs.Plain.{is_alone, ruled_by}
+use Rattle.book_core.specs.Plain.{is_alone, rulings_of}
 use Rattle.book_core.specs.Treatments.{treatment_of, is_counted, is_added, is_taken, charges, treatment_at}
 use Rattle.book_core.specs.Choices.{last_of}
 use Rattle.book_core.specs.Treatments.{records_where, period_with, IsPeriodEnd, identity_at, is_choice}
@@ -99,7 +99,7 @@ module _ {naming : Naming} {rulings : Rulings} {entries : List Entry} {total : �
   identity-held : (through : Option ℤ) (period_end : PeriodEnd) → IsPeriodEnd entries rulings through period_end
       → (entry : Entry) → identity_at period_end entry.1 ≡ entry_identity rulings entry
   identity-held through period_end ends entry =
-      ap (λ (adopted : Option ℕ). identity_by (ruled_by [] [] [] adopted) (bytes_of entry))
+      ap (λ (adopted : Option ℕ). identity_by (rulings_of [] adopted) (bytes_of entry))
       ends.adopted
 
   -- an entry's record is the choice of its identity where it is chosen

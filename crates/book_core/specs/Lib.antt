@@ -6,6 +6,7 @@ pub mod Calls
 pub mod Follow
 pub mod CachedRecords
 pub mod Identities
+pub mod OfficeRulings
 pub mod Choices
 pub mod Plain
 pub mod Repricing

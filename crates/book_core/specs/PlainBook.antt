@@ -1,9 +1,8 @@
 -- What is seen of a plain ledger.
-use Rattle.std.specs.Prelude.{◌≡◌, ℕ, List, map, Option, Result}
+use Rattle.std.specs.Prelude.{◌≡◌, List, map, Result}
 use Rattle.book_model.specs.declared.fault.LedgerFault.{LedgerFault}
 use Rattle.book_model.specs.declared.naming.Naming.{Ghosts}
-use Rattle.book_model.specs.Words.{AcceptedTerms, Period, Book, Outcome, IsBookCall}
-use Rattle.book_core.specs.declared.chosen.ChosenRecord.{ChosenRecord}
+use Rattle.book_model.specs.Words.{Rulings, Period, Book, Outcome, IsBookCall}
 use Rattle.book_core.specs.declared.closed.ClosedPeriod.{ClosedPeriod}
 use Rattle.book_core.specs.declared.period.Period.{Period as ReadPeriod}
 use Rattle.book_core.specs.declared.plain.PlainLedger.{PlainLedger}
@@ -12,13 +11,10 @@ use Rattle.book_core.specs.Plain.{Entry, held_in, ruled_by}
 use Rattle.book_core.specs.Treatments.{Names, records_where, has_name_in, period_with}
 use Rattle.book_core.specs.Treatments.{treatment_closed, treatment_in}
 
--- the book of such tariffs, entries, posted names, closed periods and choices, under the rule of
--- identity in force
-abbrev pub book_with :
-    List AcceptedTerms → List Entry → Names → List ClosedPeriod → List ChosenRecord → Option ℕ
-    → Book
-book_with tariffs entries posted closed choices adopted = record {
-  rulings = ruled_by tariffs closed choices adopted;
+-- the book of such rulings, entries, posted names and closed periods
+abbrev pub book_with : Rulings → List Entry → Names → List ClosedPeriod → Book
+book_with rulings entries posted closed = record {
+  rulings = rulings;
   held = held_in entries;
   posted = records_where (has_name_in posted) entries;
   past = map (λ period. period_with (treatment_closed period) entries) closed;
@@ -30,8 +26,8 @@ module _ {N : Type 0} {names : Ghosts N} where
 
   abbrev pub book_in : PlainLedger N names → Book
   book_in ledger =
-      book_with ledger.tariffs.items ledger.held.entries ledger.posted ledger.closed.items
-      ledger.choices.items ledger.adopted
+      book_with (ruled_by ledger.rulings ledger.choices.items) ledger.held.entries ledger.posted
+      ledger.closed.items
 
   -- what is seen of the ledger as one that is kept in memory
   abbrev pub seen_in : PlainLedger N names → Seen

@@ -17,7 +17,7 @@ use Rattle.book_core.specs.declared.period.Period.TheVariants.{Closed, Open}
 use Rattle.book_core.specs.declared.treatment.Treatment.{Treatment}
 use Rattle.book_core.specs.declared.treatment.Treatment.TheVariants.{Counted, Added, Taken}
 use Rattle.book_core.specs.Choices.{AreLast, record_at}
-use Rattle.book_core.specs.Plain.{Entry, entry_records, entry_has_identity, record_of, ruled_by}
+use Rattle.book_core.specs.Plain.{Entry, entry_records, entry_has_identity, record_of, rulings_of}
 
 -- the names of some records
 abbrev pub Names : Type 0
@@ -61,7 +61,7 @@ line_at treatment entry = None
 
 -- which work the record measures, by the rule that is in force at the period's end
 abbrev pub identity_at : PeriodEnd → HeldRecord → List ℕ
-identity_at period_end held = identity_by (ruled_by [] [] [] period_end.adopted) (record_of held)
+identity_at period_end held = identity_by (rulings_of [] period_end.adopted) (record_of held)
 
 -- the record is the one that was chosen last of its identity
 abbrev pub is_choice : PeriodEnd → HeldRecord → Bool

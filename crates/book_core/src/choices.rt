@@ -3,7 +3,7 @@
 ghost use Rattle.std.specs.Prelude.{◌≡◌, [], IfOk, find, option_copied, reverse};
 ghost use Rattle.book_model.specs.Charged as spec;
 ghost use Rattle.book_core.specs.Choices.{AreLast, is_of};
-ghost use Rattle.book_core.specs.Plain.{record_of, ruled_by};
+ghost use Rattle.book_core.specs.Plain.{record_of, rulings_of};
 
 use crate::chosen::ChosenRecord;
 use crate::held::HeldRecord;
@@ -19,7 +19,7 @@ fn last_of<'a>(
     identity: &Identity,
 ) -> Option<&'a ChosenRecord>
     ensures { option_copied result
-        ≡ find (is_of (ruled_by [] [] [] adopted) identity.now) (reverse choices.now) }
+        ≡ find (is_of (rulings_of [] adopted) identity.now) (reverse choices.now) }
 {
     choices
         .iter()
@@ -29,7 +29,7 @@ fn last_of<'a>(
 
 /// Of the choices of a record's identity the last one is the record's own.
 pub(crate) fn is_chosen(choices: &[ChosenRecord], adopted: Option<u16>, held: &HeldRecord) -> bool
-    ensures { result ≡ spec.is_chosen (ruled_by [] [] choices.now adopted) (record_of held.now) }
+    ensures { result ≡ spec.is_chosen (rulings_of choices.now adopted) (record_of held.now) }
 {
     match last_of(choices, adopted, &held.identity_by(adopted)) {
         Some(choice) => held.bytes.as_slice() == choice.bytes.as_slice(),
@@ -43,7 +43,7 @@ pub(crate) fn last_chosen(
     choices: &[ChosenRecord],
     adopted: Option<u16>,
 ) -> Result<BTreeMap<Identity, RcSlice<u8>>, AllocError>
-    ensures { IfOk result (λ records. AreLast (ruled_by [] [] choices.now adopted) records) }
+    ensures { IfOk result (λ records. AreLast (rulings_of choices.now adopted) records) }
 {
     let mut records = BTreeMap::new(alloc);
     for choice in choices {

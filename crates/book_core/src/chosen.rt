@@ -22,7 +22,7 @@ pub(crate) struct ChosenRecord {
 impl ChosenRecord {
     ghost use Rattle.std.specs.Prelude.{◌≡◌, [], IfOk};
     ghost use Rattle.book_model.specs.Words.{identity_by};
-    ghost use Rattle.book_core.specs.Plain.{record_of, ruled_by};
+    ghost use Rattle.book_core.specs.Plain.{record_of, rulings_of};
 
     /// The choice of a record that is held, while a period is open.
     pub(crate) fn new(held: &HeldRecord, period: u16) -> Result<ChosenRecord, AllocError>
@@ -39,7 +39,7 @@ impl ChosenRecord {
     /// Which work the record measures, by the rule in force.
     pub(crate) fn identity_by(&self, adopted: Option<u16>) -> Identity
         ensures { result
-            ≡ identity_by (ruled_by [] [] [] adopted) (rc_slice_items self.now.bytes) }
+            ≡ identity_by (rulings_of [] adopted) (rc_slice_items self.now.bytes) }
     {
         Identity::in_force(adopted, &self.identity)
     }

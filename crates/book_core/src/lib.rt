@@ -39,6 +39,6 @@ pub use lines::sort_lines;
 pub use period_end::is_after;
 pub use plain::PlainLedger;
 pub use pricing::price_in;
-pub use rulings::{adopt_answer, close_answer, is_done, tariff_answer};
+pub use rulings::{Rulings, is_done};
 pub use streams::{Sink, Source};
 pub use variant::copied;

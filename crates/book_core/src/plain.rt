@@ -1,8 +1,9 @@
-ghost use Rattle.std.specs.Prelude.{◌<◌, length, true};
+ghost use Rattle.std.specs.Prelude.{◌≡◌, length};
 ghost use Rattle.std.specs.List.Sorted.{IsStrictlySortedBy};
 ghost use Rattle.std.specs.Map.{keys_of};
 ghost use Rattle.std.proofs.Props.{props};
-ghost use Rattle.book_model.specs.Words.{last_period, by_bytes, are_rising};
+ghost use Rattle.book_model.specs.Words.{by_bytes};
+ghost use Rattle.book_core.specs.OfficeRulings.{ruled_in};
 ghost use Rattle.book_core.specs.Plain.{AreBooked, CacheIsHeld, ruled_by};
 ghost use Rattle.book_core.specs.Treatments.{AreNamed};
 
@@ -18,6 +19,7 @@ use crate::closed::ClosedPeriod;
 use crate::held::HeldRecord;
 use crate::ledger::Ledger;
 use crate::record_cache::RecordCache;
+use crate::rulings::Rulings;
 use book_model::{Accepted, ChargeRow, Dispute, LedgerFault, Line, Naming, Ruled};
 use std::alloc::{AllocError, Global};
 use std::collections::{BTreeMap, BTreeSet};
@@ -27,28 +29,27 @@ use tariff_rules::Tariff;
 #[derive(Drop)]
 pub struct PlainLedger<N: Naming + Drop> {
     naming: N,
-    tariffs: Vec<AcceptedTariff>,
+    rulings: Rulings,
     held: BTreeMap<[u8; 32], HeldRecord>,
     cache: RecordCache,
     /// What the records cost together.
     total: u64,
     /// The names of the records that the last close charged.
     posted: BTreeSet<[u8; 32]>,
+    /// What each closed period does with the records.
     closed: Vec<ClosedPeriod>,
     choices: Vec<ChosenRecord>,
-    /// The period that was open when the second rule of identity was adopted, if it was.
-    adopted: Option<u16>,
     alloc: Global,
     ghost rising: { IsStrictlySortedBy by_bytes (keys_of held.entries) } by { Prim.hlevel props },
     ghost kept: { AreBooked (N.name_of naming)
-        (ruled_by tariffs.items closed.items choices.items adopted) held.entries total },
+        (ruled_by rulings choices.items) held.entries total },
     ghost recalls: { CacheIsHeld held.entries cache },
     ghost named: { AreNamed held.entries posted closed.items },
-    ghost few: { length closed.items < last_period },
+    ghost counted: { length closed.items ≡ length (ruled_in rulings).closes },
 }
 
 impl<N: Naming + Drop> PlainLedger<N> {
-    ghost use Rattle.std.specs.Prelude.{◌≡◌, [], IfOk, None};
+    ghost use Rattle.std.specs.Prelude.{◌≡◌, [], IfOk, true};
     ghost use Rattle.book_model.specs.Words.{flat_book, new_book};
     ghost use Rattle.book_core.specs.Ledgers.{IsOpenAt};
 
@@ -57,7 +58,7 @@ impl<N: Naming + Drop> PlainLedger<N> {
         ensures { IfOk result (λ ledger. IsOpenAt (N.name_of naming) new_book
             (⟦<PlainLedger<N> as Ledger>⟧.seen ledger)) }
     {
-        Ok(PlainLedger::under(alloc, naming, Vec::new(alloc)))
+        Ok(PlainLedger::under(alloc, naming, Rulings::new(alloc)))
     }
 
     /// New books under one tariff, which is in force on every day from its first on.
@@ -67,26 +68,25 @@ impl<N: Naming + Drop> PlainLedger<N> {
     {
         let mut tariffs = Vec::with_capacity(alloc, 1)?;
         tariffs.push(AcceptedTariff { text: None, tariff })?;
-        Ok(PlainLedger::under(alloc, naming, tariffs))
+        let rulings = Rulings::of(tariffs, Vec::new(alloc), None);
+        Ok(PlainLedger::under(alloc, naming, rulings))
     }
 
-    /// Books that hold no record, under these tariffs.
-    fn under(alloc: Global, naming: N, tariffs: Vec<AcceptedTariff>) -> PlainLedger<N>
-        requires { are_rising tariffs.items ≡ true }
-        ensures { IsOpenAt (N.name_of naming)
-            (record new_book { rulings = ruled_by tariffs.items [] [] None })
+    /// Books that hold no record, under these rulings, with no close among them.
+    fn under(alloc: Global, naming: N, rulings: Rulings) -> PlainLedger<N>
+        requires { (ruled_in rulings).closes ≡ [] }
+        ensures { IsOpenAt (N.name_of naming) (record new_book { rulings = ruled_in rulings })
             (⟦<PlainLedger<N> as Ledger>⟧.seen result) }
     {
         PlainLedger {
             naming,
-            tariffs,
+            rulings,
             held: BTreeMap::new(alloc),
             cache: RecordCache::new(alloc),
             total: 0,
             posted: BTreeSet::new(alloc),
             closed: Vec::new(alloc),
             choices: Vec::new(alloc),
-            adopted: None,
             alloc,
         }
     }

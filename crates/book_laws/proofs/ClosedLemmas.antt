@@ -9,7 +9,7 @@ use Rattle.std.proofs.lemmas.Option.{slice_get-get_or}
 use Rattle.book_model.specs.Words.{Terms, IsMadeByCalls, Book, open_number, open_period, period_of}
 use Rattle.book_model.specs.Words.{charged_through, is_dated_after, Event, RecordKept}
 use Rattle.book_model.specs.Words.{TariffAccepted, PeriodClosed, RecordChosen, SecondRuleAdopted}
-use Rattle.book_model.specs.Words.{keep, close, put_in_force, choose, adopt, book_after, lines_of}
+use Rattle.book_model.specs.Words.{after, keep, close, put_in_force, choose, adopt, book_after, lines_of}
 use Rattle.book_model.specs.Words.{no_event, Period, period_by, Naming, terms_answer, rows_for}
 use Rattle.book_model.specs.Words.{Rulings, last_close, IsSound, AreAllDatedThrough}
 use Rattle.book_model.specs.declared.answer.Ruled.TheVariants.{Done}
@@ -88,91 +88,120 @@ through naming number first next last early late = record {
   lines = late.lines ∙ early.lines;
 }
 
+-- A closed period stays closed, and is read alike.
+record Stays (naming : Naming) (number : ℕ) (old new : Book) : Type 0 where
+  closed : IsClosed number new
+  alike : IsReadAlike naming number old new
+
+-- what is settled costs the same in both books
+abbrev HasSamePrices : Naming → Book → Book → Type 0
+HasSamePrices naming old new =
+    (period : Period) → AreAllDatedThrough (last_close old.rulings) period
+    → (rows_for new.rulings period.counted ≡ rows_for old.rulings period.counted)
+    × (lines_of naming new.rulings period ≡ lines_of naming old.rulings period)
+
 -- one more event, if a sound book has a closed period
 module _ (naming : Naming) (number : ℕ) (old : Book) (sound : IsSound naming old)
     (closed : IsClosed number old) where
-  -- a record that is kept changes no ruling, so no price
-  after_kept : (bytes : List ℕ) → IsReadAlike naming number old (keep bytes old)
-  after_kept bytes =
-      let new : Book = keep bytes old in
-      let still : IsClosed number new =
-      record { is_numbered = closed.is_numbered; is_past = closed.is_past } in
+  -- it stays, where its day, its records and their prices do
+  all_alike : (new : Book) → IsClosed number new
+      → slice_get new.rulings.closes (number - 1) ≡ slice_get old.rulings.closes (number - 1)
+      → slice_get new.past (number - 1) ≡ slice_get old.past (number - 1)
+      → HasSamePrices naming old new → Stays naming number old new
+  all_alike new still day past prices =
       let there = past_period naming number old sound closed in
-      alike naming number old new there.0 refl
-      (found_past number old closed ∙ there.1)
-      (found_past number new still ∙ there.1)
-      refl refl
+      let same = prices there.0 there.2 in
+      record {
+        closed = still;
+        alike = alike naming number old new there.0 day
+            (found_past number old closed ∙ there.1)
+            (found_past number new still ∙ past ∙ there.1)
+            same.0 same.1;
+      }
 
-  -- what is settled costs what it cost before a tariff that is Done
+  -- so it stays where no period was closed
+  none_closed : (new : Book) → new.rulings.closes ≡ old.rulings.closes → new.past ≡ old.past
+      → HasSamePrices naming old new → Stays naming number old new
+  none_closed new closes past prices =
+      let as_many = ap (λ (days : List ℤ). length days) closes in
+      let before = closed.is_past in
+      all_alike new (record { is_numbered = closed.is_numbered; is_past = omega arith })
+      (ap (λ (days : List ℤ). slice_get days (number - 1)) closes)
+      (ap (λ (periods : List Period). slice_get periods (number - 1)) past) prices
+
+  -- a tariff that is Done changes no price of what is settled
   after_tariff : (text : List ℕ) (terms : Terms) → terms_answer old text terms ≡ Ok Done
-      → IsReadAlike naming number old (put_in_force (Some text) terms old)
+      → Stays naming number old (put_in_force (Some text) terms old)
   after_tariff text terms done =
       let new : Book = put_in_force (Some text) terms old in
       let last : Option ℤ = last_close old.rulings in
       let prices = λ (bytes : List ℕ) (early : is_dated_after last bytes ≡ false).
       closed_prices_stay old text terms bytes done early in
-      let still : IsClosed number new =
-      record { is_numbered = closed.is_numbered; is_past = closed.is_past } in
-      let there = past_period naming number old sound closed in
-      alike naming number old new there.0 refl
-      (found_past number old closed ∙ there.1)
-      (found_past number new still ∙ there.1)
-      (same_rows new.rulings old.rulings last prices there.0.counted there.2.counted)
-      (same_lines new.rulings old.rulings last prices naming there.0 there.2)
+      none_closed new refl refl λ period settled. (
+        same_rows new.rulings old.rulings last prices period.counted settled.counted,
+        same_lines new.rulings old.rulings last prices naming period settled,
+      )
 
-  -- no choice changes a price
-  after_choice : (bytes : List ℕ) → IsReadAlike naming number old (choose bytes old)
-  after_choice bytes =
-      let new : Book = choose bytes old in
-      let still : IsClosed number new =
-      record { is_numbered = closed.is_numbered; is_past = closed.is_past } in
-      let there = past_period naming number old sound closed in
-      alike naming number old new there.0 refl
-      (found_past number old closed ∙ there.1)
-      (found_past number new still ∙ there.1)
-      refl refl
-
-  -- nor does a rule of identity
-  after_rule : IsReadAlike naming number old (adopt old)
-  after_rule =
-      let new : Book = adopt old in
-      let still : IsClosed number new =
-      record { is_numbered = closed.is_numbered; is_past = closed.is_past } in
-      let there = past_period naming number old sound closed in
-      alike naming number old new there.0 refl
-      (found_past number old closed ∙ there.1)
-      (found_past number new still ∙ there.1)
-      refl refl
-
-  -- one more close leaves the closed periods before it,
-  closed_more : (day : ℤ) → IsClosed number (close day old)
-  closed_more day =
-      let past = closed.is_past in
-      let more = length-append old.rulings.closes (day ∷ []) in
-      record { is_numbered = closed.is_numbered; is_past = omega arith }
-
-  -- and a close changes no price
-  after_close : (day : ℤ) → IsReadAlike naming number old (close day old)
+  -- one more close leaves the closed periods before it
+  after_close : (day : ℤ) → Stays naming number old (close day old)
   after_close day =
-      let new : Book = close day old in
       let some = closed.is_numbered in
       let past = closed.is_past in
       let as_many = sound.closed in
-      let there = past_period naming number old sound closed in
+      let more = length-append old.rulings.closes (day ∷ []) in
       let ended : Period = period_by (last_close old.rulings) old.posted
       (charged_through old.rulings day old.held) in
-      let stays : slice_get new.past (number - 1) ≡ slice_get old.past (number - 1) =
-      slice_get-front old.past ended (number - 1) (omega arith) in
-      alike naming number old new there.0
+      all_alike (close day old) (record { is_numbered = some; is_past = omega arith })
       (slice_get-front old.rulings.closes day (number - 1) (omega arith))
-      (found_past number old closed ∙ there.1)
-      (found_past number new (closed_more day) ∙ stays ∙ there.1)
-      refl refl
+      (slice_get-front old.past ended (number - 1) (omega arith))
+      λ period settled. (refl, refl)
 
--- A closed period stays closed, and is read alike.
-record Stays (naming : Naming) (number : ℕ) (old new : Book) : Type 0 where
-  closed : IsClosed number new
-  alike : IsReadAlike naming number old new
+-- what an event that was answered did: those before it were answered too, and a period that they
+-- closed stays
+record Leaves (naming : Naming) (number : ℕ) (event : Event) (older : List Event) : Type 0 where
+  answered : IsMadeByCalls naming older
+  stays :
+      IsSound naming (book_after older) → IsClosed number (book_after older)
+      → Stays naming number (book_after older) (after event (book_after older))
+
+-- only a tariff changes a price
+leaves : (naming : Naming) (number : ℕ) (event : Event) (older : List Event)
+    → IsMadeByCalls naming (event ∷ older) → Leaves naming number event older
+leaves naming number (RecordKept bytes) older answered = record {
+  answered = answered.1;
+  stays = λ sound closed.
+      none_closed naming number (book_after older) sound closed (keep bytes (book_after older))
+      refl refl λ period settled. (refl, refl);
+}
+leaves naming number (TariffAccepted (Some text) terms) older answered = record {
+  answered = answered.1;
+  stays = λ sound closed.
+      after_tariff naming number (book_after older) sound closed text terms answered.0;
+}
+leaves naming number (TariffAccepted None terms) older none = record {
+  answered = subst (IsMadeByCalls naming) (sym none) tt;
+  stays = λ sound closed.
+      let of_none = subst (λ history. IsClosed number (book_after history)) none closed in
+      let some = of_none.is_numbered in
+      let past = of_none.is_past in
+      absurd (omega arith);
+}
+leaves naming number (PeriodClosed day) older answered = record {
+  answered = answered.1;
+  stays = λ sound closed. after_close naming number (book_after older) sound closed day;
+}
+leaves naming number (RecordChosen bytes) older answered = record {
+  answered = answered.1;
+  stays = λ sound closed.
+      none_closed naming number (book_after older) sound closed (choose bytes (book_after older))
+      refl refl λ period settled. (refl, refl);
+}
+leaves naming number SecondRuleAdopted older answered = record {
+  answered = answered.1;
+  stays = λ sound closed.
+      none_closed naming number (book_after older) sound closed (adopt (book_after older))
+      refl refl λ period settled. (refl, refl);
+}
 
 -- the same holds after any events that calls made
 stays : (naming : Naming) (later earlier : List Event) (number : ℕ)
@@ -182,71 +211,15 @@ stays naming [] earlier number answered closed = record {
   closed = closed;
   alike = itself naming number (book_after earlier);
 }
-stays naming (RecordKept bytes ∷ later) earlier number answered closed =
-    let old : Book = book_after (later ++ earlier) in
-    let before = stays naming later earlier number answered.1 closed in
-    let sound = sound_after naming (later ++ earlier) answered.1 in
+stays naming (event ∷ later) earlier number answered closed =
+    let older = later ++ earlier in
+    let left = leaves naming number event older answered in
+    let before = stays naming later earlier number left.answered closed in
+    let next = left.stays (sound_after naming older left.answered) before.closed in
     record {
-      closed = record {
-        is_numbered = before.closed.is_numbered;
-        is_past = before.closed.is_past;
-      };
-      alike = through naming number (book_after earlier) old (keep bytes old) before.alike
-          (after_kept naming number old sound before.closed bytes);
-    }
-stays naming (TariffAccepted (Some text) terms ∷ later) earlier number answered closed =
-    let old : Book = book_after (later ++ earlier) in
-    let before = stays naming later earlier number answered.1 closed in
-    let sound = sound_after naming (later ++ earlier) answered.1 in
-    record {
-      closed = record {
-        is_numbered = before.closed.is_numbered;
-        is_past = before.closed.is_past;
-      };
-      alike = through naming number (book_after earlier) old
-          (put_in_force (Some text) terms old) before.alike
-          (after_tariff naming number old sound before.closed text terms answered.0);
-    }
-stays naming (TariffAccepted None terms ∷ later) earlier number none closed =
-    let none_answered : IsMadeByCalls naming (later ++ earlier) =
-    subst (IsMadeByCalls naming) (sym none) tt in
-    let before = stays naming later earlier number none_answered closed in
-    let of_none = subst (λ history. IsClosed number (book_after history)) none before.closed in
-    let some = of_none.is_numbered in
-    let past = of_none.is_past in
-    absurd (omega arith)
-stays naming (PeriodClosed day ∷ later) earlier number answered closed =
-    let old : Book = book_after (later ++ earlier) in
-    let before = stays naming later earlier number answered.1 closed in
-    let sound = sound_after naming (later ++ earlier) answered.1 in
-    record {
-      closed = closed_more naming number old sound before.closed day;
-      alike = through naming number (book_after earlier) old (close day old) before.alike
-          (after_close naming number old sound before.closed day);
-    }
-stays naming (RecordChosen bytes ∷ later) earlier number answered closed =
-    let old : Book = book_after (later ++ earlier) in
-    let before = stays naming later earlier number answered.1 closed in
-    let sound = sound_after naming (later ++ earlier) answered.1 in
-    record {
-      closed = record {
-        is_numbered = before.closed.is_numbered;
-        is_past = before.closed.is_past;
-      };
-      alike = through naming number (book_after earlier) old (choose bytes old) before.alike
-          (after_choice naming number old sound before.closed bytes);
-    }
-stays naming (SecondRuleAdopted ∷ later) earlier number answered closed =
-    let old : Book = book_after (later ++ earlier) in
-    let before = stays naming later earlier number answered.1 closed in
-    let sound = sound_after naming (later ++ earlier) answered.1 in
-    record {
-      closed = record {
-        is_numbered = before.closed.is_numbered;
-        is_past = before.closed.is_past;
-      };
-      alike = through naming number (book_after earlier) old (adopt old) before.alike
-          (after_rule naming number old sound before.closed);
+      closed = next.closed;
+      alike = through naming number (book_after earlier) (book_after older)
+          (after event (book_after older)) before.alike next.alike;
     }
 
 -- the law

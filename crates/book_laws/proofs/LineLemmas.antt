@@ -27,7 +27,7 @@ use Rattle.book_model.proofs.SetLemmas.{members_rise}
 use Rattle.book_model.proofs.PermutedSets.{Apart, apart_from_distinct, members_permuted}
 use Rattle.book_model.proofs.LineOrder.{by_line_total, name_ties, line_by, line_of}
 use Rattle.book_model.proofs.SumsAlike.{sum_by-filter, sum_by-filter_map}
-use Rattle.book_model.proofs.RecordSets.{is, is_itself}
+use Rattle.book_model.proofs.RecordSets.{is, is_first}
 use Rattle.book_laws.specs.PeriodAmounts.{plus_of, minus_of}
 use Rattle.book_laws.specs.PeriodLines.{both_lines}
 
@@ -53,7 +53,7 @@ given-apart {Y} e give (k ∷ ks) tells apart =
     let later : (other : List ℕ) → list_any (is other) ks ≡ true
     → list_any (is other) (k ∷ ks) ≡ true =
     λ other among. ap (λ b. is other k || b) among ∙ or-true (is other k) in
-    let first : list_any (is k) (k ∷ ks) ≡ true = ap (λ b. b || list_any (is k) ks) (is_itself k) in
+    let first : list_any (is k) (k ∷ ks) ≡ true = is_first k ks in
     let rest =
     given-apart e give ks (λ a b one two. tells a b (later a one) (later b two)) apart.1 in
     elim (give k) as (λ given. give k ≡ given → Apart e (cons_option given (filter_map give ks))) [

@@ -14,7 +14,7 @@ use Rattle.book_model.specs.Words.{Period, Book, open_period, all_periods, charg
 use Rattle.book_model.specs.Words.{is_undisputed, book_after, lines_of, Records, Naming, name_of}
 use Rattle.book_model.specs.Words.{price_in, last_close, members, has, total_of, IsSound, AreHeld}
 use Rattle.book_model.proofs.ListLemmas.{map-agree}
-use Rattle.book_model.proofs.RecordSets.{is, is_itself, in_those}
+use Rattle.book_model.proofs.RecordSets.{is, in_those, is_first}
 use Rattle.book_model.proofs.SoundLemmas.{period_held}
 use Rattle.book_laws.specs.PeriodAmounts.{rows_amount, plus_of, minus_of, plus_amount, minus_amount}
 use Rattle.book_laws.specs.PeriodAmounts.{added_amount, reversed_amount}
@@ -95,7 +95,7 @@ module _ (naming : Naming) (book : Book) (sound : IsSound naming book) where
       (filter_map (line_of naming book.rulings plus) ks)) ≡ suc (length ks)) [
         | None ↦ λ none. cc
         | Some price ↦ λ some. ap suc rest
-      ] (priced k (ap (λ b. b || list_any (is k) ks) (is_itself k)))
+      ] (priced k (is_first k ks))
 
   all_priced : (records : Records)
       → ((bytes : List ℕ) → has records bytes ≡ true → has book.held bytes ≡ true)

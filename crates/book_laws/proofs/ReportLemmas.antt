@@ -85,13 +85,21 @@ called_for {asked = asked} {naming = naming} {books = books} answer come is = re
       (report_outcome names asked)) come.opened.naming come.report.call);
 }
 
+-- a text that a report was answered is the one that the definitions give for the book
+text_is : {L : Type 0} (seen : L → Seen) (asked : Report) (naming : Naming) (start : Book)
+    (old new : L) {output : Output} {result : Result (Unit {0}) ReportFault} (text : List ℕ)
+    (come : IsReported asked naming start (books seen old new) output result)
+    → come.report.answer ≡ Ok text → (report_outcome naming asked start).answer ≡ Ok text
+text_is seen asked naming start old new text come is =
+    one_answer _ _ seen (λ text. text) (report_outcome naming asked) naming start old new text
+    (called_for (Ok text) come is)
+
 pub one_text : {L : Type 0} (seen : L → Seen) → OneText seen
 one_text seen asked naming start old new output come =
     let has = text_of come.report.answer output come.report.passed_on in
     record {
       text = has.text;
-      is = one_answer _ _ seen (λ text. text) (report_outcome naming asked) naming start old new
-          has.text (called_for (Ok has.text) come has.is);
+      is = text_is seen asked naming start old new has.text come has.is;
       written = has.written;
     }
 
@@ -100,8 +108,7 @@ one_prefix seen asked naming start old new output come =
     let has = front_of come.report.answer output come.report.passed_on in
     record {
       text = has.text;
-      is = one_answer _ _ seen (λ text. text) (report_outcome naming asked) naming start old new
-          has.text (called_for (Ok has.text) come has.is);
+      is = text_is seen asked naming start old new has.text come has.is;
       count = has.count;
       less = has.less;
       written = has.written;

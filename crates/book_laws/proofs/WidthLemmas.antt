@@ -1,14 +1,13 @@
 -- The lines of a statement are equally long, since the office's limits keep each number within its
 -- column.
-use Rattle.std.proofs.Common.{◌≡◌, ◌∙◌, ℕ, ◌+◌, ◌-◌, ◌*◌, ◌/◌, ◌%◌, ◌^◌, ◌<◌, ◌≤◌, List, [], ◌++◌}
-use Rattle.std.proofs.Common.{length, map, refl, sym, ap, subst, true, false, Bool, Option, ℤ}
-use Rattle.std.proofs.Common.{Some, None, Ok, Err, Result, arith, length-append, cond}
-use Rattle.std.specs.Prelude.{All, codes, filter, replicate, sum_by}
+use Rattle.std.proofs.Common.{◌≡◌, ◌∙◌, ℕ, ◌+◌, ◌-◌, ◌/◌, ◌%◌, ◌^◌, ◌<◌, ◌≤◌, List, [], ◌++◌}
+use Rattle.std.proofs.Common.{length, map, refl, sym, subst, Option, ℤ}
+use Rattle.std.proofs.Common.{Some, None, Ok, Result, arith, length-append}
+use Rattle.std.specs.Prelude.{All, codes, replicate, sum_by}
 use Rattle.std.specs.FinMap as finite
 use Rattle.std.specs.Fmt.{decimal}
 use Rattle.std.specs.Cmp.{IsTotalOrder}
 use Rattle.std.specs.Option.{ok_or, option_map, option_map_or}
-use Rattle.std.specs.List.{filter_map}
 use Rattle.std.specs.declared.cmp.Ordering.{Ordering}
 use Rattle.std.proofs.lemmas.Bool.{and_parts}
 use Rattle.std.proofs.lemmas.Bool.Decides.{nat_tests}
@@ -16,7 +15,7 @@ use Rattle.std.proofs.lemmas.Cmp.{eq_by_cmp_equiv}
 use Rattle.std.proofs.lemmas.Fmt.{length-decimal-le}
 use Rattle.std.proofs.lemmas.List.{length-replicate}
 use Rattle.std.proofs.lemmas.List.Elements.{All-map, All-contains}
-use Rattle.std.proofs.lemmas.List.Sums.{sum_by-le, sum_by-le-sum_by}
+use Rattle.std.proofs.lemmas.List.Sums.{sum_by-le}
 use Rattle.std.proofs.lemmas.Map.Views.{All-from_any, Contains-from_any, tells_apart}
 use Rattle.smf_text.specs.Day.{day_text_of}
 use Rattle.smf_text.specs.Names.{IsName}
@@ -26,7 +25,7 @@ use Rattle.book_model.specs.declared.fault.LedgerFault.TheVariants.{NoSuchPeriod
 use Rattle.book_model.specs.declared.row.ChargeRow.{ChargeRow}
 use Rattle.book_model.specs.declared.row.RowKey.{RowKey}
 use Rattle.book_model.specs.Words.{Book, Naming, IsPriced, Period, Records, charged_at, key_of}
-use Rattle.book_model.specs.Words.{AreAmong, AreHeld, keys_of, members, most_cost, most_held}
+use Rattle.book_model.specs.Words.{AreAmong, AreHeld, keys_of, members}
 use Rattle.book_model.specs.Words.{period_of, price_in, prices, row_at, rows_for, rows_of, set_of}
 use Rattle.book_model.proofs.RowLemmas.{by_key_total, by_key_exact}
 use Rattle.book_model.proofs.SetLemmas.{any_tied-members}

@@ -1,7 +1,7 @@
 -- The law of imports: a dump has one receipt, and leaves one book.
 use Rattle.std.specs.Prelude.{◌≡◌}
 use Rattle.book_model.specs.Words.{front, Naming, Book, after_all}
-use Rattle.book_core.specs.Ledgers.{Seen, IsOpenAt}
+use Rattle.book_core.specs.Ledgers.{Books, Seen, IsOpenAt, books}
 use Rattle.book_core.specs.Transition.{IsTransition}
 use Rattle.book_import.specs.declared.receipt.Receipt.{Receipt}
 use Rattle.book_import.specs.Dumps.{stop_after}
@@ -20,11 +20,12 @@ imported_into naming dump book =
 
 -- A dump was imported into a ledger that was open with this book, and is open now, on a store that
 -- is honest to the end. Neither a lack of memory nor the store stopped the import.
-pub record IsImported (naming : Naming) (start : Book) (old new : Seen) (dump : Dump)
+pub record IsImported (naming : Naming) (start : Book) (books : Books) (dump : Dump)
     (receipt : Receipt) : Type 0 where
-  pub opened : IsOpenAt naming start old
-  pub still : IsStillOpen new
-  pub work : IsTransition old new (Imports old.naming dump.layout dump.cut dump.bytes receipt)
+  pub opened : IsOpenAt naming start books.old
+  pub still : IsStillOpen books.new
+  pub work : IsTransition books.old books.new
+      (Imports books.old.naming dump.layout dump.cut dump.bytes receipt)
   pub unhindered : IsUnhindered receipt
 
 -- the receipt is the definitions' one, and the ledger is open with the book after the import
@@ -37,5 +38,5 @@ pub record ImportsAsDefined (naming : Naming) (start : Book) (new : Seen) (dump 
 abbrev pub OneReceipt : {L : Type 0} → (L → Seen) → Type 0
 OneReceipt {L} seen =
     (naming : Naming) (start : Book) (old new : L) (dump : Dump) (receipt : Receipt)
-    → IsImported naming start (seen old) (seen new) dump receipt
+    → IsImported naming start (books seen old new) dump receipt
     → ImportsAsDefined naming start (seen new) dump receipt

@@ -2,7 +2,7 @@
 use Rattle.std.specs.Prelude.{◌≡◌, false, All, List, [], ◌∷◌, map, Result}
 use Rattle.book_model.specs.declared.fault.LedgerFault.{LedgerFault}
 use Rattle.book_model.specs.Words.{Naming, Book, after_all}
-use Rattle.book_core.specs.Ledgers.{Seen, IsOpenAt}
+use Rattle.book_core.specs.Ledgers.{Books, Seen, IsOpenAt, books}
 use Rattle.book_core.specs.Transition.{IsTransition}
 use Rattle.office.specs.declared.request.Asked.{Asked}
 use Rattle.office.specs.declared.request.Answer.{Answer}
@@ -26,11 +26,11 @@ book_after_requests naming (asked ∷ later) book =
 
 -- Requests were run on a ledger that was open with this book, and is open now, on a store that is
 -- honest to the end. Neither a lack of memory nor the store hindered one.
-pub record IsUnhinderedRun (naming : Naming) (start : Book) (old new : Seen) (requests : List Asked)
+pub record IsUnhinderedRun (naming : Naming) (start : Book) (books : Books) (requests : List Asked)
     (answers : List (Result Answer LedgerFault)) : Type 0 where
-  pub opened : IsOpenAt naming start old
-  pub still : IsStillOpen new
-  pub work : IsTransition old new (Runs old.naming requests answers)
+  pub opened : IsOpenAt naming start books.old
+  pub still : IsStillOpen books.new
+  pub work : IsTransition books.old books.new (Runs books.old.naming requests answers)
   pub free : All (λ answer. is_hindered (response_by answer) ≡ false) answers
 
 -- the answers are those of the definitions, and the ledger is open with the book after them
@@ -44,5 +44,5 @@ abbrev pub OneRun : {L : Type 0} → (L → Seen) → Type 0
 OneRun {L} seen =
     (naming : Naming) (start : Book) (old new : L) (requests : List Asked)
     (answers : List (Result Answer LedgerFault))
-    → IsUnhinderedRun naming start (seen old) (seen new) requests answers
+    → IsUnhinderedRun naming start (books seen old new) requests answers
     → RunsAsDefined naming start (seen new) requests answers

@@ -28,7 +28,7 @@ use Rattle.book_model.specs.Rulings.{Rulings, identity_by, with_second_rule}
 use Rattle.book_model.specs.Sets.{members, has}
 use Rattle.book_model.specs.Sound.{IsChoiceOf, AreAmong}
 use Rattle.book_model.proofs.ChosenLemmas.{all_chosen, chosen_held}
-use Rattle.book_model.proofs.RecordSets.{is, is_itself, has_those, first_of, in_those}
+use Rattle.book_model.proofs.RecordSets.{is, has_those, first_of, in_those, is_first}
 use Rattle.book_model.proofs.SetChanges.{none_passes}
 use Rattle.book_model.proofs.SetLemmas.{fails_too, same_bytes-by_cmp}
 
@@ -43,7 +43,7 @@ last_narrower wide narrow one passes [] was so narrower before found = before fo
 last_narrower wide narrow one passes (first ∷ list) was so narrower before found =
     let rest = λ (q : List ℕ) (among : list_any (is q) list ≡ true).
     narrower q (ap (λ b. is q first || b) among ∙ or-true (is q first)) in
-    let own = narrower first (ap (λ b. b || list_any (is first) list) (is_itself first)) in
+    let own = narrower first (is_first first list) in
     elim (narrow first) as (λ n. narrow first ≡ n
     → last_or so (cond n (first ∷ filter narrow list) (filter narrow list)) ≡ Some one) [
       | true ↦ λ in_narrow.

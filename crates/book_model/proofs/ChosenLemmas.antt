@@ -19,7 +19,7 @@ use Rattle.book_model.specs.Sets.{has, with, those}
 use Rattle.book_model.specs.Sound.{IsChoiceOf}
 use Rattle.book_model.proofs.ChargedChanges.{share_back, share_on, do_conflict, rivalled_by}
 use Rattle.book_model.proofs.ListLemmas.{last_or-behind}
-use Rattle.book_model.proofs.RecordSets.{is, is_itself, same_records, has_with, has_those}
+use Rattle.book_model.proofs.RecordSets.{is, is_itself, same_records, has_with, has_those, is_first}
 use Rattle.book_model.proofs.RecordSets.{first_of, second_of}
 use Rattle.book_model.proofs.SetChanges.{except}
 use Rattle.book_model.proofs.SetLemmas.{same_bytes-by_cmp}
@@ -251,7 +251,7 @@ module _ (rulings : Rulings) where
   lone_last one [] was alone = refl
   lone_last one (first ∷ list) was alone =
       let share : List ℕ → Bool = share_identity rulings one in
-      let own = alone first (ap (λ b. b || list_any (is first) list) (is_itself first)) in
+      let own = alone first (is_first first list) in
       let rest = λ (q : List ℕ) (among : list_any (is q) list ≡ true).
       alone q (ap (λ b. is q first || b) among ∙ or-true (is q first)) in
       ap (λ s. option_map_or (same_bytes one) (last_or was

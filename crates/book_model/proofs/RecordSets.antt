@@ -1,6 +1,8 @@
 -- Sets of records, by what they have.
-use Rattle.std.proofs.Common.{◌≡◌, ℕ, List, refl, sym, ap, ◌∙◌, true, false, true≢false, Bool, not}
+use Rattle.std.proofs.Common.{◌≡◌, ℕ, List, ◌∷◌, refl, sym, ap, ◌∙◌, true, false, true≢false, Bool, not}
 use Rattle.std.proofs.Common.{◌||◌, ◌&&◌}
+use Rattle.std.proofs.Math.Bool.{or-true}
+use Rattle.std.specs.List.{list_any}
 use Rattle.std.specs.Ordering.{eq_by_cmp}
 use Rattle.std.proofs.lemmas.Cmp.{nat_list_cmp_total, eq_by_cmp_equiv}
 use Rattle.std.proofs.lemmas.Map.Lookups.{exact_bytes}
@@ -16,6 +18,14 @@ is a b = eq_by_cmp by_bytes a b
 -- a record is itself
 pub is_itself : (bytes : List ℕ) → is bytes bytes ≡ true
 is_itself bytes = (eq_by_cmp_equiv nat_list_cmp_total).refl bytes
+
+-- the first record of a list is in it
+pub is_first : (a : List ℕ) (rest : List (List ℕ)) → list_any (is a) (a ∷ rest) ≡ true
+is_first a rest = ap (λ t. t || list_any (is a) rest) (is_itself a)
+
+-- and the second
+pub is_second : (a b : List ℕ) (rest : List (List ℕ)) → list_any (is b) (a ∷ b ∷ rest) ≡ true
+is_second a b rest = ap (λ t. is b a || t) (is_first b rest) ∙ or-true (is b a)
 
 -- sets that have the same records are one
 pub same_records : (s t : Records) → ((bytes : List ℕ) → has s bytes ≡ has t bytes) → s ≡ t

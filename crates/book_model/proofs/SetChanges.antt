@@ -16,7 +16,7 @@ use Rattle.book_model.specs.Records.{Records, Naming, name_of, by_bytes}
 use Rattle.book_model.specs.Sets.{members, has, with, those}
 use Rattle.book_model.proofs.ListLemmas.{filter_map-map}
 use Rattle.book_model.proofs.MapLemmas.{by_tie}
-use Rattle.book_model.proofs.RecordSets.{is, is_itself, same_records, has_with, has_those}
+use Rattle.book_model.proofs.RecordSets.{is, is_itself, same_records, has_with, has_those, is_first}
 use Rattle.book_model.proofs.SetLemmas.{members-with, insert_key-alike, map-members_agree}
 use Rattle.book_model.proofs.SetLemmas.{members-set_of, members_rise}
 use Rattle.book_model.proofs.SumsAlike.{SumsAlike, list_any-alike}
@@ -48,7 +48,7 @@ pub none_among : (p : List ℕ → Bool) (ks : List (List ℕ))
     → ((bytes : List ℕ) → list_any (is bytes) ks ≡ true → p bytes ≡ false) → list_any p ks ≡ false
 none_among p [] fails = refl
 none_among p (k ∷ ks) fails =
-    let first = fails k (ap (λ b. b || list_any (is k) ks) (is_itself k)) in
+    let first = fails k (is_first k ks) in
     let rest = none_among p ks (λ bytes in_it.
     fails bytes (ap (λ b. is bytes k || b) in_it ∙ or-true (is bytes k))) in
     λ i. first i || rest i

@@ -1,12 +1,17 @@
 -- Lists that are read from a ledger, and what is made from them: a reading call stands for another.
 use Rattle.std.proofs.Common.{◌≡◌, ◌∙◌, Bool, false, List, [], ◌++◌, refl, sym, ap, subst}
-use Rattle.std.proofs.Common.{◌||◌, inl, inr, None, Result, Ok, Err}
+use Rattle.std.proofs.Common.{◌||◌, inl, inr, None, Option, ℕ, ℤ, Result, Ok, Err}
+use Rattle.std.proofs.lemmas.Result.{err_from_is_err_and}
+use Rattle.std.specs.Result.{IsErrAnd}
+use Rattle.std.specs.declared.alloc.AllocError.{AllocError}
 use Rattle.book_model.specs.declared.fault.LedgerFault.{LedgerFault}
 use Rattle.book_model.specs.declared.fault.LedgerFault.TheVariants.{Memory, Store, Reopen}
-use Rattle.book_model.specs.Words.{Book, Event, after_all, Outcome}
+use Rattle.book_model.specs.Words.{Book, Event, after_all, no_event, Outcome}
 use Rattle.book_core.specs.Ledgers.{Seen}
 use Rattle.book_core.specs.Transition.{Then}
 use Rattle.book_core.specs.Calls.{Calls, IsCall, Makes, Reopens, listed, is_store, is_reopen}
+use Rattle.book_reports.specs.BookTexts.{IsMadeOf, closed_through, closed_through_outcome, shown_by}
+use Rattle.book_reports.proofs.WritingLemmas.{same_value}
 use Rattle.book_core.proofs.TransitionLemmas.{work_then, work_as}
 
 -- what a call answers of an outcome; out of memory, a fault of the store and Reopen show nothing
@@ -140,56 +145,46 @@ fault_tells view show Reopen refused tells = tt
 fault_tells view show fault refused tells = refused tells
 
 module _ {V A U B : Type 0} {view : V → A} {show : U → B} {outcome : Book → Outcome A}
-    {other : Book → Outcome B} where
-  -- a call that failed, like another that is refused alike
-  pub call_failed : {old new : Seen} (fault : LedgerFault) → IsReading outcome → IsReading other
-      → ((book : Book) → (outcome book).answer ≡ Err fault → (other book).answer ≡ Err fault)
-      → IsCall view old new (Err fault) outcome → IsCall show old new (Err fault) other
-  call_failed fault none no_other refused call =
-      read_as none no_other (fault_alike fault) (λ book. fault_tells view show fault (refused book)) call
-
-  -- a call for whose value there was no memory to show it in
-  pub call_wanting : {old new : Seen} {value : V} → IsReading outcome → IsReading other
-      → IsCall view old new (Ok value) outcome → IsCall show old new (Err Memory) other
-  call_wanting none no_other call =
-      read_as none no_other (record { reopen = refl; store = refl }) (λ book tells. tt) call
-
-  -- a call and its value, which was shown
-  pub call_shown : {old new : Seen} {value : V} (shown : U) → IsReading outcome → IsReading other
-      → ((book : Book) → (outcome book).answer ≡ Ok (view value)
-      → (other book).answer ≡ Ok (show shown))
-      → IsCall view old new (Ok value) outcome → IsCall show old new (Ok shown) other
-  call_shown shown none no_other tells call =
-      read_as none no_other (record { reopen = refl; store = refl }) tells call
-
-module _ {W C V A U B : Type 0} {first : W → C} {view : V → A} {show : U → B} {value : W}
-    {outcome_first : Book → Outcome C} {outcome : Book → Outcome A} {other : Book → Outcome B}
   where
-    -- after a list that was read, a call that failed
-    pub then_failed : {old mid new : Seen} (fault : LedgerFault) → IsReading outcome_first
-        → IsReading outcome → IsReading other
+    -- a call that failed stands for another that is refused alike
+    pub call_failed : {old new : Seen} {fault : LedgerFault} {other : Book → Outcome B}
+        (result : Result U LedgerFault)
+        → IsErrAnd result (λ given. given ≡ fault) → IsReading outcome → IsReading other
         → ((book : Book) → (outcome book).answer ≡ Err fault → (other book).answer ≡ Err fault)
-        → IsCall first old mid (Ok value) outcome_first → IsCall view mid new (Err fault) outcome
-        → IsCall show old new (Err fault) other
-    then_failed fault none_first none no_other refused one next =
-        read_then none_first none no_other (fault_alike fault)
-        (λ book early. fault_tells view show fault (refused book)) one next
+        → IsCall view old new (Err fault) outcome → IsCall show old new result other
+    call_failed {fault = fault} result is none no_other refused call =
+        let failed = err_from_is_err_and result is in
+        rw (failed.1, failed.2)
+        (read_as none no_other (fault_alike fault) (λ book. fault_tells view show fault (refused book)) call)
 
-    -- two lists that were read, with no memory to show them in
-    pub then_wanting : {old mid new : Seen} {late : V} → IsReading outcome_first
-        → IsReading outcome → IsReading other
-        → IsCall first old mid (Ok value) outcome_first → IsCall view mid new (Ok late) outcome
-        → IsCall show old new (Err Memory) other
-    then_wanting none_first none no_other one next =
-        read_then none_first none no_other (record { reopen = refl; store = refl })
-        (λ book early tells. tt) one next
+    -- what was made of a list that was read, where it is what the definitions make of it
+    pub call_made : {old new : Seen} {makes : V → Result U AllocError → Type 0} (text : A → B)
+        {answer : Result V LedgerFault} {result : Result U LedgerFault}
+        → IsReading outcome → IsCall view old new answer outcome → IsMadeOf makes answer result
+        → ((value : V) (given : U) → makes value (Ok given) → show given ≡ text (view value))
+        → IsCall show old new result (λ book. no_event (shown_by text (outcome book).answer))
+    call_made text {answer = Ok value} {result = Ok given} none call is tells =
+        read_as none (λ book. refl) (record { reopen = refl; store = refl })
+        (λ book said. ap (shown_by text) said ∙ ap Ok (sym (tells value given is.made))) call
+    call_made text {answer = Ok value} {result = Err fault} none call is tells =
+        rw is.made
+        (read_as none (λ book. refl) (record { reopen = refl; store = refl }) (λ book said. tt) call)
+    call_made text {answer = Err fault} none call is tells =
+        rw is.refused
+        (read_as none (λ book. refl) (fault_alike fault)
+        (λ book. fault_tells view show fault (ap (shown_by text))) call)
 
-    -- two lists that were read from one book, and shown
-    pub then_shown : {old mid new : Seen} {late : V} (shown : U) → IsReading outcome_first
-        → IsReading outcome → IsReading other
-        → ((book : Book) → (outcome_first book).answer ≡ Ok (first value)
-        → (outcome book).answer ≡ Ok (view late) → (other book).answer ≡ Ok (show shown))
-        → IsCall first old mid (Ok value) outcome_first → IsCall view mid new (Ok late) outcome
-        → IsCall show old new (Ok shown) other
-    then_shown shown none_first none no_other tells one next =
-        read_then none_first none no_other (record { reopen = refl; store = refl }) tells one next
+    -- the same after the day that a period was closed through: both are read from one book
+    pub period_made : {old mid new : Seen} {makes : V → Result U AllocError → Type 0} (period : ℕ)
+        (text : Option ℤ → A → B) {through : Option ℤ}
+        {answer : Result V LedgerFault} {result : Result U LedgerFault}
+        → IsReading outcome → IsCall (λ day. day) old mid (Ok through) (closed_through_outcome period)
+        → IsCall view mid new answer outcome → IsMadeOf makes answer result
+        → ((value : V) (given : U) → makes value (Ok given) → show given ≡ text through (view value))
+        → IsCall show old new result
+        (λ book. no_event (shown_by (text (closed_through book period)) (outcome book).answer))
+    period_made period text {through = through} {result = result} none day call is tells =
+        read_then (λ book. refl) (λ book. refl) (λ book. refl) (record { reopen = refl; store = refl })
+        (λ book early. subst (Tells show result)
+        (ap (λ day. shown_by (text day) (outcome book).answer) (sym (same_value early))))
+        day (call_made (text through) none call is tells)

@@ -18,7 +18,8 @@ use Rattle.book_reports.specs.Reports.{IsPassedOn, IsReport}
 use Rattle.book_reports.specs.Writing.{WritesTexts, is_write_or_memory}
 use Rattle.book_reports.proofs.ReadingLemmas.{IsAlike, IsReading, Tells, fault_alike, fault_tells}
 use Rattle.book_reports.proofs.ReadingLemmas.{read_as}
-use Rattle.book_reports.proofs.WritingLemmas.{nothing_written, same_value, memory_not_write}
+use Rattle.book_reports.proofs.WritingLemmas.{memory_not_write, nothing_written, prefix_written}
+use Rattle.book_reports.proofs.WritingLemmas.{same_value}
 
 -- an answer that is shown says what it said
 shown_alike : (answer : Result (Vec ℕ Global) LedgerFault)
@@ -60,16 +61,7 @@ passed_written (Ok found) (Err report.Write) output text answers passed =
     let front = subst
     (λ text. (count : ℕ) × (count < length text)
     × Appends output.old.holds output.new.holds (take count text)) same passed in
-    record {
-      whole = [];
-      next = text;
-      rest = [];
-      count = front.0;
-      parts = refl;
-      grown = front.2;
-      unless_write = λ other. absurd (other refl);
-      after_write = λ write. front.1;
-    }
+    prefix_written text refl front
 passed_written (Ok found) (Err fault) output text answers passed = absurd passed
 passed_written (Err Memory) result output text answers passed =
     rw (passed.refusal, ap (λ seen. seen.holds) passed.none)

@@ -42,15 +42,11 @@ refusal_not_write refusal is write = cc
 pub same_value : {A : Type 0} {x y : A} → ◌≡◌ {A = Result A LedgerFault} (Ok x) (Ok y) → x ≡ y
 same_value {x = x} same = ap (λ answer. result_unwrap_or answer x) same
 
--- what `write_text` leaves
-pub text_written : (F : Type 0) (held holds : Option (List ℕ)) (text : List ℕ)
-    (answer : Result (Unit {0}) ReportFault)
-    → OnOk answer (Appends held holds text × F) → IfErr answer (λ fault. fault ≡ Write)
-    → OnErr answer ((n : ℕ) × (n < length text) × Appends held holds (take n text))
-    → WritesTexts (text ∷ []) held holds answer
-text_written F held holds text (Ok done) whole failed prefix =
-    subst (Appends held holds) (sym (append-nil text)) whole.0
-text_written F held holds text (Err fault) whole failed prefix =
+-- of a text that was not written whole the writer has a prefix
+pub prefix_written : {fault : ReportFault} {held holds : Option (List ℕ)} (text : List ℕ)
+    → fault ≡ Write → (n : ℕ) × (n < length text) × Appends held holds (take n text)
+    → WritesUpTo fault (text ∷ []) held holds
+prefix_written text failed prefix =
     record {
       whole = [];
       next = text;
@@ -61,6 +57,16 @@ text_written F held holds text (Err fault) whole failed prefix =
       unless_write = λ other. absurd (other failed);
       after_write = λ write. prefix.1;
     }
+
+-- what `write_text` leaves
+pub text_written : (F : Type 0) (held holds : Option (List ℕ)) (text : List ℕ)
+    (answer : Result (Unit {0}) ReportFault)
+    → OnOk answer (Appends held holds text × F) → IfErr answer (λ fault. fault ≡ Write)
+    → OnErr answer ((n : ℕ) × (n < length text) × Appends held holds (take n text))
+    → WritesTexts (text ∷ []) held holds answer
+text_written F held holds text (Ok done) whole failed prefix =
+    subst (Appends held holds) (sym (append-nil text)) whole.0
+text_written F held holds text (Err fault) whole failed prefix = prefix_written text failed prefix
 
 -- before the first write there is nothing
 pub nothing_written : (fault : ReportFault) (held : Option (List ℕ)) (text : List ℕ)

@@ -1,7 +1,10 @@
 -- The texts about books: each is read from a book, which is no event.
-use Rattle.std.specs.Prelude.{ℕ, ◌-◌, ℤ, List, slice_get, Option, None, Result, Ok, Err}
+use Rattle.std.specs.Prelude.{◌≡◌, ℕ, ◌-◌, ℤ, List, slice_get, Option, None, Result, Ok, Err, IfOk, IfErr}
+use Rattle.std.specs.Result.{MatchResult}
+use Rattle.std.specs.declared.alloc.AllocError.{AllocError}
 use Rattle.sha2.specs.Sha256.{sha256}
 use Rattle.book_model.specs.declared.fault.LedgerFault.{LedgerFault}
+use Rattle.book_model.specs.declared.fault.LedgerFault.TheVariants.{Memory}
 use Rattle.book_model.specs.Words.{Book, open_period, disputes_in, Outcome, no_event}
 use Rattle.book_model.specs.Words.{charges_outcome, adjustments_outcome, disputes_outcome}
 use Rattle.book_model.specs.Words.{periods_outcome, Naming, rows_for}
@@ -53,3 +56,10 @@ open_statement book =
 -- the disputes of books, where records are named by SHA-256
 abbrev pub dispute_text : Book → List ℕ
 dispute_text book = dispute_list_text (disputes_in sha256 book.rulings book.held)
+
+-- what was made of an answer: a refusal stays one, and a lack of memory is one
+pub record IsMadeOf {V T : Type 0} (makes : V → Result T AllocError → Type 0)
+    (answer : Result V LedgerFault) (result : Result T LedgerFault) : Type 0 where
+  pub refused : IfErr answer (λ fault. result ≡ Err fault)
+  pub made :
+      IfOk answer (λ value. MatchResult result (λ made. makes value (Ok made)) (λ fault. fault ≡ Memory))

@@ -12,7 +12,7 @@ use book_core::{Ledger, LedgerFault};
 use report_texts::{
     adjustment_list_text, dispute_list_text, period_list_text, statement_table, statement_text,
 };
-use std::alloc::Global;
+use std::alloc::{AllocError, Global};
 
 /// The day that a period was closed through, `None` if no such period is closed.
 fn closed_through<L: Ledger>(ledger: &mut L, period: u16) -> Result<Option<i32>, LedgerFault>
@@ -24,63 +24,15 @@ fn closed_through<L: Ledger>(ledger: &mut L, period: u16) -> Result<Option<i32>,
     Ok(days.get(usize::from(period).saturating_sub(1)).copied())
 }
 
-/// The statement of a period.
-fn statement_of<L: Ledger>(
-    alloc: Global,
-    ledger: &mut L,
-    period: u16,
-) -> Result<Vec<u8>, LedgerFault>
-    ensures { IsCall (λ text. text.items) (L.seen ledger.old) (L.seen ledger.new) result
-        (spec.report_outcome (L.seen ledger.old).naming (Report.Statement period)) }
+/// What is made of a list that a ledger answered. A refusal stays one, and a lack of memory is one.
+fn made_of<V, T, F: FnOnce(V) -> Result<T, AllocError>>(
+    answer: Result<V, LedgerFault>,
+    make: F,
+) -> Result<T, LedgerFault>
+    requires { IfOk answer (λ value. F.pre make value) }
+    ensures { spec.IsMadeOf (F.post make) answer result }
 {
-    let through = closed_through(ledger, period)?;
-    let rows = ledger.charges(period)?;
-    Ok(statement_text(alloc, period, through, &rows)?.into_bytes())
-}
-
-/// The statement of a period as a table of comma-separated values.
-fn statement_csv_of<L: Ledger>(
-    alloc: Global,
-    ledger: &mut L,
-    period: u16,
-) -> Result<Vec<u8>, LedgerFault>
-    ensures { IsCall (λ text. text.items) (L.seen ledger.old) (L.seen ledger.new) result
-        (spec.report_outcome (L.seen ledger.old).naming (Report.StatementTable period)) }
-{
-    let rows = ledger.charges(period)?;
-    Ok(statement_table(alloc, period, &rows)?)
-}
-
-/// The adjustments of a period.
-fn adjustment_list_of<L: Ledger>(
-    alloc: Global,
-    ledger: &mut L,
-    period: u16,
-) -> Result<Vec<u8>, LedgerFault>
-    ensures { IsCall (λ text. text.items) (L.seen ledger.old) (L.seen ledger.new) result
-        (spec.report_outcome (L.seen ledger.old).naming (Report.AdjustmentList period)) }
-{
-    let through = closed_through(ledger, period)?;
-    let lines = ledger.adjustments(period)?;
-    Ok(adjustment_list_text(alloc, period, through, &lines)?.into_bytes())
-}
-
-/// The disputes.
-fn dispute_list_of<L: Ledger>(alloc: Global, ledger: &mut L) -> Result<Vec<u8>, LedgerFault>
-    ensures { IsCall (λ text. text.items) (L.seen ledger.old) (L.seen ledger.new) result
-        (spec.report_outcome (L.seen ledger.old).naming Report.DisputeList) }
-{
-    let disputes = ledger.disputes()?;
-    Ok(dispute_list_text(alloc, &disputes)?.into_bytes())
-}
-
-/// The periods, the open one last.
-fn period_list_of<L: Ledger>(alloc: Global, ledger: &mut L) -> Result<Vec<u8>, LedgerFault>
-    ensures { IsCall (λ text. text.items) (L.seen ledger.old) (L.seen ledger.new) result
-        (spec.report_outcome (L.seen ledger.old).naming Report.PeriodList) }
-{
-    let closes = ledger.periods()?;
-    Ok(period_list_text(alloc, &closes)?.into_bytes())
+    Ok(make(answer?)?)
 }
 
 /// The text of a report.
@@ -93,10 +45,31 @@ pub fn report_text<L: Ledger>(
         (spec.report_outcome (L.seen ledger.old).naming report) }
 {
     match report {
-        Report::Statement(period) => statement_of(alloc, ledger, period),
-        Report::StatementTable(period) => statement_csv_of(alloc, ledger, period),
-        Report::AdjustmentList(period) => adjustment_list_of(alloc, ledger, period),
-        Report::DisputeList => dispute_list_of(alloc, ledger),
-        Report::PeriodList => period_list_of(alloc, ledger),
+        Report::Statement(period) => {
+            let through = closed_through(ledger, period)?;
+            made_of(
+                ledger.charges(period),
+                |rows| Ok(statement_text(alloc, period, through, &rows)?.into_bytes()),
+            )
+        }
+        Report::StatementTable(period) => made_of(
+            ledger.charges(period),
+            |rows| statement_table(alloc, period, &rows),
+        ),
+        Report::AdjustmentList(period) => {
+            let through = closed_through(ledger, period)?;
+            made_of(
+                ledger.adjustments(period),
+                |lines| Ok(adjustment_list_text(alloc, period, through, &lines)?.into_bytes()),
+            )
+        }
+        Report::DisputeList => made_of(
+            ledger.disputes(),
+            |disputes| Ok(dispute_list_text(alloc, &disputes)?.into_bytes()),
+        ),
+        Report::PeriodList => made_of(
+            ledger.periods(),
+            |closes| Ok(period_list_text(alloc, &closes)?.into_bytes()),
+        ),
     }
 }

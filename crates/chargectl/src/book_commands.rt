@@ -162,7 +162,7 @@ pub(crate) fn import_dump<S: Repository, O: Write + Drop>(
     repository.expect(book)?;
     let asked = Asked::Import(dump.layout);
     let is_shown = !dump.quiet && rt.stderr().is_terminal();
-    let input = WatchedReader::new(rt, fs::open(rt, dump.file)?, dump.layout, is_shown);
+    let input = WatchedReader::open(rt, dump.file, is_shown)?;
     let output = ClearingWriter::new(rt, output, is_shown);
     ask_books(rt, repository, book, asked, input, output)
 }

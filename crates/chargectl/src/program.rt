@@ -13,7 +13,6 @@ use program_output::{
 };
 use smf_frames::Layout;
 use std::alloc::Global;
-use std::fs;
 use std::io::{IsTerminal, Read, Write};
 use tariff_rules::{MAX_RATE, Tariff};
 
@@ -152,8 +151,7 @@ fn check<O: Write + Drop>(
 ) -> Result<(), CommandFault> {
     let layout = dump.layout;
     let is_shown = !dump.quiet && rt.stderr().is_terminal() && !rt.stdout().is_terminal();
-    let input = fs::open(rt, dump.file)?;
-    let mut source = Source::new(WatchedReader::new(rt, input, layout, is_shown));
+    let mut source = Source::new(WatchedReader::open(rt, dump.file, is_shown)?);
     let mut sink = Sink::new(output);
     let answer = check_list(rt.alloc(), &mut source, layout, MAX_READS, &mut sink);
     source.into_inner().clear();

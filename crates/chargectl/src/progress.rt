@@ -1,10 +1,10 @@
 //! How far a long command is, on one line of standard error, where that is a terminal.
 
 use book_audit::{Tree, Watch};
-use smf_frames::{Joiner, Layout};
-use std::io;
+use std::fs::File;
 use std::io::{Read, Write};
 use std::time::{Duration, Instant};
+use std::{fs, io};
 
 /// How long a line stays at least, in milliseconds.
 const LEAST_SHOWN: u64 = 500;
@@ -48,58 +48,50 @@ impl<'a> ProgressLine<'a> {
     }
 }
 
-/// What went through a reader.
+/// How far a file was read.
 #[derive(Drop)]
 struct Progress<'a> {
     line: ProgressLine<'a>,
-    joiner: Joiner,
     bytes: u64,
-    records: u64,
+    /// The bytes of the whole file, where it has a fixed size.
+    size: Option<u64>,
 }
 
 impl<'a> Progress<'a> {
-    /// Nothing yet. None where there is no memory or no clock.
-    fn started(rt: &'a HostRuntime, layout: Layout) -> Option<Progress<'a>> {
+    /// Nothing yet. None where there is no clock.
+    fn started(rt: &'a HostRuntime, size: Option<u64>) -> Option<Progress<'a>> {
         Some(Progress {
             line: ProgressLine::started(rt)?,
-            joiner: Joiner::new(rt.alloc(), layout).ok()?,
             bytes: 0,
-            records: 0,
+            size,
         })
     }
 
-    /// Counts a piece, and shows the line where the last one has stayed long enough.
-    fn count(&mut self, piece: &[u8]) {
-        self.bytes = self.bytes.saturating_add(piece.len() as u64);
-        self.count_records(piece);
+    /// Counts what was read, and shows the line where the last one has stayed long enough.
+    fn count(&mut self, count: usize) {
+        self.bytes = self.bytes.saturating_add(count as u64);
         if self.line.is_due() {
             self.show();
         }
     }
 
-    /// Counts the records that a piece completes. A record takes at least one byte of it.
-    fn count_records(&mut self, piece: &[u8]) {
-        let mut rest = piece;
-        for _ in 0..piece.len() {
-            let Ok(taken) = self.joiner.feed(rest) else {
-                return;
-            };
-            if self.joiner.record().is_none() {
-                return;
-            }
-            self.joiner.next();
-            self.records = self.records.saturating_add(1);
-            rest = rest.get(taken..).unwrap_or(&[]);
-        }
-    }
-
     fn show(&mut self) {
-        let (bytes, records) = (self.bytes, self.records);
-        let _ = write!(
-            self.line.rt.stderr(),
-            "{CLEAR_LINE}{bytes} bytes, {records} records"
-        );
+        let bytes = self.bytes;
+        let _ = match self.size {
+            Some(size) => write!(self.line.rt.stderr(), "{CLEAR_LINE}{bytes} of {size} bytes"),
+            None => write!(self.line.rt.stderr(), "{CLEAR_LINE}{bytes} bytes"),
+        };
         self.line.mark_shown();
+    }
+}
+
+/// The bytes of a file, where it has a fixed size.
+fn size_of(file: &File) -> Option<u64> {
+    let metadata = file.metadata().ok()?;
+    if metadata.is_file() {
+        Some(metadata.len())
+    } else {
+        None
     }
 }
 
@@ -110,20 +102,20 @@ pub(crate) struct WatchedReader<'a, R: Read + Drop> {
     progress: Option<Progress<'a>>,
 }
 
-impl<'a, R: Read + Drop> WatchedReader<'a, R> {
-    /// A reader of a dump, whose progress is shown where that is asked for.
-    pub(crate) fn new(
+impl<'a> WatchedReader<'a, File> {
+    /// Opens the file of a dump, whose progress is shown where that is asked for.
+    pub(crate) fn open(
         rt: &'a HostRuntime,
-        inner: R,
-        layout: Layout,
+        file: &str,
         is_shown: bool,
-    ) -> WatchedReader<'a, R> {
+    ) -> io::Result<WatchedReader<'a, File>> {
+        let inner = fs::open(rt, file)?;
         let progress = if is_shown {
-            Progress::started(rt, layout)
+            Progress::started(rt, size_of(&inner))
         } else {
             None
         };
-        WatchedReader { inner, progress }
+        Ok(WatchedReader { inner, progress })
     }
 
     /// It is read no further.
@@ -139,7 +131,7 @@ impl<R: Read + Drop> Read for WatchedReader<'_, R> {
         let answer = self.inner.read(buffer);
         if let Some(progress) = &mut self.progress {
             match &answer {
-                Ok(count) if *count > 0 => progress.count(buffer.get(..*count).unwrap_or(&[])),
+                Ok(count) if *count > 0 => progress.count(*count),
                 _ => progress.line.clear(),
             }
         }

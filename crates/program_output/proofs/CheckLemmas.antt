@@ -21,6 +21,7 @@ use Rattle.book_import.proofs.ReachLemmas.{ends_late, ends_early, nothing_furthe
 use Rattle.book_import.proofs.ReachLemmas.{piece_needed}
 use Rattle.book_reports.specs.declared.fault.ReportFault.{ReportFault}
 use Rattle.program_output.specs.declared.listing.Listing.{Listing}
+use Rattle.program_output.specs.Readings.{reading}
 use Rattle.program_output.specs.Checks.{IsCheck, AreWritten}
 use Rattle.book_reports.specs.CheckLists.{record_lines, last_line, check_list_text}
 use Rattle.program_output.specs.Listings.{HasListed, WritesSome, ListsPiece, Breaks, waiting}
@@ -77,7 +78,7 @@ written_before layout input bytes piece joiner began held had gets lists waits g
 module _ {layout : Layout} {cut : Option Stop} {allowed : ℕ} {input : Input} where
   -- without memory nothing is read or written
   pub no_check : (held : Option (List ℕ)) (fault : ReportFault) → input.new ≡ input.old
-      → IsCheck layout cut allowed input held held (Err fault)
+      → IsCheck (reading layout cut allowed input) held held (Err fault)
   no_check held fault same = record {
     bytes = [];
     taken = subst (λ (one : ReaderSeen). Consumes input.old.left one.left []) (sym same)
@@ -99,7 +100,7 @@ module _ {layout : Layout} {cut : Option Stop} {allowed : ℕ} {input : Input} w
       → Consumes input.old.left input.new.left bytes
       → EndsBy allowed (is_early_stop (front layout bytes) stop) input
       → IsNoFurther layout bytes (AreWritten held has) input
-      → IsCheck layout cut allowed input held has answer
+      → IsCheck (reading layout cut allowed input) held has answer
   is_check bytes began held had has stop answer listed same written told taken ends no_further =
       record {
         bytes = bytes;
@@ -126,7 +127,7 @@ module _ {layout : Layout} {cut : Option Stop} {allowed : ℕ} {input : Input} w
       → input.new.reads ≤ input.old.reads + length bytes + 1
       → (input.new.has_failed ≡ false → input.new.has_ended ≡ false
       → input.new.reads ≡ input.old.reads + allowed)
-      → IsCheck layout cut allowed input held has answer
+      → IsCheck (reading layout cut allowed input) held has answer
   check_ended bytes joiner began held had has stop answer lists waits stopped other written told
       taken reads out =
       is_check bytes began held had has stop answer lists.done (stop_is lists cut stopped)
@@ -151,7 +152,7 @@ module _ {layout : Layout} {cut : Option Stop} {allowed : ℕ} {input : Input} w
         → ListsPiece joiner piece began now had has (Ok (Some fault))
         → WritesPrefix (waiting now ++ last_line (listed_count now) (Frame fault)) has gets answer
         → IfOk answer (λ told. told ≡ Frame fault)
-        → IsCheck layout cut allowed input held gets answer
+        → IsCheck (reading layout cut allowed input) held gets answer
     check_broken gets fault answer breaks over written told =
         let all = bytes ++ piece in
         let is = ap (λ b. front layout b) (sym (append-nil all))
@@ -168,7 +169,7 @@ module _ {layout : Layout} {cut : Option Stop} {allowed : ℕ} {input : Input} w
 
     -- a line was not written, or there was no memory for it
     pub check_cut : (fault : ReportFault) → ListsPiece joiner piece began now had has (Err fault)
-        → IsCheck layout cut allowed input held has (Err fault)
+        → IsCheck (reading layout cut allowed input) held has (Err fault)
     check_cut fault some =
         let all = bytes ++ piece in
         let found = front layout all in

@@ -49,19 +49,18 @@ all_handled naming stop records before told events
 
 -- the law of it
 pub same_records_same_texts : SameRecordsSameTexts
-same_records_same_texts terms layout other_layout cut other_cut bytes others told other_told events
-    other_events one two same =
-    let dump = front layout bytes in
-    let other_dump = front other_layout others in
-    let stop = stop_after cut dump in
-    let other_stop = stop_after other_cut other_dump in
-    let first = all_handled sha256 stop dump.records (flat_book terms) told events one.booked
+same_records_same_texts terms dump other told other_told events other_events one two same =
+    let found = front dump.layout dump.bytes in
+    let other_found = front other.layout other.bytes in
+    let stop = stop_after dump.cut found in
+    let other_stop = stop_after other.cut other_found in
+    let first = all_handled sha256 stop found.records (flat_book terms) told events one.booked
     one.unrefused in
-    let second = all_handled sha256 other_stop other_dump.records (flat_book terms) other_told
+    let second = all_handled sha256 other_stop other_found.records (flat_book terms) other_told
     other_events two.booked two.unrefused in
     let of_books : Receipt → Bool = λ one. is_stop_of_books one.stop in
     let between =
-    one_import_each sha256 (flat_book terms) stop other_stop dump.records other_dump.records same
+    one_import_each sha256 (flat_book terms) stop other_stop found.records other_found.records same
     (ap of_books first.receipt ∙ one.unrefused) (ap of_books second.receipt ∙ two.unrefused) in
     let left : List Event → Book = λ events. after_all events (flat_book terms) in
     let books : trial_book terms events ≡ trial_book terms other_events =

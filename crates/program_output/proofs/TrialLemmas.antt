@@ -26,6 +26,7 @@ use Rattle.book_reports.specs.ReceiptLines.{receipt_line_text}
 use Rattle.book_reports.specs.BookTexts.{dispute_text, open_statement}
 use Rattle.book_reports.specs.Writing.{WritesTexts}
 use Rattle.book_reports.proofs.WritingLemmas.{nothing_written, others_written}
+use Rattle.program_output.specs.Readings.{reading}
 use Rattle.program_output.specs.Trials.{IsTrial, trial_texts}
 
 -- what the import made of new books under a tariff
@@ -80,7 +81,7 @@ module _ {terms : Terms} {layout : Layout} {cut : Option Stop} {allowed : ℕ} {
       → IsBooked terms layout cut bytes told book
       → WritesTexts (trial_texts told book) held holds answer
       → IfOk answer (λ receipt. receipt ≡ told)
-      → IsTrial terms layout cut allowed input held holds answer
+      → IsTrial terms (reading layout cut allowed input) held holds answer
   is_trial {held = held} {holds = holds} {answer = answer} told bytes read is written receipt =
       record {
         bytes = bytes;
@@ -95,7 +96,7 @@ module _ {terms : Terms} {layout : Layout} {cut : Option Stop} {allowed : ℕ} {
   -- without memory for new books nothing is read or written
   pub no_trial : (held : Option (List ℕ)) (fault : ReportFault) → fault ≢ Write
       → input.new ≡ input.old → input.new.has_failed ≡ false → input.new.has_ended ≡ false
-      → IsTrial terms layout cut allowed input held held (Err fault)
+      → IsTrial terms (reading layout cut allowed input) held held (Err fault)
   no_trial held fault other same failed ended =
       let told : Receipt = receipt_stopped (Ledger Memory) in
       let others = open_statement (flat_book terms) ∷ dispute_text (flat_book terms) ∷ [] in

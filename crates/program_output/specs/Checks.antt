@@ -1,31 +1,37 @@
 -- A check: what every record of a dump is, and why the list ends.
 use Rattle.std.specs.Prelude.{◌≡◌, ℕ, List, ◌++◌, Option, Result, IfOk}
 use Rattle.std.specs.Io.KnownBytes.{Consumes, Appends}
-use Rattle.smf_frames.specs.declared.dump.Layout.{Layout}
-use Rattle.streams.specs.InputOutput.{Input}
-use Rattle.book_model.specs.Words.{front}
+use Rattle.book_model.specs.Words.{Front, front}
 use Rattle.book_import.specs.declared.receipt.Stop.{Stop}
 use Rattle.book_import.specs.Dumps.{stop_after}
 use Rattle.book_import.specs.Reach.{is_early_stop, EndsBy, IsNoFurther}
 use Rattle.book_reports.specs.declared.fault.ReportFault.{ReportFault}
 use Rattle.book_reports.specs.CheckLists.{record_lines, check_list_text}
 use Rattle.book_reports.specs.Writing.{WritesPrefix}
+use Rattle.program_output.specs.Readings.{Reading}
 
 -- the lines of these records were written, and perhaps more after them
 abbrev pub AreWritten : Option (List ℕ) → Option (List ℕ) → List (List ℕ) → Type 0
 AreWritten held holds records =
     (more : List ℕ) × Appends held holds (record_lines 1 records ++ more)
 
+-- what stands in these bytes, and what stops their reading
+abbrev pub found_in : Reading → List ℕ → Front
+found_in reading bytes = front reading.layout bytes
+
+abbrev pub stop_of : Reading → List ℕ → Stop
+stop_of reading bytes = stop_after reading.cut (found_in reading bytes)
+
 -- A check took these bytes from the reader, whose reading may have been cut short, and wrote the
 -- list of their records and its stop, or a prefix of it before a fault. It read no further than it
 -- needed: the lines of the records that were whole before the last read were all written.
-pub record IsCheck (layout : Layout) (cut : Option Stop) (allowed : ℕ) (input : Input)
-    (held holds : Option (List ℕ)) (answer : Result Stop ReportFault) : Type 0 where
+pub record IsCheck (reading : Reading) (held holds : Option (List ℕ))
+    (answer : Result Stop ReportFault) : Type 0 where
   pub bytes : List ℕ
-  pub taken : Consumes input.old.left input.new.left bytes
+  pub taken : Consumes reading.input.old.left reading.input.new.left bytes
   pub written : WritesPrefix
-      (check_list_text (front layout bytes).records (stop_after cut (front layout bytes)))
-      held holds answer
-  pub stop : IfOk answer (λ stop. stop ≡ stop_after cut (front layout bytes))
-  pub ends : IfOk answer (λ stop. EndsBy allowed (is_early_stop (front layout bytes) stop) input)
-  pub no_further : IsNoFurther layout bytes (AreWritten held holds) input
+      (check_list_text (found_in reading bytes).records (stop_of reading bytes)) held holds answer
+  pub stop : IfOk answer (λ stop. stop ≡ stop_of reading bytes)
+  pub ends : IfOk answer (λ stop.
+      EndsBy reading.allowed (is_early_stop (found_in reading bytes) stop) reading.input)
+  pub no_further : IsNoFurther reading.layout bytes (AreWritten held holds) reading.input

@@ -1,5 +1,6 @@
--- What a number means: the number, the meaning and the advice of a fault.
-use Rattle.std.specs.Prelude.{◌≡◌, ◌≢◌, ℕ, List, Option, Some, None}
+-- What a number means: the texts of the fault that has it.
+use Rattle.std.specs.Prelude.{◌≡◌, ◌≢◌, ℕ, ◌-◌, ◌==◌, List, slice_get, Option, Some, None}
+use Rattle.std.specs.Prelude.{if◌then◌else◌}
 use Rattle.smf_frames.specs.Faults.{frame_number}
 use Rattle.smf_type30.specs.Damage.{damage_number}
 use Rattle.tariff_rules.specs.Faults.{tariff_number}
@@ -8,54 +9,46 @@ use Rattle.program_output.specs.declared.explanations.FaultKind.{FaultKind}
 use Rattle.program_output.specs.declared.explanations.FaultKind.TheVariants.{Frame, Ledger, Tariff}
 use Rattle.program_output.specs.declared.explanations.FaultKind.TheVariants.{Damage}
 use Rattle.program_output.specs.declared.explanations.Explanation.{Explanation}
-use Rattle.program_output.specs.Meanings.{frame_meaning, frame_advice, ledger_meaning}
-use Rattle.program_output.specs.Meanings.{ledger_advice, tariff_meaning, tariff_advice}
-use Rattle.program_output.specs.Meanings.{damage_meaning, not_charged}
+use Rattle.program_output.specs.Meanings.{Texts, frame_texts, ledger_texts, tariff_texts}
+use Rattle.program_output.specs.Meanings.{damage_texts}
+
+-- the texts of a number, where a list has those of 1, 2, 3 and so on
+abbrev pub texts_of : ℕ → List Texts → Option Texts
+texts_of number texts = if number == 0 then None else slice_get texts (number - 1)
 
 -- the fault that has a number; there is none where no fault has it
 abbrev pub HasFaultNumber : {F : Type 0} → (F → ℕ) → ℕ → Option F → Type 0
 HasFaultNumber number_of number (Some fault) = number_of fault ≡ number
 HasFaultNumber number_of number None = (fault : _) → number_of fault ≢ number
 
--- a text says what the fault with a number means, and what to do about it
-pub record IsExplanation {F : Type 0} (number_of : F → ℕ) (meaning_of advice_of : F → List ℕ)
-    (number : ℕ) (told : Explanation) : Type 0 where
+-- some fault has the number, and its texts are told
+pub record IsExplanation {F : Type 0} (number_of : F → ℕ) (texts : List Texts) (number : ℕ)
+    (told : Explanation) : Type 0 where
   pub fault : F
   pub numbered : number_of fault ≡ number
-  pub meaning : told.meaning.now ≡ meaning_of fault
-  pub advice : told.advice.now ≡ advice_of fault
+  pub told_are : texts_of number texts ≡ Some (told.meaning.now, told.advice.now)
 
 -- a number is explained exactly where some fault has it
-abbrev pub ExplainsBy : {F : Type 0} → (F → ℕ) → (F → List ℕ) → (F → List ℕ) → ℕ
-    → Option Explanation → Type 0
-ExplainsBy number_of meaning_of advice_of number (Some told) =
-    IsExplanation number_of meaning_of advice_of number told
-ExplainsBy number_of meaning_of advice_of number None = (fault : _) → number_of fault ≢ number
+abbrev pub ExplainsBy : {F : Type 0} → (F → ℕ) → List Texts → ℕ → Option Explanation → Type 0
+ExplainsBy number_of texts number (Some told) = IsExplanation number_of texts number told
+ExplainsBy number_of texts number None = (fault : _) → number_of fault ≢ number
 
 abbrev pub Explains : FaultKind → ℕ → Option Explanation → Type 0
-Explains Frame = ExplainsBy frame_number frame_meaning frame_advice
-Explains Ledger = ExplainsBy ledger_number ledger_meaning ledger_advice
-Explains Tariff = ExplainsBy tariff_number tariff_meaning tariff_advice
-Explains Damage = ExplainsBy damage_number damage_meaning (λ damage. not_charged)
+Explains Frame = ExplainsBy frame_number frame_texts
+Explains Ledger = ExplainsBy ledger_number ledger_texts
+Explains Tariff = ExplainsBy tariff_number tariff_texts
+Explains Damage = ExplainsBy damage_number damage_texts
 
--- two faults with the same number have the same meaning and the same advice
-abbrev pub NumbersFixMeanings : {F : Type 0} → (F → ℕ) → (F → List ℕ) → (F → List ℕ) → Type 0
-NumbersFixMeanings {F} number_of meaning_of advice_of = (fault other : F)
-    → number_of fault ≡ number_of other
-    → (meaning_of fault ≡ meaning_of other) × (advice_of fault ≡ advice_of other)
-
--- two faults with the same meaning have the same number
-abbrev pub MeaningsFixNumbers : {F : Type 0} → (F → ℕ) → (F → List ℕ) → Type 0
-MeaningsFixNumbers {F} number_of meaning_of = (fault other : F)
-    → meaning_of fault ≡ meaning_of other → number_of fault ≡ number_of other
+-- two numbers with the same meaning are the same
+abbrev pub MeaningsFixNumbers : List Texts → Type 0
+MeaningsFixNumbers texts = (number other : ℕ) (meaning advice other_advice : List ℕ)
+    → texts_of number texts ≡ Some (meaning, advice)
+    → texts_of other texts ≡ Some (meaning, other_advice)
+    → number ≡ other
 
 -- Numbers and meanings are one to one, in each kind.
 pub record NumbersAreOneToOne : Type 0 where
-  pub of_frames : NumbersFixMeanings frame_number frame_meaning frame_advice
-  pub by_frames : MeaningsFixNumbers frame_number frame_meaning
-  pub of_ledgers : NumbersFixMeanings ledger_number ledger_meaning ledger_advice
-  pub by_ledgers : MeaningsFixNumbers ledger_number ledger_meaning
-  pub of_tariffs : NumbersFixMeanings tariff_number tariff_meaning tariff_advice
-  pub by_tariffs : MeaningsFixNumbers tariff_number tariff_meaning
-  pub of_damages : NumbersFixMeanings damage_number damage_meaning (λ damage. not_charged)
-  pub by_damages : MeaningsFixNumbers damage_number damage_meaning
+  pub frames : MeaningsFixNumbers frame_texts
+  pub ledgers : MeaningsFixNumbers ledger_texts
+  pub tariffs : MeaningsFixNumbers tariff_texts
+  pub damages : MeaningsFixNumbers damage_texts

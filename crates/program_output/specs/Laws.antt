@@ -10,15 +10,22 @@ use Rattle.book_import.specs.Imports.{Imports}
 use Rattle.book_import.specs.Receipts.{is_stop_of_books}
 use Rattle.book_reports.specs.BookTexts.{dispute_text, open_statement}
 
--- the records of a dump, each once
-abbrev pub distinct_records : Layout → List ℕ → Records
-distinct_records layout bytes = set_of by_bytes (front layout bytes).records
+-- the bytes that a trial took, and what cut their reading short, if anything did
+pub record TakenDump : Type 0 where
+  pub layout : Layout
+  pub cut : Option Stop
+  pub bytes : List ℕ
 
--- A trial's import of these bytes, whose reading may have been cut short, answered this receipt and
--- made these events, and no record was refused.
-pub record IsWholeImport (terms : Terms) (layout : Layout) (cut : Option Stop) (bytes : List ℕ)
-    (told : Receipt) (events : List Event) : Type 0 where
-  pub booked : Imports sha256 layout cut bytes told false (flat_book terms) events false
+-- the records of a dump, each once
+abbrev pub distinct_records : TakenDump → Records
+distinct_records dump = set_of by_bytes (front dump.layout dump.bytes).records
+
+-- A trial's import of a dump answered this receipt and made these events, and no record was
+-- refused.
+pub record IsWholeImport (terms : Terms) (dump : TakenDump) (told : Receipt) (events : List Event)
+    : Type 0 where
+  pub booked :
+      Imports sha256 dump.layout dump.cut dump.bytes told false (flat_book terms) events false
   pub unrefused : is_stop_of_books told.stop ≡ false
 
 -- the book that a trial's import leaves
@@ -30,10 +37,9 @@ trial_book terms events = after_all events (flat_book terms)
 -- difference, nor how often they come.
 abbrev pub SameRecordsSameTexts : Type 0
 SameRecordsSameTexts =
-    (terms : Terms) (layout other_layout : Layout) (cut other_cut : Option Stop)
-    (bytes others : List ℕ) (told other_told : Receipt) (events other_events : List Event)
-    → IsWholeImport terms layout cut bytes told events
-    → IsWholeImport terms other_layout other_cut others other_told other_events
-    → distinct_records layout bytes ≡ distinct_records other_layout others
+    (terms : Terms) (dump other : TakenDump) (told other_told : Receipt)
+    (events other_events : List Event)
+    → IsWholeImport terms dump told events → IsWholeImport terms other other_told other_events
+    → distinct_records dump ≡ distinct_records other
     → (open_statement (trial_book terms events) ≡ open_statement (trial_book terms other_events))
     × (dispute_text (trial_book terms events) ≡ dispute_text (trial_book terms other_events))

@@ -1,5 +1,6 @@
--- Read in this order: what a trial and a check are, the exit statuses, the name that a word spells,
+-- Read in this order: how a dump is read, what a trial and a check are, the exit statuses, the name that a word spells,
 -- what each number means, and the laws that follow.
+pub mod Readings
 pub mod Trials
 pub mod Checks
 pub mod Listings

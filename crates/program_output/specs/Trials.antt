@@ -2,17 +2,15 @@
 -- it.
 use Rattle.std.specs.Prelude.{◌≡◌, ℕ, false, List, [], ◌∷◌, Option, Result, IfOk}
 use Rattle.sha2.specs.Sha256.{sha256}
-use Rattle.smf_frames.specs.declared.dump.Layout.{Layout}
-use Rattle.streams.specs.InputOutput.{Input}
 use Rattle.book_model.specs.Words.{Terms, Book, flat_book, Event, after_all}
 use Rattle.book_import.specs.declared.receipt.Receipt.{Receipt}
-use Rattle.book_import.specs.declared.receipt.Stop.{Stop}
 use Rattle.book_import.specs.Reach.{IsReadFor}
 use Rattle.book_import.specs.Imports.{Imports}
 use Rattle.book_reports.specs.declared.fault.ReportFault.{ReportFault}
 use Rattle.book_reports.specs.ReceiptLines.{receipt_line_text}
 use Rattle.book_reports.specs.BookTexts.{dispute_text, open_statement}
 use Rattle.book_reports.specs.Writing.{WritesTexts}
+use Rattle.program_output.specs.Readings.{Reading}
 
 -- the receipt line, the statement and the disputes
 abbrev pub trial_texts : Receipt → Book → List (List ℕ)
@@ -23,13 +21,13 @@ trial_texts receipt book =
 -- answered this receipt and made these events; and it wrote the texts about that, or those before a
 -- fault. What the reader had and has left, and what the writer held and holds, is seen where these
 -- are known.
-pub record IsTrial (terms : Terms) (layout : Layout) (cut : Option Stop) (allowed : ℕ)
-    (input : Input) (held holds : Option (List ℕ)) (answer : Result Receipt ReportFault)
-    : Type 0 where
+pub record IsTrial (terms : Terms) (reading : Reading) (held holds : Option (List ℕ))
+    (answer : Result Receipt ReportFault) : Type 0 where
   pub bytes : List ℕ
   pub told : Receipt
   pub events : List Event
-  pub read : IsReadFor layout allowed bytes told input
-  pub booked : Imports sha256 layout cut bytes told false (flat_book terms) events false
+  pub read : IsReadFor reading.layout reading.allowed bytes told reading.input
+  pub booked :
+      Imports sha256 reading.layout reading.cut bytes told false (flat_book terms) events false
   pub written : WritesTexts (trial_texts told (after_all events (flat_book terms))) held holds answer
   pub receipt : IfOk answer (λ receipt. receipt ≡ told)

@@ -13,6 +13,7 @@ ghost use Rattle.book_import.specs.Receipts.{is_stop_of_books};
 ghost use Rattle.program_output.specs.Checks.{IsCheck};
 ghost use Rattle.program_output.specs.Listings.{waiting, listed_count, HasRoom, ListsPiece};
 ghost use Rattle.program_output.specs.Listings.{TakesOrBreaks};
+ghost use Rattle.program_output.specs.Readings.{reading};
 ghost use Rattle.book_reports.specs.Writing.{is_write_fault, is_write_or_memory};
 
 use crate::listing::Listing;
@@ -108,8 +109,8 @@ pub fn check_list<R: Read + Drop, W: Write + Drop>(
     requires unwritten { has_failed sink.old ≡ false }
 
     // What was read, how far the reading went, and what was written.
-    ensures check { IsCheck layout (cut_of source.new) reads
-        (input R.remaining source.old source.new)
+    ensures check { IsCheck
+        (reading layout (cut_of source.new) reads (input R.remaining source.old source.new))
         (W.contents (writer_of sink.old)) (W.contents (writer_of sink.new)) result }
 
     // Where the source has ended, no bytes are left of a reader whose bytes are known.

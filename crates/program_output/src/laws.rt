@@ -11,8 +11,7 @@ pub fn same_records_same_texts()
     ensures { SameRecordsSameTexts }
 {}
 
-/// In each kind, two faults have the same number exactly where they have the same meaning; and one
-/// advice is given for it.
+/// In each kind, no two numbers have the same meaning.
 pub fn numbers_are_one_to_one()
     ensures { NumbersAreOneToOne }
 {}

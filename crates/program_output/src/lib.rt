@@ -3,13 +3,16 @@
 #![tactic(auto)]
 
 mod check;
+mod damages;
 mod explanations;
+mod frame_faults;
 mod laws;
+mod ledger_faults;
 mod listing;
-mod meanings;
 mod message;
 mod names;
 mod status;
+mod tariff_faults;
 mod trials;
 
 pub use check::check_list;

@@ -5,6 +5,7 @@ ghost use Rattle.streams.specs.InputOutput.{input};
 ghost use Rattle.streams.specs.Sources as sources;
 ghost use Rattle.book_import.specs.ReadLimits.{cut_of, most_reads};
 ghost use Rattle.book_reports.specs.Writing.{is_write_fault, is_write_or_memory};
+ghost use Rattle.program_output.specs.Readings.{reading};
 ghost use Rattle.program_output.specs.Trials.{IsTrial};
 
 use book_core::{PlainLedger, ShaNames, Sink, Source};
@@ -33,8 +34,8 @@ pub fn trial<R: Read + Drop, W: Write + Drop>(
     requires unwritten { has_failed sink.old ≡ false }
 
     // What was read, how far the reading went, what was booked, and what was written.
-    ensures trial { IsTrial tariff layout (cut_of source.new) reads
-        (input R.remaining source.old source.new)
+    ensures trial { IsTrial tariff
+        (reading layout (cut_of source.new) reads (input R.remaining source.old source.new))
         (W.contents (writer_of sink.old)) (W.contents (writer_of sink.new)) result }
 
     // Where the source has ended, no bytes are left of a reader whose bytes are known.

@@ -1,10 +1,9 @@
 -- Rows of fields that need no quotes are these fields with commas between them; and such fields.
 use Rattle.std.proofs.Common.{◌≡◌, ℕ, ◌+◌, ◌-◌, ◌/◌, ◌%◌, ◌<◌, ◌^◌, false, true}
-use Rattle.std.proofs.Common.{List, [], ◌∷◌, ◌++◌, Option, Some, None, refl, sym, ap, ◌∙◌, arith}
+use Rattle.std.proofs.Common.{List, [], ◌∷◌, ◌++◌, refl, arith}
 use Rattle.std.proofs.Common.{decimal, ℤ, suc, zero, length}
 use Rattle.std.specs.Prelude.{codes, replicate}
 use Rattle.std.specs.List.{flat_map, list_any, list_all}
-use Rattle.std.specs.Io.KnownBytes.{Appends}
 use Rattle.std.proofs.lemmas.Bool.{and_parts, ne_eqb}
 use Rattle.std.proofs.lemmas.Bool.Decides.{nat_tests}
 use Rattle.std.proofs.lemmas.Fmt.{decimal_by_steps}
@@ -139,12 +138,3 @@ pub plain_row : (first second : List ℕ) (others : List (List ℕ))
 unfolding is_blank
 plain_row first second others plain =
     rw (plain_field first plain.0, plain_fields (second ∷ others) plain.1) refl
-
--- what was written grows
-pub grown : (old new : Option (List ℕ)) (bytes more : List ℕ) → old ≡ Some bytes
-    → Appends old new more → new ≡ Some (bytes ++ more)
-grown None new bytes more is grows = let no : Some bytes ≡ None = sym is in cc no
-grown (Some held) None bytes more is grows = absurd grows
-grown (Some held) (Some holds) bytes more is grows =
-    let same : held ≡ bytes = cc is in
-    ap (λ all. Some all) (grows ∙ ap (λ all. all ++ more) same)

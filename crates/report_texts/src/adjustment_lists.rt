@@ -7,7 +7,7 @@ ghost use Rattle.report_texts.specs.AdjustmentLists as spec;
 
 use crate::columns::{amount_text, push_left_aligned, push_right_aligned};
 use crate::parts::{push_name, push_shown};
-use crate::periods::push_title;
+use crate::periods::title_text;
 use crate::statements::push_key;
 use book_model::Line;
 use smf_text::day_text;
@@ -49,7 +49,6 @@ fn push_action(
         ≡ string_bytes out.old ++ spec.action_columns word.now day.now centre.now shift.now) }
 {
     push_left_aligned(out, 5, word)?;
-    out.push(' ')?;
     push_key(out, day, centre, shift)
 }
 
@@ -113,6 +112,7 @@ fn push_line(alloc: Global, out: &mut String, line: &Line) -> Result<(), AllocEr
 }
 
 /// Appends the lines of records.
+#[tactic(auto, using(std::proofs::lemmas::List::flat_map_more))]
 fn push_lines(alloc: Global, out: &mut String, lines: &[Line]) -> Result<(), AllocError>
     requires { AreLines lines.now }
     ensures { OnOk result (string_bytes out.new
@@ -125,6 +125,7 @@ fn push_lines(alloc: Global, out: &mut String, lines: &[Line]) -> Result<(), All
 }
 
 /// What lines charge, and what they reverse.
+#[tactic(auto, using(std::proofs::lemmas::List::Sums::sum_by_more_le, crate::proofs::AmountLemmas::charged_within, crate::proofs::AmountLemmas::reversed_within))]
 fn sums(lines: &[Line]) -> (u64, u64)
     requires { AreLines lines.now }
     ensures { result ≡ (sum_by spec.charged_amount lines.now, sum_by spec.reversed_amount lines.now) }
@@ -163,8 +164,7 @@ pub fn adjustment_list_text(
     ensures { IfOk result (λ text.
         string_bytes text ≡ spec.adjustment_list_text period through lines.now) }
 {
-    let mut out = String::new(alloc);
-    push_title(alloc, &mut out, "ADJUSTMENTS", period, through)?;
+    let mut out = title_text(alloc, "ADJUSTMENTS", period, through)?;
     push_lines(alloc, &mut out, lines)?;
     push_sum(alloc, &mut out, lines)?;
     Ok(out)

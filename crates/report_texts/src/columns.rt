@@ -1,6 +1,6 @@
 //! Texts in columns, and numbers with decimal places.
 
-ghost use Rattle.std.specs.Prelude.{◌≡◌, ◌++◌, IfOk, OnOk, string_bytes};
+ghost use Rattle.std.specs.Prelude.{◌≡◌, ◌++◌, IfOk, OnOk, codes, string_bytes};
 ghost use Rattle.std.specs.Fmt.{decimal};
 ghost use Rattle.report_texts.specs.Columns as spec;
 
@@ -16,17 +16,19 @@ fn push_blanks(out: &mut String, count: usize) -> Result<(), AllocError>
     Ok(())
 }
 
-/// Appends a text at the left of a column. A text that is wider than the column is kept whole.
+/// Appends a text at the left of a column, and the blank after the column. A text that is wider than
+/// the column is kept whole.
 pub(crate) fn push_left_aligned(
     out: &mut String,
     width: usize,
     text: &str,
 ) -> Result<(), AllocError>
     ensures { OnOk result (string_bytes out.new
-        ≡ string_bytes out.old ++ spec.left_aligned width text.now) }
+        ≡ string_bytes out.old ++ spec.left_aligned width text.now ++ codes " ") }
 {
     out.push_str(text)?;
-    push_blanks(out, width.saturating_sub(text.len()))
+    push_blanks(out, width.saturating_sub(text.len()))?;
+    out.push(' ')
 }
 
 /// Appends a text at the right of a column. A text that is wider than the column is kept whole.
@@ -50,6 +52,7 @@ pub fn push_number(out: &mut String, number: u64) -> Result<(), AllocError>
 }
 
 /// Hundredths of a second, in seconds.
+#[tactic(auto, using(crate::proofs::ColumnLemmas::places_written), unfolding(crate::specs::Columns::seconds_text))]
 pub(crate) fn seconds_text(alloc: Global, hundredths: u64) -> Result<String, AllocError>
     ensures { IfOk result (λ text. string_bytes text ≡ spec.seconds_text hundredths) }
 {
@@ -59,6 +62,7 @@ pub(crate) fn seconds_text(alloc: Global, hundredths: u64) -> Result<String, All
 }
 
 /// Ten-thousandths of the money unit, in units.
+#[tactic(auto, using(crate::proofs::ColumnLemmas::places_written), unfolding(crate::specs::Columns::amount_text))]
 pub(crate) fn amount_text(alloc: Global, amount: u64) -> Result<String, AllocError>
     ensures { IfOk result (λ text. string_bytes text ≡ spec.amount_text amount) }
 {

@@ -36,38 +36,23 @@ fn push_job(alloc: Global, out: &mut String, identity: &[u8]) -> Result<(), Allo
     push_shown(alloc, out, part(identity, 4, 8))
 }
 
-/// Appends a word, then a time and a date.
+/// Appends a word, then the time and the date that stand at an offset of an identity.
 #[tactic(auto, unfolding(crate::specs::DisputeLists::moment_text))]
 fn push_moment(
     alloc: Global,
     out: &mut String,
     word: &str,
-    time: &[u8],
-    date: &[u8],
+    identity: &[u8],
+    at: usize,
 ) -> Result<(), AllocError>
-    ensures { OnOk result (string_bytes out.new
-        ≡ string_bytes out.old ++ spec.moment_text word.now time.now date.now) }
+    requires { at + 8 ≤ length identity.now }
+    ensures { OnOk result (string_bytes out.new ≡ string_bytes out.old ++ spec.moment_text
+        word.now (numbers.part identity.now at 4) (numbers.part identity.now (at + 4) 4)) }
 {
     out.push_str(word)?;
-    push_hex(alloc, out, time)?;
+    push_hex(alloc, out, part(identity, at, 4))?;
     out.push(' ')?;
-    push_hex(alloc, out, date)
-}
-
-/// Appends the reader's time and date of an identity.
-#[tactic(auto, unfolding(crate::specs::DisputeLists::reader_text))]
-fn push_reader(alloc: Global, out: &mut String, identity: &[u8]) -> Result<(), AllocError>
-    requires { identity_length ≤ length identity.now }
-    ensures { OnOk result (string_bytes out.new
-        ≡ string_bytes out.old ++ spec.reader_text identity.now) }
-{
-    push_moment(
-        alloc,
-        out,
-        " READER ",
-        part(identity, 12, 4),
-        part(identity, 16, 4),
-    )
+    push_hex(alloc, out, part(identity, at + 4, 4))
 }
 
 /// Appends the subtype and the step number of an identity.
@@ -83,34 +68,18 @@ fn push_step(out: &mut String, identity: &[u8]) -> Result<(), AllocError>
     push_number(out, u64::from(BigEndian::read_u16(&identity[22..])))
 }
 
-/// Appends the initiation's time and date of an identity that has them.
-#[tactic(auto, unfolding(crate::specs::DisputeLists::start_text))]
-fn push_start(alloc: Global, out: &mut String, identity: &[u8]) -> Result<(), AllocError>
-    requires { identity2_length ≤ length identity.now }
-    ensures { OnOk result (string_bytes out.new
-        ≡ string_bytes out.old ++ spec.start_text identity.now) }
-{
-    push_moment(
-        alloc,
-        out,
-        " START ",
-        part(identity, 24, 4),
-        part(identity, 28, 4),
-    )
-}
-
 /// Appends the line of an identity.
-#[tactic(auto, unfolding(crate::specs::DisputeLists::identity_line))]
+#[tactic(auto, unfolding(crate::specs::DisputeLists::identity_line, crate::specs::DisputeLists::reader_text, crate::specs::DisputeLists::start_text))]
 fn push_identity(alloc: Global, out: &mut String, identity: &[u8]) -> Result<(), AllocError>
     requires { (length identity.now ≡ identity_length) ⊎ (length identity.now ≡ identity2_length) }
     ensures { OnOk result (string_bytes out.new
         ≡ string_bytes out.old ++ spec.identity_line identity.now) }
 {
     push_job(alloc, out, identity)?;
-    push_reader(alloc, out, identity)?;
+    push_moment(alloc, out, " READER ", identity, 12)?;
     push_step(out, identity)?;
     if identity.len() == SECOND_LENGTH {
-        push_start(alloc, out, identity)?;
+        push_moment(alloc, out, " START ", identity, 24)?;
     }
     out.push('\n')
 }
@@ -177,6 +146,7 @@ fn push_member(alloc: Global, out: &mut String, member: &Variant) -> Result<(), 
 }
 
 /// Appends the lines of records.
+#[tactic(auto, using(std::proofs::lemmas::List::flat_map_more))]
 fn push_members(alloc: Global, out: &mut String, members: &[Variant]) -> Result<(), AllocError>
     requires { All (λ member. IsDay member.priced.day) members.now }
     ensures { OnOk result (string_bytes out.new
@@ -200,6 +170,7 @@ fn push_dispute(alloc: Global, out: &mut String, dispute: &Dispute) -> Result<()
 }
 
 /// Appends the lines of identities and their records.
+#[tactic(auto, using(std::proofs::lemmas::List::flat_map_more))]
 fn push_disputes(alloc: Global, out: &mut String, disputes: &[Dispute]) -> Result<(), AllocError>
     requires { AreDisputes (map dispute_shown disputes.now) }
     ensures { OnOk result (string_bytes out.new

@@ -1,6 +1,6 @@
 //! How reports name a period.
 
-ghost use Rattle.std.specs.Prelude.{◌≡◌, ◌++◌, OnOk, string_bytes};
+ghost use Rattle.std.specs.Prelude.{◌≡◌, ◌++◌, IfOk, OnOk, string_bytes};
 ghost use Rattle.std.specs.Option.{ForSome};
 ghost use Rattle.book_model.specs.Words.{IsDay};
 ghost use Rattle.report_texts.specs.Periods.{head_text, title_line};
@@ -28,23 +28,22 @@ pub(crate) fn push_head(
     }
 }
 
-/// Appends the first line of a report on a period.
+/// The first line of a report on a period, to which the others are appended.
 #[tactic(auto, unfolding(crate::specs::Periods::title_line))]
-pub(crate) fn push_title(
+pub(crate) fn title_text(
     alloc: Global,
-    out: &mut String,
     report: &str,
     period: u16,
     through: Option<i32>,
-) -> Result<(), AllocError>
+) -> Result<String, AllocError>
     requires { ForSome through IsDay }
-    ensures { OnOk result (string_bytes out.new
-        ≡ string_bytes out.old ++ title_line report.now period through) }
+    ensures { IfOk result (λ text. string_bytes text ≡ title_line report.now period through) }
 {
-    out.push_str(report)?;
+    let mut out = String::from_str(alloc, report)?;
     out.push_str(" PERIOD ")?;
-    push_number(out, u64::from(period))?;
+    push_number(&mut out, u64::from(period))?;
     out.push(' ')?;
-    push_head(alloc, out, through)?;
-    out.push('\n')
+    push_head(alloc, &mut out, through)?;
+    out.push('\n')?;
+    Ok(out)
 }

@@ -6,7 +6,7 @@ ghost use Rattle.book_model.specs.Words.{IsDay, AreRows};
 ghost use Rattle.report_texts.specs.Statements as spec;
 
 use crate::columns::{amount_text, push_left_aligned, push_right_aligned, seconds_text};
-use crate::periods::push_title;
+use crate::periods::title_text;
 use book_model::ChargeRow;
 use smf_text::day_text;
 use std::alloc::{AllocError, Global};
@@ -23,11 +23,8 @@ pub(crate) fn push_key(
         ≡ string_bytes out.old ++ spec.key_columns day.now centre.now shift.now) }
 {
     push_left_aligned(out, 10, day)?;
-    out.push(' ')?;
     push_left_aligned(out, 16, centre)?;
-    out.push(' ')?;
-    push_left_aligned(out, 16, shift)?;
-    out.push(' ')
+    push_left_aligned(out, 16, shift)
 }
 
 /// Appends the columns that say how much work it is.
@@ -94,6 +91,7 @@ fn push_row(alloc: Global, out: &mut String, row: &ChargeRow) -> Result<(), Allo
 }
 
 /// Appends the lines of rows.
+#[tactic(auto, using(std::proofs::lemmas::List::flat_map_more))]
 fn push_rows(alloc: Global, out: &mut String, rows: &[ChargeRow]) -> Result<(), AllocError>
     requires { AreRows rows.now }
     ensures { OnOk result (string_bytes out.new
@@ -106,6 +104,7 @@ fn push_rows(alloc: Global, out: &mut String, rows: &[ChargeRow]) -> Result<(), 
 }
 
 /// The sums of rows: how many records there are, their CPU time, their blocks, and what they cost.
+#[tactic(auto, using(std::proofs::lemmas::List::Sums::sum_by_more_le))]
 fn sums(rows: &[ChargeRow]) -> (u64, u64, u64, u64)
     requires { AreRows rows.now }
     ensures { result ≡ (
@@ -161,8 +160,7 @@ pub fn statement_text(
     ensures { IfOk result (λ text.
         string_bytes text ≡ spec.statement_text period through rows.now) }
 {
-    let mut out = String::new(alloc);
-    push_title(alloc, &mut out, "STATEMENT", period, through)?;
+    let mut out = title_text(alloc, "STATEMENT", period, through)?;
     push_heading(&mut out)?;
     push_rows(alloc, &mut out, rows)?;
     push_total(alloc, &mut out, rows)?;

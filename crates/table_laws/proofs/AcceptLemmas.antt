@@ -7,7 +7,7 @@ use Rattle.std.proofs.lemmas.Cmp.{nat_list_cmp_total}
 use Rattle.std.proofs.lemmas.Map.Lookups.{exact_bytes}
 use Rattle.std.proofs.lemmas.Map.Views.{tells_apart}
 use Rattle.book_model.specs.Words.{data_of, record_with, IsFramed, accept_answer, accept_priced}
-use Rattle.book_model.specs.Words.{clashes, Book, open_number, charged_of, Naming, name_of}
+use Rattle.book_model.specs.Words.{clashes, Book, charged_of, Naming, name_of}
 use Rattle.book_model.specs.Words.{same_bytes, price_in, identity_by, has}
 use Rattle.tariff_rules.specs.declared.priced.Priced.{Priced}
 use Rattle.book_model.specs.declared.answer.Accepted.{Accepted}
@@ -146,7 +146,7 @@ accept_follows = record {
   answer = λ naming book bytes whole usage. answered naming book whole bytes usage.framed;
   kept = λ naming book bytes priced whole kept price.
       kept_follows naming book bytes priced whole.sound kept price
-      ∙ ap (λ view. put_new naming book.rulings (open_number book) bytes priced
+      ∙ ap (λ view. put_new naming book.rulings bytes priced
       (effects_of view (name_of naming bytes) priced) (tables_of naming book))
       (sym (view_follows naming book bytes whole.sound));
 }

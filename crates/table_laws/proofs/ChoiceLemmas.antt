@@ -11,7 +11,6 @@ use Rattle.std.specs.List.{filter_map, last_or, list_any}
 use Rattle.std.specs.List.Sorted.{IsPermutation, IsStrictlySortedBy}
 use Rattle.std.specs.Option.{option_map, option_map_or}
 use Rattle.std.specs.Ordering.{is_eq}
-use Rattle.std.proofs.Math.Bool.{or-true}
 use Rattle.std.proofs.lemmas.Bool.Decides.{nat_tests}
 use Rattle.std.proofs.lemmas.Cmp.{nat_list_cmp_total, nat_list_eq_equiv}
 use Rattle.std.proofs.lemmas.List.Kept.{IsStrictlySortedBy-filter}
@@ -32,7 +31,8 @@ use Rattle.book_model.proofs.ChargedChanges.{do_conflict, rivalled_by, share_bac
 use Rattle.book_model.proofs.ChosenLemmas.{one_chosen}
 use Rattle.book_model.proofs.FilterMapLemmas.{find-none}
 use Rattle.book_model.proofs.ListLemmas.{filter-filter}
-use Rattle.book_model.proofs.RecordSets.{is, is_itself, first_of, second_of, has_those, in_those}
+use Rattle.book_model.proofs.RecordSets.{is, is_itself, first_of, second_of, has_those}
+use Rattle.book_model.proofs.RecordSets.{in_those, is_first, is_second}
 use Rattle.book_model.proofs.RecordSets.{passes_those}
 use Rattle.book_model.proofs.SetChanges.{is_back}
 use Rattle.book_model.proofs.SetLemmas.{fails_too, members_rise}
@@ -255,9 +255,8 @@ module _ (naming : Naming) (book : Book) (whole : IsReadable naming book) where
         let has_both = λ (q : List ℕ) (on : list_any (is q) (a ∷ b ∷ rest) ≡ true).
         first_of (both q) (has book.held q)
         (sym (among-filter both book.held q) ∙ ap (list_any (is q)) listed ∙ on) in
-        let of_a = has_both a (ap (λ t. t || list_any (is a) (b ∷ rest)) (is_itself a)) in
-        let of_b = has_both b (ap (λ t. is b a || (t || list_any (is b) rest)) (is_itself b)
-        ∙ or-true (is b a)) in
+        let of_a = has_both a (is_first a (b ∷ rest)) in
+        let of_b = has_both b (is_second a b rest) in
         let rising =
         subst (IsStrictlySortedBy by_bytes) listed
         (IsStrictlySortedBy-filter by_bytes both (members book.held)

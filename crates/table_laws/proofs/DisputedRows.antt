@@ -23,7 +23,7 @@ use Rattle.tariff_rules.specs.declared.priced.Priced.{Priced}
 use Rattle.book_model.specs.declared.dispute.Variant.{Variant}
 use Rattle.book_model.proofs.FilterMapLemmas.{map-filter_map}
 use Rattle.book_model.proofs.PermutedSets.{apart_from_distinct, given_permuted}
-use Rattle.book_model.proofs.RecordSets.{is, is_itself, second_of, has_those, in_those}
+use Rattle.book_model.proofs.RecordSets.{is, second_of, has_those, in_those, is_first}
 use Rattle.book_model.proofs.RecordSets.{same_records}
 use Rattle.book_model.proofs.SetLemmas.{members-those}
 use Rattle.table_model.specs.PeriodLists.{AreFramed}
@@ -57,7 +57,7 @@ module _ (naming : Naming) (book : Book) (sound : IsSound naming book) where
   -- the first of them
   pub first_listed : (k : List ℕ) (ks : List (List ℕ)) → AreListed (k ∷ ks)
       → has book.held k ≡ true
-  first_listed k ks held = held k (ap (λ b. b || list_any (is k) ks) (is_itself k))
+  first_listed k ks held = held k (is_first k ks)
 
   -- the others
   pub others_listed : (k : List ℕ) (ks : List (List ℕ)) → AreListed (k ∷ ks) → AreListed ks

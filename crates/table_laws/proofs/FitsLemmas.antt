@@ -25,13 +25,14 @@ use Rattle.book_model.specs.Words.{first_rule, second_rule}
 use Rattle.tariff_rules.specs.declared.priced.Priced.{Priced}
 use Rattle.book_model.specs.declared.row.ChargeRow.{ChargeRow}
 use Rattle.book_model.specs.declared.row.RowKey.{RowKey}
-use Rattle.book_model.proofs.RecordSets.{is, is_itself}
+use Rattle.book_model.proofs.RecordSets.{is, is_first}
 use Rattle.book_model.proofs.RowLemmas.{by_key_total, by_key_exact, same_key_ties}
 use Rattle.table_model.specs.PeriodRows.{numbered}
 use Rattle.table_model.specs.Tables.{ChoiceRow, RecordRow, never_adopted}
 use Rattle.table_model.specs.TablesOf.{tariff_entries, choice_entries, close_entries, day_entries}
 use Rattle.table_model.specs.TablesOf.{line_entries, tables_of}
-use Rattle.table_model.proofs.DayChanges.{row_of, days-found, found_at}
+use Rattle.book_core.proofs.KeyedRowLemmas.{row_of}
+use Rattle.table_model.proofs.DayChanges.{days-found, found_at}
 use Rattle.table_model.proofs.HeldPeriods.{one_of, all_held}
 use Rattle.table_model.proofs.LineReading.{found_row}
 use Rattle.table_model.proofs.NumberedLemmas.{by_period_total}
@@ -111,7 +112,7 @@ module _ (naming : Naming) (book : Book) (whole : IsReadable naming book) where
           (filter_map (entry naming book whole.sound) ks)
       each [] held = tt
       each (k ∷ ks) held =
-          one k (held k (ap (λ b. b || list_any (is k) ks) (is_itself k)))
+          one k (held k (is_first k ks))
           (price_in book.rulings k) refl
           (filter_map (entry naming book whole.sound) ks)
           (each ks (λ other behind.

@@ -8,7 +8,7 @@ use Rattle.std.specs.Ordering.{ordering_then}
 use Rattle.std.specs.declared.cmp.Ordering.{Ordering}
 use Rattle.std.specs.declared.cmp.Ordering.TheVariants.{Less, Equal, Greater}
 use Rattle.std.proofs.Math.Bool.{or-true}
-use Rattle.book_model.proofs.RecordSets.{is, is_itself}
+use Rattle.book_model.proofs.RecordSets.{is, is_first}
 
 module _ {X : Type 0} (P : X → Type 0) where
   -- what holds of the elements of each of two lists holds of those of both together
@@ -46,7 +46,7 @@ pub all_texts : (P : List ℕ → Type 0) (ks : List (List ℕ))
     → ((k : List ℕ) → list_any (is k) ks ≡ true → P k) → AllByRecursion P ks
 all_texts P [] each = tt
 all_texts P (k ∷ ks) each = (
-  each k (ap (λ b. b || list_any (is k) ks) (is_itself k)),
+  each k (is_first k ks),
   all_texts P ks
       (λ other among. each other (ap (λ b. is other k || b) among ∙ or-true (is other k))),
 )

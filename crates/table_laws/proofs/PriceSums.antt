@@ -13,7 +13,7 @@ use Rattle.std.proofs.lemmas.Map.Lookups.{exact_bytes}
 use Rattle.book_model.specs.Words.{IsPriced, Book, most_held, Records, Naming, price_in, prices}
 use Rattle.book_model.specs.Words.{members, has, those, AreAmong}
 use Rattle.tariff_rules.specs.declared.priced.Priced.{Priced}
-use Rattle.book_model.proofs.RecordSets.{is, is_itself, same_records, has_those}
+use Rattle.book_model.proofs.RecordSets.{is, same_records, has_those, is_first}
 use Rattle.book_model.proofs.SetLemmas.{members-those}
 use Rattle.book_model.proofs.SumsAlike.{sum_by-filter, sum_by-filter_map, length-sum_by}
 use Rattle.table_laws.specs.Fits.{signed_end}
@@ -74,7 +74,7 @@ module _ (naming : Naming) (book : Book) (whole : IsReadable naming book) where
           → All IsPriced (filter_map (price_in book.rulings) ks)
       each [] held = All-nil IsPriced
       each (k ∷ ks) held =
-          one k (held k (ap (λ b. b || list_any (is k) ks) (is_itself k)))
+          one k (held k (is_first k ks))
           (price_in book.rulings k) refl
           (filter_map (price_in book.rulings) ks)
           (each ks (λ other behind.

@@ -17,7 +17,7 @@ use Rattle.book_model.specs.Words.{Book, charged_of, Naming, name_of, by_bytes, 
 use Rattle.book_model.specs.Words.{members, has, those, IsSound}
 use Rattle.book_model.proofs.FilterLemmas.{Apart, filter-filter_map, filter-from_entries}
 use Rattle.book_model.proofs.ListLemmas.{filter-map}
-use Rattle.book_model.proofs.RecordSets.{is, is_itself, same_records, has_those, in_those}
+use Rattle.book_model.proofs.RecordSets.{is, same_records, has_those, in_those, is_first}
 use Rattle.book_model.proofs.SetLemmas.{members_rise, members-those, set_of-alike}
 use Rattle.book_model.proofs.SumsAlike.{map-alike}
 use Rattle.table_model.specs.PeriodLists.{AreFramed}
@@ -78,7 +78,7 @@ module _ (naming : Naming) (book : Book) (sound : IsSound naming book) where
       → list_any p (filter_map entry ks) ≡ list_any q ks
   any_entry p q agree [] held = refl
   any_entry p q agree (k ∷ ks) held =
-      let there = held k (ap (λ b. b || list_any (is k) ks) (is_itself k)) in
+      let there = held k (is_first k ks) in
       let cost = what_is (price_in book.rulings k) (sound.priced k there) in
       let rest =
       any_entry p q agree ks
@@ -122,7 +122,7 @@ module _ (naming : Naming) (book : Book) (sound : IsSound naming book) where
         → map (λ (e : List ℕ × RecordRow). row_record e.1) (filter_map entry ks) ≡ ks
     records_of [] held = refl
     records_of (k ∷ ks) held =
-        let there = held k (ap (λ b. b || list_any (is k) ks) (is_itself k)) in
+        let there = held k (is_first k ks) in
         let cost = what_is (price_in book.rulings k) (sound.priced k there) in
         let rest =
         records_of ks

@@ -4,7 +4,7 @@ use Rattle.std.specs.Prelude.{List, length, Option, Some, None, Result, Ok, Err,
 use Rattle.std.specs.FinMap.{get}
 use Rattle.std.specs.Option.{option_map, option_map_or}
 use Rattle.book_model.specs.Words.{data_of, most_held, most_cost, Naming, name_of, same_bytes}
-use Rattle.book_model.specs.Words.{Rulings, open_by, price_in, identity_by}
+use Rattle.book_model.specs.Words.{Rulings, price_in, identity_by}
 use Rattle.tariff_rules.specs.declared.priced.Priced.{Priced}
 use Rattle.book_model.specs.declared.answer.Accepted.{Accepted}
 use Rattle.book_model.specs.declared.answer.Accepted.TheVariants.{Kept, Known, Unpriced}
@@ -42,7 +42,7 @@ accept_read naming rulings tables bytes =
 -- the tables with a record that is kept at a price, in the readings' own words
 abbrev pub with_record_read : Naming → Rulings → List ℕ → Priced → Tables → Tables
 with_record_read naming rulings bytes priced tables =
-    put_new naming rulings (open_by rulings) bytes priced
+    put_new naming rulings bytes priced
     (effects_of (view_in tables (identity_by rulings bytes)) (name_of naming bytes) priced) tables
 
 -- The view by some rows of an identity: the first two are enough. By all of them it is the view in

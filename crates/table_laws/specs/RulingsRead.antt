@@ -6,7 +6,7 @@ use Rattle.std.specs.Prelude.{sum_by}
 use Rattle.std.specs.FinMap.{get, values}
 use Rattle.std.specs.List.{last_or}
 use Rattle.book_model.specs.RulingAnswers.{terms_ruled}
-use Rattle.book_model.specs.Words.{Rulings, Terms, last_close, most_choices, most_cost}
+use Rattle.book_model.specs.Words.{Rulings, Terms, most_choices, most_cost}
 use Rattle.book_model.specs.declared.answer.Ruled.{Ruled}
 use Rattle.book_model.specs.declared.answer.Ruled.TheVariants.{Done, Already}
 use Rattle.book_model.specs.declared.fault.LedgerFault.{LedgerFault}
@@ -24,7 +24,7 @@ cost_too_much terms records =
 -- the answer to a tariff's text and terms
 abbrev pub terms_read : Rulings → RecordTable → List ℕ → Terms → Result Ruled LedgerFault
 terms_read rulings records text terms =
-    terms_ruled rulings.tariffs (last_close rulings) (cost_too_much terms records) text terms
+    terms_ruled rulings (cost_too_much terms records) text terms
 
 -- the row is the only one of its identity
 abbrev pub is_lone_row : RecordTable → RecordRow → Bool

@@ -33,6 +33,9 @@ use Rattle.table_ledger.specs.RecordWrites.{AreRemembered, IsNew}
 use Rattle.table_ledger.specs.NewRecords.{with_new_record}
 use Rattle.table_ledger.specs.Ready.{IsReadyAt, Remembers}
 use Rattle.table_ledger.specs.Attempts.{LeavesOpen, Attempts}
+use Rattle.book_core.specs.OfficeRulings.{ruled_in}
+use Rattle.table_ledger.proofs.Remembered.{closes_are}
+use Rattle.table_ledger.proofs.Remembered.{tariffs_are}
 use Rattle.table_ledger.specs.declared.summary.Summary.{Summary}
 use Rattle.table_ledger.proofs.Answering.{makes_answer, makes_refused}
 use Rattle.table_ledger.proofs.Remembered.{rulings_are}
@@ -111,23 +114,23 @@ module _ (naming : Naming) (was : Summary) (bytes name : List ℕ) (usage : IsUs
   answer_by : (book : Book) {view : View} → IsReadyAt naming was view book
       → accept_answer naming book bytes
       ≡ row_answer (tables_of naming book).book (get (tables_of naming book).records name) bytes
-      (price_under was.tariffs.items bytes)
+      (price_under (ruled_in was.rulings).tariffs bytes)
   answer_by book ready =
       let whole = calls_read naming book ready.kept.calls in
       let tables = tables_of naming book in
       accept_follows.answer naming book bytes whole usage
       ∙ (λ i. row_answer tables.book (get tables.records (sym named i)) bytes
-      (price_under (sym ready.remembers.tariffs i) bytes))
+      (price_under (sym (tariffs_are ready.remembers) i) bytes))
 
   -- the answer if no row of the name was found
   new_by : (book : Book) {view : View} → IsReadyAt naming was view book
       → FindsRecord name (tables_of naming book) None
       → accept_answer naming book bytes
-      ≡ new_answer (tables_of naming book).book (price_under was.tariffs.items bytes)
+      ≡ new_answer (tables_of naming book).book (price_under (ruled_in was.rulings).tariffs bytes)
   new_by book ready known =
       let tables = tables_of naming book in
       answer_by book ready
-      ∙ ap (λ found. row_answer tables.book found bytes (price_under was.tariffs.items bytes))
+      ∙ ap (λ found. row_answer tables.book found bytes (price_under (ruled_in was.rulings).tariffs bytes))
       (none_found name (get tables.records name) known)
 
   -- An answer other than that the record is kept, from looks alone.
@@ -164,12 +167,12 @@ module _ (naming : Naming) (was : Summary) (bytes name : List ℕ) (usage : IsUs
       try_other answer saw (subst LeavesOpen (sym is) (data_plain same))
       (λ kept. data_other same (sym is ∙ kept))
       (λ book ready known. answer_by book ready
-      ∙ row_answers (tables_of naming book).book bytes (price_under was.tariffs.items bytes) name
+      ∙ row_answers (tables_of naming book).book bytes (price_under (ruled_in was.rulings).tariffs bytes) name
       stored (get (tables_of naming book).records name) known
       ∙ sym is)
 
   -- No tariff is in force on its day.
-  pub try_unpriced : {old new : State} → price_under was.tariffs.items bytes ≡ None
+  pub try_unpriced : {old new : State} → price_under (ruled_in was.rulings).tariffs bytes ≡ None
       → Saw old new (λ tables. FindsRecord name tables None)
       → Attempts (λ (accepted : Accepted). accepted) naming was was old new
       (accept_outcome naming bytes) (Ok (Ok Unpriced))
@@ -184,7 +187,7 @@ module _ (naming : Naming) (was : Summary) (bytes name : List ℕ) (usage : IsUs
 
   -- the answer to a record that is new and has a price
   priced_by : (book : Book) {view : View} (priced : Priced) → IsReadyAt naming was view book
-      → price_under was.tariffs.items bytes ≡ Some priced
+      → price_under (ruled_in was.rulings).tariffs bytes ≡ Some priced
       → FindsRecord name (tables_of naming book) None
       → accept_answer naming book bytes
       ≡ (if remembered_full priced.amount then Err Full else Ok Kept)
@@ -196,7 +199,7 @@ module _ (naming : Naming) (was : Summary) (bytes name : List ℕ) (usage : IsUs
 
   -- There is no room for it.
   pub try_full : {old new : State} {full : Bool} (priced : Priced)
-      → price_under was.tariffs.items bytes ≡ Some priced
+      → price_under (ruled_in was.rulings).tariffs bytes ≡ Some priced
       → full ≡ remembered_full priced.amount → full ≡ true
       → Saw old new (λ tables. FindsRecord name tables None)
       → Attempts (λ (accepted : Accepted). accepted) naming was was old new
@@ -206,7 +209,7 @@ module _ (naming : Naming) (was : Summary) (bytes name : List ℕ) (usage : IsUs
       (λ book ready known. priced_by book priced ready price known
       ∙ ap (λ (b : Bool). if b then Err Full else Ok Kept) (sym is ∙ full))
 
-  module _ (priced : Priced) (price : price_under was.tariffs.items bytes ≡ Some priced)
+  module _ (priced : Priced) (price : price_under (ruled_in was.rulings).tariffs bytes ≡ Some priced)
       {full : Bool} (full_is : full ≡ remembered_full priced.amount) (room : full ≡ false) where
     -- the record is kept
     pub accept_kept : (book : Book) {view : View} → IsReadyAt naming was view book
@@ -219,7 +222,7 @@ module _ (naming : Naming) (was : Summary) (bytes name : List ℕ) (usage : IsUs
     -- its price by the book
     book_price : (book : Book) → Remembers was book → price_in book.rulings bytes ≡ Some priced
     book_price book remembers =
-        ap (λ tariffs. price_under tariffs bytes) (sym remembers.tariffs) ∙ price
+        ap (λ tariffs. price_under tariffs bytes) (sym (tariffs_are remembers)) ∙ price
 
     -- the tables with it, in the words of the readings
     tables_kept : (book : Book) {view : View} → IsReadyAt naming was view book
@@ -233,7 +236,7 @@ module _ (naming : Naming) (was : Summary) (bytes name : List ℕ) (usage : IsUs
     -- the tables are those that the summary remembers
     remembered : (book : Book) → Remembers was book → AreRemembered was (tables_of naming book)
     remembered book remembers = record {
-      closes = closes_back book.rulings.closes ∙ sym remembers.closes;
+      closes = closes_back book.rulings.closes ∙ sym (closes_are remembers);
       held = sym remembers.held;
       amount = sym remembers.total;
     }
@@ -268,14 +271,11 @@ module _ (naming : Naming) (was : Summary) (bytes name : List ℕ) (usage : IsUs
     -- and the sums with it are remembered
     pub accept_remembers : (is : Summary) {view : View} (book : Book)
         → IsReadyAt naming was view book → FindsRecord name (tables_of naming book) None
-        → is.tariffs.items ≡ was.tariffs.items → is.closes.items ≡ was.closes.items
-        → is.choices ≡ was.choices → is.adopted ≡ was.adopted → is.held ≡ was.held + 1
+        → ruled_in is.rulings ≡ ruled_in was.rulings → is.choices ≡ was.choices → is.held ≡ was.held + 1
         → is.total ≡ was.total + priced.amount → Remembers is (keep bytes book)
-    accept_remembers is book ready known tariffs closes choices adopted held total = record {
-      tariffs = tariffs ∙ ready.remembers.tariffs;
-      closes = closes ∙ ready.remembers.closes;
+    accept_remembers is book ready known rulings choices held total = record {
+      rulings = rulings ∙ ready.remembers.rulings;
       choices = choices ∙ ready.remembers.choices;
-      adopted = adopted ∙ ready.remembers.adopted;
       held = held ∙ ap (λ count. count + 1) ready.remembers.held
           ∙ sym (ap (λ (tables : Tables). tables.book.held) (tables_kept book ready known));
       total = total ∙ ap (λ sum. sum + priced.amount) ready.remembers.total
@@ -303,17 +303,15 @@ module _ (naming : Naming) (was : Summary) (bytes name : List ℕ) (usage : IsUs
         → Saw old middle (λ tables. FindsRecord name tables None)
         → CommitsOne (Ok done) middle new
         (λ tables. AreRemembered was tables × IsNew name tables) (with_new_record was name bytes priced)
-        → is.tariffs.items ≡ was.tariffs.items → is.closes.items ≡ was.closes.items
-        → is.choices ≡ was.choices → is.adopted ≡ was.adopted → is.held ≡ was.held + 1
+        → ruled_in is.rulings ≡ ruled_in was.rulings → is.choices ≡ was.choices → is.held ≡ was.held + 1
         → is.total ≡ was.total + priced.amount
         → Attempts (λ (accepted : Accepted). accepted) naming was is old new
         (accept_outcome naming bytes) (Ok (Ok Kept))
     unfolding accept_is_event
-    try_kept {new = new} is is_priced saw commit tariffs closes choices adopted held total =
+    try_kept {new = new} is is_priced saw commit rulings choices held total =
         try_done (λ (accepted : Accepted). accepted) naming was (accept_outcome naming bytes)
         new (λ tables. AreRemembered was tables × IsNew name tables)
         (with_new_record was name bytes priced) saw
         (λ book ready known. accept_is_event is_priced book ready known) commit
         (λ book ready known. accept_kept book ready known)
-        (λ book ready known. accept_remembers is book ready known tariffs closes choices adopted held
-        total)
+        (λ book ready known. accept_remembers is book ready known rulings choices held total)

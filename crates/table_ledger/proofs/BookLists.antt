@@ -31,7 +31,7 @@ use Rattle.table_ledger.specs.LineReads.{NamesRise, lines_stored}
 use Rattle.table_ledger.specs.Ready.{IsReadyAt}
 use Rattle.table_ledger.specs.RecordReads.{CanBeRead, HasWideNames}
 use Rattle.tree_tables.specs.UsageData.{IsUsageData}
-use Rattle.table_ledger.specs.Summaries.{ruled_in}
+use Rattle.book_core.specs.OfficeRulings.{ruled_in}
 use Rattle.table_ledger.specs.declared.summary.Summary.{Summary}
 use Rattle.table_ledger.proofs.LineReadings.{line_with, lines_listed}
 use Rattle.table_ledger.proofs.Remembered.{rulings_are}
@@ -85,24 +85,24 @@ module _ {naming : Naming} {summary : Summary} {view : View} {book : Book}
   whole = calls_read naming book ready.kept.calls
 
   -- a period that exists by what is remembered exists
-  there_is : (number : ℕ) → is_period number (ruled_in summary) ≡ true
+  there_is : (number : ℕ) → is_period number (ruled_in summary.rulings) ≡ true
       → is_period number book.rulings ≡ true
   there_is number is = ap (is_period number) (rulings_are ready.remembers) ∙ is
 
   -- its charge rows fit
-  pub own_days : (number : ℕ) → is_period number (ruled_in summary) ≡ true
+  pub own_days : (number : ℕ) → is_period number (ruled_in summary.rulings) ≡ true
       → DaysFit number (tables_of naming book)
   own_days number is = days_fit naming book whole number (there_is number is)
 
   -- and those that are listed can be shown
   pub own_rows : (number : ℕ) (rows : List ChargeRow)
-      → is_period number (ruled_in summary) ≡ true
+      → is_period number (ruled_in summary.rulings) ≡ true
       → ListsDays number (tables_of naming book) rows → AreRows rows
   own_rows number rows is lists =
       subst AreRows (sym lists) (lists_show.rows naming book number whole (there_is number is))
 
   -- its lines fit
-  pub own_lines : HasWideNames naming → (number : ℕ) → is_period number (ruled_in summary) ≡ true
+  pub own_lines : HasWideNames naming → (number : ℕ) → is_period number (ruled_in summary.rulings) ≡ true
       → LinesFit number (tables_of naming book)
   own_lines wide number is = lines_fit naming book whole number (there_is number is) wide
 
@@ -110,7 +110,7 @@ module _ {naming : Naming} {summary : Summary} {view : View} {book : Book}
   pub own_records : HasWideNames naming → CanBeRead (tables_of naming book)
   own_records wide = can_be_read naming book whole wide
 
-  module _ (number : ℕ) (is : is_period number (ruled_in summary) ≡ true)
+  module _ (number : ℕ) (is : is_period number (ruled_in summary.rulings) ≡ true)
       (stored : List StoredLine) (lines : List Line)
       (lists : ListsLines number (tables_of naming book) stored)
       (read : lines ≡ lines_stored number (tables_of naming book).records stored) where

@@ -17,6 +17,8 @@ use Rattle.sqlite_trees.specs.View.{View}
 use Rattle.book_core.specs.Calls.{Makes}
 use Rattle.book_core.specs.Effects.{choice_effects}
 use Rattle.book_core.specs.declared.effects.ChoiceEffects.{ChoiceEffects}
+use Rattle.book_model.specs.Words.{last_close}
+use Rattle.book_model.specs.Words.{open_by}
 use Rattle.book_model.specs.Words.{Book, Naming, RecordChosen, by_bytes, same_bytes, choose}
 use Rattle.book_model.specs.Words.{Choice, choose_answer, choose_event, name_of}
 use Rattle.book_model.specs.Words.{choose_outcome, chosen_answer, most_choices, record_named}
@@ -44,6 +46,8 @@ use Rattle.table_ledger.specs.RecordWrites.{IsNext}
 use Rattle.tree_tables.specs.Stored.{stored_entry}
 use Rattle.tree_tables.specs.declared.stored_record.StoredRecord.{StoredRecord}
 use Rattle.table_ledger.specs.Ready.{IsReadyAt, Remembers}
+use Rattle.book_core.specs.OfficeRulings.{ruled_in}
+use Rattle.table_ledger.proofs.Remembered.{closes_are}
 use Rattle.table_ledger.specs.declared.summary.Summary.{Summary}
 use Rattle.table_ledger.specs.Commits.{Saw}
 use Rattle.table_ledger.proofs.AcceptTries.{saw_as}
@@ -253,8 +257,8 @@ module _ (naming : Naming) (was : Summary) (name : List ℕ) (view : View) (book
         -- A choice that is answered Done is an event.
         abbrev pub choose_is_event : stored.charged ≡ false → was.choices < most_choices
             → (number period : ℕ) (effects : ChoiceEffects)
-            → number ≡ was.choices + 1 → period ≡ length was.closes.items + 1
-            → effects ≡ choice_effects (last_or None was.closes.items)
+            → number ≡ was.choices + 1 → period ≡ open_by (ruled_in was.rulings)
+            → effects ≡ choice_effects (last_close (ruled_in was.rulings))
             (option_map member_at (slice_get (charged_with row.identity tables.records) 0))
             (member_at (stored_entry stored))
             → IsEvent (λ (ruled : Ruled). ruled) naming was (choose_outcome naming name)
@@ -262,8 +266,8 @@ module _ (naming : Naming) (was : Summary) (name : List ℕ) (view : View) (book
         choose_is_event charged room number period effects number_is period_is effects_are =
             let done = choose_done charged room in
             let one = chosen_one naming book name done in
-            let closes : values tables.closes ≡ was.closes.items =
-            closes_back book.rulings.closes ∙ sym ready.remembers.closes in
+            let closes : values tables.closes ≡ (ruled_in was.rulings).closes =
+            closes_back book.rulings.closes ∙ sym (closes_are ready.remembers) in
             let current = choices_follow.current naming book row.identity readable in
             let own = (found_row name stored (get tables.records name) known).1 in
             record {
@@ -283,16 +287,13 @@ module _ (naming : Naming) (was : Summary) (name : List ℕ) (view : View) (book
 
         -- and one more choice is remembered
         pub choose_remembers : (is : Summary) (bytes : List ℕ)
-            → is.tariffs.items ≡ was.tariffs.items → is.closes.items ≡ was.closes.items
-            → is.choices ≡ was.choices + 1 → is.adopted ≡ was.adopted → is.held ≡ was.held
+            → ruled_in is.rulings ≡ ruled_in was.rulings → is.choices ≡ was.choices + 1 → is.held ≡ was.held
             → is.total ≡ was.total
             → Remembers is (choose bytes book)
-        choose_remembers is bytes tariffs closes choices adopted held total = record {
-          tariffs = tariffs ∙ ready.remembers.tariffs;
-          closes = closes ∙ ready.remembers.closes;
+        choose_remembers is bytes rulings choices held total = record {
+          rulings = rulings ∙ ready.remembers.rulings;
           choices = choices ∙ ap (λ n. n + 1) ready.remembers.choices
               ∙ sym (length-append book.rulings.choices _);
-          adopted = adopted ∙ ready.remembers.adopted;
           held = held ∙ ready.remembers.held;
           total = total ∙ ready.remembers.total;
         }

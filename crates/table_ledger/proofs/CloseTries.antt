@@ -1,15 +1,16 @@
 -- A close that is tried: what it answers, and what it writes.
 use Rattle.std.proofs.Common.{◌≡◌, ◌≢◌, ◌∙◌, ℕ, suc, ◌+◌, ◌≤◌, List, [], ◌∷◌, length, refl, sym, ap}
 use Rattle.std.proofs.Common.{Bool, true, false, not, ◌&&◌, ◌||◌, Result, Ok, Err, None, arith}
-use Rattle.std.proofs.Common.{cond, is_some, map, ◌++◌, ◌<◌, true≢false}
+use Rattle.std.proofs.Common.{cond, is_some, map, ◌<◌, true≢false}
 use Rattle.std.proofs.lemmas.Bool.{ltb-true, ltb-false}
 use Rattle.std.specs.Prelude.{nat_lt, ℤ, int_lt, if◌then◌else◌, ◌==◌}
 use Rattle.std.specs.FinMap.{find, get-from_entries}
 use Rattle.std.specs.declared.cmp.Ordering.{Ordering}
 use Rattle.std.proofs.lemmas.List.{length-append, length-map}
 use Rattle.book_model.specs.Words.{IsDay, Book, all_periods, open_number, open_period, PeriodClosed}
-use Rattle.book_model.specs.Words.{close, last_period, close_outcome, close_event, Naming, by_key}
-use Rattle.book_model.specs.Words.{close_answer, is_closed, is_early, IsSound}
+use Rattle.book_model.specs.Words.{close, last_period, close_outcome, close_event, Naming, by_key, open_by}
+use Rattle.book_model.specs.RulingAnswers.{close_ruled}
+use Rattle.book_model.specs.Words.{close_answer, is_closed, is_early, IsSound, Rulings, new_book}
 use Rattle.book_model.specs.declared.answer.Ruled.{Ruled}
 use Rattle.book_model.specs.declared.answer.Ruled.TheVariants.{Done, Already}
 use Rattle.book_model.specs.declared.fault.LedgerFault.{LedgerFault}
@@ -35,7 +36,7 @@ use Rattle.tree_tables.specs.Days.{NoneNext}
 use Rattle.sqlite_trees.specs.View.{View}
 use Rattle.table_model.specs.Steps.{close_by_steps}
 use Rattle.table_ledger.specs.Ready.{IsReadyAt, Remembers}
-use Rattle.table_ledger.specs.Summaries.{book_ruled}
+use Rattle.book_core.specs.OfficeRulings.{ruled_in}
 use Rattle.table_ledger.specs.Attempts.{LeavesOpen}
 use Rattle.table_ledger.specs.declared.summary.Summary.{Summary}
 use Rattle.table_ledger.proofs.Answering.{ruled_makes}
@@ -61,20 +62,18 @@ plain_by open_one false true true full = record { stored = refl; served = refl }
 plain_by open_one false true false true = record { stored = refl; served = refl }
 plain_by open_one false true false false = record { stored = refl; served = refl }
 
-pub close_plain : (book : Book) (number : ℕ) (day : ℤ) → LeavesOpen (close_answer book number day)
-close_plain book number day =
-    plain_by (open_number book) (is_closed number day book.rulings) (number == open_number book)
-    (is_early day book.rulings) (number == last_period)
+pub close_plain : (rulings : Rulings) (number : ℕ) (day : ℤ)
+    → LeavesOpen (close_ruled rulings number day)
+close_plain rulings number day =
+    plain_by (open_by rulings) (is_closed number day rulings) (number == open_by rulings)
+    (is_early day rulings) (number == last_period)
 
 -- the answer depends only on the rulings, which are remembered
 pub close_remembered : (summary : Summary) (book : Book) (number : ℕ) (day : ℤ)
     → Remembers summary book
-    → close_answer (book_ruled summary) number day ≡ close_answer book number day
+    → close_ruled (ruled_in summary.rulings) number day ≡ close_answer book number day
 close_remembered summary book number day remembers =
-    ap (λ closes. by_tests (length closes + 1)
-    (is_closed number day (record book.rulings { closes = closes }))
-    (number == length closes + 1) (is_early day (record book.rulings { closes = closes }))
-    (number == last_period)) remembers.closes
+    ap (λ rulings. close_ruled rulings number day) remembers.rulings
 
 -- an answer that is not Done makes no event
 pub close_makes : (answer : Result Ruled LedgerFault) (number : ℕ) (day : ℤ)
@@ -94,29 +93,27 @@ not_full open_one false true false true done = cc
 not_full open_one false true false false done = refl
 
 -- so there is room for one more close
-pub close_room : (summary : Summary) (number : ℕ) (day : ℤ) (items : List ℤ)
-    → close_answer (book_ruled summary) number day ≡ Ok Done
-    → items ≡ summary.closes.items ++ day ∷ [] → length items < last_period
-close_room summary number day items done is =
-    let book = book_ruled summary in
-    let open_one = closed_open book number day done in
-    let other = not_full (open_number book) (is_closed number day book.rulings)
-    (number == open_number book) (is_early day book.rulings) (number == last_period) done in
-    let few = summary.few in
-    let more : length items ≡ length summary.closes.items + 1 =
-    ap length is ∙ length-append summary.closes.items (day ∷ []) in
+pub close_room : (summary : Summary) (number : ℕ) (day : ℤ)
+    → close_ruled (ruled_in summary.rulings) number day ≡ Ok Done
+    → open_by (ruled_in summary.rulings) < last_period
+close_room summary number day done =
+    let rulings = ruled_in summary.rulings in
+    let open_one = closed_open (record new_book { rulings = rulings }) number day done in
+    let other = not_full (open_by rulings) (is_closed number day rulings)
+    (number == open_by rulings) (is_early day rulings) (number == last_period) done in
+    let few = summary.rulings.few in
     let differs : number ≡ last_period → ⊥ =
     λ same. absurd (true≢false (sym (ap (λ n. n == last_period) same) ∙ other)) in
-    room (number) (length items) open_one more few differs
+    room number (length (ruled_in summary.rulings).closes) open_one few differs
   where
-    room : (n m : ℕ) → n ≡ length summary.closes.items + 1 → m ≡ length summary.closes.items + 1
-        → length summary.closes.items < last_period → (n ≡ last_period → ⊥) → m < last_period
-    room n m is more few differs =
-        elim (nat_lt m last_period) as (λ b. nat_lt m last_period ≡ b → m < last_period) [
-          | true ↦ λ e. ltb-true m last_period e
+    room : (n closes : ℕ) → n ≡ closes + 1 → closes < last_period → (n ≡ last_period → ⊥)
+        → closes + 1 < last_period
+    room n closes is few differs =
+        elim (nat_lt n last_period) as (λ b. nat_lt n last_period ≡ b → closes + 1 < last_period) [
+          | true ↦ λ e. (let below = ltb-true n last_period e in omega (arith, is, below))
           | false ↦ λ e.
-              let least = ltb-false m last_period e in
-              absurd (differs (omega (arith, is, more, few, least)))
+              let least = ltb-false n last_period e in
+              absurd (differs (omega (arith, is, few, least)))
         ] refl
 
 -- ---- what is written
@@ -179,7 +176,7 @@ written_after naming book number day calls done =
 
 -- A close that is answered Done is an event.
 abbrev pub close_is_event : (naming : Naming) (was : Summary) (view : View) (number : ℕ) (day : ℤ)
-    → IsDay day → close_answer (book_ruled was) number day ≡ Ok Done → (book : Book)
+    → IsDay day → close_ruled (ruled_in was.rulings) number day ≡ Ok Done → (book : Book)
     → IsReadyAt naming was view book
     → IsEvent (λ (ruled : Ruled). ruled) naming was (close_outcome number day) (NoneNext number)
     (close_by_steps number day) book

@@ -9,7 +9,7 @@ use Rattle.book_model.specs.Words.{Book, Outcome, Naming}
 use Rattle.book_core.specs.Calls.{IsCall, is_store, is_reopen}
 use Rattle.tree_tables.specs.States.{HasCleanDisk, Survives, state}
 use Rattle.table_ledger.specs.Ready.{IsReadyAt, IsStoredIn}
-use Rattle.table_ledger.specs.LedgerState.{LedgerState, seen_on}
+use Rattle.table_ledger.specs.LedgerState.{seen_on, state_on}
 use Rattle.table_ledger.specs.ReadyBooks.{LeavesTheLast}
 use Rattle.table_ledger.specs.Attempts.{Replied, IsRolledBack, IsRefused, Attempts, Ends, Finishes, Serves}
 use Rattle.table_ledger.specs.declared.summary.Summary.{Summary}
@@ -30,23 +30,6 @@ ready_back {naming} {was} {is} {book} old middle new ready refused back = record
 
 module _ {S V A : Type 0} (ghosts : Ghosts S) (view : V → A) (naming : Naming) (was is : Summary)
     (first middle last : S) (outcome : Book → Outcome A) where
-  -- the ledger before the call, and after it
-  abbrev state_before : Bool → LedgerState
-  state_before flag = record {
-    naming = naming;
-    state = state ghosts first;
-    must_reopen = flag;
-    summary = was;
-  }
-
-  abbrev state_after : Bool → LedgerState
-  state_after flag = record {
-    naming = naming;
-    state = state ghosts last;
-    must_reopen = flag;
-    summary = is;
-  }
-
   -- by what was found and how it ended
   serves_by : (flag : Bool) (tried : Result (Result V LedgerFault) StoreError)
       (result : Result V LedgerFault)
@@ -54,7 +37,8 @@ module _ {S V A : Type 0} (ghosts : Ghosts S) (view : V → A) (naming : Naming)
       → Survives (state ghosts middle) (state ghosts last) (λ trees. ⊥)
       → Ends result false flag (last ≡ middle)
       (IsClean (ghosts.view last) → IsRolledBack (ghosts.view middle) (ghosts.view last)) tried
-      → Serves view (state_before false) (state_after flag) outcome result
+      → Serves view (state_on ghosts naming first false was)
+      (state_on ghosts naming last flag is) outcome result
   serves_by flag (Ok answer) result tries survives ends = record {
     naming = refl;
     served = ap is_reopen ends.0 ∙ tries.plain.served;
@@ -92,23 +76,30 @@ module _ {S V A : Type 0} (ghosts : Ghosts S) (view : V → A) (naming : Naming)
   }
 
   -- A call that was tried and settled is served.
-  pub served : (flag : Bool) (tried : Result (Result V LedgerFault) StoreError)
+  served : (flag : Bool) (tried : Result (Result V LedgerFault) StoreError)
       (result : Result V LedgerFault)
       → Attempts view naming was is (state ghosts first) (state ghosts middle) outcome tried
       → Finishes ghosts middle last false flag tried result
-      → Serves view (state_before false) (state_after flag) outcome result
+      → Serves view (state_on ghosts naming first false was) (state_on ghosts naming last flag is)
+      outcome result
   served flag tried result tries settles =
       serves_by flag tried result tries settles.survives settles.ends
 
-  -- So it is a call of the ledger.
-  pub call_settled : (before flag : Bool) (tried : Result (Result V LedgerFault) StoreError)
-      (result : Result V LedgerFault) → before ≡ false → LeavesTheLast (ghosts.view first) (ghosts.recovers first)
-      → Attempts view naming was is (state ghosts first) (state ghosts middle) outcome tried
-      → Finishes ghosts middle last before flag tried result
-      → IsCall view (seen_on (state_before before)) (seen_on (state_after flag)) result outcome
-  call_settled before flag tried result is_open leaves tries =
-      subst (λ open_flag. Finishes ghosts middle last open_flag flag tried result
-      → IsCall view (seen_on (state_before open_flag)) (seen_on (state_after flag)) result outcome)
-      (sym is_open)
-      (λ settles. call_served view (state_before false) (state_after flag) outcome result refl leaves
-      (served flag tried result tries settles))
+-- So it is a call of the ledger.
+pub call_settled : {S V A : Type 0} {view : V → A} {naming : Naming} {was is : Summary}
+    {middle last : S} {outcome : Book → Outcome A} {before flag : Bool}
+    {tried : Result (Result V LedgerFault) StoreError} {result : Result V LedgerFault}
+    (ghosts : Ghosts S) (first : S) → before ≡ false
+    → ((store : S) → LeavesTheLast (ghosts.view store) (ghosts.recovers store))
+    → Finishes ghosts middle last before flag tried result
+    → Attempts view naming was is (state ghosts first) (state ghosts middle) outcome tried
+    → IsCall view (seen_on (state_on ghosts naming first before was))
+    (seen_on (state_on ghosts naming last flag is)) result outcome
+call_settled {view = view} {naming = naming} {was = was} {is = is} {middle = middle} {last = last} {outcome = outcome} {flag = flag} {tried = tried} {result = result} ghosts first is_open leaves settles tries =
+    let old = state_on ghosts naming first in
+    let new = state_on ghosts naming last flag is in
+    subst (λ before. Finishes ghosts middle last before flag tried result
+    → IsCall view (seen_on (old before was)) (seen_on new) result outcome) (sym is_open)
+    (λ finishes. call_served view (old false was) new outcome result refl (leaves first)
+    (served ghosts view naming was is first middle last outcome flag tried result tries finishes))
+    settles

@@ -10,7 +10,7 @@ use Rattle.book_model.specs.declared.fault.LedgerFault.{LedgerFault}
 use Rattle.book_model.specs.declared.fault.LedgerFault.TheVariants.{Memory, NoSuchPeriod, Store}
 use Rattle.tree_tables.specs.States.{HasCleanDisk, state}
 use Rattle.table_ledger.specs.Loaded.{FailsAsItsOwn}
-use Rattle.table_ledger.specs.LedgerState.{LedgerState}
+use Rattle.table_ledger.specs.LedgerState.{LedgerState, state_on}
 use Rattle.table_ledger.specs.Attempts.{Finishes, Attempts, TriesItsOwn}
 use Rattle.table_ledger.specs.declared.summary.Summary.{Summary}
 use Rattle.table_ledger.proofs.OwnBooks.{cause_told}
@@ -22,60 +22,42 @@ same_fault : {V : Type 0} (result : Result V LedgerFault) (one other : LedgerFau
 same_fault result one other is too =
     let both : Err one ≡ Err other = sym is ∙ too in cc
 
-module _ {S V A : Type 0} (ghosts : Ghosts S) (view : V → A) (naming : Naming) (summary : Summary)
-    (first middle last : S) (outcome : Book → Outcome A) where
-  -- the ledger before the call
-  abbrev before : Bool → LedgerState
-  before flag = record {
-    naming = naming;
-    state = state ghosts first;
-    must_reopen = flag;
-    summary = summary;
-  }
+-- a refusal of the answer is a refusal of the list
+by_answer : {V : Type 0} (old new : LedgerState) (answer : Result V LedgerFault)
+    → IfErr answer (λ fault. fault ≡ NoSuchPeriod) → FailsAsItsOwn answer old new
+by_answer old new (Ok value) own = tt
+by_answer old new (Err fault) own = λ other clean books open_now. absurd (other own)
 
-  -- and after it
-  abbrev behind : Bool → LedgerState
-  behind flag = record {
-    naming = naming;
-    state = state ghosts last;
-    must_reopen = flag;
-    summary = summary;
-  }
-
-  -- a refusal of the answer is a refusal of the list
-  by_answer : (was is : Bool) (answer : Result V LedgerFault)
-      → IfErr answer (λ fault. fault ≡ NoSuchPeriod)
-      → FailsAsItsOwn answer (before was) (behind is)
-  by_answer was is (Ok value) own = tt
-  by_answer was is (Err fault) own = λ other clean books open_now. absurd (other own)
-
-  -- a list that was tried fails as stated
-  pub own_settled : (was is : Bool) (tried : Result (Result V LedgerFault) StoreError)
-      (result : Result V LedgerFault)
-      → Attempts view naming summary summary (state ghosts first) (state ghosts middle) outcome tried
-      → TriesItsOwn naming summary (state ghosts first) (state ghosts middle) tried
-      → Finishes ghosts middle last was is tried result
-      → IfErr tried (λ error. IsClean (ghosts.view last) → error ≡ OutOfMemory
-      → (ghosts.view last).is_broken ≡ false → IsErrOf result Memory)
-      → IfErr tried (λ error. IsClean (ghosts.view last) → IsTrue (ghosts.view last).is_open
-      → (ghosts.view last).is_broken ≡ false)
-      → FailsAsItsOwn result (before was) (behind is)
-  own_settled was is (Ok answer) result tries own settles served mended =
-      subst (λ result. FailsAsItsOwn result (before was) (behind is)) (sym settles.ends.0)
-      (by_answer was is answer own)
-  own_settled was is (Err error) result tries own settles served mended =
-      elim settles.ends [
-        | inl wanting ↦ subst
-            (λ result. FailsAsItsOwn result (before was) (behind is))
-            (sym wanting.0) (λ other clean books open_now. inl refl)
-        | inr failed ↦ subst
-            (λ result. FailsAsItsOwn result (before was) (behind is))
-            (sym failed.0) (λ other clean books open_now.
-            let early : HasCleanDisk (state ghosts middle) = clean_before settles.survives clean in
-            let ready = books.ready open_now (clean_before tries.survives early) in
-            cause_told (state ghosts first) (state ghosts middle) (state ghosts last) error Store
-            ready.ready.rest (own early ready.book ready.ready) tries.survives settles.survives clean
-            (inr refl)
-            (λ memory sound. same_fault result Store Memory failed.0 (served clean memory sound))
-            (mended clean))
-      ]
+-- a list that was tried fails as stated
+pub own_settled : {S V A : Type 0} {view : V → A} {naming : Naming} {summary : Summary}
+    {middle last : S} {outcome : Book → Outcome A} {before flag : Bool}
+    {tried : Result (Result V LedgerFault) StoreError} {result : Result V LedgerFault}
+    (ghosts : Ghosts S) (first : S) → Finishes ghosts middle last before flag tried result
+    → Attempts view naming summary summary (state ghosts first) (state ghosts middle) outcome tried
+    → TriesItsOwn naming summary (state ghosts first) (state ghosts middle) tried
+    → IfErr tried (λ error. IsClean (ghosts.view last) → error ≡ OutOfMemory
+    → (ghosts.view last).is_broken ≡ false → IsErrOf result Memory)
+    → IfErr tried (λ error. IsClean (ghosts.view last) → IsTrue (ghosts.view last).is_open
+    → (ghosts.view last).is_broken ≡ false)
+    → FailsAsItsOwn result (state_on ghosts naming first before summary)
+    (state_on ghosts naming last flag summary)
+own_settled {naming = naming} {summary = summary} {last = last} {before = before} {flag = flag} {tried = Ok answer} {result = result} ghosts first settles tries own served mended =
+    let old = state_on ghosts naming first before summary in
+    let new = state_on ghosts naming last flag summary in
+    subst (λ result. FailsAsItsOwn result old new) (sym settles.ends.0) (by_answer old new answer own)
+own_settled {naming = naming} {summary = summary} {middle = middle} {last = last} {before = before} {flag = flag} {tried = Err error} {result = result} ghosts first settles tries own served mended =
+    let old = state_on ghosts naming first before summary in
+    let new = state_on ghosts naming last flag summary in
+    elim settles.ends [
+      | inl wanting ↦ subst (λ result. FailsAsItsOwn result old new) (sym wanting.0)
+          (λ other clean books open_now. inl refl)
+      | inr failed ↦ subst (λ result. FailsAsItsOwn result old new) (sym failed.0)
+          (λ other clean books open_now.
+          let early : HasCleanDisk (state ghosts middle) = clean_before settles.survives clean in
+          let ready = books.ready open_now (clean_before tries.survives early) in
+          cause_told (state ghosts first) (state ghosts middle) (state ghosts last) error Store
+          ready.ready.rest (own early ready.book ready.ready) tries.survives settles.survives clean
+          (inr refl)
+          (λ memory sound. same_fault result Store Memory failed.0 (served clean memory sound))
+          (mended clean))
+    ]

@@ -9,7 +9,6 @@ mod Remembered
 mod OneCall
 mod FinishLemmas
 mod StepLemmas
-mod LastClose
 mod LastChoice
 mod RowsTaken
 mod CodeDays

@@ -1,13 +1,11 @@
 -- Adjustment lines as they are found in the tables.
 use Rattle.std.proofs.Common.{◌≡◌, ◌∙◌, ℕ, Bool, List, [], ◌∷◌, ◌++◌, ◌+◌, ◌<◌, length, take}
-use Rattle.std.proofs.Common.{slice_index_or, Option, Some, None, Err, option_map, refl, sym, ap}
+use Rattle.std.proofs.Common.{slice_index_or, Option, Some, None, option_map, refl, sym, ap}
 use Rattle.std.proofs.Common.{map}
 use Rattle.std.specs.FinMap.{get}
 use Rattle.std.specs.List.{cons_option, filter_map}
 use Rattle.std.proofs.lemmas.List.{take_more}
 use Rattle.std.proofs.lemmas.List.Elements.{filter_map-append}
-use Rattle.tree_tables.specs.States.{State}
-use Rattle.sqlite_trees.specs.declared.error.StoreError.{StoreError}
 use Rattle.book_model.specs.Words.{record_with, job_of, by_line, members, set_of}
 use Rattle.book_model.specs.declared.line.Line.{Line}
 use Rattle.table_model.specs.PeriodRows.{rows_under}
@@ -16,14 +14,10 @@ use Rattle.table_model.specs.Tables.{RecordRow, RecordTable, Tables}
 use Rattle.tree_tables.specs.Answers.{ListsLines}
 use Rattle.tree_tables.specs.Answers.{FindsRecord}
 use Rattle.tree_tables.specs.Stored.{signed_name, stored_entry}
-use Rattle.tree_tables.specs.Steps.{Looks}
 use Rattle.tree_tables.specs.declared.line_rows.StoredLine.{StoredLine}
 use Rattle.tree_tables.specs.declared.stored_record.StoredRecord.{StoredRecord}
 use Rattle.table_laws.specs.DisputesRead.{NamedRow}
-use Rattle.table_ledger.specs.Commits.{Saw}
 use Rattle.table_ledger.specs.LineReads.{line_stored, lines_stored}
-use Rattle.table_ledger.proofs.ListReadings.{looks_err}
-use Rattle.table_ledger.proofs.TryLemmas.{looks_refused}
 
 -- the line of a stored line, with a row of a record
 abbrev pub line_with : StoredLine → NamedRow → Line
@@ -63,14 +57,6 @@ line_found period stored tables found is same finds =
     (sym same)
     ∙ ap (option_map (line_with stored)) finds
     ∙ sym (named_first (line_with stored) stored.name (get tables.records stored.name))
-
--- The last look is refused, with any error.
-pub look_refused : {A B : Type 0} {old middle new : State} {Known : Tables → Type 0}
-    {Answers : Tables → A → Type 0} {Others : Tables → B → Type 0} {error other : StoreError}
-    → Saw old middle Known → Looks {A = B} (Err error) middle new Others
-    → Looks {A = A} (Err other) old new Answers
-look_refused {B = B} {Others = Others} saw looks =
-    looks_refused saw (looks_err {A = B} {B = B} {Answers = Others} {Others = Others} looks)
 
 -- The lines that are read after one more stored line.
 pub line_more : (period : ℕ) (records : RecordTable) (stored : List StoredLine) (at : ℕ)

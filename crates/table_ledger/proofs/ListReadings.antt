@@ -1,6 +1,6 @@
 -- A list that is read is answered with no event, and the ledger stays ready.
 use Rattle.std.proofs.Common.{◌≡◌, ◌∙◌, Bool, true, false, ℕ, [], Result, Ok, Err, refl, sym, ap}
-use Rattle.std.specs.Prelude.{if◌then◌else◌}
+use Rattle.std.specs.Prelude.{IsErr, if◌then◌else◌}
 use Rattle.tree_tables.specs.States.{State}
 use Rattle.sqlite_trees.specs.declared.error.StoreError.{StoreError}
 use Rattle.book_model.specs.declared.fault.LedgerFault.{LedgerFault}
@@ -15,41 +15,34 @@ use Rattle.table_laws.proofs.ReadableLemmas.{calls_read}
 use Rattle.tree_tables.specs.Steps.{Looks}
 use Rattle.table_ledger.specs.Commits.{Saw}
 use Rattle.table_ledger.specs.Ready.{Remembers}
-use Rattle.table_ledger.specs.Summaries.{ruled_in}
+use Rattle.book_core.specs.OfficeRulings.{ruled_in}
 use Rattle.table_ledger.specs.Attempts.{Attempts}
 use Rattle.table_ledger.specs.declared.summary.Summary.{Summary}
+use Rattle.table_ledger.proofs.Refusals.{looks_failed}
 use Rattle.table_ledger.proofs.Remembered.{rulings_are}
-use Rattle.table_ledger.proofs.TryLemmas.{saw_none, try_answered, try_refused}
+use Rattle.table_ledger.proofs.TryLemmas.{saw_none, tries_err, try_answered, try_refused}
 
--- a look that is refused is refused with any error
-pub looks_err : {A B : Type 0} {old new : State} {Answers : Tables → A → Type 0}
-    {Others : Tables → B → Type 0} {error other : StoreError} → Looks {A = A} (Err error) old new Answers
-    → Looks {A = B} (Err other) old new Others
-looks_err looks = record {
-  survives = looks.survives;
-  found = λ clean. tt;
-  refused = looks.refused;
-}
-
--- The first look is refused, with any error.
-pub first_refused : {V A B : Type 0} (view : V → A) (naming : Naming) (summary : Summary)
-    (outcome : Book → Outcome A) {old new : State} {Answers : Tables → B → Type 0}
-    {error other : StoreError} → Looks {A = B} (Err error) old new Answers
-    → Attempts view naming summary summary old new outcome (Err other)
-first_refused {B = B} view naming summary outcome {Answers = Answers} looks =
-    try_refused view naming summary outcome {B = B} {Answers = Answers} saw_none
-    (looks_err {A = B} {B = B} {Answers = Answers} {Others = Answers} looks)
-
--- A look after others is refused, with any error.
-pub later_refused : {V A B : Type 0} (view : V → A) (naming : Naming) (summary : Summary)
-    (outcome : Book → Outcome A) {old middle new : State} {Known : Tables → Type 0}
-    {Answers : Tables → B → Type 0} {error other : StoreError} → Saw old middle Known
+-- A look after others is refused: the call answers an error.
+pub later_refused : {V A B : Type 0} {view : V → A} {naming : Naming} {summary : Summary}
+    {outcome : Book → Outcome A} {old middle new : State} {Known : Tables → Type 0}
+    {Answers : Tables → B → Type 0} {error : StoreError}
+    (tried : Result (Result V LedgerFault) StoreError) → IsErr tried → Saw old middle Known
     → Looks {A = B} (Err error) middle new Answers
-    → Attempts view naming summary summary old new outcome (Err other)
-later_refused {B = B} view naming summary outcome {Answers = Answers} saw looks =
+    → Attempts view naming summary summary old new outcome tried
+later_refused {B = B} {view = view} {naming = naming} {summary = summary} {outcome = outcome} {Answers = Answers} tried failed saw looks =
+    tries_err view naming summary outcome tried failed (λ error.
     try_refused view naming summary outcome {B = B} {Answers = Answers} saw
-    (looks_err {A = B} {B = B} {Answers = Answers} {Others = Answers} looks)
+    (looks_failed {Answers = Answers} (Err error) refl looks))
 
+-- The first look is refused: the call answers an error.
+pub first_refused : {V A B : Type 0} {view : V → A} {naming : Naming} {summary : Summary}
+    {outcome : Book → Outcome A} {old new : State} {Answers : Tables → B → Type 0}
+    {error : StoreError} (tried : Result (Result V LedgerFault) StoreError) → IsErr tried
+    → Looks {A = B} (Err error) old new Answers
+    → Attempts view naming summary summary old new outcome tried
+first_refused tried failed looks = later_refused tried failed saw_none looks
+
+-- a list that was read makes no event
 -- a list that was read makes no event
 read_makes : {V A : Type 0} (view : V → A) (outcome : Outcome A) (said : Result A LedgerFault)
     (value : V) → outcome ≡ no_event said → said ≡ Ok (view value) → Makes view outcome (Ok value) []
@@ -74,7 +67,7 @@ list_read {view = view} {naming = naming} {summary = summary} {outcome = outcome
 
 -- whether there is a period, by what is remembered
 answer_is : {A : Type 0} {naming : Naming} {summary : Summary} (number : ℕ) (list : A)
-    (found : Bool) (book : Book) → is_period number (ruled_in summary) ≡ found
+    (found : Bool) (book : Book) → is_period number (ruled_in summary.rulings) ≡ found
     → IsReadable naming book → Remembers summary book
     → of_period number book.rulings list ≡ (if found then Ok list else Err NoSuchPeriod)
 answer_is number list found book is whole remembers =
@@ -86,7 +79,7 @@ module _ {V A : Type 0} {view : V → A} {naming : Naming} {summary : Summary}
     (law : (book : Book) → IsReadable naming book
     → outcome book ≡ no_event (of_period number book.rulings (read (tables_of naming book)))) where
   -- A period that does not exist is answered so.
-  pub no_period : {state : State} → is_period number (ruled_in summary) ≡ false
+  pub no_period : {state : State} → is_period number (ruled_in summary.rulings) ≡ false
       → Attempts view naming summary summary state state outcome (Ok (Err NoSuchPeriod))
   no_period absent = try_answered view naming summary outcome saw_none (record { stored = refl; served = refl })
       (λ book ready known. (
@@ -98,7 +91,7 @@ module _ {V A : Type 0} {view : V → A} {naming : Naming} {summary : Summary}
 
   -- A list of a period that exists.
   pub period_read : {old new : State} {Known : Tables → Type 0} (value : V)
-      → is_period number (ruled_in summary) ≡ true → Saw old new Known
+      → is_period number (ruled_in summary.rulings) ≡ true → Saw old new Known
       → ((tables : Tables) → Known tables → read tables ≡ view value)
       → Attempts view naming summary summary old new outcome (Ok (Ok value))
   period_read value there saw says =

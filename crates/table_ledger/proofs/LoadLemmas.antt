@@ -2,14 +2,14 @@
 use Rattle.std.proofs.Common.{◌≡◌, ◌∙◌, ℕ, ℤ, zero, suc, List, [], ◌∷◌, ◌++◌, ap, arith, map, refl}
 use Rattle.std.proofs.Common.{subst, sym, None, Option, Some, slice_index_or, take, ◌<◌, inl, inr}
 use Rattle.std.proofs.Common.{Err, Ok, Result, false, length}
-use Rattle.std.specs.Prelude.{All, IfErr, IfOk, IsErrAnd, ◌==◌, if◌then◌else◌}
+use Rattle.std.specs.Prelude.{All, IfErr, IfOk, ◌==◌, if◌then◌else◌}
 use Rattle.std.specs.FinMap.{entries}
 use Rattle.std.specs.List.{AllZip, cons_option, filter_map}
 use Rattle.std.specs.Option.{option_map}
 use Rattle.std.proofs.lemmas.List.Elements.{All-cons}
-use Rattle.std.proofs.lemmas.Result.{err_from_is_err_and}
 use Rattle.tree_tables.specs.States.{State, HasCleanDisk, Survives}
 use Rattle.sqlite_trees.specs.declared.error.StoreError.{StoreError}
+use Rattle.book_model.specs.Words.{no_rulings}
 use Rattle.book_model.specs.Words.{IsDay, Book, Naming, Rulings, AcceptedTerms, second_rule}
 use Rattle.book_model.specs.declared.fault.LedgerFault.{LedgerFault}
 use Rattle.book_model.specs.declared.fault.LedgerFault.TheVariants.{NotBooks, Store}
@@ -26,19 +26,19 @@ use Rattle.tree_tables.specs.Stored.{book_entry, close_entry, tariff_of}
 use Rattle.tree_tables.specs.declared.book_row.StoredBook.{StoredBook as Stored}
 use Rattle.tree_tables.specs.declared.closed_rows.Close.{Close}
 use Rattle.tree_tables.specs.declared.tariff_rows.StoredTariff.{StoredTariff}
-use Rattle.table_ledger.specs.Commits.{Stores, Saw}
+use Rattle.table_ledger.specs.Commits.{Stores}
 use Rattle.table_ledger.specs.Ready.{Remembers}
 use Rattle.table_ledger.specs.Loaded.{AreRowsOf, IsCloseDay, IsLoaded, IsStoreFault, Reads, SummarizesTables}
 use Rattle.table_ledger.specs.Loaded.{SaysRule, SaysTariff, SummarizesRows}
 use Rattle.table_ledger.specs.LedgerState.{seen_on}
 use Rattle.table_ledger.specs.ReadyBooks.{LeavesTheLast}
+use Rattle.book_core.specs.OfficeRulings.{ruled_in}
 use Rattle.table_ledger.specs.declared.summary.Summary.{Summary}
 use Rattle.table_ledger.proofs.OpenLemmas.{opened}
 use Rattle.table_ledger.proofs.LastChoice.{last_counts}
 use Rattle.table_ledger.proofs.RowsTaken.{index_again, rows_of}
 use Rattle.table_ledger.proofs.SurvivalLemmas.{survives_then}
 use Rattle.table_ledger.proofs.UnchangedStores.{holds_on, rest_on}
-use Rattle.table_ledger.proofs.TryLemmas.{looks_refused}
 
 -- one row more is read
 pub zip_next : {A B : Type 0} (Says : A → B → Type 0) (rows : List A) (at : ℕ) (values : List B)
@@ -106,16 +106,19 @@ pub recalled : (summary : Summary) (tables : Tables) (row : Stored) (tariffs : L
     → map tariff_of tariffs ≡ entries tables.tariffs → map close_entry closes ≡ entries tables.closes
     → choices ≡ last_number tables.choices → SummarizesTables summary tables
 recalled summary tables row tariffs closes choices shows book texts days last =
-    let ruled = sym (tariffs_said tariffs summary.tariffs.items shows.tariffs)
+    let ruled = sym (tariffs_said tariffs (ruled_in summary.rulings).tariffs shows.tariffs)
     ∙ ap (filter_map tariff_read) texts in
-    let closed = sym (days_had closes summary.closes.items shows.closes)
+    let closed = sym (days_had closes (ruled_in summary.rulings).closes shows.closes)
     ∙ ap (map (λ (close : ℕ × ℤ). close.1)) days in
+    let adopted = said_rule row (length (ruled_in summary.rulings).closes) (ruled_in summary.rulings).adopted
+    shows.adopted ∙ ap adopted_read book in
     record {
-      tariffs = ruled;
-      closes = closed;
+      rulings = λ i. record no_rulings {
+        tariffs = ruled i;
+        closes = closed i;
+        adopted = adopted i;
+      };
       choices = shows.made ∙ last;
-      adopted = said_rule row (length summary.closes.items) summary.adopted shows.adopted
-          ∙ ap adopted_read book;
       held = shows.held ∙ ap (λ (kept : BookRow). kept.held) book;
       total = shows.total ∙ ap (λ (kept : BookRow). kept.amount) book;
     }
@@ -148,10 +151,8 @@ remembered naming book summary calls recalls =
     let whole = calls_read naming book calls in
     let back = ap (λ (book : Book). book.rulings) (book_follows naming book whole) in
     record {
-      tariffs = recalls.tariffs ∙ ap (λ (rulings : Rulings). rulings.tariffs) back;
-      closes = recalls.closes ∙ ap (λ (rulings : Rulings). rulings.closes) back;
+      rulings = recalls.rulings ∙ ap (λ (rulings : Rulings). record rulings { choices = [] }) back;
       choices = recalls.choices ∙ last_counts naming book whole;
-      adopted = recalls.adopted ∙ ap (λ (rulings : Rulings). rulings.adopted) back;
       held = recalls.held;
       total = recalls.total;
     }
@@ -179,17 +180,6 @@ reads_refused old middle new error fault looks survives is = record {
   read = λ clean. tt;
   refused = λ clean tables holds. is;
 }
-
--- a query after looks is refused, and its error passed on
-pub refused_at : {A B : Type 0} {old middle new : State} {Known : Tables → Type 0}
-    {Answers : Tables → A → Type 0} {Others : Tables → B → Type 0} {error : StoreError}
-    (Q : StoreError → Type 0) (result : Result A StoreError) → IsErrAnd result Q → Saw old middle Known
-    → Looks {A = B} (Err error) middle new Others → Looks result old new Answers
-refused_at {A} {B} {old} {middle} {new} {Known} {Answers} {Others} {error} Q result is saw looks =
-    let refused = err_from_is_err_and result is in
-    let looked : Looks {A = A} (Err error) old new Answers = looks_refused saw looks in
-    subst (λ (said : Result A StoreError). Looks said old new Answers) (sym refused.1)
-    (record { survives = looked.survives; found = λ clean. tt; refused = looked.refused })
 
 -- the row of the book is never missing
 pub never_missed : (found : Option Stored) (book : BookRow) → option_map book_entry found ≡ Some book

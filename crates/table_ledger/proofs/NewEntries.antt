@@ -1,5 +1,5 @@
 -- Writing a new record makes the tables that it is to make.
-use Rattle.std.proofs.Common.{◌≡◌, ◌∙◌, ℕ, ◌+◌, List, Bool, true, false, length, refl, sym, ap}
+use Rattle.std.proofs.Common.{◌≡◌, ◌∙◌, ℕ, ◌+◌, List, Bool, true, false, refl, sym, ap}
 use Rattle.std.proofs.Common.{subst, Result, Option, Some, None, cond, true≢false}
 use Rattle.std.specs.List.{last_or}
 use Rattle.std.specs.FinMap.{get, get-insert, insert}
@@ -8,6 +8,7 @@ use Rattle.std.specs.declared.cmp.Ordering.{Ordering}
 use Rattle.std.specs.declared.cmp.Ordering.TheVariants.{Less, Equal, Greater}
 use Rattle.std.proofs.lemmas.Cmp.{nat_list_cmp_total}
 use Rattle.std.proofs.lemmas.Map.Lookups.{exact_bytes}
+use Rattle.book_model.specs.Words.{open_by}
 use Rattle.book_model.specs.Words.{by_bytes}
 use Rattle.tree_tables.specs.States.{State}
 use Rattle.sqlite_trees.specs.declared.error.StoreError.{StoreError}
@@ -25,7 +26,7 @@ use Rattle.table_ledger.specs.Commits.{CommitsOne, IsDone}
 use Rattle.table_ledger.specs.DayWrites.{WritesDayRows}
 use Rattle.table_ledger.specs.RecordWrites.{AreRemembered, write_days, write_line, write_mark}
 use Rattle.table_ledger.specs.NewRecords.{with_new_record, with_record_effects}
-use Rattle.table_ledger.specs.Summaries.{ruled_in}
+use Rattle.book_core.specs.OfficeRulings.{ruled_in}
 use Rattle.table_ledger.specs.declared.day_write.DayWrite.{DayWrite}
 use Rattle.table_ledger.specs.declared.summary.Summary.{Summary}
 use Rattle.table_ledger.proofs.SurvivalLemmas.{survives_so}
@@ -49,10 +50,10 @@ kept_by row held amount period effects day tables =
 -- what is written makes the tables with the record and its effects
 pub entry_kept : (summary : Summary) (name bytes identity behind : List ℕ) (priced : Priced)
     (period : ℕ) (effects : Effects) (day : DayWrite) (tables : Tables)
-    → identity ≡ identity_by (ruled_in summary) bytes → behind ≡ data_of bytes
-    → period ≡ length summary.closes.items + 1 → AreRemembered summary tables
-    → effects ≡ effects_of (view_with (last_close (ruled_in summary)) tables.choices
-    (rows_with (identity_by (ruled_in summary) bytes) tables.records)) name priced
+    → identity ≡ identity_by (ruled_in summary.rulings) bytes → behind ≡ data_of bytes
+    → period ≡ open_by (ruled_in summary.rulings) → AreRemembered summary tables
+    → effects ≡ effects_of (view_with (last_close (ruled_in summary.rulings)) tables.choices
+    (rows_with (identity_by (ruled_in summary.rulings) bytes) tables.records)) name priced
     → WritesDayRows period effects.day tables day
     → kept_by (
       name,
@@ -89,7 +90,7 @@ entry_kept summary name bytes identity behind priced period effects day tables o
         amount = tables.book.amount + priced.amount;
       };
       records = insert marked name (record {
-        identity = identity_by (ruled_in summary) bytes;
+        identity = identity_by (ruled_in summary.rulings) bytes;
         data_bytes = data_of bytes;
         priced = priced;
         charged = effects.charged;
@@ -101,7 +102,7 @@ entry_kept summary name bytes identity behind priced period effects day tables o
     ∙ ap (λ effects. with_record_effects summary name bytes priced effects tables)
     (planned
     ∙ ap (λ closes. effects_of (view_with (last_or None closes) tables.choices
-    (rows_with (identity_by (ruled_in summary) bytes) tables.records)) name priced)
+    (rows_with (identity_by (ruled_in summary.rulings) bytes) tables.records)) name priced)
     (sym remembered.closes))
 
 -- a commit may be described in other words

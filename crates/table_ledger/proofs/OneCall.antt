@@ -166,9 +166,9 @@ module _ {V A : Type 0} (view : V → A) (old new : LedgerState) (outcome : Book
   }
 
 -- A call of a ledger that is to be reopened leaves it alone.
-pub call_reopen : {V A : Type 0} (view : V → A) (shelf : LedgerState) (outcome : Book → Outcome A)
+pub call_reopen : {V A : Type 0} {view : V → A} {outcome : Book → Outcome A} (shelf : LedgerState)
     → shelf.must_reopen ≡ true → IsCall view (seen_on shelf) (seen_on shelf) (Err Reopen) outcome
-call_reopen view shelf outcome closed = record {
+call_reopen shelf closed = record {
   work = record {
     naming = refl;
     honest = λ clean. clean;

@@ -13,7 +13,7 @@ use Rattle.table_laws.proofs.CallsLemmas.{calls_stay}
 use Rattle.table_ledger.specs.Commits.{Stores}
 use Rattle.table_ledger.specs.Ready.{IsStoredIn, IsReadyAt, Remembers}
 use Rattle.table_ledger.specs.LedgerState.{seen_on}
-use Rattle.table_ledger.specs.Summaries.{ruled_in}
+use Rattle.book_core.specs.OfficeRulings.{ruled_in}
 use Rattle.table_ledger.specs.ReadyBooks.{book_of_ready, LeavesTheLast}
 use Rattle.table_ledger.specs.declared.summary.Summary.{Summary}
 
@@ -59,7 +59,7 @@ new_follow naming =
 -- new books are open, when nothing is remembered
 pub created : (naming : Naming) (state : State) (summary : Summary)
     → LeavesTheLast state.view state.may_leave → HasCleanDisk state → Stores state.view new_tables
-    → ruled_in summary ≡ no_rulings → summary.choices ≡ 0 → summary.held ≡ 0 → summary.total ≡ 0
+    → ruled_in summary.rulings ≡ no_rulings → summary.choices ≡ 0 → summary.held ≡ 0 → summary.total ≡ 0
     → IsOpenAt naming new_book (seen_on (record {
       naming = naming;
       state = state;
@@ -70,10 +70,8 @@ created naming state summary last clean keeping none choices held total =
     opened naming state summary new_book last clean (calls_stay.start naming)
     (subst (Stores state.view) (new_follow naming) keeping)
     (record {
-      tariffs = ap (λ ruled. ruled.tariffs) none;
-      closes = ap (λ ruled. ruled.closes) none;
+      rulings = none;
       choices = choices;
-      adopted = ap (λ ruled. ruled.adopted) none;
       held = held ∙ ap (λ (tables : Tables). tables.book.held) (new_follow naming);
       total = total ∙ ap (λ (tables : Tables). tables.book.amount) (new_follow naming);
     })

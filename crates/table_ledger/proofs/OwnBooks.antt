@@ -2,7 +2,7 @@
 use Rattle.std.proofs.Common.{◌≡◌, ◌∙◌, ◌+◌, ◌≤◌, ◌<◌, ◌^◌, ℕ, ℤ, suc, List, [], ◌∷◌, Option, Some}
 use Rattle.std.proofs.Common.{Result, Ok, Err, IsTrue, ap, arith, false, inl, inr, length, map, pos}
 use Rattle.std.proofs.Common.{refl, rules, subst, sym, true, true≢false}
-use Rattle.std.specs.Prelude.{◌⊎◌, All, int_lt, ◌≤ℤ◌, ◌+ℤ◌}
+use Rattle.std.specs.Prelude.{◌⊎◌, All, IsErrAnd, int_lt, ◌≤ℤ◌, ◌+ℤ◌}
 use Rattle.std.specs.List.{AllByRecursion, list_all}
 use Rattle.std.specs.Str.{IsUtf8}
 use Rattle.std.proofs.lemmas.Int.{ints}
@@ -28,26 +28,57 @@ use Rattle.tree_tables.specs.Columns.{closed_columns, tariff_columns, tariff_val
 use Rattle.tree_tables.specs.Fits.{CloseFits, HasText, TariffFits}
 use Rattle.tree_tables.specs.Holds.{Holds}
 use Rattle.tree_tables.specs.States.{State, HasCleanDisk, Survives}
-use Rattle.tree_tables.specs.Steps.{IsCaused, Looks}
+use Rattle.tree_tables.specs.Steps.{FailsByStore, IsCaused, Looks}
 use Rattle.table_ledger.specs.Commits.{IsAtRest, Saw}
 use Rattle.table_ledger.specs.Loaded.{CanBeListed, HasTexts, IsOpenCause, IsLoaded, ReadsItsOwn}
+use Rattle.table_ledger.specs.Ready.{IsReadyAt}
+use Rattle.table_ledger.specs.Attempts.{TriesItsOwn}
 use Rattle.table_ledger.specs.declared.summary.Summary.{Summary}
 use Rattle.table_ledger.proofs.LastChoice.{last_counts}
 use Rattle.table_ledger.proofs.UnchangedStores.{holds_on}
 use Rattle.table_ledger.proofs.SurvivalLemmas.{clean_before, survives_then}
 
--- what fails after looks at tables has a cause in the store as it was before them
-pub fails_after_look : {old middle new : State} {Known When : Tables → Type 0} (error : StoreError)
-    → Saw old middle Known → Survives middle new (λ trees. ⊥)
+-- a cause is one of the error that is passed on
+pub cause_passed : {A : Type 0} {When : Tables → Type 0} (old new : State) (error : StoreError)
+    (result : Result A StoreError) → IsErrAnd result (λ other. other ≡ error)
+    → (HasCleanDisk new → (tables : Tables) → Holds old.view.trees tables → When tables
+    → IsCaused old new error)
+    → FailsByStore result old new When
+cause_passed {When = When} old new error (Err other) is cause =
+    subst (λ (error : StoreError). HasCleanDisk new → (tables : Tables)
+    → Holds old.view.trees tables → When tables → IsCaused old new error) (sym is) cause
+cause_passed old new error (Ok value) is cause = absurd is
+
+-- a look that fails after others has a cause in the store as it was before them
+pub fails_after_look : {A B : Type 0} {old middle new : State} {Known When : Tables → Type 0}
+    {Answers : Tables → B → Type 0} {error : StoreError} (result : Result A StoreError)
+    → IsErrAnd result (λ other. other ≡ error) → Saw old middle Known
+    → Looks {A = B} (Err error) middle new Answers
     → (HasCleanDisk new → (tables : Tables) → Holds middle.view.trees tables → When tables
     → IsCaused middle new error)
-    → HasCleanDisk new → (tables : Tables) → Holds old.view.trees tables → When tables
-    → IsCaused old new error
-fails_after_look {old} {middle} {new} error saw survives cause clean tables holds when =
-    let seen = saw.seen (clean_before survives clean) in
+    → FailsByStore result old new When
+fails_after_look {old = old} {middle = middle} {new = new} {error = error} result is saw looks cause =
+    cause_passed old new error result is (λ clean tables holds when.
+    let seen = saw.seen (clean_before looks.survives clean) in
     caused_after old.view middle.view old.faults middle.faults new.faults error seen.same
     saw.survives.counts
-    (cause clean tables (holds_on old.view middle.view tables seen.same holds) when)
+    (cause clean tables (holds_on old.view middle.view tables seen.same holds) when))
+
+-- so does the look of a list that is tried
+pub own_failed : {V B : Type 0} {naming : Naming} {summary : Summary} {old middle new : State}
+    {Known When : Tables → Type 0} {Answers : Tables → B → Type 0} {error : StoreError}
+    (result : Result (Result V LedgerFault) StoreError)
+    → IsErrAnd result (λ other. other ≡ error) → Saw old middle Known
+    → Looks {A = B} (Err error) middle new Answers
+    → (HasCleanDisk new → (tables : Tables) → Holds middle.view.trees tables → When tables
+    → IsCaused middle new error)
+    → (HasCleanDisk new → (book : Book) → IsReadyAt naming summary old.view book
+    → When (tables_of naming book))
+    → TriesItsOwn naming summary old new result
+own_failed {V = V} {naming = naming} {When = When} {Answers = Answers} (Err other) is saw looks cause when =
+    λ clean book ready. fails_after_look {A = Result V LedgerFault} {When = When} {Answers = Answers} (Err other) is saw looks
+    cause clean (tables_of naming book) ready.kept.holds (when clean book ready)
+own_failed (Ok answer) is saw looks cause when = absurd is
 
 -- a tariff's text that consists of characters
 text_fits : (found : Option (List ℕ)) (text : List ℕ) → found ≡ Some text → IsUtf8 text

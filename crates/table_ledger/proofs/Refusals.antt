@@ -10,9 +10,8 @@ use Rattle.table_ledger.specs.Commits.{Saw, CommitsOne}
 use Rattle.table_ledger.specs.NewBooks.{MakesNew}
 use Rattle.tree_rows.proofs.Calls.{kept_after_look}
 use Rattle.tree_tables.proofs.Looking.{kept_after}
-use Rattle.table_ledger.proofs.UnchangedStores.{stands_kept}
 use Rattle.table_ledger.proofs.StepLemmas.{makes_none}
-use Rattle.table_ledger.proofs.SurvivalLemmas.{clean_before, survives_so, survives_then}
+use Rattle.table_ledger.proofs.SurvivalLemmas.{clean_before, survives_then}
 use Rattle.table_ledger.proofs.TryLemmas.{looks_known, looks_stopped}
 
 -- what is said of an answer says nothing of an error
@@ -82,16 +81,6 @@ pub does_unseen : {A U : Type 0} {old new : State} {When : Tables → Type 0}
 does_unseen (Err other) failed looks =
     record { survives = looks.survives; done = λ clean. tt; refused = looks.refused }
 does_unseen (Ok value) failed looks = absurd (true≢false (sym failed))
-
--- steps that are refused, before their commit
-pub commit_unmade : {T U : Type 0} {old new : State} {When : Tables → Type 0}
-    {change : Tables → Tables} {error : StoreError} (result : Result U StoreError) → IsErr result
-    → Does {T = T} (Err error) old new When change → CommitsOne result old new When change
-commit_unmade (Err other) failed does = record {
-  survives = survives_so does.survives (λ clean trees none. absurd none);
-  done = λ clean rest tables holds when. stands_kept (does.refused clean);
-}
-commit_unmade (Ok value) failed does = absurd (true≢false (sym failed))
 
 -- a look that is refused after others
 pub looks_failed_next : {A B : Type 0} {old middle new : State} {Known : Tables → Type 0}

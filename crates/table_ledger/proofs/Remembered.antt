@@ -1,16 +1,31 @@
 -- What a ledger remembers of the rulings of its book: everything but which records were chosen.
-use Rattle.std.proofs.Common.{◌≡◌, sym}
-use Rattle.book_model.specs.Words.{Book}
+use Rattle.std.proofs.Common.{◌≡◌, ◌∙◌, sym, ap}
+use Rattle.book_model.specs.Words.{Book, Rulings}
+use Rattle.book_core.specs.OfficeRulings.{ruled_in}
 use Rattle.table_ledger.specs.Ready.{Remembers}
-use Rattle.table_ledger.specs.Summaries.{ruled_in}
 use Rattle.table_ledger.specs.declared.summary.Summary.{Summary}
 
--- the rulings of the book are what is remembered, with its choices
-pub rulings_are : {summary : Summary} {book : Book} → Remembers summary book
-    → book.rulings ≡ record (ruled_in summary) { choices = book.rulings.choices }
-rulings_are {book = book} remembers = λ i. record {
-  tariffs = sym remembers.tariffs i;
-  closes = sym remembers.closes i;
-  choices = book.rulings.choices;
-  adopted = sym remembers.adopted i;
+module _ {summary : Summary} {book : Book} (remembers : Remembers summary book) where
+  -- the rulings of the book are what is remembered, with its choices
+  pub rulings_are :
+      book.rulings ≡ record (ruled_in summary.rulings) { choices = book.rulings.choices }
+  rulings_are =
+      ap (λ (rulings : Rulings). record rulings { choices = book.rulings.choices })
+      (sym remembers.rulings)
+
+  pub tariffs_are : (ruled_in summary.rulings).tariffs ≡ book.rulings.tariffs
+  tariffs_are = ap (λ (rulings : Rulings). rulings.tariffs) remembers.rulings
+
+  pub closes_are : (ruled_in summary.rulings).closes ≡ book.rulings.closes
+  closes_are = ap (λ (rulings : Rulings). rulings.closes) remembers.rulings
+
+-- a summary that says the same remembers the same
+pub remembers_same : {was is : Summary} → ruled_in is.rulings ≡ ruled_in was.rulings
+    → is.choices ≡ was.choices → is.held ≡ was.held → is.total ≡ was.total → (book : Book)
+    → Remembers was book → Remembers is book
+remembers_same rulings choices held total book remembers = record {
+  rulings = rulings ∙ remembers.rulings;
+  choices = choices ∙ remembers.choices;
+  held = held ∙ remembers.held;
+  total = total ∙ remembers.total;
 }

@@ -1,18 +1,19 @@
 -- Steps inside one transaction, one after the other, and their commit.
-use Rattle.std.proofs.Common.{◌≡◌, ◌∙◌, Result, Ok, Err, refl, sym, ap, subst}
-use Rattle.std.specs.Prelude.{OnErr, OnOk}
+use Rattle.std.proofs.Common.{◌≡◌, ◌∙◌, Result, Ok, Err, refl, sym, ap, subst, true≢false}
+use Rattle.std.specs.Prelude.{IsErr, OnErr, OnOk}
 use Rattle.sqlite_trees.specs.Tree.{Trees}
 use Rattle.sqlite_trees.specs.View.{View, Commits, OnlyWrites}
 use Rattle.sqlite_trees.specs.declared.error.StoreError.{StoreError}
+use Rattle.sqlite_trees.specs.declared.store.Store.{Ghosts}
 use Rattle.table_model.specs.TablesAfter.{new_tables}
 use Rattle.table_model.specs.Tables.{Tables}
 use Rattle.tree_rows.specs.Rows.{IsUnchanged}
 use Rattle.tree_tables.specs.Holds.{Holds}
-use Rattle.tree_tables.specs.States.{State, HasCleanDisk, Survives}
+use Rattle.tree_tables.specs.States.{State, HasCleanDisk, Survives, state}
 use Rattle.tree_tables.specs.Steps.{Always, Changes, Does, HasNoRows, IsUndone, Makes, MayCommit}
 use Rattle.tree_tables.specs.Steps.{KeepsLastCommit}
 use Rattle.tree_tables.proofs.Looking.{kept_after}
-use Rattle.table_ledger.specs.Commits.{IsAtRest, CommitsOne, IsDone, Stores, Saw}
+use Rattle.table_ledger.specs.Commits.{CommitsOne, CommitsWritten, IsAtRest, IsDone, Saw, Stores}
 use Rattle.table_ledger.specs.NewBooks.{MakesNew}
 use Rattle.table_ledger.proofs.UnchangedStores.{rest_on, stands_kept, stands_then, trees_same}
 use Rattle.table_ledger.proofs.SurvivalLemmas.{clean_before, survives_both, survives_none}
@@ -50,6 +51,13 @@ does_then {first = first} {middle = middle} {last = last} (Err error) early late
       kept_after (early.done (clean_before late.survives clean)).only (late.refused clean);
 }
 
+-- two steps, each of any tables
+pub does_both : {T U : Type 0} {first middle last : State} {one other : Tables → Tables} {done : T}
+    {result : Result U StoreError} → Does (Ok done) first middle Always one
+    → Does result middle last Always other
+    → Does result first last Always (λ tables. other (one tables))
+does_both {result = result} early late = does_then result early late (λ tables always. (tt, tt))
+
 -- no step
 pub does_nothing : {T : Type 0} {state : State} {change : Tables → Tables} {done : T}
     → ((tables : Tables) → change tables ≡ tables) → Does (Ok done) state state Always change
@@ -86,15 +94,15 @@ does_so (Err error) does so = record {
 
 -- ---- the commit
 
--- steps that were refused are no commit
-pub commit_unwritten : {T : Type 0} {first last : State} {When : Tables → Type 0}
-    {change : Tables → Tables} {error : StoreError}
-    → Does {T = T} (Err error) first last When change
-    → CommitsOne {T = T} (Err error) first last When change
-commit_unwritten does = record {
+-- steps that were refused are no commit, whichever error is answered
+commit_unwritten : {T U : Type 0} {first last : State} {When : Tables → Type 0}
+    {change : Tables → Tables} {error : StoreError} (result : Result U StoreError) → IsErr result
+    → Does {T = T} (Err error) first last When change → CommitsOne result first last When change
+commit_unwritten (Err other) failed does = record {
   survives = survives_so does.survives (λ clean trees none. absurd none);
   done = λ clean rest tables holds when. stands_kept (does.refused clean);
 }
+commit_unwritten (Ok value) failed does = absurd (true≢false (sym failed))
 
 -- the last commit stays after steps
 stands_only : (old new : View) → OnlyWrites old new → KeepsLastCommit old new
@@ -136,18 +144,31 @@ module _ {T : Type 0} (first middle last : State) (When : Tables → Type 0)
   ended (Err error) committed undone clean rest tables holds when =
       stands_then (stands_only first.view middle.view (steps clean).only) (undone clean).stands
 
-  -- Steps and their commit are one commit.
-  pub one_commit : {U : Type 0} (result : Result U StoreError)
+  -- steps and their commit are one commit
+  steps_commit : {U : Type 0} (result : Result U StoreError)
       → OnOk result (HasCleanDisk last → Commits middle.view last.view)
       → OnErr result (HasCleanDisk last → IsUndone middle.view last.view)
       → CommitsOne result first last When change
-  one_commit result committed undone = record {
+  steps_commit result committed undone = record {
     survives = survives_both does.survives survives (λ clean trees none. absurd none)
         (λ clean trees made tables holds when.
         subst (λ (found : _). Holds found (change tables)) (sym made.whole)
         ((steps clean).made tables holds when));
     done = ended result committed undone;
   }
+
+-- What was written and then committed is one commit; so is nothing, where it was not written.
+pub one_commit : {S T U : Type 0} {ghosts : Ghosts S} {first : State} {middle last : S}
+    {When : Tables → Type 0} {change : Tables → Tables} {result : Result U StoreError}
+    (written : Result T StoreError) → CommitsWritten ghosts written result middle last
+    → Does written first (state ghosts middle) When change
+    → CommitsOne result first (state ghosts last) When change
+one_commit {ghosts = ghosts} {first = first} {middle = middle} {last = last} {When = When} {change = change} {result = result} (Ok done) commits does =
+    steps_commit first (state ghosts middle) (state ghosts last) When change does commits.survives
+    result commits.committed commits.refused
+one_commit {S = S} {ghosts = ghosts} {first = first} {When = When} {change = change} {result = result} (Err error) commits does =
+    subst (λ (store : S). CommitsOne result first (state ghosts store) When change)
+    (sym commits.left.1) (commit_unwritten result commits.left.0 does)
 
 -- ---- new books
 

@@ -1,19 +1,20 @@
 -- A tariff that is tried: what it answers, and what it writes.
-use Rattle.std.proofs.Common.{◌≡◌, ◌≢◌, ◌∙◌, inl, inr, ℕ, List, [], ◌∷◌, ◌++◌, refl, sym, ap, subst}
-use Rattle.std.proofs.Common.{Bool, true, false, cond, Result, Ok, Err, Some, None, length, ◌+◌}
-use Rattle.std.specs.Prelude.{if◌then◌else◌, nat_lt, sum_by, ℤ}
+use Rattle.std.proofs.Common.{◌≡◌, ◌≢◌, ◌∙◌, inl, inr, ℕ, List, [], refl, sym, ap, subst}
+use Rattle.std.proofs.Common.{Bool, true, false, cond, Result, Ok, Err, Some, None}
+use Rattle.std.specs.Prelude.{if◌then◌else◌, nat_lt, sum_by}
 use Rattle.std.specs.List.{list_any}
 use Rattle.sqlite_trees.specs.View.{View}
+use Rattle.book_model.specs.RulingAnswers.{terms_ruled}
+use Rattle.book_model.specs.Words.{open_by}
 use Rattle.book_model.specs.Words.{IsDay, Terms, terms_in, Book, TariffAccepted, put_in_force}
 use Rattle.book_model.specs.Words.{most_cost, open_number, total_of, with_tariff}
 use Rattle.book_model.specs.Words.{tariff_outcome, tariff_event, Naming, has_text, is_effective}
-use Rattle.book_model.specs.Words.{is_later, terms_answer, tariff_answer, Rulings, are_rising}
+use Rattle.book_model.specs.Words.{is_later, terms_answer, tariff_answer, Rulings}
 use Rattle.book_model.specs.declared.answer.Ruled.{Ruled}
 use Rattle.book_model.specs.declared.answer.Ruled.TheVariants.{Done, Already}
 use Rattle.book_model.specs.declared.fault.LedgerFault.{LedgerFault}
 use Rattle.book_model.specs.declared.fault.LedgerFault.TheVariants.{Full}
 use Rattle.book_model.proofs.CallLemmas.{by_tests}
-use Rattle.book_model.proofs.LatestLemmas.{later-before, rising-behind}
 use Rattle.book_core.specs.Repricing.{if_room}
 use Rattle.book_core.specs.Calls.{Makes}
 use Rattle.book_core.proofs.TariffLemmas.{done_by, later_by, other_by}
@@ -32,7 +33,7 @@ use Rattle.tree_rows.proofs.Maps.{not_none}
 use Rattle.tree_rows.proofs.Taking.{some_is}
 use Rattle.table_ledger.specs.Repricing.{CostUnder, CountsRecords}
 use Rattle.table_ledger.specs.Ready.{IsReadyAt, Remembers}
-use Rattle.table_ledger.specs.Summaries.{ruled_in, tariff_ruled}
+use Rattle.book_core.specs.OfficeRulings.{ruled_in}
 use Rattle.table_ledger.specs.Attempts.{LeavesOpen}
 use Rattle.table_ledger.specs.TariffRefusals.{IsNoTariff}
 use Rattle.table_ledger.specs.declared.summary.Summary.{Summary}
@@ -95,22 +96,19 @@ module _ (summary : Summary) (text : List ℕ) (terms : Terms) where
       (is_later terms.effective rulings) much
 
   -- an answer without a look at the records leaves the books open
-  pub tariff_plain : LeavesOpen (tariff_ruled summary text terms)
+  pub tariff_plain : LeavesOpen (terms_ruled (ruled_in summary.rulings) false text terms)
   tariff_plain =
-      plain_by (list_any (has_text text) summary.tariffs.items)
-      (list_any (is_effective terms.effective) summary.tariffs.items)
-      (is_later terms.effective (ruled_in summary)) false
+      plain_by (list_any (has_text text) (ruled_in summary.rulings).tariffs)
+      (list_any (is_effective terms.effective) (ruled_in summary.rulings).tariffs)
+      (is_later terms.effective (ruled_in summary.rulings)) false
 
-  -- a tariff that is Done but for the cost comes after the others
-  pub tariff_rising : tariff_ruled summary text terms ≡ Ok Done
-      → are_rising (summary.tariffs.items ++ record { text = Some text; terms = terms } ∷ []) ≡ true
-  tariff_rising done =
-      rising-behind summary.tariffs.items (record { text = Some text; terms = terms })
-      summary.rising
-      (later-before terms.effective (ruled_in summary)
-      (later_by (list_any (has_text text) summary.tariffs.items)
-      (list_any (is_effective terms.effective) summary.tariffs.items)
-      (is_later terms.effective (ruled_in summary)) done))
+  -- a tariff that is Done but for the cost is later than all that was ruled
+  pub tariff_later : terms_ruled (ruled_in summary.rulings) false text terms ≡ Ok Done
+      → is_later terms.effective (ruled_in summary.rulings) ≡ true
+  tariff_later =
+      later_by (list_any (has_text text) (ruled_in summary.rulings).tariffs)
+      (list_any (is_effective terms.effective) (ruled_in summary.rulings).tariffs)
+      (is_later terms.effective (ruled_in summary.rulings))
 
   module _ (said : terms_in text ≡ Ok terms) (naming : Naming) (view : View) (book : Book)
       (ready : IsReadyAt naming summary view book) where
@@ -127,7 +125,7 @@ module _ (summary : Summary) (text : List ℕ) (terms : Terms) where
     readable = calls_read naming book ready.kept.calls
 
     -- the rulings that are remembered, with the choices
-    pub same : record (ruled_in summary) { choices = book.rulings.choices } ≡ book.rulings
+    pub same : record (ruled_in summary.rulings) { choices = book.rulings.choices } ≡ book.rulings
     same = sym (rulings_are ready.remembers)
 
     -- the answer to the text
@@ -138,7 +136,7 @@ module _ (summary : Summary) (text : List ℕ) (terms : Terms) where
 
     -- an answer that is not Done, given without a look at the records
     pub tariff_other : (answer : Result Ruled LedgerFault)
-        → tariff_ruled summary text terms ≡ answer → answer ≢ Ok Done
+        → terms_ruled (ruled_in summary.rulings) false text terms ≡ answer → answer ≢ Ok Done
         → (tariff_outcome text book).answer ≡ answer
     tariff_other answer is other =
         let without : answer_by book.rulings false ≡ answer =
@@ -149,7 +147,7 @@ module _ (summary : Summary) (text : List ℕ) (terms : Terms) where
         ∙ without
 
     -- else the cost decides
-    decided : tariff_ruled summary text terms ≡ Ok Done → (found : Bool)
+    decided : terms_ruled (ruled_in summary.rulings) false text terms ≡ Ok Done → (found : Bool)
         → much ≡ found
         → (tariff_outcome text book).answer ≡ (if found then Err Full else Ok Done)
     decided done found is =
@@ -160,13 +158,13 @@ module _ (summary : Summary) (text : List ℕ) (terms : Terms) where
         ∙ ap (λ (found : Bool). if found then Err Full else Ok Done) is
 
     -- so it is Full if there is no room
-    pub tariff_full : tariff_ruled summary text terms ≡ Ok Done
+    pub tariff_full : terms_ruled (ruled_in summary.rulings) false text terms ≡ Ok Done
         → CostUnder terms (tables_of naming book) None
         → (tariff_outcome text book).answer ≡ Err Full
     tariff_full done known = decided done true (no_room cost known.cost)
 
     -- and Done if there is
-    pub tariff_done : tariff_ruled summary text terms ≡ Ok Done → (amount : ℕ)
+    pub tariff_done : terms_ruled (ruled_in summary.rulings) false text terms ≡ Ok Done → (amount : ℕ)
         → CostUnder terms (tables_of naming book) (Some amount)
         → (tariff_outcome text book).answer ≡ Ok Done
     tariff_done done amount known = decided done false (room cost amount known.cost).0
@@ -181,18 +179,14 @@ module _ (summary : Summary) (text : List ℕ) (terms : Terms) where
         ≡ put_tariff (open_number book) (Some text) terms (tables_of naming book)
     tables_follow done = terms_follow.done naming book text terms readable done
 
-    module _ (done : tariff_ruled summary text terms ≡ Ok Done) (amount : ℕ)
+    module _ (done : terms_ruled (ruled_in summary.rulings) false text terms ≡ Ok Done) (amount : ℕ)
         (known : CostUnder terms (tables_of naming book) (Some amount)) where
       pub answer : terms_answer book text terms ≡ Ok Done
       answer = terms_told ∙ tariff_done done amount known
 
       -- the day is later than all that was ruled
       later : is_later terms.effective book.rulings ≡ true
-      later =
-          ap (is_later terms.effective) (sym same)
-          ∙ later_by (list_any (has_text text) summary.tariffs.items)
-          (list_any (is_effective terms.effective) summary.tariffs.items)
-          (is_later terms.effective (ruled_in summary)) done
+      later = ap (is_later terms.effective) (sym same) ∙ tariff_later done
 
       -- the sum is what all records then cost
       pub sum_is : amount ≡ total_of (with_tariff (Some text) terms book.rulings) book.held
@@ -202,7 +196,7 @@ module _ (summary : Summary) (text : List ℕ) (terms : Terms) where
 
       -- A tariff that is answered Done is an event.
       abbrev pub tariff_is_event : IsDay terms.effective → (period held : ℕ)
-          → period ≡ length summary.closes.items + 1 → held ≡ summary.held
+          → period ≡ open_by (ruled_in summary.rulings) → held ≡ summary.held
           → IsEvent (λ (ruled : Ruled). ruled) naming summary (tariff_outcome text)
           (CountsRecords held) (tariff_by_steps period text terms amount) book
       tariff_is_event day period held number_is same_held = record {
@@ -216,7 +210,7 @@ module _ (summary : Summary) (text : List ℕ) (terms : Terms) where
             (known.can refl))
             answer;
         tables = ap (λ number. tariff_by_steps number text terms amount (tables_of naming book))
-            (number_is ∙ ap (λ (closes : List ℤ). length closes + 1) ready.remembers.closes)
+            (number_is ∙ ap open_by ready.remembers.rulings)
             ∙ tariff_is_steps (open_number book) text terms amount (tables_of naming book)
             (sum_is ∙ ap (λ (tables : Tables). tables.book.amount) (tables_follow answer))
             ∙ sym (tables_follow answer);
@@ -224,17 +218,12 @@ module _ (summary : Summary) (text : List ℕ) (terms : Terms) where
 
       -- and it is remembered
       pub tariff_remembered : (is : Summary)
-          → is.tariffs.items
-          ≡ summary.tariffs.items ++ record { text = Some text; terms = terms } ∷ []
-          → is.closes.items ≡ summary.closes.items → is.choices ≡ summary.choices
-          → is.adopted ≡ summary.adopted → is.held ≡ summary.held → is.total ≡ amount
+          → ruled_in is.rulings ≡ with_tariff (Some text) terms (ruled_in summary.rulings)
+          → is.choices ≡ summary.choices → is.held ≡ summary.held → is.total ≡ amount
           → Remembers is (put_in_force (Some text) terms book)
-      tariff_remembered is tariffs closes choices adopted held total = record {
-        tariffs = tariffs ∙ ap (λ own. own ++ record { text = Some text; terms = terms } ∷ [])
-            ready.remembers.tariffs;
-        closes = closes ∙ ready.remembers.closes;
+      tariff_remembered is rulings choices held total = record {
+        rulings = rulings ∙ ap (with_tariff (Some text) terms) ready.remembers.rulings;
         choices = choices ∙ ready.remembers.choices;
-        adopted = adopted ∙ ready.remembers.adopted;
         held = held ∙ ready.remembers.held;
         total = total ∙ sum_is;
       }

@@ -1,12 +1,13 @@
 -- Looks at the tables, and a change of them that is one commit.
-use Rattle.std.specs.Prelude.{◌≡◌, false, IsTrue, Result, Ok, Err}
+use Rattle.std.specs.Prelude.{◌≡◌, false, IsErr, IsTrue, OnErr, OnOk, Result, Ok, Err}
 use Rattle.sqlite_trees.specs.Tree.{Trees}
-use Rattle.sqlite_trees.specs.View.{View}
+use Rattle.sqlite_trees.specs.View.{Commits, IsClean, View}
 use Rattle.sqlite_trees.specs.declared.error.StoreError.{StoreError}
+use Rattle.sqlite_trees.specs.declared.store.Store.{Ghosts}
 use Rattle.table_model.specs.Tables.{Tables}
 use Rattle.tree_tables.specs.Holds.{Holds}
-use Rattle.tree_tables.specs.States.{State, HasCleanDisk, Survives}
-use Rattle.tree_tables.specs.Steps.{Sees, KeepsLastCommit}
+use Rattle.tree_tables.specs.States.{State, HasCleanDisk, Survives, state}
+use Rattle.tree_tables.specs.Steps.{IsUndone, KeepsLastCommit, MayCommit, Sees}
 
 -- the store is open between two transactions
 pub record IsAtRest (view : View) : Type 0 where
@@ -40,3 +41,14 @@ pub record CommitsOne {T : Type 0} (result : Result T StoreError) (old new : Sta
   pub survives : Survives old new (MayWrite old.view When change)
   pub done : HasCleanDisk new → IsAtRest old.view → (tables : Tables)
       → Holds old.view.trees tables → When tables → IsDone old.view new.view (change tables) result
+
+-- What was written is committed, or the last commit stays; but where not all of it was written,
+-- nothing is done.
+pub record CommitsWritten {S T U : Type 0} (ghosts : Ghosts S) (written : Result T StoreError)
+    (result : Result U StoreError) (old new : S) : Type 0 where
+  pub survives : Survives (state ghosts old) (state ghosts new) (MayCommit (ghosts.view old))
+  pub committed : OnOk written (OnOk result (IsClean (ghosts.view new)
+      → Commits (ghosts.view old) (ghosts.view new)))
+  pub refused : OnOk written (OnErr result (IsClean (ghosts.view new)
+      → IsUndone (ghosts.view old) (ghosts.view new)))
+  pub left : OnErr written (IsErr result × (new ≡ old))

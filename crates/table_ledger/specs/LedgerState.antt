@@ -20,16 +20,21 @@ pub record LedgerState : Type 1 where
   pub must_reopen : Bool
   pub summary : Summary
 
+-- the state of a ledger on a store
+abbrev pub state_on : {S : Type 0} → Ghosts S → Naming → S → Bool → Summary → LedgerState
+state_on ghosts naming store must_reopen summary = record {
+  naming = naming;
+  state = state ghosts store;
+  must_reopen = must_reopen;
+  summary = summary;
+}
+
 -- a ledger's own, by what its store shows and how it names records
 abbrev pub ledger_state : {S N : Type 0} → (ghosts : Ghosts S) → (N → Naming)
     → TableLedger S N ghosts
     → LedgerState
-ledger_state ghosts name_of ledger = record {
-  naming = name_of ledger.naming;
-  state = state ghosts ledger.tables.store;
-  must_reopen = ledger.must_reopen;
-  summary = ledger.summary;
-}
+ledger_state ghosts name_of ledger =
+    state_on ghosts (name_of ledger.naming) ledger.tables.store ledger.must_reopen ledger.summary
 
 -- the book that trees determine
 abbrev pub book_of_trees : Trees → Book

@@ -2,7 +2,6 @@
 -- of it; how a call is tried on the store, and how it is answered.
 pub mod Commits
 pub mod Ready
-pub mod Summaries
 pub mod TablesIn
 pub mod TablesRead
 pub mod LedgerState

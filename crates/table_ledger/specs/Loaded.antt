@@ -1,5 +1,5 @@
 -- What is read from a store when its books are opened.
-use Rattle.std.specs.Prelude.{◌≡◌, ◌≢◌, ◌⊎◌, ◌≤◌, ◌<◌, ◌+◌, ◌^◌, All, IfErr, IfOk, Option, Some, None, Result, Ok}
+use Rattle.std.specs.Prelude.{◌≡◌, ◌≢◌, ◌⊎◌, ◌≤◌, ◌<◌, ◌+◌, ◌^◌, All, IfErr, IfOk, Option, Some, None, Result, Ok, []}
 use Rattle.std.specs.Prelude.{Err, List, ℕ, ℤ, int_lt, length, map, false, true}
 use Rattle.std.specs.List.{AllZip, last_or}
 use Rattle.std.specs.List.Sorted.{IsStrictlySortedBy}
@@ -29,6 +29,7 @@ use Rattle.tree_tables.specs.declared.closed_rows.Close.{Close}
 use Rattle.tree_tables.specs.declared.tariff_rows.StoredTariff.{StoredTariff}
 use Rattle.table_ledger.specs.Commits.{Stores}
 use Rattle.table_ledger.specs.LedgerState.{LedgerState, seen_on}
+use Rattle.book_core.specs.OfficeRulings.{ruled_in}
 use Rattle.table_ledger.specs.declared.summary.Summary.{Summary}
 
 -- out of memory, or another fault of the store
@@ -90,19 +91,17 @@ pub record AreRowsOf (row : Stored) (texts : List StoredTariff) (days : List Clo
 -- the summary is what the rows show
 pub record SummarizesRows (row : Stored) (texts : List StoredTariff) (days : List Close) (choices : ℕ)
     (summary : Summary) : Type 0 where
-  pub tariffs : AllZip SaysTariff texts summary.tariffs.items
-  pub closes : AllZip IsCloseDay days summary.closes.items
+  pub tariffs : AllZip SaysTariff texts (ruled_in summary.rulings).tariffs
+  pub closes : AllZip IsCloseDay days (ruled_in summary.rulings).closes
   pub made : summary.choices ≡ choices
-  pub adopted : SaysRule (length summary.closes.items) row summary.adopted
+  pub adopted : SaysRule (length (ruled_in summary.rulings).closes) row (ruled_in summary.rulings).adopted
   pub held : summary.held ≡ row.held
   pub total : summary.total ≡ row.amount
 
 -- the summary is what the tables say
 pub record SummarizesTables (summary : Summary) (tables : Tables) : Type 0 where
-  pub tariffs : summary.tariffs.items ≡ (rulings_of_tables tables).tariffs
-  pub closes : summary.closes.items ≡ (rulings_of_tables tables).closes
+  pub rulings : ruled_in summary.rulings ≡ record (rulings_of_tables tables) { choices = [] }
   pub choices : summary.choices ≡ last_number tables.choices
-  pub adopted : summary.adopted ≡ (rulings_of_tables tables).adopted
   pub held : summary.held ≡ tables.book.held
   pub total : summary.total ≡ tables.book.amount
 

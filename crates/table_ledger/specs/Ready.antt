@@ -1,6 +1,6 @@
 -- A ledger in trees that is ready: its store keeps a book that calls made, and it remembers that
 -- book.
-use Rattle.std.specs.Prelude.{◌≡◌, length}
+use Rattle.std.specs.Prelude.{◌≡◌, [], length}
 use Rattle.sqlite_trees.specs.Tree.{Trees}
 use Rattle.sqlite_trees.specs.View.{View}
 use Rattle.book_model.specs.Words.{total_of, Book, Naming, members}
@@ -8,14 +8,13 @@ use Rattle.table_model.specs.TablesOf.{tables_of}
 use Rattle.table_laws.specs.FromCalls.{IsFromCalls}
 use Rattle.tree_tables.specs.Holds.{Holds}
 use Rattle.table_ledger.specs.Commits.{IsAtRest}
+use Rattle.book_core.specs.OfficeRulings.{ruled_in}
 use Rattle.table_ledger.specs.declared.summary.Summary.{Summary}
 
--- it is a summary of the book
+-- it is a summary of the book: its rulings, but for which records were chosen, and its sums
 pub record Remembers (summary : Summary) (book : Book) : Type 0 where
-  pub tariffs : summary.tariffs.items ≡ book.rulings.tariffs
-  pub closes : summary.closes.items ≡ book.rulings.closes
+  pub rulings : ruled_in summary.rulings ≡ record book.rulings { choices = [] }
   pub choices : summary.choices ≡ length book.rulings.choices
-  pub adopted : summary.adopted ≡ book.rulings.adopted
   pub held : summary.held ≡ length (members book.held)
   pub total : summary.total ≡ total_of book.rulings book.held
 

@@ -9,11 +9,12 @@ use Rattle.tree_tables.specs.Stored.{new_entry}
 use Rattle.table_ledger.specs.DayWrites.{day_written}
 use Rattle.table_ledger.specs.declared.commits.Entry.{Entry}
 use Rattle.table_ledger.specs.declared.day_write.DayWrite.{DayWrite}
+use Rattle.book_core.specs.OfficeRulings.{ruled_in}
 use Rattle.table_ledger.specs.declared.summary.Summary.{Summary}
 
 -- the tables are those of the book that the summary remembers
 pub record AreRemembered (summary : Summary) (tables : Tables) : Type 0 where
-  pub closes : values tables.closes ≡ summary.closes.items
+  pub closes : values tables.closes ≡ (ruled_in summary.rulings).closes
   pub held : tables.book.held ≡ summary.held
   pub amount : tables.book.amount ≡ summary.total
 

@@ -1,17 +1,18 @@
 //! Records that are submitted.
 
 ghost use Rattle.std.specs.Prelude.{◌≡◌, Ok, Err, false, if◌then◌else◌};
-ghost use Rattle.std.specs.Option.{option_map_or};
 ghost use Rattle.tree_tables.specs.States.{state};
 ghost use Rattle.book_model.specs.Words.{data_of, IsPriced, accept_outcome, IsUsageRecord};
 ghost use Rattle.book_model.specs.Words.{same_bytes};
+ghost use Rattle.book_core.specs.Identities.{identity_in};
 ghost use Rattle.table_ledger.specs.Commits.{CommitsOne};
 ghost use Rattle.table_ledger.specs.RecordWrites.{AreRemembered, IsNew};
 ghost use Rattle.table_ledger.specs.NewRecords.{with_new_record};
 ghost use Rattle.table_ledger.specs.Attempts.{Attempts};
 
-use crate::commits::{Entry, keep_entry};
+use crate::commits::{Entry, commit_written, write_entry};
 use crate::day_write::look_for_day;
+use crate::disputes::IDENTITY_LENGTH;
 use crate::effects::look_for_effects;
 use crate::summary::Summary;
 use book_core::{Accepted, LedgerFault, Naming, is_full, name_of, price_in};
@@ -36,17 +37,13 @@ fn known_or_clash(stored: &StoredRecord, bytes: &[u8]) -> Result<Accepted, Ledge
     }
 }
 
-/// Whose work a record measures by the rule in force, given the identities by the first and by the
-/// second rule.
-fn identity_in_force<'a>(
-    adopted: Option<u16>,
-    first: &'a [u8; 24],
-    second: &'a [u8; 32],
-) -> &'a [u8]
-    ensures { result.now ≡ option_map_or (λ period. second.now) adopted first.now }
+/// Whose work a record measures by the rule in force, given its identity by the second rule. That
+/// by the first rule is the beginning of it.
+fn identity_in_force(adopted: Option<u16>, second: &[u8; 32]) -> &[u8]
+    ensures { result.now ≡ identity_in adopted second.now }
 {
     match adopted {
-        None => first,
+        None => &second[..IDENTITY_LENGTH],
         Some(_) => second,
     }
 }
@@ -58,18 +55,20 @@ fn keep_new<S: Store>(
     summary: &Summary,
     name: [u8; 32],
     bytes: &[u8],
+    usage: &Type30<'_>,
     priced: &Priced,
 ) -> Result<(), StoreError>
+    requires same { usage.now ≡ bytes.now }
     requires usage { IsUsageRecord bytes.now }
     requires priced { IsPriced priced.now }
     ensures commits { CommitsOne result (state S.Store tables.old.store) (state S.Store tables.new.store)
         (λ tables. AreRemembered summary.now tables × IsNew name tables) (with_new_record summary.now name bytes.now priced.now) }
 {
-    let usage = Type30::of_usage(bytes);
-    let (first, second) = (usage.identity(), usage.identity2());
-    let identity = identity_in_force(summary.adopted, &first, &second);
-    let period = summary.open_number();
-    let effects = look_for_effects(tables, alloc, summary.last_close(), identity, name, priced)?;
+    let second = usage.identity2();
+    let identity = identity_in_force(summary.rulings.adopted(), &second);
+    let period = summary.rulings.open_number();
+    let last_close = summary.rulings.last_close();
+    let effects = look_for_effects(tables, alloc, last_close, identity, name, priced)?;
     let day = look_for_day(tables, period, &effects.day)?;
     let (_, data) = bytes.split_at(4);
     let entry = Entry {
@@ -89,7 +88,8 @@ fn keep_new<S: Store>(
         effects,
         day,
     };
-    keep_entry(tables, &entry)
+    let written = write_entry(tables, &entry);
+    commit_written(tables, written)
 }
 
 /// Answers a record, and keeps it if it is new, a tariff is in force on its day, and there is
@@ -110,13 +110,14 @@ pub(crate) fn try_accept<S: Store, N: Naming>(
     if let Some(stored) = tables.find_record(alloc, &name)? {
         return Ok(known_or_clash(&stored, bytes));
     }
-    let Some(priced) = price_in(&summary.tariffs, &Type30::of_usage(bytes)) else {
+    let usage = Type30::of_usage(bytes);
+    let Some(priced) = price_in(summary.rulings.tariffs(), &usage) else {
         return Ok(Ok(Accepted::Unpriced));
     };
     if is_full(summary.held, summary.total, priced.amount) {
         return Ok(Err(LedgerFault::Full));
     }
-    keep_new(tables, alloc, summary, name, bytes, &priced)?;
+    keep_new(tables, alloc, summary, name, bytes, &usage, &priced)?;
     summary.held += 1;
     summary.total += priced.amount;
     Ok(Ok(Accepted::Kept))

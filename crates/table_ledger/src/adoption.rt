@@ -10,11 +10,11 @@ ghost use Rattle.tree_tables.specs.States.{state};
 ghost use Rattle.tree_tables.specs.Steps.{Always, Does, Looks};
 ghost use Rattle.tree_tables.specs.Stored.{IsAsRead};
 ghost use Rattle.table_ledger.specs.Adoptions.{IsLast};
-ghost use Rattle.table_ledger.specs.Commits.{CommitsOne};
 ghost use Rattle.table_ledger.specs.Attempts.{Attempts};
 
 use crate::choices::charge;
 use crate::chosen::{Chosen, look_for_chosen};
+use crate::commits::commit_written;
 use crate::effects::member_of;
 use crate::summary::Summary;
 use book_core::{LedgerFault, Ruled, is_done, plan_charge};
@@ -117,27 +117,12 @@ fn write_adoption<S: Store>(
     period: u16,
     through: Option<i32>,
 ) -> Result<(), StoreError>
-    ensures does { Does result (state S.Store tables.old.store) (state S.Store tables.new.store)
+    ensures { Does result (state S.Store tables.old.store) (state S.Store tables.new.store)
         Always (step.adoption_by_steps period through is_due_in) }
 {
     tables.rename_records(alloc)?;
     charge_due(tables, alloc, period, through)?;
     tables.set_rule(SECOND_RULE, period)
-}
-
-/// Keeps the second rule, in one commit.
-fn keep_adoption<S: Store>(
-    tables: &mut TreeTables<S>,
-    alloc: Global,
-    period: u16,
-    through: Option<i32>,
-) -> Result<(), StoreError>
-    ensures commits { CommitsOne result (state S.Store tables.old.store)
-        (state S.Store tables.new.store) Always
-        (step.adoption_by_steps period through is_due_in) }
-{
-    write_adoption(tables, alloc, period, through)?;
-    tables.commit()
 }
 
 /// Answers a rule of identity, and adopts it if it is the second and the first is in force.
@@ -151,12 +136,13 @@ pub(crate) fn try_adopt<S: Store>(
         (state S.Store tables.old.store) (state S.Store tables.new.store)
         (adopt_outcome rule) result }
 {
-    let answer = summary.adopt_answer(rule);
+    let answer = summary.rulings.adopt_answer(rule);
     if !is_done(&answer) {
         return Ok(answer);
     }
-    let period = summary.open_number();
-    keep_adoption(tables, alloc, period, summary.last_close())?;
-    summary.adopted = Some(period);
+    let period = summary.rulings.open_number();
+    let written = write_adoption(tables, alloc, period, summary.rulings.last_close());
+    commit_written(tables, written)?;
+    summary.rulings.adopt();
     Ok(Ok(Ruled::Done))
 }

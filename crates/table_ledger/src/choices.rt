@@ -10,11 +10,11 @@ ghost use Rattle.tree_tables.specs.Answers.{charged_with};
 ghost use Rattle.tree_tables.specs.States.{state};
 ghost use Rattle.tree_tables.specs.Steps.{Always, Does, Looks};
 ghost use Rattle.tree_tables.specs.Stored.{stored_entry};
-ghost use Rattle.table_ledger.specs.Commits.{CommitsOne};
 ghost use Rattle.table_ledger.specs.RecordWrites.{IsNext};
 ghost use Rattle.table_ledger.specs.Attempts.{Attempts};
 
-use crate::commits::{change_day, write_line, write_mark};
+use crate::commits::{commit_written, write_effects};
+use crate::day_write::look_for_day;
 use crate::effects::member_of;
 use crate::summary::Summary;
 use book_core::{ChoiceEffects, Effects, LedgerFault, MAX_CHOICES, Ruled, plan_choice};
@@ -59,12 +59,11 @@ fn write_change<S: Store>(
     period: u16,
     effects: &Effects,
 ) -> Result<(), StoreError>
-    ensures does { Does result (state S.Store tables.old.store) (state S.Store tables.new.store)
+    ensures { Does result (state S.Store tables.old.store) (state S.Store tables.new.store)
         Always (change.apply period effects.now) }
 {
-    change_day(tables, period, &effects.day)?;
-    write_line(tables, period, &effects.line)?;
-    write_mark(tables, &effects.unmark)
+    let day = look_for_day(tables, period, &effects.day)?;
+    write_effects(tables, period, &day, effects)
 }
 
 /// The record that was charged until now, if there was one, is no longer charged.
@@ -99,24 +98,13 @@ pub(crate) fn charge<S: Store>(
 
 /// Writes a choice.
 fn write_choice<S: Store>(tables: &mut TreeTables<S>, choice: &Choice) -> Result<(), StoreError>
-    ensures does { Does result (state S.Store tables.old.store) (state S.Store tables.new.store)
+    ensures { Does result (state S.Store tables.old.store) (state S.Store tables.new.store)
         (IsNext choice.now.number) (change.put_choice choice.now.number choice.now.period
         choice.now.name choice.now.effects) }
 {
     withdraw(tables, choice.period, &choice.effects.withdrawn)?;
     charge(tables, choice.period, &choice.name, &choice.effects.chosen)?;
     tables.put_choice(choice.number, &choice.name, choice.period)
-}
-
-/// Keeps a choice, in one commit.
-fn keep_choice<S: Store>(tables: &mut TreeTables<S>, choice: &Choice) -> Result<(), StoreError>
-    ensures commits { CommitsOne result (state S.Store tables.old.store)
-        (state S.Store tables.new.store) (IsNext choice.now.number)
-        (change.put_choice choice.now.number choice.now.period choice.now.name
-        choice.now.effects) }
-{
-    write_choice(tables, choice)?;
-    tables.commit()
 }
 
 /// Answers the choice of a record by its name, and keeps it if the record is one of two or more
@@ -145,16 +133,15 @@ pub(crate) fn try_choose<S: Store>(
     if summary.choices as usize >= MAX_CHOICES {
         return Ok(Err(LedgerFault::Full));
     }
-    let effects = look_for_choice(tables, alloc, summary.last_close(), &stored)?;
-    keep_choice(
-        tables,
-        &Choice {
-            number: summary.choices + 1,
-            period: summary.open_number(),
-            name,
-            effects,
-        },
-    )?;
+    let effects = look_for_choice(tables, alloc, summary.rulings.last_close(), &stored)?;
+    let choice = Choice {
+        number: summary.choices + 1,
+        period: summary.rulings.open_number(),
+        name,
+        effects,
+    };
+    let written = write_choice(tables, &choice);
+    commit_written(tables, written)?;
     summary.choices += 1;
     Ok(Ok(Ruled::Done))
 }

@@ -1,14 +1,13 @@
 //! Closes of the open period.
 
-ghost use Rattle.std.specs.Prelude.{◌≡◌};
 ghost use Rattle.book_model.specs.Words.{IsDay, close_outcome, Naming};
 ghost use Rattle.tree_tables.specs.Days.{NoneNext};
 ghost use Rattle.tree_tables.specs.States.{state};
 ghost use Rattle.tree_tables.specs.Steps.{Does};
 ghost use Rattle.table_model.specs.Steps.{close_by_steps};
-ghost use Rattle.table_ledger.specs.Commits.{CommitsOne};
 ghost use Rattle.table_ledger.specs.Attempts.{Attempts};
 
+use crate::commits::commit_written;
 use crate::summary::Summary;
 use book_core::{LedgerFault, Ruled, is_done};
 use sqlite_trees::error::StoreError;
@@ -19,23 +18,12 @@ use tree_tables::{Close, TreeTables};
 /// period.
 fn write_close<S: Store>(tables: &mut TreeTables<S>, close: &Close) -> Result<(), StoreError>
     requires { IsDay close.now.through }
-    ensures does { Does result (state S.Store tables.old.store) (state S.Store tables.new.store)
+    ensures { Does result (state S.Store tables.old.store) (state S.Store tables.new.store)
         (NoneNext close.now.period) (close_by_steps close.now.period close.now.through) }
 {
     tables.put_close(close)?;
     tables.post_records(close.through)?;
     tables.move_days(close)
-}
-
-/// Keeps a close, in one commit.
-fn keep_close<S: Store>(tables: &mut TreeTables<S>, close: &Close) -> Result<(), StoreError>
-    requires { IsDay close.now.through }
-    ensures commits { CommitsOne result (state S.Store tables.old.store)
-        (state S.Store tables.new.store) (NoneNext close.now.period)
-        (close_by_steps close.now.period close.now.through) }
-{
-    write_close(tables, close)?;
-    tables.commit()
 }
 
 /// Answers a close, and closes the open period if it is this one and the day is later than the
@@ -50,15 +38,14 @@ pub(crate) fn try_close<S: Store>(
         (state S.Store tables.old.store) (state S.Store tables.new.store)
         (close_outcome close.now.period close.now.through) result }
 {
-    let answer = summary.close_answer(close.period, close.through);
+    let answer = summary.rulings.close_answer(close.period, close.through);
     if !is_done(&answer) {
         return Ok(answer);
     }
     // The memory is taken first: if there is too little, the books stay as they were.
-    summary.closes.push(close.through)?;
-    if let Err(error) = keep_close(tables, close) {
-        summary.closes.pop();
-        return Err(error);
-    }
+    summary.rulings.reserve_close()?;
+    let written = write_close(tables, close);
+    commit_written(tables, written)?;
+    summary.rulings.put_close(close.through);
     Ok(Ok(Ruled::Done))
 }

@@ -1,11 +1,11 @@
-//! What a new record writes, in one commit; and the parts of it that other changes write too.
+//! What a new record writes, the parts of it that other changes write too, and the commit.
 
 ghost use Rattle.std.specs.Prelude.{◌≡◌, ◌<◌, ◌^◌, None};
 ghost use Rattle.book_model.specs.Words.{IsPriced};
 ghost use Rattle.table_model.specs.Steps as step;
 ghost use Rattle.tree_tables.specs.States.{state};
 ghost use Rattle.tree_tables.specs.Steps.{Always, Does};
-ghost use Rattle.table_ledger.specs.Commits.{CommitsOne};
+ghost use Rattle.table_ledger.specs.Commits.{CommitsWritten};
 ghost use Rattle.table_ledger.specs.DayWrites.{WriteFits};
 ghost use Rattle.table_ledger.specs.RecordWrites as entry_spec;
 ghost use Rattle.table_ledger.specs.RecordWrites.{IsNew};
@@ -57,7 +57,7 @@ pub(crate) fn change_day<S: Store>(
 }
 
 /// Writes a line, or deletes it.
-pub(crate) fn write_line<S: Store>(
+fn write_line<S: Store>(
     tables: &mut TreeTables<S>,
     period: u16,
     change: &Option<LineChange>,
@@ -76,7 +76,7 @@ pub(crate) fn write_line<S: Store>(
 }
 
 /// Takes the mark from a record that is no longer charged.
-pub(crate) fn write_mark<S: Store>(
+fn write_mark<S: Store>(
     tables: &mut TreeTables<S>,
     unmark: &Option<[u8; 32]>,
 ) -> Result<(), StoreError>
@@ -94,39 +94,33 @@ fn write_row<S: Store>(tables: &mut TreeTables<S>, entry: &Entry<'_>) -> Result<
     requires priced { IsPriced entry.now.record.priced }
     requires held { entry.now.sums.held < 2 ^ 63 }
     requires amount { entry.now.sums.amount < 2 ^ 63 }
-    ensures does { Does result (state S.Store tables.old.store) (state S.Store tables.new.store)
+    ensures { Does result (state S.Store tables.old.store) (state S.Store tables.new.store)
         (IsNew entry.now.record.name.now) (entry_spec.write_row entry.now) }
 {
     tables.insert_record(&entry.record)?;
     tables.set_sums(&entry.sums)
 }
 
-/// Writes what the record changes.
-fn write_effects<S: Store>(tables: &mut TreeTables<S>, entry: &Entry<'_>) -> Result<(), StoreError>
-    requires { WriteFits entry.now.day }
-    ensures does { Does result (state S.Store tables.old.store) (state S.Store tables.new.store)
-        Always (entry_spec.write_effects entry.now) }
+/// Writes what effects change in a period: the charge row that was made of them, the line and the
+/// mark.
+pub(crate) fn write_effects<S: Store>(
+    tables: &mut TreeTables<S>,
+    period: u16,
+    day: &DayWrite,
+    effects: &Effects,
+) -> Result<(), StoreError>
+    requires { WriteFits day.now }
+    ensures { Does result (state S.Store tables.old.store) (state S.Store tables.new.store)
+        Always (λ tables. entry_spec.write_mark effects.now.unmark (entry_spec.write_line period
+        effects.now.line (entry_spec.write_days period day.now tables))) }
 {
-    write_day(tables, entry.period, &entry.day)?;
-    write_line(tables, entry.period, &entry.effects.line)?;
-    write_mark(tables, &entry.effects.unmark)
+    write_day(tables, period, day)?;
+    write_line(tables, period, &effects.line)?;
+    write_mark(tables, &effects.unmark)
 }
 
-/// Writes all of it.
-fn write_entry<S: Store>(tables: &mut TreeTables<S>, entry: &Entry<'_>) -> Result<(), StoreError>
-    requires priced { IsPriced entry.now.record.priced }
-    requires held { entry.now.sums.held < 2 ^ 63 }
-    requires amount { entry.now.sums.amount < 2 ^ 63 }
-    requires day { WriteFits entry.now.day }
-    ensures does { Does result (state S.Store tables.old.store) (state S.Store tables.new.store)
-        (IsNew entry.now.record.name.now) (entry_spec.write_entry entry.now) }
-{
-    write_effects(tables, entry)?;
-    write_row(tables, entry)
-}
-
-/// Keeps a record whose name is new, in one commit.
-pub(crate) fn keep_entry<S: Store>(
+/// Writes a record whose name is new, and all that it changes.
+pub(crate) fn write_entry<S: Store>(
     tables: &mut TreeTables<S>,
     entry: &Entry<'_>,
 ) -> Result<(), StoreError>
@@ -134,10 +128,20 @@ pub(crate) fn keep_entry<S: Store>(
     requires held { entry.now.sums.held < 2 ^ 63 }
     requires amount { entry.now.sums.amount < 2 ^ 63 }
     requires day { WriteFits entry.now.day }
-    ensures commits { CommitsOne result (state S.Store tables.old.store)
-        (state S.Store tables.new.store) (IsNew entry.now.record.name.now)
-        (entry_spec.write_entry entry.now) }
+    ensures { Does result (state S.Store tables.old.store) (state S.Store tables.new.store)
+        (IsNew entry.now.record.name.now) (entry_spec.write_entry entry.now) }
 {
-    write_entry(tables, entry)?;
+    write_effects(tables, entry.period, &entry.day, &entry.effects)?;
+    write_row(tables, entry)
+}
+
+/// Commits what was written, if all of it was. So what a call writes is one commit.
+pub(crate) fn commit_written<S: Store>(
+    tables: &mut TreeTables<S>,
+    written: Result<(), StoreError>,
+) -> Result<(), StoreError>
+    ensures { CommitsWritten S.Store written result tables.old.store tables.new.store }
+{
+    written?;
     tables.commit()
 }

@@ -22,7 +22,7 @@ use std::alloc::Global;
 use tree_tables::{StoredRecord, TreeTables, usage_bytes};
 
 /// The bytes of an identity by the first rule.
-const IDENTITY_LENGTH: usize = 24;
+pub(crate) const IDENTITY_LENGTH: usize = 24;
 
 /// The bytes of an identity by the second rule.
 const IDENTITY2_LENGTH: usize = 32;

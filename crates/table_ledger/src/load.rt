@@ -74,6 +74,7 @@ fn tariffs_of(alloc: Global, rows: &[StoredTariff]) -> Result<Vec<AcceptedTariff
 }
 
 /// The last of some days, if there is one.
+#[tactic(auto, using(book_core::proofs::RulingLemmas::last_found))]
 fn last_of(days: &[i32]) -> Option<i32>
     ensures { result ≡ last_or None days.now }
 {
@@ -178,10 +179,8 @@ fn summary_of(
         return Err(LedgerFault::Store);
     };
     Ok(Summary {
-        tariffs,
-        closes,
+        rulings: book_core::Rulings::of(tariffs, closes, adopted),
         choices,
-        adopted,
         held: row.held as usize,
         total: row.amount,
     })

@@ -24,5 +24,5 @@ pub(crate) fn try_periods<S: Store>(
     ensures own { (naming : Naming) → TriesItsOwn naming summary.now
         (state S.Store _tables.now.store) (state S.Store _tables.now.store) result }
 {
-    Ok(Ok(Vec::from_slice(alloc, &summary.closes)?))
+    Ok(Ok(Vec::from_slice(alloc, summary.rulings.closes())?))
 }

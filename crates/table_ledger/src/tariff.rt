@@ -1,20 +1,20 @@
 //! Tariffs that are submitted.
 
-ghost use Rattle.std.specs.Prelude.{◌≡◌, ◌<◌, ◌^◌, IfErr, IfOk, Ok, OnOk, string_bytes};
-ghost use Rattle.std.specs.Prelude.{vec_len, vec_capacity};
+ghost use Rattle.std.specs.Prelude.{◌≡◌, ◌<◌, ◌^◌, false, IfErr, IfOk, Ok, OnOk, string_bytes};
 ghost use Rattle.tree_tables.specs.States.{state};
+ghost use Rattle.book_model.specs.RulingAnswers.{terms_ruled};
 ghost use Rattle.book_model.specs.Words.{terms_in, tariff_outcome, Naming};
+ghost use Rattle.book_core.specs.OfficeRulings.{HasTariffRoom, ruled_in};
 ghost use Rattle.table_model.specs.Steps.{tariff_by_steps};
 ghost use Rattle.tree_tables.specs.Steps.{Does};
-ghost use Rattle.table_ledger.specs.Commits.{CommitsOne};
 ghost use Rattle.table_ledger.specs.Repricing.{CountsRecords};
-ghost use Rattle.table_ledger.specs.Summaries.{tariff_ruled};
 ghost use Rattle.table_ledger.specs.TariffRefusals.{IsNoTariff};
 ghost use Rattle.table_ledger.specs.Attempts.{Attempts};
 
+use crate::commits::commit_written;
 use crate::repricing::{cost_under, reprice_all};
 use crate::summary::Summary;
-use book_core::{AcceptedTariff, LedgerFault, Ruled, is_done};
+use book_core::{LedgerFault, Ruled, Rulings, is_done};
 use sqlite_trees::error::StoreError;
 use sqlite_trees::store::Store;
 use std::alloc::Global;
@@ -33,7 +33,7 @@ fn write_tariff<S: Store>(
 ) -> Result<(), StoreError>
     requires held { sums.now.held < 2 ^ 63 }
     requires amount { sums.now.amount < 2 ^ 63 }
-    ensures does { Does result (state S.Store tables.old.store) (state S.Store tables.new.store)
+    ensures { Does result (state S.Store tables.old.store) (state S.Store tables.new.store)
         (CountsRecords sums.now.held)
         (tariff_by_steps period text.now tariff.now sums.now.amount) }
 {
@@ -43,25 +43,6 @@ fn write_tariff<S: Store>(
         body: text,
     })?;
     tables.set_sums(sums)
-}
-
-/// Keeps a tariff, in one commit.
-fn keep_tariff<S: Store>(
-    tables: &mut TreeTables<S>,
-    alloc: Global,
-    period: u16,
-    text: &str,
-    tariff: &Tariff,
-    sums: &Sums,
-) -> Result<(), StoreError>
-    requires held { sums.now.held < 2 ^ 63 }
-    requires amount { sums.now.amount < 2 ^ 63 }
-    ensures commits { CommitsOne result (state S.Store tables.old.store)
-        (state S.Store tables.new.store) (CountsRecords sums.now.held)
-        (tariff_by_steps period text.now tariff.now sums.now.amount) }
-{
-    write_tariff(tables, alloc, period, text, tariff, sums)?;
-    tables.commit()
 }
 
 /// The tariff of a text.
@@ -77,16 +58,12 @@ fn tariff_of(alloc: Global, text: &str) -> Result<Tariff, LedgerFault>
 }
 
 /// Takes the memory that one more tariff needs: room for it, and its text.
-fn take_memory(
-    tariffs: &mut Vec<AcceptedTariff>,
-    alloc: Global,
-    text: &str,
-) -> Result<String, StoreError>
-    ensures same { tariffs.new.items ≡ tariffs.old.items }
-    ensures room { OnOk result (vec_len tariffs.new < vec_capacity tariffs.new) }
+fn take_memory(rulings: &mut Rulings, alloc: Global, text: &str) -> Result<String, StoreError>
+    ensures same { ruled_in rulings.new ≡ ruled_in rulings.old }
+    ensures room { OnOk result (HasTariffRoom rulings.new) }
     ensures own { IfOk result (λ own. string_bytes own ≡ text.now) }
 {
-    tariffs.reserve(1)?;
+    rulings.reserve_tariff()?;
     Ok(String::from_str(alloc, text)?)
 }
 
@@ -99,24 +76,24 @@ fn put_in_force<S: Store>(
     tariff: Tariff,
 ) -> Result<Result<Ruled, LedgerFault>, StoreError>
     requires said { terms_in text.now ≡ Ok tariff }
-    requires done { tariff_ruled summary.old text.now tariff ≡ Ok Ruled.Done }
+    requires done { terms_ruled (ruled_in summary.old.rulings) false text.now tariff
+        ≡ Ok Ruled.Done }
     ensures tries { (naming : Naming) → Attempts (λ ruled. ruled) naming summary.old summary.new
         (state S.Store tables.old.store) (state S.Store tables.new.store) (tariff_outcome text.now) result }
 {
     let Some(amount) = cost_under(tables, alloc, &tariff)? else {
         return Ok(Err(LedgerFault::Full));
     };
+    let period = summary.rulings.open_number();
     // The memory is taken first: if there is too little, the books stay as they were.
-    let own = take_memory(&mut summary.tariffs, alloc, text)?;
+    let own = take_memory(&mut summary.rulings, alloc, text)?;
     let sums = Sums {
         held: summary.held as u64,
         amount,
     };
-    keep_tariff(tables, alloc, summary.open_number(), text, &tariff, &sums)?;
-    summary.tariffs.push_reserved(AcceptedTariff {
-        text: Some(own),
-        tariff,
-    });
+    let written = write_tariff(tables, alloc, period, text, &tariff, &sums);
+    commit_written(tables, written)?;
+    summary.rulings.put_tariff(own, tariff);
     summary.total = amount;
     Ok(Ok(Ruled::Done))
 }
@@ -136,7 +113,7 @@ pub(crate) fn try_tariff<S: Store>(
         Ok(tariff) => tariff,
         Err(fault) => return Ok(Err(fault)),
     };
-    let answer = summary.tariff_answer(text, &tariff);
+    let answer = summary.rulings.tariff_answer(text, &tariff);
     if !is_done(&answer) {
         return Ok(answer);
     }

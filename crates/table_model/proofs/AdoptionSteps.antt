@@ -1,5 +1,4 @@
 -- The second rule of identity, adopted in steps that change one table each.
-use Rattle.std.proofs.Common.{ℕ, ℤ, List, Bool, Option, refl}
 use Rattle.std.specs.FinMap.{keys}
 use Rattle.book_model.specs.Words.{second_rule}
 use Rattle.table_model.specs.Laws.{AdoptionIsSteps}

@@ -10,7 +10,7 @@ use Rattle.std.specs.List.{list_any}
 use Rattle.std.specs.List.Sorted.{IsStrictlySortedBy}
 use Rattle.std.specs.Option.{option_map, option_map_or, option_and_then}
 use Rattle.std.specs.Ordering.{nat_cmp, is_eq}
-use Rattle.std.proofs.Math.Bool.{and-false, or-true}
+use Rattle.std.proofs.Math.Bool.{and-false}
 use Rattle.std.proofs.lemmas.Cmp.{nat_list_cmp_total, nat_list_eq_equiv}
 use Rattle.std.proofs.lemmas.List.Kept.{IsStrictlySortedBy-filter}
 use Rattle.std.proofs.lemmas.Map.Keys.{sorted_head}
@@ -26,7 +26,8 @@ use Rattle.book_model.specs.Words.{Choice, price_in, identity_by, last_close, wi
 use Rattle.book_model.specs.Words.{members, has, those, IsSound, AreAmong}
 use Rattle.book_model.proofs.ChargedChanges.{share_back}
 use Rattle.book_model.proofs.ChosenLemmas.{charged-choice, others-all, others-except}
-use Rattle.book_model.proofs.RecordSets.{is, is_itself, has_those, in_those, first_of, second_of}
+use Rattle.book_model.proofs.RecordSets.{is, has_those, in_those, first_of}
+use Rattle.book_model.proofs.RecordSets.{second_of, is_first, is_second}
 use Rattle.book_model.proofs.SetChanges.{by_record, is_back}
 use Rattle.book_model.proofs.SetLemmas.{members_rise, same_bytes-by_cmp}
 use Rattle.book_model.proofs.SoundLemmas.{named_held}
@@ -210,8 +211,7 @@ module _ (naming : Naming) (book : Book) (sound : IsSound naming book) (bytes : 
         | false ↦ λ apart. refl
       ] refl))
   withdrawn-as (one ∷ []) listed =
-      let on : list_any (is one) (one ∷ []) ≡ true = ap (λ b. b || false) (is_itself one) in
-      let its = listed_charged (one ∷ []) listed one on in
+      let its = listed_charged (one ∷ []) listed one (is_first one []) in
       let held_too = before_held one its.0 in
       let cost = what_is (price_in book.rulings one) (sound.priced one held_too) in
       ap tables (others-except book.rulings book.held bytes there rivalled one its.0 its.1)
@@ -222,12 +222,8 @@ module _ (naming : Naming) (book : Book) (sound : IsSound naming book) (bytes : 
       (option_map (withdraw last) member) (tables before))
       (ap (member_by naming book one) (sym cost.1))
   withdrawn-as (a ∷ b ∷ rest) listed =
-      let on_a : list_any (is a) (a ∷ b ∷ rest) ≡ true =
-      ap (λ t. t || list_any (is a) (b ∷ rest)) (is_itself a) in
-      let on_b : list_any (is b) (a ∷ b ∷ rest) ≡ true =
-      ap (λ t. is b a || (t || list_any (is b) rest)) (is_itself b) ∙ or-true (is b a) in
-      let its_a = listed_charged (a ∷ b ∷ rest) listed a on_a in
-      let its_b = listed_charged (a ∷ b ∷ rest) listed b on_b in
+      let its_a = listed_charged (a ∷ b ∷ rest) listed a (is_first a (b ∷ rest)) in
+      let its_b = listed_charged (a ∷ b ∷ rest) listed b (is_second a b rest) in
       let rising =
       subst (IsStrictlySortedBy by_bytes) listed
       (IsStrictlySortedBy-filter by_bytes (has before) (sharing book bytes)

@@ -17,7 +17,7 @@ use Rattle.book_model.specs.Words.{IsSound}
 use Rattle.book_model.proofs.FilterLemmas.{no_length, permuted_one, filter-filter_map}
 use Rattle.book_model.proofs.FilterLemmas.{filter-from_entries}
 use Rattle.book_model.proofs.ListLemmas.{filter-filter}
-use Rattle.book_model.proofs.RecordSets.{is, is_itself, in_those}
+use Rattle.book_model.proofs.RecordSets.{is, in_those, is_first}
 use Rattle.book_model.proofs.SetLemmas.{members-those, members_rise}
 use Rattle.table_model.specs.Laws.{ChoiceReads}
 use Rattle.table_model.specs.Tables.{RecordRow, RecordTable}
@@ -132,7 +132,7 @@ module _ (naming : Naming) (book : Book) (sound : IsSound naming book) (bytes : 
           rows_are) in
           ap (λ rows. option_map member_at (only_of rows)) (no_length rows (sym count))
       by_list (one ∷ []) listed held =
-          let there = held one (ap (λ b. b || false) (is_itself one)) in
+          let there = held one (is_first one []) in
           let cost = what_is (price_in book.rulings one) (sound.priced one there) in
           let row : List ℕ × RecordRow = (
             name_of naming one,

@@ -27,6 +27,7 @@ use Rattle.book_model.proofs.SetChanges.{except, members_with, those-with, those
 use Rattle.book_model.proofs.SetChanges.{those-except_out}
 use Rattle.book_model.proofs.SetLemmas.{any_tied-members}
 use Rattle.book_model.proofs.SumsAlike.{SumsAlike, filter_map-alike, list_any-count_by}
+use Rattle.book_core.proofs.KeyedRowLemmas.{row_of}
 use Rattle.table_model.specs.RowChanges.{with_price, less_price, add_price, take_at, take_price}
 use Rattle.table_model.specs.Tables.{DayTable}
 use Rattle.table_model.specs.TablesOf.{row_key, prices_by}
@@ -52,18 +53,6 @@ days-sorted priced =
 days-alike : {xs ys : List Priced} → SumsAlike xs ys → days_at xs ≡ days_at ys
 days-alike alike =
     ap (map {B = RowKey × ChargeRow} (λ row. (row_key row, row))) (rows_of-alike alike)
-
--- the row of a place, by what is charged there
-abbrev pub row_of : RowKey → List Priced → ChargeRow
-row_of key here = record {
-  day = key.day;
-  centre = key.centre;
-  shift = key.shift;
-  count = length here;
-  cpu = sum_by (λ one. one.cpu) here;
-  blocks = sum_by (λ one. one.excp) here;
-  amount = sum_by (λ one. one.amount) here;
-}
 
 -- there is one where something is charged
 abbrev pub found_at : RowKey → List Priced → Option ChargeRow

@@ -136,27 +136,31 @@ module _ (period : ℕ) where
       by_row None = refl
       by_row (Some row) = by_count row (row.count == 1)
 
-  -- the other lines stay
+  -- the other lines stay, where one is put or taken
+  line_put : (lines : LineTable) (name : List ℕ) (plus : Bool) (place : ℕ × List ℕ)
+      → IsNone (OfLine place) (OfLine (period, name) ∷ [])
+      → get lines place ≡ get (insert lines (period, name) plus) place
+  line_put lines name plus place apart =
+      get-beside (by_period_total by_bytes nat_list_cmp_total)
+      (by_period_exact by_bytes exact_bytes) lines (period, name) plus place
+      (λ same. apart.0 (ap OfLine same))
+
+  line_taken : (lines : LineTable) (name : List ℕ) (place : ℕ × List ℕ)
+      → IsNone (OfLine place) (OfLine (period, name) ∷ [])
+      → get lines place ≡ get (remove lines (period, name)) place
+  line_taken lines name place apart =
+      get-beside_removed (by_period_total by_bytes nat_list_cmp_total)
+      (by_period_exact by_bytes exact_bytes) lines (period, name) place
+      (λ same. apart.0 (ap OfLine same))
+
   lines_beside : (change : Option LineChange) (lines : LineTable) (place : ℕ × List ℕ)
       → IsNone (OfLine place) (line_places period change)
       → get lines place ≡ get (change_line period change lines) place
   lines_beside None lines place apart = refl
-  lines_beside (Some (AddPlus name)) lines place apart =
-      get-beside (by_period_total by_bytes nat_list_cmp_total)
-      (by_period_exact by_bytes exact_bytes) lines (period, name) true place
-      (λ same. apart.0 (ap OfLine same))
-  lines_beside (Some (DropPlus name)) lines place apart =
-      get-beside_removed (by_period_total by_bytes nat_list_cmp_total)
-      (by_period_exact by_bytes exact_bytes) lines (period, name) place
-      (λ same. apart.0 (ap OfLine same))
-  lines_beside (Some (AddMinus name)) lines place apart =
-      get-beside (by_period_total by_bytes nat_list_cmp_total)
-      (by_period_exact by_bytes exact_bytes) lines (period, name) false place
-      (λ same. apart.0 (ap OfLine same))
-  lines_beside (Some (DropMinus name)) lines place apart =
-      get-beside_removed (by_period_total by_bytes nat_list_cmp_total)
-      (by_period_exact by_bytes exact_bytes) lines (period, name) place
-      (λ same. apart.0 (ap OfLine same))
+  lines_beside (Some (AddPlus name)) lines place apart = line_put lines name true place apart
+  lines_beside (Some (DropPlus name)) lines place apart = line_taken lines name place apart
+  lines_beside (Some (AddMinus name)) lines place apart = line_put lines name false place apart
+  lines_beside (Some (DropMinus name)) lines place apart = line_taken lines name place apart
 
   -- tables with effects differ only at those places
   pub apply_beside : (tables : Tables) (effects : Effects)

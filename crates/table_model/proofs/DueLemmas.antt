@@ -18,7 +18,7 @@ use Rattle.book_model.specs.Words.{last_chosen, is_undisputed, Records, Naming, 
 use Rattle.book_model.specs.Words.{same_bytes, Choice, price_in, identity_by, has, those, IsSound}
 use Rattle.book_model.proofs.ChargedChanges.{do_conflict, rivalled_by}
 use Rattle.book_model.proofs.ChosenLemmas.{all_chosen, chosen_held, last_passes}
-use Rattle.book_model.proofs.RecordSets.{is, is_itself, has_those, first_of, second_of}
+use Rattle.book_model.proofs.RecordSets.{is, has_those, first_of, second_of, is_first, is_second}
 use Rattle.book_model.proofs.SetChanges.{none_passes, is_back}
 use Rattle.book_model.proofs.SetLemmas.{members_rise, same_bytes-by_cmp}
 use Rattle.table_model.specs.Tables.{Tables}
@@ -92,9 +92,8 @@ module _ (naming : Naming) (book : Book) (sound : IsSound naming book) (charged 
           no_rival true share is_same = refl
           no_rival false share is_same = is_same
       by_list (a ∷ b ∷ rest) listed among =
-          let on_a = among a ∙ ap (λ t. t || list_any (is a) (b ∷ rest)) (is_itself a) in
-          let on_b = among b ∙ ap (λ t. is b a || (t || list_any (is b) rest)) (is_itself b)
-          ∙ or-true (is b a) in
+          let on_a = among a ∙ is_first a (b ∷ rest) in
+          let on_b = among b ∙ is_second a b rest in
           let rising =
           subst (IsStrictlySortedBy by_bytes) listed
           (members_rise nat_list_cmp_total (those (share_identity book.rulings one) book.held)) in
@@ -135,7 +134,7 @@ module _ (naming : Naming) (book : Book) (sound : IsSound naming book) (charged 
       ≡ map (name_of naming) (filter (share_identity book.rulings one) list)
   names_by [] held = refl
   names_by (x ∷ list) held =
-      let first = its_identity x (held x (ap (λ b. b || list_any (is x) list) (is_itself x))) in
+      let first = its_identity x (held x (is_first x list)) in
       let rest = names_by list (λ q among.
       held q (ap (λ b. is q x || b) among ∙ or-true (is q x))) in
       let names : List (List ℕ) = filter (name_has_identity tables.records own)

@@ -106,7 +106,7 @@ module _ (naming : Naming) (older : List Event) (bytes : List ℕ)
       let same = sym (rulings_are older) in
       (λ i. with_record naming (same i) bytes (price_in (same i) bytes) (before i))
       ∙ ap (λ price. with_record naming ruled bytes price (tables_of naming book)) cost.1
-      ∙ ap (λ view. put_new naming ruled (open_number book) bytes cost.0
+      ∙ ap (λ view. put_new naming ruled bytes cost.0
       (effects_of view name cost.0) (tables_of naming book)) (view_follows naming book bytes sound)
       ∙ sym (kept_follows naming book bytes cost.0 sound answered.0 cost.1)
 

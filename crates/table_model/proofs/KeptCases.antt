@@ -34,8 +34,7 @@ use Rattle.table_model.proofs.TableParts.{same_tables}
 
 -- the tables with a new record in the open period
 abbrev pub put_with : Naming → Book → List ℕ → Priced → Effects → Tables → Tables
-put_with naming book bytes priced effects tables =
-    put_new naming book.rulings (open_number book) bytes priced effects tables
+put_with naming book = put_new naming book.rulings
 
 module _ (naming : Naming) (book : Book) (sound : IsSound naming book) where
   -- the last close's day

@@ -1,11 +1,11 @@
 -- The tables of a book with one more record are those without it, changed by its effects.
 use Rattle.std.proofs.Common.{◌≡◌, ℕ, List, [], ◌∷◌, refl, sym, ap, ◌∙◌, true, false, true≢false}
-use Rattle.std.proofs.Common.{Bool, ◌&&◌, ◌||◌, Option, Some, None, Ok, Err, Result, subst}
+use Rattle.std.proofs.Common.{Bool, ◌&&◌, Option, Some, None, Ok, Err, Result, subst}
 use Rattle.std.specs.Prelude.{ℤ, if◌then◌else◌}
 use Rattle.std.specs.List.{list_any}
 use Rattle.std.specs.List.Sorted.{IsStrictlySortedBy}
 use Rattle.std.specs.Ordering.{is_eq}
-use Rattle.std.proofs.Math.Bool.{or-true, or-false}
+use Rattle.std.proofs.Math.Bool.{or-false}
 use Rattle.std.proofs.lemmas.Cmp.{nat_list_cmp_total}
 use Rattle.std.proofs.lemmas.Map.Keys.{sorted_head}
 use Rattle.std.proofs.lemmas.Map.Lookups.{exact_bytes}
@@ -20,7 +20,7 @@ use Rattle.book_model.specs.Words.{same_bytes, price_in, last_close, has, with, 
 use Rattle.book_model.proofs.ChargedChanges.{charged-new, charged-alone, charged-only}
 use Rattle.book_model.proofs.ChargedChanges.{charged-stays, charged-chosen}
 use Rattle.book_model.proofs.ChosenLemmas.{new_unchosen}
-use Rattle.book_model.proofs.RecordSets.{is, has_those, is_itself, first_of, second_of}
+use Rattle.book_model.proofs.RecordSets.{is, has_those, first_of, second_of, is_first, is_second}
 use Rattle.book_model.proofs.SetChanges.{except, IsUnnamed, is_back}
 use Rattle.book_model.proofs.SetLemmas.{fails_too, members_rise, same_bytes-by_cmp}
 use Rattle.book_core.specs.declared.effects.DayChange.TheVariants.{Add, Take}
@@ -168,8 +168,7 @@ module _ (naming : Naming) (book : Book) (sound : IsSound naming book) (bytes : 
       held_too (share_identity book.rulings bytes q) (has book.held q) false there
       (among [] listed q)))
   kept-as (one ∷ []) listed =
-      let on : list_any (is one) (one ∷ []) ≡ true = ap (λ b. b || false) (is_itself one) in
-      let its = listed_held (one ∷ []) listed one on in
+      let its = listed_held (one ∷ []) listed one (is_first one []) in
       let only = λ (q : List ℕ) (there : has book.held q ≡ true).
       held_too (share_identity book.rulings bytes q) (has book.held q) (is q one) there
       (among (one ∷ []) listed q ∙ or-false (is q one)) in
@@ -188,12 +187,8 @@ module _ (naming : Naming) (book : Book) (sound : IsSound naming book) (bytes : 
             (ap (member_by naming book one) (sym cost.1))
       ] refl
   kept-as (a ∷ b ∷ rest) listed =
-      let on_a : list_any (is a) (a ∷ b ∷ rest) ≡ true =
-      ap (λ t. t || list_any (is a) (b ∷ rest)) (is_itself a) in
-      let on_b : list_any (is b) (a ∷ b ∷ rest) ≡ true =
-      ap (λ t. is b a || (t || list_any (is b) rest)) (is_itself b) ∙ or-true (is b a) in
-      let its_a = listed_held (a ∷ b ∷ rest) listed a on_a in
-      let its_b = listed_held (a ∷ b ∷ rest) listed b on_b in
+      let its_a = listed_held (a ∷ b ∷ rest) listed a (is_first a (b ∷ rest)) in
+      let its_b = listed_held (a ∷ b ∷ rest) listed b (is_second a b rest) in
       let rising =
       subst (IsStrictlySortedBy by_bytes) listed
       (members_rise nat_list_cmp_total (those (share_identity book.rulings bytes) book.held)) in

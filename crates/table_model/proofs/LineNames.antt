@@ -14,7 +14,7 @@ use Rattle.book_model.specs.Words.{AreHeld}
 use Rattle.book_model.proofs.FilterLemmas.{Apart}
 use Rattle.book_model.proofs.FilterMapLemmas.{find-none}
 use Rattle.book_model.proofs.MapLemmas.{else_find, find-both}
-use Rattle.book_model.proofs.RecordSets.{is, is_itself}
+use Rattle.book_model.proofs.RecordSets.{is, is_first}
 use Rattle.book_model.proofs.SetChanges.{not_first, not_new}
 use Rattle.book_model.proofs.SetLemmas.{members_rise}
 use Rattle.table_model.specs.PeriodLists.{IsApart}
@@ -35,7 +35,7 @@ module _ (naming : Naming) (book : Book) (sound : IsSound naming book) (plus : B
   names_apart [] rising held free apart = apart
   names_apart (k ∷ ks) rising held free apart =
       let own : list_any (is k) (k ∷ ks) ≡ true =
-      ap (λ b. b || list_any (is k) ks) (is_itself k) in
+      is_first k ks in
       let behind = λ (bytes : List ℕ) (among : list_any (is bytes) ks ≡ true).
       ap (λ b. is bytes k || b) among ∙ or-true (is bytes k) in
       let none = ap (find by_bytes (name_of naming k)) (given naming plus ks)

@@ -17,7 +17,7 @@ use Rattle.book_model.specs.Words.{with_tariff, identity_by, members, has, IsSou
 use Rattle.tariff_rules.specs.declared.priced.Priced.{Priced}
 use Rattle.book_model.proofs.FilterLemmas.{filter-from_entries}
 use Rattle.book_model.proofs.PricingLemmas.{price_in-behind}
-use Rattle.book_model.proofs.RecordSets.{is, is_itself}
+use Rattle.book_model.proofs.RecordSets.{is, is_first}
 use Rattle.book_model.proofs.SetLemmas.{members_rise}
 use Rattle.table_model.specs.Laws.{SumIsRead}
 use Rattle.table_model.specs.PeriodLists.{AreFramed}
@@ -93,7 +93,7 @@ module _ (naming : Naming) (book : Book) (sound : IsSound naming book)
       ≡ sum_by (λ (p : Priced). p.amount) (filter_map new ks)
   of_list [] held = refl
   of_list (k ∷ ks) held =
-      let there = held k (ap (λ b. b || list_any (is k) ks) (is_itself k)) in
+      let there = held k (is_first k ks) in
       let rest = of_list ks
       (λ q among. held q (ap (λ b. is q k || b) among ∙ or-true (is q k))) in
       let cost = what_is (price_in book.rulings k) (sound.priced k there) in

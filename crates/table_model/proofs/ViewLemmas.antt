@@ -27,7 +27,8 @@ use Rattle.book_model.proofs.FilterMapLemmas.{find-none}
 use Rattle.book_model.proofs.ChargedChanges.{share_on}
 use Rattle.book_model.proofs.ChosenLemmas.{all_chosen, lone_chosen}
 use Rattle.book_model.proofs.ListLemmas.{list_any-map}
-use Rattle.book_model.proofs.RecordSets.{is, is_itself, in_those, has_those, first_of, second_of}
+use Rattle.book_model.proofs.RecordSets.{is, is_itself, in_those, has_those}
+use Rattle.book_model.proofs.RecordSets.{first_of, second_of, is_first}
 use Rattle.book_model.proofs.SetChanges.{not_first, is_back}
 use Rattle.book_model.proofs.SetLemmas.{members-those, members_rise, same_bytes-by_cmp}
 use Rattle.table_model.specs.Laws.{ViewFollows}
@@ -197,7 +198,7 @@ module _ (naming : Naming) (book : Book) (sound : IsSound naming book) (charged 
       → Apart by_bytes (filter_map entry ks)
   entries_apart [] rising held = tt
   entries_apart (k ∷ ks) rising held =
-      let there = held k (ap (λ b. b || list_any (is k) ks) (is_itself k)) in
+      let there = held k (is_first k ks) in
       let others =
       λ (bytes : List ℕ) (among : list_any (is bytes) ks ≡ true). held bytes
       (ap (λ b. is bytes k || b) among ∙ or-true (is bytes k)) in
@@ -267,7 +268,7 @@ module _ (naming : Naming) (book : Book) (sound : IsSound naming book) (charged 
     count_given (k ∷ ks) held =
         let cost =
         what_is (price_in book.rulings k)
-        (sound.priced k (held k (ap (λ b. b || list_any (is k) ks) (is_itself k)))) in
+        (sound.priced k (held k (is_first k ks))) in
         let rest =
         count_given ks
         (λ other among. held other (ap (λ b. is other k || b) among ∙ or-true (is other k))) in
@@ -330,7 +331,7 @@ module _ (naming : Naming) (book : Book) (sound : IsSound naming book) (bytes : 
   members_rows (one ∷ []) listed =
       let share : List ℕ → Bool = share_identity book.rulings bytes in
       let choices : ChoiceTable = (tables_of naming book).choices in
-      let on : list_any (is one) (one ∷ []) ≡ true = ap (λ b. b || false) (is_itself one) in
+      let on : list_any (is one) (one ∷ []) ≡ true = is_first one [] in
       let there =
       in_those share book.held one
       (fin.contains_key-keys (those share book.held) one ∙ ap (list_any (is one)) listed ∙ on) in

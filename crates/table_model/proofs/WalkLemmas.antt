@@ -14,7 +14,7 @@ use Rattle.std.proofs.lemmas.Map.Lookups.{exact_bytes}
 use Rattle.std.proofs.lemmas.Map.Views.{tells_apart}
 use Rattle.tariff_rules.specs.declared.priced.Priced.{Priced}
 use Rattle.book_model.specs.Words.{Book, Records, Naming, name_of, by_bytes, members, has, IsSound}
-use Rattle.book_model.proofs.RecordSets.{is, is_itself}
+use Rattle.book_model.proofs.RecordSets.{is, is_first}
 use Rattle.book_model.proofs.SetChanges.{not_first}
 use Rattle.book_model.proofs.SetLemmas.{keys_rise}
 use Rattle.table_model.specs.TableChanges.{walk}
@@ -70,7 +70,7 @@ module _ (naming : Naming) (book : Book) (sound : IsSound naming book)
           → IsNameIn name (first ∷ list)) [
             | true ↦ λ same found. (
               first,
-              ap (λ b. b || list_any (is first) list) (is_itself first),
+              is_first first list,
               sym (tells_apart exact_bytes name (name_of naming first) same),
             )
             | false ↦ λ apart found. rest found
@@ -114,7 +114,7 @@ module _ (naming : Naming) (book : Book) (sound : IsSound naming book)
       walk_on [] done rising named fresh = refl
       walk_on (first ∷ names) done rising named fresh =
           let on : list_any (is first) (first ∷ names) ≡ true =
-          ap (λ b. b || list_any (is first) names) (is_itself first) in
+          is_first first names in
           let own = named first on in
           let later = λ (name : List ℕ) (among : list_any (is name) names ≡ true).
           ap (λ b. is name first || b) among ∙ or-true (is name first) in

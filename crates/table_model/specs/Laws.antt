@@ -31,7 +31,7 @@ KeptFollows =
     → accept_answer naming book bytes ≡ Ok Kept
     → price_in book.rulings bytes ≡ Some priced
     → tables_of naming (keep bytes book)
-    ≡ put_new naming book.rulings (open_number book) bytes priced
+    ≡ put_new naming book.rulings bytes priced
     (effects_of (view_of naming book bytes) (name_of naming bytes) priced) (tables_of naming book)
 
 -- The tables after a close are those before it, with the day of the close, with the records posted

@@ -1,5 +1,5 @@
 -- The steps that every change of the tables is made of: each changes rows of one table.
-use Rattle.std.specs.Prelude.{ℕ, ℤ, Bool, int_lt, if◌then◌else◌, List, Option, Some, None}
+use Rattle.std.specs.Prelude.{ℕ, ℤ, Bool, int_lt, if◌then◌else◌, List, Option, Some}
 use Rattle.std.specs.FinMap.{get, insert, keys, remove}
 use Rattle.tariff_rules.specs.declared.priced.Priced.{Priced}
 use Rattle.book_model.specs.declared.row.ChargeRow.{ChargeRow}

@@ -5,7 +5,7 @@ use Rattle.std.specs.Prelude.{◌∷◌, Option, Some, None, ℤ, int_lt, sum_by
 use Rattle.std.specs.FinMap.{get, insert, keys, values}
 use Rattle.std.specs.Option.{option_map_or}
 use Rattle.book_model.specs.Words.{data_of, record_with, identity2_of, price_by, Terms, Naming}
-use Rattle.book_model.specs.Words.{name_of, Rulings, identity_by, second_rule}
+use Rattle.book_model.specs.Words.{name_of, Rulings, identity_by, open_by, second_rule}
 use Rattle.tariff_rules.specs.declared.priced.Priced.{Priced}
 use Rattle.book_model.specs.declared.row.RowKey.{RowKey}
 use Rattle.book_core.specs.Effects.{charge_held}
@@ -46,10 +46,10 @@ new_row rulings bytes priced effects = record {
 }
 
 -- the tables with a new record and its effects in the open period
-abbrev pub put_new : Naming → Rulings → ℕ → List ℕ → Priced → Effects → Tables → Tables
-put_new naming rulings period bytes priced effects tables =
+abbrev pub put_new : Naming → Rulings → List ℕ → Priced → Effects → Tables → Tables
+put_new naming rulings bytes priced effects tables =
     put_record (name_of naming bytes) (new_row rulings bytes priced effects)
-    (apply period effects tables)
+    (apply (open_by rulings) effects tables)
 
 -- the row is posted if the record is charged and dated on or before the day
 abbrev pub post : ℤ → RecordRow → RecordRow

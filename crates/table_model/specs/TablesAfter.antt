@@ -28,7 +28,7 @@ new_tables = record {
 abbrev pub with_record : Naming → Rulings → List ℕ → Option Priced → Tables → Tables
 with_record naming ruled bytes None tables = tables
 with_record naming ruled bytes (Some priced) tables =
-    put_new naming ruled (open_by ruled) bytes priced
+    put_new naming ruled bytes priced
     (effects_of (view_in tables (identity_by ruled bytes)) (name_of naming bytes) priced) tables
 
 -- the tables with the choice of a record that is held, by its name and its identity

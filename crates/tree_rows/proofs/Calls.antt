@@ -1,13 +1,14 @@
 -- Calls on a store, one after the other.
-use Rattle.std.proofs.Common.{◌≡◌, ◌∙◌, ℕ, List, Option, inl, inr, ap, refl, subst, sym, arith, rules}
+use Rattle.std.proofs.Common.{◌≡◌, ◌≤◌, ◌⊎◌, ◌∙◌, ℕ, List, Option, inl, inr, ap, refl, subst, sym, arith, rules}
 use Rattle.sqlite_disk.specs.Disk.{MoreFaults}
+use Rattle.sqlite_trees.specs.Tree.{Trees}
 use Rattle.sqlite_trees.specs.View.{View, HasCause, IsClean, IsFailure, IsQuiet}
-use Rattle.sqlite_trees.specs.View.{KeepsCommitted, KeepsSchema, Moves}
+use Rattle.sqlite_trees.specs.View.{KeepsCommitted, KeepsSchema, Moves, OnlyWrites}
 use Rattle.sqlite_trees.specs.declared.error.StoreError.{StoreError}
 use Rattle.sqlite_trees.specs.declared.store.Store.{Ghosts}
 use Rattle.sqlite_value.specs.Order.{Row}
 use Rattle.tree_rows.specs.Rows.{IsUnchanged}
-use Rattle.tree_rows.proofs.Failing.{caused_after, failed_after}
+use Rattle.tree_rows.proofs.Failing.{caused_after, failed_after, kept_after, more_since}
 
 -- a cursor that is placed leaves all else
 pub unchanged_but : (old : View) {new : View} {cursors : ℕ → Option (List Row)}
@@ -22,24 +23,16 @@ pub unchanged_both : (old : View) {mid new : View} → IsUnchanged old mid → I
 unchanged_both old {new} one two =
     two ∙ ap (λ (v : View). record v { cursors = new.cursors }) one
 
+-- a look only writes: it writes nothing
+pub only_looks : (old : View) {new : View} → IsUnchanged old new → OnlyWrites old new
+only_looks old {new} same =
+    same ∙ ap (λ (trees : Trees). record old { trees = trees; cursors = new.cursors })
+    (sym (ap (λ (v : View). v.trees) same))
+
 -- what is there after a look was there before it
 pub kept_after_look : {old mid new : View} → IsUnchanged old mid → KeepsCommitted mid new
     → KeepsCommitted old new
-kept_after_look {old} {mid} {new} same kept =
-    by_same mid.cursors (subst (λ v. KeepsCommitted v new) same kept)
-  where
-    by_same : (cursors : ℕ → Option (List Row))
-        → KeepsCommitted (record old { cursors = cursors }) new → KeepsCommitted old new
-    by_same cursors kept = record {
-      shape = kept.shape;
-      reals = kept.reals;
-      committed_shape = kept.committed_shape;
-      committed_reals = kept.committed_reals;
-      numbered = kept.numbered;
-      was_open = kept.was_open;
-      committed = kept.committed;
-      marks = kept.marks;
-    }
+kept_after_look {old} same kept = kept_after (only_looks old same) kept
 
 -- a look alone leaves what was committed
 pub kept_same : {old new : View} → IsUnchanged old new → KeepsCommitted old new
@@ -66,6 +59,16 @@ schema_both one two = record {
   numbered = two.numbered ∙ one.numbered;
 }
 
+-- where each of two calls ends with an open store or a fault, so do both
+pub closes_both : {Mid New : Type 0} {one two three : ℕ} → one ≤ two → two ≤ three
+    → Mid ⊎ MoreFaults one two → (Mid → New ⊎ MoreFaults two three)
+    → New ⊎ MoreFaults one three
+closes_both less more (inr fault) closes = inr (search rules)
+closes_both {one} {two} {three} less more (inl still) closes = elim (closes still) [
+  | inl stays ↦ inl stays
+  | inr fault ↦ inr (more_since one two three less fault)
+]
+
 module _ {S : Type 0} (ghosts : Ghosts S) where
   -- a call that commits nothing
   abbrev pub Quiet : S → S → Type 0
@@ -86,15 +89,7 @@ module _ {S : Type 0} (ghosts : Ghosts S) where
     counts = (let a = one.counts in let b = two.counts in omega (arith, a, b));
     closes = λ clean is_open.
         let before = clean_before two clean in
-        let a = one.counts in
-        let b = two.counts in
-        elim (one.closes before is_open) [
-          | inl still ↦ elim (two.closes clean still) [
-            | inl stays ↦ inl stays
-            | inr more ↦ inr (search rules)
-          ]
-          | inr more ↦ inr (search rules)
-        ];
+        closes_both one.counts two.counts (one.closes before is_open) (two.closes clean);
     outcomes = λ trees left. one.outcomes trees (two.outcomes trees left);
   }
 
@@ -144,3 +139,7 @@ module _ {S : Type 0} (ghosts : Ghosts S) where
   caused_on old {mid} {new} error first before call cause clean =
       caused_after (ghosts.view old) (ghosts.view mid) (ghosts.faults old) (ghosts.faults mid)
       (ghosts.faults new) error (before (clean_before call clean)) first.counts cause
+
+-- what holds after two calls, one after the other
+pub ruleset calls_in_turn =
+    (schema_both, quiet_both, unchanged_but, unchanged_next, unchanged_on, kept_on, failed_on, caused_on)

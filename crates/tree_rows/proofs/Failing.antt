@@ -1,26 +1,31 @@
 -- A failure after cursors have moved.
-use Rattle.std.proofs.Common.{◌≡◌, ◌≤◌, subst, List, Option, ℕ, IsTrue, ap, sym, rules}
+use Rattle.std.proofs.Common.{◌≡◌, ◌≤◌, ◌∙◌, subst, List, Option, ℕ, IsTrue, ap, refl, sym, rules}
 use Rattle.sqlite_disk.specs.Disk.{MoreFaults}
-use Rattle.sqlite_trees.specs.View.{View, IsFailure, HasCause}
+use Rattle.sqlite_trees.specs.View.{View, HasCause, IsFailure, KeepsCommitted, OnlyWrites}
 use Rattle.sqlite_trees.specs.declared.error.StoreError.{StoreError}
 use Rattle.sqlite_trees.specs.declared.error.StoreError.TheVariants.{OutOfMemory, Io, Corrupt, Full}
 use Rattle.sqlite_trees.specs.declared.error.StoreError.TheVariants.{Broken, Unstorable}
 use Rattle.sqlite_value.specs.Order.{Row}
 
+-- what is there after a step that only writes was there before it
+pub kept_after : {old mid new : View} → OnlyWrites old mid → KeepsCommitted mid new
+    → KeepsCommitted old new
+kept_after only kept = record {
+  shape = kept.shape ∙ ap (λ (v : View). v.shape) only;
+  reals = kept.reals ∙ ap (λ (v : View). v.reals) only;
+  committed_shape = kept.committed_shape ∙ ap (λ (v : View). v.committed_shape) only;
+  committed_reals = kept.committed_reals ∙ ap (λ (v : View). v.committed_reals) only;
+  numbered = kept.numbered ∙ ap (λ (v : View). v.is_numbered) only;
+  was_open = λ is_open. subst IsTrue (ap (λ (v : View). v.is_open) only) (kept.was_open is_open);
+  committed = λ is_open. kept.committed is_open ∙ ap (λ (v : View). v.committed) only;
+  marks = λ is_open. kept.marks is_open ∙ ap (λ (v : View). v.marks) only;
+}
+
 -- it is one of the store as it was before they moved
 moved : (old new : View) (cursors : ℕ → Option (List Row)) (e : StoreError)
     → IsFailure (record old { cursors = cursors }) new e → IsFailure old new e
 moved old new cursors e failed = record {
-  kept = record {
-    shape = failed.kept.shape;
-    reals = failed.kept.reals;
-    committed_shape = failed.kept.committed_shape;
-    committed_reals = failed.kept.committed_reals;
-    numbered = failed.kept.numbered;
-    was_open = failed.kept.was_open;
-    committed = failed.kept.committed;
-    marks = failed.kept.marks;
-  };
+  kept = kept_after {old = old} refl failed.kept;
   unchanged = failed.unchanged;
   refused = failed.refused;
 }

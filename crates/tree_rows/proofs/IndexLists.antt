@@ -1,16 +1,16 @@
 -- The keys of an index as a list: what they stand for, which of them pass a test, in which order.
 use Rattle.std.proofs.Common.{◌≡◌, List, [], ◌∷◌, map, Bool, true, false, cond}
-use Rattle.std.proofs.Common.{Some, None, refl, sym, ap, subst, ◌∙◌, length, arith}
+use Rattle.std.proofs.Common.{Some, None, refl, sym, ap, ap₂, subst, ◌∙◌, length, arith}
 use Rattle.std.specs.Prelude.{filter, T, ◌&&◌}
-use Rattle.std.specs.Cmp.{IsTotalOrder}
+use Rattle.std.specs.Cmp.{IsTotalOrder, tied_itself}
 use Rattle.std.specs.FinMap.{FinMap, entries, entries_sorted, entries-insert, find, put}
 use Rattle.std.specs.FinMap.{from_entries, empty, get-entries, get-from_entries, is_sorted}
 use Rattle.std.specs.FinMap.{len-entries, len-empty}
-use Rattle.std.specs.FinMap.Entries.{by_order, same_entries, is_sorted-where_key}
+use Rattle.std.specs.FinMap.Entries.{below_all, by_order, same_entries, is_sorted-where_key}
 use Rattle.std.specs.FinMap.Entries.{find-where_key}
 use Rattle.std.specs.List.{All, AllByRecursion}
 use Rattle.std.specs.List.Sorted.{IsPermutation}
-use Rattle.std.specs.Ordering.{is_eq, eq_by_cmp}
+use Rattle.std.specs.Ordering.{is_eq, is_lt, eq_by_cmp, ordering_then}
 use Rattle.std.specs.declared.cmp.Ordering.{Ordering}
 use Rattle.std.specs.declared.cmp.Ordering.TheVariants.{Less, Equal, Greater}
 use Rattle.std.proofs.lemmas.Cmp.{eq_by_cmp_equiv}
@@ -132,21 +132,55 @@ module _ {K V Q : Type 0} {R : K → K → Ordering} {P : Q → Q → Ordering} 
     alike : (t : Q → Bool) (q x : Q) → P q x ≡ Equal → t x ≡ t q
     alike t q x is = ap t (sym (index.index_exact q x is))
 
-    -- Where the entries that pass are in the order of the index, those of the index that pass
-    -- are theirs, in this order.
-    pub index_in_order : (t : Q → Bool) (m : FinMap R V)
-        → T (is_sorted P (map (indexed_by key) (filter (λ e. t (key e)) (entries m))))
-        → filter (λ e. t e.0) (entries (index_of {P = P} key m))
-        ≡ map (indexed_by key) (filter (λ e. t (key e)) (entries m))
-    unfolding index_of
-    index_in_order t m rising =
-        let all : List (Q × Unit {0}) = map (indexed_by key) (entries m) in
-        let there : FinMap P (Unit {0}) = from_entries all in
-        same_entries P index.index_total index.index_exact (filter (λ e. t e.0) (entries there))
-        (map (indexed_by key) (filter (λ e. t (key e)) (entries m)))
-        (is_sorted-where_key P t (entries there) (entries_sorted there)) rising
-        (λ q. find-where_key P t q (alike t q) (entries there)
-        ∙ ap (λ found. cond (t q) found None)
-        (sym (get-entries there q) ∙ get-from_entries index.index_total all q)
-        ∙ sym (find-where_key P t q (alike t q) all)
-        ∙ ap (find P q) (filter-map (λ e. t e.0) (indexed_by key) (entries m)))
+    -- Index keys compare by their heads, then as the entries do; and the test is passed by one head.
+    module _ {A : Type 0} {C : A → A → Ordering} (total : IsTotalOrder C) (head : Q → A)
+        (heads_first : (e f : K × V) → P (key e) (key f)
+        ≡ ordering_then (C (head (key e)) (head (key f))) (R e.0 f.0))
+        (given : A) (t : Q → Bool) (only : (q : Q) → t q ≡ true → head q ≡ given)
+      where
+        -- the keys that pass, of some entries
+        abbrev passing : List (K × V) → List (Q × Unit {0})
+        passing es = map (indexed_by key) (filter (λ e. t (key e)) es)
+
+        -- a key that passes is below those of the later entries that do
+        below_passing : (e : K × V) (es : List (K × V)) → t (key e) ≡ true
+            → T (below_all R e.0 es) → T (below_all P (key e) (passing es))
+        below_passing e [] is below = tt
+        below_passing e (f ∷ es) is below =
+            let rest = below_passing e es is (second _ _ below) in
+            elim (t (key f)) as (λ b. t (key f) ≡ b → T (below_all P (key e) (map (indexed_by key)
+            (cond b (f ∷ filter (λ e. t (key e)) es) (filter (λ e. t (key e)) es))))) [
+              | true ↦ λ too. both _ _
+                  (subst (λ o. T (is_lt o))
+                  (sym (heads_first e f ∙ ap (λ o. ordering_then o (R e.0 f.0))
+                  (ap₂ C (only (key e) is) (only (key f) too) ∙ tied_itself total given)))
+                  (first _ _ below)) rest
+              | false ↦ λ not_it. rest
+            ] refl
+
+        -- so the keys that pass, of sorted entries, are in the order of the index
+        passing_rises : (es : List (K × V)) → T (is_sorted R es) → T (is_sorted P (passing es))
+        passing_rises [] sorted = tt
+        passing_rises (e ∷ es) sorted =
+            let rest = passing_rises es (second _ _ sorted) in
+            elim (t (key e)) as (λ b. t (key e) ≡ b → T (is_sorted P (map (indexed_by key)
+            (cond b (e ∷ filter (λ e. t (key e)) es) (filter (λ e. t (key e)) es))))) [
+              | true ↦ λ is. both _ _ (below_passing e es is (first _ _ sorted)) rest
+              | false ↦ λ not_it. rest
+            ] refl
+
+        -- and the entries of the index that pass are those of the map that do, in its order
+        pub index_in_order : (m : FinMap R V)
+            → filter (λ e. t e.0) (entries (index_of {P = P} key m)) ≡ passing (entries m)
+        unfolding index_of
+        index_in_order m =
+            let all : List (Q × Unit {0}) = map (indexed_by key) (entries m) in
+            let there : FinMap P (Unit {0}) = from_entries all in
+            same_entries P index.index_total index.index_exact (filter (λ e. t e.0) (entries there))
+            (passing (entries m)) (is_sorted-where_key P t (entries there) (entries_sorted there))
+            (passing_rises (entries m) (entries_sorted m))
+            (λ q. find-where_key P t q (alike t q) (entries there)
+            ∙ ap (λ found. cond (t q) found None)
+            (sym (get-entries there q) ∙ get-from_entries index.index_total all q)
+            ∙ sym (find-where_key P t q (alike t q) all)
+            ∙ ap (find P q) (filter-map (λ e. t e.0) (indexed_by key) (entries m)))

@@ -76,40 +76,36 @@ module _ {K V : Type 0} {R : K → K → Ordering} (layout : Layout K V R) where
       remove_entry plain (row_of layout (k, v)) (map (row_of layout) es)
       ≡ map (row_of layout) (filter (other_key k) es)
 
-  -- a first entry that stays
-  stays_first : (k : K) (v : V) (e : K × V) (es : List (K × V)) → stays k v e ≡ true
-      → other_key k e ≡ true → Takes k v es → Takes k v (e ∷ es)
+  -- a first entry that stays, or that goes
+  takes_first : (b : Bool) (k : K) (v : V) (e : K × V) (es : List (K × V)) → stays k v e ≡ b
+      → other_key k e ≡ b → Takes k v es → Takes k v (e ∷ es)
   unfolding stays
-  stays_first k v e es row key later =
+  takes_first b k v e es row key later =
       ap (λ b. cond b (row_of layout e ∷ remove_entry plain (row_of layout (k, v))
       (map (row_of layout) es)) (remove_entry plain (row_of layout (k, v))
       (map (row_of layout) es))) row
-      ∙ ap (λ rows. row_of layout e ∷ rows) later
+      ∙ by b
       ∙ sym (ap (λ b. map (row_of layout) (cond b (e ∷ filter (other_key k) es)
       (filter (other_key k) es))) key)
-
-  -- a first entry that goes
-  goes_first : (k : K) (v : V) (e : K × V) (es : List (K × V)) → stays k v e ≡ false
-      → other_key k e ≡ false → Takes k v es → Takes k v (e ∷ es)
-  unfolding stays
-  goes_first k v e es row key later =
-      ap (λ b. cond b (row_of layout e ∷ remove_entry plain (row_of layout (k, v))
-      (map (row_of layout) es)) (remove_entry plain (row_of layout (k, v))
-      (map (row_of layout) es))) row
-      ∙ later
-      ∙ sym (ap (λ b. map (row_of layout) (cond b (e ∷ filter (other_key k) es)
-      (filter (other_key k) es))) key)
+    where
+      by : (b : Bool)
+          → cond b (row_of layout e ∷ remove_entry plain (row_of layout (k, v))
+          (map (row_of layout) es)) (remove_entry plain (row_of layout (k, v))
+          (map (row_of layout) es))
+          ≡ map (row_of layout) (cond b (e ∷ filter (other_key k) es) (filter (other_key k) es))
+      by true = ap (λ rows. row_of layout e ∷ rows) later
+      by false = later
 
   -- where no entry has the key, all stay
   takes_none : (k : K) (v : V) (es : List (K × V)) → find R k es ≡ None → Takes k v es
   takes_none k v [] none = refl
   takes_none k v (e ∷ es) none =
       elim (R k e.0) as (λ o. R k e.0 ≡ o → Takes k v (e ∷ es)) [
-        | Less ↦ λ is. stays_first k v e es (stays_apart k v e Less is refl)
+        | Less ↦ λ is. takes_first true k v e es (stays_apart k v e Less is refl)
             (ap (λ o. not (is_eq o)) is) (takes_none k v es (beyond Less is refl))
         | Equal ↦ λ is. absurd (not_none e.1
             (sym (ap (λ o. cond (is_eq o) (Some e.1) (find R k es)) is) ∙ none))
-        | Greater ↦ λ is. stays_first k v e es (stays_apart k v e Greater is refl)
+        | Greater ↦ λ is. takes_first true k v e es (stays_apart k v e Greater is refl)
             (ap (λ o. not (is_eq o)) is) (takes_none k v es (beyond Greater is refl))
       ] refl
     where
@@ -122,11 +118,11 @@ module _ {K V : Type 0} {R : K → K → Ordering} (layout : Layout K V R) where
   takes_one k v [] sorted some = refl
   takes_one k v (e ∷ es) sorted some =
       elim (R k e.0) as (λ o. R k e.0 ≡ o → Takes k v (e ∷ es)) [
-        | Less ↦ λ is. stays_first k v e es (stays_apart k v e Less is refl)
+        | Less ↦ λ is. takes_first true k v e es (stays_apart k v e Less is refl)
             (ap (λ o. not (is_eq o)) is) (takes_one k v es (second _ _ sorted)
             (beyond Less is refl))
         | Equal ↦ λ is. here is
-        | Greater ↦ λ is. stays_first k v e es (stays_apart k v e Greater is refl)
+        | Greater ↦ λ is. takes_first true k v e es (stays_apart k v e Greater is refl)
             (ap (λ o. not (is_eq o)) is) (takes_one k v es (second _ _ sorted)
             (beyond Greater is refl))
       ] refl
@@ -144,7 +140,7 @@ module _ {K V : Type 0} {R : K → K → Ordering} (layout : Layout K V R) where
           ap₂ (λ x u. stays x u e) (sym same) (sym value) ∙ goes e.0 e.1 in
           let none : find R k es ≡ None =
           find_above R k es (subst (λ x. T (below_all R x es)) same (first _ _ sorted)) in
-          goes_first k v e es row (ap (λ o. not (is_eq o)) is) (takes_none k v es none)
+          takes_first false k v e es row (ap (λ o. not (is_eq o)) is) (takes_none k v es none)
 
   -- the entries of a map without a key
   entries_removed : (m : FinMap R V) (k : K)

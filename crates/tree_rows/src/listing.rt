@@ -1,17 +1,16 @@
 //! The rows that begin alike, read in order into values.
 
-ghost use Rattle.std.specs.Prelude.{◌≡◌, ◌≤◌, ◌^◌, length, take, IfOk, IfErr, OnOk};
+ghost use Rattle.std.specs.Prelude.{◌≡◌, ◌≤◌, ◌^◌, length, take, IfOk, IfErr, OnErr, OnOk};
 ghost use Rattle.std.specs.List.{AllByRecursion, AllZip};
 ghost use Rattle.sqlite_disk.specs.Disk.{MoreFaults};
-ghost use Rattle.sqlite_trees.specs.View.{HasCause, IsClean, IsQuiet, KeepsCommitted, KeepsSchema};
-ghost use Rattle.sqlite_value.specs.Keys.{plain};
+ghost use Rattle.sqlite_trees.specs.View.{HasCause, IsClean, KeepsSchema};
 ghost use Rattle.sqlite_value.specs.Order.{Row as Columns};
-ghost use Rattle.tree_rows.specs.Rows.{IsUnchanged};
+ghost use Rattle.tree_rows.specs.Calls.{CommitsNothing, IsSorted, LeavesCommitted, OnlyLooks};
 ghost use Rattle.tree_rows.specs.Runs.{run_of};
 
 use crate::lookup::has_key;
 use sqlite_trees::error::StoreError;
-use sqlite_trees::store::{Direction, Shape, Store};
+use sqlite_trees::store::{Direction, Store};
 use sqlite_value::row::Row;
 use std::alloc::Global;
 
@@ -38,6 +37,7 @@ pub trait ReadRow: Sized {
 /// Reads the first rows that begin with the columns of `part`, in order and as many as there are
 /// up to `most`. Nothing is written to the store; an error is the store's own, or that of a row
 /// that was not read: where all of them fit, it has a cause of the store. What is in `row` is lost.
+#[tactic(auto, using(crate::proofs::Calls::calls_in_turn))]
 pub fn list_first<S: Store, T: ReadRow + Drop>(
     store: &mut S,
     tree: u32,
@@ -46,22 +46,18 @@ pub fn list_first<S: Store, T: ReadRow + Drop>(
     alloc: Global,
     most: usize,
 ) -> Result<Vec<T>, StoreError>
-    requires { IsClean (S.Store.view store.old)
-        → (S.Store.view store.old).shape tree ≡ Shape.Index plain }
+    requires { IsSorted S.Store store.old tree }
     ensures found { IfOk result (λ all. IsClean (S.Store.view store.new)
         → AllZip T.ReadRow.says
         (take most (run_of part.now ((S.Store.view store.old).trees tree))) all.items) }
-    ensures same { OnOk result (IsClean (S.Store.view store.new)
-        → IsUnchanged (S.Store.view store.old) (S.Store.view store.new)) }
+    ensures same { OnOk result (OnlyLooks S.Store store.old store.new) }
     ensures schema { KeepsSchema (S.Store.view store.old) (S.Store.view store.new) }
-    ensures kept { IfErr result (λ error. IsClean (S.Store.view store.new)
-        → KeepsCommitted (S.Store.view store.old) (S.Store.view store.new)) }
+    ensures kept { OnErr result (LeavesCommitted S.Store store.old store.new) }
     ensures cause { IfErr result (λ error. IsClean (S.Store.view store.new)
         → AllByRecursion T.ReadRow.fits (run_of part.now ((S.Store.view store.old).trees tree))
         → HasCause (S.Store.view store.old)
         (MoreFaults (S.Store.faults store.old) (S.Store.faults store.new)) ⊥ error) }
-    ensures quiet { IsQuiet S.Store.view S.Store.faults S.Store.recovers S.Store.is_shielded
-        store.old store.new }
+    ensures quiet { CommitsNothing S.Store store.old store.new }
 {
     store.seek(LIST, tree, part, Direction::Forward)?;
     let mut all = Vec::new(alloc);
@@ -86,23 +82,19 @@ pub fn list_run<S: Store, T: ReadRow + Drop>(
     row: &mut Row,
     alloc: Global,
 ) -> Result<Vec<T>, StoreError>
-    requires { IsClean (S.Store.view store.old)
-        → (S.Store.view store.old).shape tree ≡ Shape.Index plain }
+    requires { IsSorted S.Store store.old tree }
     ensures found { IfOk result (λ all. IsClean (S.Store.view store.new)
         → AllZip T.ReadRow.says (run_of part.now ((S.Store.view store.old).trees tree))
         all.items) }
-    ensures same { OnOk result (IsClean (S.Store.view store.new)
-        → IsUnchanged (S.Store.view store.old) (S.Store.view store.new)) }
+    ensures same { OnOk result (OnlyLooks S.Store store.old store.new) }
     ensures schema { KeepsSchema (S.Store.view store.old) (S.Store.view store.new) }
-    ensures kept { IfErr result (λ error. IsClean (S.Store.view store.new)
-        → KeepsCommitted (S.Store.view store.old) (S.Store.view store.new)) }
+    ensures kept { OnErr result (LeavesCommitted S.Store store.old store.new) }
     ensures cause { IfErr result (λ error. IsClean (S.Store.view store.new)
         → AllByRecursion T.ReadRow.fits (run_of part.now ((S.Store.view store.old).trees tree))
         → length (run_of part.now ((S.Store.view store.old).trees tree)) ≤ 2 ^ 32
         → HasCause (S.Store.view store.old)
         (MoreFaults (S.Store.faults store.old) (S.Store.faults store.new)) ⊥ error) }
-    ensures quiet { IsQuiet S.Store.view S.Store.faults S.Store.recovers S.Store.is_shielded
-        store.old store.new }
+    ensures quiet { CommitsNothing S.Store store.old store.new }
 {
     // One more is asked for, to find out whether there are more.
     let all = list_first(store, tree, part, row, alloc, MOST_ROWS + 1)?;

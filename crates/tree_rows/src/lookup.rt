@@ -2,15 +2,15 @@
 
 ghost use Rattle.std.specs.Prelude.{◌≡◌, IfOk, IfErr, OnErr, OnOk, reverse};
 ghost use Rattle.sqlite_trees.specs.Tree.{from_key};
-ghost use Rattle.sqlite_disk.specs.Disk.{MoreFaults};
-ghost use Rattle.sqlite_trees.specs.View.{HasCause, IsClean, IsFailure, IsQuiet, KeepsCommitted};
-ghost use Rattle.sqlite_trees.specs.View.{KeepsSchema};
+ghost use Rattle.sqlite_trees.specs.View.{IsClean, KeepsSchema};
 ghost use Rattle.sqlite_value.specs.Keys.{plain, prefix_cmp};
 ghost use Rattle.std.specs.Ordering.{is_eq};
-ghost use Rattle.tree_rows.specs.Rows.{Finds, IsFirst, IsUnchanged, past_key};
+ghost use Rattle.tree_rows.specs.Calls.{CommitsNothing, FailsAsStore, IsCausedByStore};
+ghost use Rattle.tree_rows.specs.Calls.{IsSorted, LeavesCommitted, OnlyLooks};
+ghost use Rattle.tree_rows.specs.Rows.{Finds, IsFirst, past_key};
 
 use sqlite_trees::error::StoreError;
-use sqlite_trees::store::{Direction, Shape, Store};
+use sqlite_trees::store::{Direction, Store};
 use sqlite_value::keys::Order;
 use sqlite_value::row::Row;
 
@@ -22,26 +22,21 @@ const WALK: u16 = 1;
 
 /// Writes the first row that is not below the key over `row`, or answers that there is none. The
 /// key is the first columns of a row. Nothing is written to the store; an error is the store's own.
+#[tactic(auto, using(crate::proofs::Calls::calls_in_turn))]
 pub fn first_from<S: Store>(
     store: &mut S,
     tree: u32,
     key: &Row,
     row: &mut Row,
 ) -> Result<bool, StoreError>
-    requires { IsClean (S.Store.view store.old)
-        → (S.Store.view store.old).shape tree ≡ Shape.Index plain }
+    requires { IsSorted S.Store store.old tree }
     ensures found { IfOk result (λ there. IsClean (S.Store.view store.new)
         → IsFirst (from_key plain key.now ((S.Store.view store.old).trees tree)) row.new there) }
-    ensures same { OnOk result (IsClean (S.Store.view store.new)
-        → IsUnchanged (S.Store.view store.old) (S.Store.view store.new)) }
+    ensures same { OnOk result (OnlyLooks S.Store store.old store.new) }
     ensures schema { KeepsSchema (S.Store.view store.old) (S.Store.view store.new) }
-    ensures err { IfErr result (λ error. IsClean (S.Store.view store.new)
-        → IsFailure (S.Store.view store.old) (S.Store.view store.new) error) }
-    ensures cause { IfErr result (λ error. IsClean (S.Store.view store.new)
-        → HasCause (S.Store.view store.old)
-        (MoreFaults (S.Store.faults store.old) (S.Store.faults store.new)) ⊥ error) }
-    ensures quiet { IsQuiet S.Store.view S.Store.faults S.Store.recovers S.Store.is_shielded
-        store.old store.new }
+    ensures err { IfErr result (FailsAsStore S.Store store.old store.new) }
+    ensures cause { IfErr result (IsCausedByStore S.Store store.old store.new) }
+    ensures quiet { CommitsNothing S.Store store.old store.new }
 {
     store.seek(LOOK, tree, key, Direction::Forward)?;
     match store.next(LOOK, row) {
@@ -58,20 +53,14 @@ pub fn find_row<S: Store>(
     key: &Row,
     row: &mut Row,
 ) -> Result<bool, StoreError>
-    requires { IsClean (S.Store.view store.old)
-        → (S.Store.view store.old).shape tree ≡ Shape.Index plain }
+    requires { IsSorted S.Store store.old tree }
     ensures found { IfOk result (λ hit. IsClean (S.Store.view store.new)
         → Finds key.now ((S.Store.view store.old).trees tree) row.new hit) }
-    ensures same { OnOk result (IsClean (S.Store.view store.new)
-        → IsUnchanged (S.Store.view store.old) (S.Store.view store.new)) }
+    ensures same { OnOk result (OnlyLooks S.Store store.old store.new) }
     ensures schema { KeepsSchema (S.Store.view store.old) (S.Store.view store.new) }
-    ensures err { IfErr result (λ error. IsClean (S.Store.view store.new)
-        → IsFailure (S.Store.view store.old) (S.Store.view store.new) error) }
-    ensures cause { IfErr result (λ error. IsClean (S.Store.view store.new)
-        → HasCause (S.Store.view store.old)
-        (MoreFaults (S.Store.faults store.old) (S.Store.faults store.new)) ⊥ error) }
-    ensures quiet { IsQuiet S.Store.view S.Store.faults S.Store.recovers S.Store.is_shielded
-        store.old store.new }
+    ensures err { IfErr result (FailsAsStore S.Store store.old store.new) }
+    ensures cause { IfErr result (IsCausedByStore S.Store store.old store.new) }
+    ensures quiet { CommitsNothing S.Store store.old store.new }
 {
     let there = first_from(store, tree, key, row)?;
     Ok(there && has_key(row, key))
@@ -80,27 +69,22 @@ pub fn find_row<S: Store>(
 /// Writes the first row after those of the key over `row`, or answers that there is none:
 /// a step of a walk by key, where no two rows have one key. Nothing is written to the store; an
 /// error is the store's own.
+#[tactic(auto, using(crate::proofs::Calls::calls_in_turn))]
 pub fn first_after<S: Store>(
     store: &mut S,
     tree: u32,
     key: &Row,
     row: &mut Row,
 ) -> Result<bool, StoreError>
-    requires { IsClean (S.Store.view store.old)
-        → (S.Store.view store.old).shape tree ≡ Shape.Index plain }
+    requires { IsSorted S.Store store.old tree }
     ensures found { IfOk result (λ there. IsClean (S.Store.view store.new)
         → IsFirst (past_key key.now (from_key plain key.now
         ((S.Store.view store.old).trees tree))) row.new there) }
-    ensures same { OnOk result (IsClean (S.Store.view store.new)
-        → IsUnchanged (S.Store.view store.old) (S.Store.view store.new)) }
-    ensures kept { OnErr result (IsClean (S.Store.view store.new)
-        → KeepsCommitted (S.Store.view store.old) (S.Store.view store.new)) }
+    ensures same { OnOk result (OnlyLooks S.Store store.old store.new) }
+    ensures kept { OnErr result (LeavesCommitted S.Store store.old store.new) }
     ensures schema { KeepsSchema (S.Store.view store.old) (S.Store.view store.new) }
-    ensures cause { IfErr result (λ error. IsClean (S.Store.view store.new)
-        → HasCause (S.Store.view store.old)
-        (MoreFaults (S.Store.faults store.old) (S.Store.faults store.new)) ⊥ error) }
-    ensures quiet { IsQuiet S.Store.view S.Store.faults S.Store.recovers S.Store.is_shielded
-        store.old store.new }
+    ensures cause { IfErr result (IsCausedByStore S.Store store.old store.new) }
+    ensures quiet { CommitsNothing S.Store store.old store.new }
 {
     store.seek(WALK, tree, key, Direction::Forward)?;
     let there = store.next(WALK, row)?;
@@ -118,21 +102,16 @@ pub fn first_after<S: Store>(
 
 /// Writes the last row of all over `row`, or answers that there is none. Nothing is written to the
 /// store; an error is the store's own, and what is in `row` is lost then.
+#[tactic(auto, using(crate::proofs::Calls::calls_in_turn))]
 pub fn last_row<S: Store>(store: &mut S, tree: u32, row: &mut Row) -> Result<bool, StoreError>
-    requires { IsClean (S.Store.view store.old)
-        → (S.Store.view store.old).shape tree ≡ Shape.Index plain }
+    requires { IsSorted S.Store store.old tree }
     ensures found { IfOk result (λ there. IsClean (S.Store.view store.new)
         → IsFirst (reverse ((S.Store.view store.old).trees tree)) row.new there) }
-    ensures same { OnOk result (IsClean (S.Store.view store.new)
-        → IsUnchanged (S.Store.view store.old) (S.Store.view store.new)) }
-    ensures kept { OnErr result (IsClean (S.Store.view store.new)
-        → KeepsCommitted (S.Store.view store.old) (S.Store.view store.new)) }
+    ensures same { OnOk result (OnlyLooks S.Store store.old store.new) }
+    ensures kept { OnErr result (LeavesCommitted S.Store store.old store.new) }
     ensures schema { KeepsSchema (S.Store.view store.old) (S.Store.view store.new) }
-    ensures cause { IfErr result (λ error. IsClean (S.Store.view store.new)
-        → HasCause (S.Store.view store.old)
-        (MoreFaults (S.Store.faults store.old) (S.Store.faults store.new)) ⊥ error) }
-    ensures quiet { IsQuiet S.Store.view S.Store.faults S.Store.recovers S.Store.is_shielded
-        store.old store.new }
+    ensures cause { IfErr result (IsCausedByStore S.Store store.old store.new) }
+    ensures quiet { CommitsNothing S.Store store.old store.new }
 {
     // No row is above the key of no columns, so the walk back begins with the last of all.
     row.clear();

@@ -2,28 +2,26 @@
 
 ghost use Rattle.std.specs.Prelude.{◌≡◌, OnErr, OnOk};
 ghost use Rattle.sqlite_trees.specs.Tree.{insert_entry, remove_entry};
-ghost use Rattle.sqlite_trees.specs.View.{IsClean, IsQuiet, KeepsCommitted, KeepsSchema};
+ghost use Rattle.sqlite_trees.specs.View.{IsClean, KeepsSchema};
 ghost use Rattle.sqlite_value.specs.Keys.{plain};
+ghost use Rattle.tree_rows.specs.Calls.{CommitsNothing, IsSorted, LeavesCommitted};
 ghost use Rattle.tree_rows.specs.Rows.{Drops, Puts, Rewrites};
 
 use crate::lookup::find_row;
 use sqlite_trees::error::StoreError;
-use sqlite_trees::store::{Shape, Store};
+use sqlite_trees::store::Store;
 use sqlite_value::row::Row;
 
 /// Puts a row beside the others; one that is there already is left as it is. Nothing is committed;
 /// an error is the store's own.
 pub fn add_row<S: Store>(store: &mut S, tree: u32, row: &Row) -> Result<(), StoreError>
-    requires { IsClean (S.Store.view store.old)
-        → (S.Store.view store.old).shape tree ≡ Shape.Index plain }
+    requires { IsSorted S.Store store.old tree }
     ensures done { OnOk result (IsClean (S.Store.view store.new)
         → Rewrites (S.Store.view store.old) (S.Store.view store.new) tree
         (insert_entry plain row.now ((S.Store.view store.old).trees tree))) }
-    ensures kept { OnErr result (IsClean (S.Store.view store.new)
-        → KeepsCommitted (S.Store.view store.old) (S.Store.view store.new)) }
+    ensures kept { OnErr result (LeavesCommitted S.Store store.old store.new) }
     ensures schema { KeepsSchema (S.Store.view store.old) (S.Store.view store.new) }
-    ensures quiet { IsQuiet S.Store.view S.Store.faults S.Store.recovers S.Store.is_shielded
-        store.old store.new }
+    ensures quiet { CommitsNothing S.Store store.old store.new }
 {
     store.insert(tree, row)?;
     Ok(())
@@ -38,17 +36,14 @@ pub fn change_row<S: Store>(
     old: &Row,
     new: &Row,
 ) -> Result<(), StoreError>
-    requires { IsClean (S.Store.view store.old)
-        → (S.Store.view store.old).shape tree ≡ Shape.Index plain }
+    requires { IsSorted S.Store store.old tree }
     ensures done { OnOk result (IsClean (S.Store.view store.new)
         → Rewrites (S.Store.view store.old) (S.Store.view store.new) tree
         (insert_entry plain new.now (remove_entry plain old.now
         ((S.Store.view store.old).trees tree)))) }
-    ensures kept { OnErr result (IsClean (S.Store.view store.new)
-        → KeepsCommitted (S.Store.view store.old) (S.Store.view store.new)) }
+    ensures kept { OnErr result (LeavesCommitted S.Store store.old store.new) }
     ensures schema { KeepsSchema (S.Store.view store.old) (S.Store.view store.new) }
-    ensures quiet { IsQuiet S.Store.view S.Store.faults S.Store.recovers S.Store.is_shielded
-        store.old store.new }
+    ensures quiet { CommitsNothing S.Store store.old store.new }
 {
     store.remove(tree, old)?;
     store.insert(tree, new)?;
@@ -58,6 +53,7 @@ pub fn change_row<S: Store>(
 /// Puts a row in the place of the one that has its key, or beside the others where none has. The
 /// old one is read into `found`. Nothing is committed; an error is the store's own, and the old
 /// row may be gone then until the transaction is rolled back.
+#[tactic(auto, using(crate::proofs::Calls::calls_in_turn))]
 pub fn put_row<S: Store>(
     store: &mut S,
     tree: u32,
@@ -65,15 +61,12 @@ pub fn put_row<S: Store>(
     row: &Row,
     found: &mut Row,
 ) -> Result<(), StoreError>
-    requires { IsClean (S.Store.view store.old)
-        → (S.Store.view store.old).shape tree ≡ Shape.Index plain }
+    requires { IsSorted S.Store store.old tree }
     ensures puts { OnOk result (IsClean (S.Store.view store.new)
         → Puts (S.Store.view store.old) (S.Store.view store.new) tree key.now row.now) }
-    ensures kept { OnErr result (IsClean (S.Store.view store.new)
-        → KeepsCommitted (S.Store.view store.old) (S.Store.view store.new)) }
+    ensures kept { OnErr result (LeavesCommitted S.Store store.old store.new) }
     ensures schema { KeepsSchema (S.Store.view store.old) (S.Store.view store.new) }
-    ensures quiet { IsQuiet S.Store.view S.Store.faults S.Store.recovers S.Store.is_shielded
-        store.old store.new }
+    ensures quiet { CommitsNothing S.Store store.old store.new }
 {
     if find_row(store, tree, key, found)? {
         return change_row(store, tree, found, row);
@@ -89,15 +82,12 @@ pub fn drop_row<S: Store>(
     key: &Row,
     found: &mut Row,
 ) -> Result<(), StoreError>
-    requires { IsClean (S.Store.view store.old)
-        → (S.Store.view store.old).shape tree ≡ Shape.Index plain }
+    requires { IsSorted S.Store store.old tree }
     ensures drops { OnOk result (IsClean (S.Store.view store.new)
         → Drops (S.Store.view store.old) (S.Store.view store.new) tree key.now) }
-    ensures kept { OnErr result (IsClean (S.Store.view store.new)
-        → KeepsCommitted (S.Store.view store.old) (S.Store.view store.new)) }
+    ensures kept { OnErr result (LeavesCommitted S.Store store.old store.new) }
     ensures schema { KeepsSchema (S.Store.view store.old) (S.Store.view store.new) }
-    ensures quiet { IsQuiet S.Store.view S.Store.faults S.Store.recovers S.Store.is_shielded
-        store.old store.new }
+    ensures quiet { CommitsNothing S.Store store.old store.new }
 {
     if find_row(store, tree, key, found)? {
         return store.remove(tree, found);

@@ -2,14 +2,13 @@
 use Rattle.std.proofs.Common.{◌≡◌, ◌∙◌, ℕ, ◌&&◌, ◌||◌, List, [], ◌∷◌, Bool, true, false, cond}
 use Rattle.std.proofs.Common.{Some, None, Result, Ok, Err, map, pos}
 use Rattle.std.proofs.Common.{refl, sym, ap, ap₂, subst}
-use Rattle.std.specs.Prelude.{IfOk, T, filter, slice_get}
-use Rattle.std.specs.Cmp.{IsTotalOrder, nat_cmp_total, tied_itself}
+use Rattle.std.specs.Prelude.{IfOk, filter, slice_get}
+use Rattle.std.specs.Cmp.{IsTotalOrder, nat_cmp_total}
 use Rattle.std.specs.Cmp.Lexicographic.{nat_list_cmp_total}
-use Rattle.std.specs.FinMap.{entries, entries_sorted, get, is_sorted, nat_cmp-IsAntisymmetric}
-use Rattle.std.specs.FinMap.Entries.{below_all}
+use Rattle.std.specs.FinMap.{entries, get, nat_cmp-IsAntisymmetric}
 use Rattle.std.specs.List.{AllByRecursion, list_any}
 use Rattle.std.specs.Option.{option_map}
-use Rattle.std.specs.Ordering.{eq_by_cmp, is_eq, is_lt, nat_cmp, ordering_then}
+use Rattle.std.specs.Ordering.{eq_by_cmp, is_eq, nat_cmp, ordering_then}
 use Rattle.std.specs.declared.cmp.Ordering.{Ordering}
 use Rattle.std.proofs.lemmas.List.Elements.{All-filter, filter_agree, recursion_from_All}
 use Rattle.std.proofs.lemmas.Map.Views.{tells_apart}
@@ -27,9 +26,9 @@ use Rattle.table_model.specs.Views.{rows_with}
 use Rattle.tree_rows.specs.Indexes.{by_bytes, by_mark, by_parts, indexed_by}
 use Rattle.tree_rows.specs.Rows.{Finds, IsFirst, IsUnchanged}
 use Rattle.tree_rows.specs.Runs.{run_of}
-use Rattle.tree_rows.proofs.IndexLists.{both, index_in_order}
+use Rattle.tree_rows.proofs.IndexLists.{index_in_order}
 use Rattle.tree_rows.proofs.IndexOrders.{by_bytes_exact, parts_exact, parts_total}
-use Rattle.tree_rows.proofs.Maps.{first, second, then_assoc}
+use Rattle.tree_rows.proofs.Maps.{then_assoc}
 use Rattle.tree_rows.proofs.Runs.{finds_run, run_by_front}
 use Rattle.tree_tables.specs.Answers.{FindsCharged, FindsRecord, HasCharged, charged_with, is_charged}
 use Rattle.tree_tables.specs.Columns.{charged_part, flag, mark_columns}
@@ -90,47 +89,6 @@ module _ (given : Front) where
   abbrev with_front : List Entry → List (Key × Unit {0})
   with_front es = map (indexed_by mark_key) (filter (λ e. has_front (mark_key e)) es)
 
-  -- of two keys with the prefix the lesser has the lesser name
-  below_one : (name : List ℕ) (e : Entry) → front_of (mark_key e) ≡ given
-      → T (is_lt (by_bytes name e.0)) → T (is_lt (by_mark (given.0, (given.1, name)) (mark_key e)))
-  below_one name e is below =
-      subst (λ o. T (is_lt o))
-      (sym (fronts_first (given.0, (given.1, name)) (mark_key e)
-      ∙ ap (λ o. ordering_then o (by_bytes name e.0))
-      (ap (by_front given) is ∙ tied_itself by_front_total given))) below
-
-  -- the prefix with a name below all others is below all keys with the prefix
-  below_with_front : (name : List ℕ) (es : List Entry) → T (below_all by_bytes name es)
-      → T (below_all by_mark (given.0, (given.1, name)) (with_front es))
-  below_with_front name [] below = tt
-  below_with_front name (e ∷ es) below =
-      let rest = below_with_front name es (second _ _ below) in
-      elim (has_front (mark_key e)) as (λ b. has_front (mark_key e) ≡ b
-      → T (below_all by_mark (given.0, (given.1, name)) (map (indexed_by mark_key)
-      (cond b (e ∷ filter (λ e. has_front (mark_key e)) es)
-      (filter (λ e. has_front (mark_key e)) es))))) [
-        | true ↦ λ is. both _ _
-            (below_one name e (only_given (mark_key e) is) (first _ _ below)) rest
-        | false ↦ λ not_it. rest
-      ] refl
-
-  -- so keys with the prefix, of entries in the order of their names, are in the order of the tree
-  front_rises : (es : List Entry) → T (is_sorted by_bytes es)
-      → T (is_sorted by_mark (with_front es))
-  front_rises [] sorted = tt
-  front_rises (e ∷ es) sorted =
-      let rest = front_rises es (second _ _ sorted) in
-      elim (has_front (mark_key e)) as (λ b. has_front (mark_key e) ≡ b
-      → T (is_sorted by_mark (map (indexed_by mark_key)
-      (cond b (e ∷ filter (λ e. has_front (mark_key e)) es)
-      (filter (λ e. has_front (mark_key e)) es))))) [
-        | true ↦ λ is. both _ _
-            (subst (λ (front : Front). T (below_all by_mark (front.0, (front.1, e.0))
-            (with_front es))) (sym (only_given (mark_key e) is))
-            (below_with_front e.0 es (first _ _ sorted))) rest
-        | false ↦ λ not_it. rest
-      ] refl
-
   -- the rows that begin with the prefix are those of the entries that have it
   front_run : (records : RecordTable) → run_of (front_columns given) (mark_rows records)
       ≡ map mark_columns (with_front (entries records))
@@ -138,8 +96,8 @@ module _ (given : Front) where
       run_by_front by_front_total mark_layout front_of front_columns (λ k. Blob k.1.1 ∷ [])
       (λ k l. by_bytes k.1.1 l.1.1) fronts_first fronts_compare (λ a b. refl) (λ k. refl) given
       (marks records)
-      ∙ ap (map mark_columns) (index_in_order mark_named has_front records
-      (front_rises (entries records) (entries_sorted records)))
+      ∙ ap (map mark_columns) (index_in_order mark_named by_front_total front_of
+      (λ e f. fronts_first (mark_key e) (mark_key f)) given has_front only_given records)
 
 -- two tests, one after the other
 module _ {X : Type 0} (p q : X → Bool) where

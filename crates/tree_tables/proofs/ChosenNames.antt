@@ -2,15 +2,12 @@
 -- are listed.
 use Rattle.std.proofs.Common.{◌≡◌, ◌∙◌, ℕ, ◌||◌, List, [], ◌∷◌, Bool, true, false, cond, map, pos}
 use Rattle.std.proofs.Common.{refl, sym, ap, subst}
-use Rattle.std.specs.Prelude.{T, filter}
-use Rattle.std.specs.Cmp.{tied_itself}
+use Rattle.std.specs.Prelude.{filter}
 use Rattle.std.specs.Cmp.Lexicographic.{nat_list_cmp_total}
-use Rattle.std.specs.FinMap.{entries, entries_sorted, is_sorted, values}
-use Rattle.std.specs.FinMap.Entries.{below_all}
+use Rattle.std.specs.FinMap.{entries, values}
 use Rattle.std.specs.List.{AllZip, list_any}
-use Rattle.std.specs.Ordering.{eq_by_cmp, is_eq, is_lt, nat_cmp, ordering_then}
+use Rattle.std.specs.Ordering.{eq_by_cmp, is_eq, nat_cmp}
 use Rattle.std.proofs.lemmas.Map.Views.{tells_apart}
-use Rattle.sqlite_trees.specs.Tree.{Trees}
 use Rattle.sqlite_value.specs.Order.{Row}
 use Rattle.sqlite_value.specs.declared.value.Value.TheVariants.{Blob, Int}
 use Rattle.book_model.proofs.SetLemmas.{same_bytes-by_cmp}
@@ -19,17 +16,17 @@ use Rattle.table_model.specs.Views.{has_choice}
 use Rattle.tree_rows.specs.Indexes.{by_bytes, indexed_by}
 use Rattle.tree_rows.specs.Rows.{Finds, IsFirst}
 use Rattle.tree_rows.specs.Runs.{run_of}
-use Rattle.tree_rows.proofs.IndexLists.{both, index_in_order}
+use Rattle.tree_rows.proofs.IndexLists.{index_in_order}
 use Rattle.tree_rows.proofs.IndexOrders.{by_bytes_exact}
-use Rattle.tree_rows.proofs.Maps.{first, second}
-use Rattle.tree_rows.proofs.Runs.{finds_run, run_all, run_named}
+use Rattle.tree_rows.proofs.Runs.{finds_run, run_named}
 use Rattle.tree_tables.specs.Answers.{HasChoice}
 use Rattle.tree_tables.specs.Columns.{choice_columns, choice_name_columns}
-use Rattle.tree_tables.specs.Holds.{Holds, by_chosen, choice_name_key, choice_name_index}
+use Rattle.tree_tables.specs.Holds.{choice_name_key, choice_name_index}
 use Rattle.tree_tables.specs.Stored.{SaysChoice, choice_entry}
 use Rattle.tree_tables.specs.declared.choice_rows.StoredChoice.{StoredChoice}
 use Rattle.tree_tables.proofs.ChoiceRows.{chosen_named}
-use Rattle.tree_tables.proofs.Layouts.{choice_layout, choice_name_layout}
+use Rattle.tree_tables.proofs.RowsRead.{told_of_each}
+use Rattle.tree_tables.proofs.Layouts.{choice_name_layout}
 
 -- a choice under its number
 abbrev Entry : Type 0
@@ -92,51 +89,14 @@ module _ (name : List ℕ) where
   abbrev keys_with : List Entry → List (Key × Unit {0})
   keys_with es = map (indexed_by choice_name_key) (with_name es)
 
-  -- of two keys with the name the lesser has the lesser number
-  below_one : (number : ℕ) (e : Entry) → e.1.name ≡ name → T (is_lt (nat_cmp number e.0))
-      → T (is_lt (by_chosen (name, number) (choice_name_key e)))
-  below_one number e is below =
-      subst (λ o. T (is_lt o))
-      (sym (ap (λ o. ordering_then o (nat_cmp number e.0))
-      (ap (by_bytes name) is ∙ tied_itself nat_list_cmp_total name))) below
-
-  -- the name with a number below all others is below all keys with the name
-  below_with : (number : ℕ) (es : List Entry) → T (below_all nat_cmp number es)
-      → T (below_all by_chosen (name, number) (keys_with es))
-  below_with number [] below = tt
-  below_with number (e ∷ es) below =
-      let rest = below_with number es (second _ _ below) in
-      elim (has_name (choice_name_key e)) as (λ b. has_name (choice_name_key e) ≡ b
-      → T (below_all by_chosen (name, number) (map (indexed_by choice_name_key)
-      (cond b (e ∷ with_name es) (with_name es))))) [
-        | true ↦ λ is. both _ _
-            (below_one number e (only_name (choice_name_key e) is) (first _ _ below)) rest
-        | false ↦ λ not_it. rest
-      ] refl
-
-  -- so keys with the name, of choices in the order of their numbers, are in the order of the tree
-  names_rise : (es : List Entry) → T (is_sorted nat_cmp es)
-      → T (is_sorted by_chosen (keys_with es))
-  names_rise [] sorted = tt
-  names_rise (e ∷ es) sorted =
-      let rest = names_rise es (second _ _ sorted) in
-      elim (has_name (choice_name_key e)) as (λ b. has_name (choice_name_key e) ≡ b
-      → T (is_sorted by_chosen (map (indexed_by choice_name_key)
-      (cond b (e ∷ with_name es) (with_name es))))) [
-        | true ↦ λ is. both _ _
-            (subst (λ (one : List ℕ). T (below_all by_chosen (one, e.0) (keys_with es)))
-            (sym (only_name (choice_name_key e) is)) (below_with e.0 es (first _ _ sorted))) rest
-        | false ↦ λ not_it. rest
-      ] refl
-
   -- the rows that begin with the name are those of the choices that have it
   name_run : (choices : ChoiceTable) → run_of (Blob name ∷ []) (name_rows choices)
       ≡ map choice_name_columns (keys_with (entries choices))
   name_run choices =
       run_named nat_cmp choice_name_layout (λ number. Int (pos number) ∷ [])
       (λ one number. refl) name (choice_name_index choices)
-      ∙ ap (map choice_name_columns) (index_in_order chosen_named has_name choices
-      (names_rise (entries choices) (entries_sorted choices)))
+      ∙ ap (map choice_name_columns) (index_in_order chosen_named nat_list_cmp_total
+      (λ key. key.0) (λ e f. refl) name has_name only_name choices)
 
   -- a choice names the record where one has the name
   named_has : (choices : ChoiceTable)
@@ -176,27 +136,7 @@ choice_said choice stored says =
     let period = same_number choice.1.period stored.period says.period in
     λ i. (number i, record { name = name i; period = period i })
 
-choices_said : (choices : List Entry) (list : List StoredChoice)
+-- so the choices that are read of all rows are those of the table
+pub choices_said : (choices : List Entry) (list : List StoredChoice)
     → AllZip SaysChoice (map choice_columns choices) list → map choice_entry list ≡ choices
-choices_said [] [] says = λ i. []
-choices_said [] (stored ∷ list) says = absurd says
-choices_said (choice ∷ choices) [] says = absurd says
-choices_said (choice ∷ choices) (stored ∷ list) says =
-    let one = choice_said choice stored says.0 in
-    let more = choices_said choices list says.1 in
-    λ i. one i ∷ more i
-
--- the run of all rows of choices is that of the table
-pub choices_run : (trees : Trees) (tables : Tables) (part : Row) → Holds trees tables → part ≡ []
-    → run_of part (trees 8) ≡ map choice_columns (entries tables.choices)
-choices_run trees tables part holds whole =
-    ap (λ part. run_of part (trees 8)) whole ∙ ap (run_of []) holds.choices
-    ∙ run_all choice_layout tables.choices
-
--- the choices that are read of it are those of the table
-pub all_choices : (trees : Trees) (tables : Tables) (part : Row) (list : List StoredChoice)
-    → Holds trees tables → part ≡ [] → AllZip SaysChoice (run_of part (trees 8)) list
-    → map choice_entry list ≡ entries tables.choices
-all_choices trees tables part list holds whole says =
-    choices_said (entries tables.choices) list
-    (subst (λ rows. AllZip SaysChoice rows list) (choices_run trees tables part holds whole) says)
+choices_said = told_of_each choice_columns SaysChoice choice_entry choice_said

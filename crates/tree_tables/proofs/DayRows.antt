@@ -21,7 +21,7 @@ use Rattle.table_model.specs.TablesOf.{row_key}
 use Rattle.tree_rows.specs.Layouts.{Answers}
 use Rattle.tree_rows.specs.Rows.{Drops, Finds, Puts}
 use Rattle.tree_rows.specs.Runs.{run_of}
-use Rattle.tree_rows.proofs.Keyed.{row_found, rows_dropped, rows_put}
+use Rattle.tree_rows.proofs.Keyed.{row_found, rows_dropped}
 use Rattle.tree_rows.proofs.Maps.{not_none}
 use Rattle.tree_rows.proofs.Runs.{run_numbered}
 use Rattle.tree_rows.proofs.Taking.{some_is}
@@ -31,7 +31,7 @@ use Rattle.tree_tables.specs.Days.{SaysDay}
 use Rattle.tree_tables.specs.Holds.{AreUnderOwnKeys}
 use Rattle.tree_tables.specs.Steps.{Always, Changes}
 use Rattle.tree_tables.specs.declared.day_rows.StoredDay.{StoredDay}
-use Rattle.tree_tables.proofs.Holding.{with_days}
+use Rattle.tree_tables.proofs.Holding.{table_put, with_days}
 use Rattle.tree_tables.proofs.Layouts.{day_layout}
 use Rattle.tree_tables.proofs.RowsRead.{all_entries, told_of_all}
 
@@ -66,14 +66,11 @@ pub day_put : {old new : View} {key columns : Row} (period : ℕ) (row : ChargeR
     → Puts old new 4 key columns → key ≡ day_key_columns (period, row_key row)
     → columns ≡ day_columns ((period, row_key row), row)
     → Changes old new Always (put_day_row period row)
-day_put period row puts key_is row_is = record {
-  only = puts.rewrites.only;
-  made = λ tables holds when.
-      with_days holds (insert tables.days (period, row_key row) row)
-      (placed_put tables.days (period, row_key row) row refl holds.placed)
-      puts.rewrites.others
-      (rows_put day_layout tables.days (period, row_key row) row puts holds.days key_is row_is);
-}
+day_put period row puts key_is row_is =
+    table_put day_layout (λ (tables : Tables). tables.days) (period, row_key row) row
+    (put_day_row period row) puts key_is row_is (λ tables holds. holds.days)
+    (λ tables holds. with_days holds _
+    (placed_put tables.days (period, row_key row) row refl holds.placed))
 
 -- a row that is dropped by its place is gone from the table
 pub day_dropped : {old new : View} {key : Row} (period : ℕ) (place : RowKey)

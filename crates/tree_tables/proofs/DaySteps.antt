@@ -1,6 +1,6 @@
 -- A price that joins the charge rows of a period puts one row, and a price that leaves them puts or
 -- drops one, where each row is under its own place.
-use Rattle.std.proofs.Common.{◌≡◌, ◌∙◌, ℕ, [], true, false, cond, Option, Some, None}
+use Rattle.std.proofs.Common.{◌≡◌, ◌∙◌, ℕ, [], Bool, true, false, cond, Option, Some, None}
 use Rattle.std.proofs.Common.{refl, sym, ap}
 use Rattle.std.specs.Prelude.{◌==◌, unwrap_or}
 use Rattle.std.specs.FinMap.{get, insert, remove}
@@ -46,11 +46,13 @@ module _ (period : ℕ) (priced : Priced) (tables : Tables) (placed : AreUnderOw
       })
       none
 
-  -- the last price of a row drops it
-  pub leaves_last : (row : ChargeRow) → there ≡ Some row → (row.count == 1) ≡ true
-      → change_day_row period (Some (Take priced)) tables
-      ≡ drop_day_row period (key_of priced) tables
-  leaves_last row is last =
+  -- what a price leaves, by whether it is the last one of its row
+  leaves_by : (row : ChargeRow) (last : Bool) → there ≡ Some row → (row.count == 1) ≡ last
+      → change_day_row period (Some (Take priced)) tables ≡ record tables {
+        days = cond last (remove tables.days (period, key_of priced))
+            (insert tables.days (period, key_of priced) (less_price row priced));
+      }
+  leaves_by row last is counts =
       ap (λ found. record tables {
         days = take_at (period, key_of priced) found priced tables.days;
       })
@@ -59,22 +61,20 @@ module _ (period : ℕ) (priced : Priced) (tables : Tables) (placed : AreUnderOw
         days = cond b (remove tables.days (period, key_of priced))
             (insert tables.days (period, key_of priced) (less_price row priced));
       })
-      last
+      counts
+
+  -- the last price of a row drops it
+  pub leaves_last : (row : ChargeRow) → there ≡ Some row → (row.count == 1) ≡ true
+      → change_day_row period (Some (Take priced)) tables
+      ≡ drop_day_row period (key_of priced) tables
+  leaves_last row is last = leaves_by row true is last
 
   -- another one puts the row without it
   pub leaves : (row : ChargeRow) → there ≡ Some row → (row.count == 1) ≡ false
       → change_day_row period (Some (Take priced)) tables
       ≡ put_day_row period (less_price row priced) tables
   leaves row is more =
-      ap (λ found. record tables {
-        days = take_at (period, key_of priced) found priced tables.days;
-      })
-      is
-      ∙ ap (λ b. record tables {
-        days = cond b (remove tables.days (period, key_of priced))
-            (insert tables.days (period, key_of priced) (less_price row priced));
-      })
-      more
+      leaves_by row false is more
       ∙ ap (λ place. record tables {
         days = insert tables.days (period, place) (less_price row priced);
       })

@@ -9,7 +9,6 @@ use Rattle.std.specs.FinMap.{entries, get, get-entries, get-insert, insert}
 use Rattle.std.specs.Option.{option_map}
 use Rattle.std.specs.Ordering.{eq_by_cmp}
 use Rattle.std.proofs.lemmas.Cmp.{eq_by_cmp_equiv}
-use Rattle.std.proofs.lemmas.Map.Views.{tells_apart}
 use Rattle.sqlite_trees.specs.Tree.{Trees, insert_entry, remove_entry}
 use Rattle.sqlite_trees.specs.View.{View}
 use Rattle.sqlite_value.specs.Keys.{plain}
@@ -20,9 +19,8 @@ use Rattle.book_model.specs.Words.{by_bytes}
 use Rattle.table_model.specs.Steps.{rename_rows}
 use Rattle.table_model.specs.TableChanges.{by_second_rule}
 use Rattle.table_model.specs.Tables.{RecordRow, RecordTable, Tables}
-use Rattle.tree_rows.specs.Changes.{above, is_above, updated, FindsAbove}
+use Rattle.tree_rows.specs.Changes.{above, is_above, FindsAbove}
 use Rattle.tree_rows.specs.Indexes.{by_both}
-use Rattle.tree_rows.specs.Layouts.{row_of, rows_of}
 use Rattle.tree_rows.specs.Rows.{Finds, IsFirst, IsUnchanged, Rewrites}
 use Rattle.tree_rows.proofs.Indexes.{index_has, index_names}
 use Rattle.tree_rows.proofs.Passing.{all_passed, first_there, passed_with, walk_start, walk_step}

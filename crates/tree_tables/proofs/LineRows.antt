@@ -1,7 +1,7 @@
 -- Adjustment lines: how they are written, and what is read of them.
 use Rattle.std.proofs.Common.{◌≡◌, ◌∷◌, [], ℕ, pos, true, false, List, Bool, map}
 use Rattle.std.proofs.Common.{refl, sym, ap, ◌∙◌}
-use Rattle.std.specs.FinMap.{entries, insert, remove}
+use Rattle.std.specs.FinMap.{entries, remove}
 use Rattle.std.specs.List.{AllZip}
 use Rattle.sqlite_trees.specs.View.{View}
 use Rattle.sqlite_value.specs.Order.{Row, column}
@@ -12,14 +12,14 @@ use Rattle.table_model.specs.Steps.{drop_line_row, put_line_row}
 use Rattle.table_model.specs.Tables.{Tables}
 use Rattle.tree_rows.specs.Rows.{Drops, Puts}
 use Rattle.tree_rows.specs.Runs.{run_of}
-use Rattle.tree_rows.proofs.Keyed.{rows_dropped, rows_put}
+use Rattle.tree_rows.proofs.Keyed.{rows_dropped}
 use Rattle.tree_rows.proofs.Runs.{run_numbered}
 use Rattle.tree_tables.specs.Answers.{ListsLines}
 use Rattle.tree_tables.specs.Columns.{flag, line_columns}
 use Rattle.tree_tables.specs.Steps.{Always, Changes}
 use Rattle.tree_tables.specs.Stored.{SaysLine, signed_name}
 use Rattle.tree_tables.specs.declared.line_rows.StoredLine.{StoredLine}
-use Rattle.tree_tables.proofs.Holding.{with_lines}
+use Rattle.tree_tables.proofs.Holding.{table_put, with_lines}
 use Rattle.tree_tables.proofs.Layouts.{line_layout}
 use Rattle.tree_tables.proofs.RowsRead.{nothing_asked, told_of_all}
 
@@ -28,12 +28,10 @@ pub line_put : {old new : View} {key row : Row} (period : ℕ) (name : List ℕ)
     → Puts old new 5 key row → key ≡ Int (pos period) ∷ Blob name ∷ []
     → row ≡ line_columns ((period, name), plus)
     → Changes old new Always (put_line_row period name plus)
-line_put period name plus puts key_is row_is = record {
-  only = puts.rewrites.only;
-  made = λ tables holds when.
-      with_lines holds (insert tables.lines (period, name) plus) puts.rewrites.others
-      (rows_put line_layout tables.lines (period, name) plus puts holds.lines key_is row_is);
-}
+line_put period name plus puts key_is row_is =
+    table_put line_layout (λ (tables : Tables). tables.lines) (period, name) plus
+    (put_line_row period name plus) puts key_is row_is (λ tables holds. holds.lines)
+    (λ tables holds. with_lines holds _)
 
 -- a line that is dropped by its key is gone from the table
 pub line_dropped : {old new : View} {key : Row} (period : ℕ) (name : List ℕ)

@@ -1,62 +1,52 @@
 -- Looks at the tables, and steps of them, by what calls on rows say.
-use Rattle.std.proofs.Common.{◌≡◌, ◌∙◌, ℕ, Bool, List, Option, inl, inr, Result, Ok, Err, refl, sym}
-use Rattle.std.proofs.Common.{ap, subst, true≢false, arith, rules}
-use Rattle.std.specs.Prelude.{IfErr, IsErr, IfOk, OnErr, OnOk}
+use Rattle.std.proofs.Common.{◌≡◌, ◌∙◌, ℕ, Bool, List, inl, inr, Result, Ok, Err, refl, sym}
+use Rattle.std.proofs.Common.{ap, subst, true≢false, arith}
+use Rattle.std.specs.Prelude.{IfErr, IsErr, IsErrAnd, IfOk, OnErr, OnOk}
 use Rattle.sqlite_disk.specs.Disk.{MoreFaults}
 use Rattle.sqlite_trees.specs.Tree.{Trees}
-use Rattle.sqlite_trees.specs.View.{View, IsClean, IsFailure, IsQuiet, KeepsCommitted}
-use Rattle.sqlite_trees.specs.View.{OnlyWrites}
+use Rattle.sqlite_trees.specs.View.{View, IsClean, IsFailure, KeepsCommitted, OnlyWrites}
 use Rattle.sqlite_value.specs.Order.{Row}
 use Rattle.sqlite_trees.specs.declared.error.StoreError.{StoreError}
 use Rattle.sqlite_trees.specs.declared.error.StoreError.TheVariants.{OutOfMemory}
 use Rattle.sqlite_trees.specs.declared.store.Store.{Ghosts}
 use Rattle.table_model.specs.Tables.{Tables}
 use Rattle.tree_rows.specs.Rows.{Finds, IsUnchanged, Rewrites}
-use Rattle.tree_rows.proofs.Calls.{Quiet, clean_before, kept_after_look, kept_same, quiet_both, unchanged_both, unchanged_on}
+use Rattle.tree_rows.proofs.Calls.{Quiet, clean_before, closes_both, kept_after_look, kept_same}
+use Rattle.tree_rows.proofs.Calls.{quiet_both, unchanged_both}
 use Rattle.tree_rows.proofs.Failing.{caused_after, caused_by_memory}
 use Rattle.tree_tables.specs.Holds.{Holds}
 use Rattle.tree_tables.specs.States.{HasCleanDisk, State, Survives, state}
 use Rattle.tree_tables.specs.Steps.{Changes, Does, IsCaused, Looks}
+pub use Rattle.tree_rows.proofs.Calls.{only_looks}
+pub use Rattle.tree_rows.proofs.Failing.{kept_after}
+
+-- two steps, one after the other, write only
+pub only_both : (old : View) {mid new : View} → OnlyWrites old mid → OnlyWrites mid new
+    → OnlyWrites old new
+only_both old {new = new} one two =
+    two ∙ ap (λ (v : View). record v { trees = new.trees; cursors = new.cursors }) one
 
 -- a tree that is rewritten after a look is rewritten
 pub rewrites_after_look : {old mid new : View} {tree : ℕ} {rows : List Row} → IsUnchanged old mid
     → Rewrites mid new tree rows → Rewrites old new tree rows
-rewrites_after_look {old} {mid} {new} {tree} {rows} same rewrites =
-    by_same mid.cursors (subst (λ v. Rewrites v new tree rows) same rewrites)
-  where
-    by_same : (cursors : ℕ → Option (List Row))
-        → Rewrites (record old { cursors = cursors }) new tree rows → Rewrites old new tree rows
-    by_same cursors done = record {
-      rows_now = done.rows_now;
-      others = done.others;
-      only = done.only;
-    }
-
--- what is there after a step was there before it
-pub kept_after : {old mid new : View} → OnlyWrites old mid → KeepsCommitted mid new
-    → KeepsCommitted old new
-kept_after {old} {mid} {new} only kept =
-    by_only mid.trees mid.cursors (subst (λ v. KeepsCommitted v new) only kept)
-  where
-    by_only : (trees : Trees) (cursors : ℕ → Option (List Row))
-        → KeepsCommitted (record old { trees = trees; cursors = cursors }) new
-        → KeepsCommitted old new
-    by_only trees cursors kept = record {
-      shape = kept.shape;
-      reals = kept.reals;
-      committed_shape = kept.committed_shape;
-      committed_reals = kept.committed_reals;
-      numbered = kept.numbered;
-      was_open = kept.was_open;
-      committed = kept.committed;
-      marks = kept.marks;
-    }
+rewrites_after_look {old} same rewrites = record {
+  rows_now = rewrites.rows_now;
+  others = λ other apart. rewrites.others other apart ∙ ap (λ (v : View). v.trees other) same;
+  only = only_both old (only_looks old same) rewrites.only;
+}
 
 -- what is said of any error is said of one
 pub any_err : {A : Type 0} {Said : StoreError → Type 0} (result : Result A StoreError)
     → ((error : StoreError) → Said error) → IfErr result Said
 any_err (Ok answer) said = tt
 any_err (Err error) said = said error
+
+-- what is said of the error of a call is said of the one that it is passed on as
+pub err_on : {A : Type 0} {error : StoreError} (Said : StoreError → Type 0)
+    (result : Result A StoreError) → IsErrAnd result (λ passed. passed ≡ error) → Said error
+    → IfErr result Said
+err_on Said (Ok answer) passed said = tt
+err_on Said (Err error) passed said = subst Said (sym passed) said
 
 -- a lack of memory is a cause
 pub caused_memory : (old new : State) (error : StoreError) → error ≡ OutOfMemory
@@ -89,18 +79,6 @@ pub kept_failed : {A : Type 0} (old new : View) (result : Result A StoreError)
 kept_failed old new (Ok answer) failed = tt
 kept_failed old new (Err error) failed = λ clean. (failed clean).kept
 
--- two steps, one after the other, write only
-pub only_both : (old : View) {mid new : View} → OnlyWrites old mid → OnlyWrites mid new
-    → OnlyWrites old new
-only_both old {new = new} one two =
-    two ∙ ap (λ (v : View). record v { trees = new.trees; cursors = new.cursors }) one
-
--- and so does a look
-pub only_looks : (old : View) {new : View} → IsUnchanged old new → OnlyWrites old new
-only_looks old {new} same =
-    same ∙ ap (λ (trees : Trees). record old { trees = trees; cursors = new.cursors })
-    (sym (ap (λ (v : View). v.trees) same))
-
 -- steps alone leave what was committed
 pub kept_by : {old new : View} → OnlyWrites old new → KeepsCommitted old new
 kept_by {new = new} only = kept_after only (kept_same {old = new} {new = new} refl)
@@ -132,17 +110,8 @@ survives_both one two = record {
   clean = (let a = one.clean in let b = two.clean in omega (arith, a, b));
   shield = λ shielded. two.shield (one.shield shielded);
   counts = (let a = one.counts in let b = two.counts in omega (arith, a, b));
-  closes = λ clean is_open.
-      let before = was_clean two clean in
-      let a = one.counts in
-      let b = two.counts in
-      elim (one.closes before is_open) [
-        | inl still ↦ elim (two.closes clean still) [
-          | inl stays ↦ inl stays
-          | inr more ↦ inr (search rules)
-        ]
-        | inr more ↦ inr (search rules)
-      ];
+  closes = λ clean is_open. closes_both one.counts two.counts
+      (one.closes (was_clean two clean) is_open) (two.closes clean);
   crash = λ clean trees left. elim (two.crash clean trees left) [
     | inl mid_left ↦ one.crash (was_clean two clean) trees mid_left
     | inr none ↦ absurd none
@@ -223,6 +192,18 @@ looks_so one so = record {
   refused = λ clean. tt;
 }
 
+-- what a call on the tables has answered, if it has, in other words
+pub looks_told : {A : Type 0} {First Second : Tables → A → Type 0} {old new : State}
+    (result : Result A StoreError) → Looks result old new First
+    → ((tables : Tables) (answer : A) → First tables answer → Second tables answer)
+    → Looks result old new Second
+looks_told (Ok answer) one so = looks_so one (λ tables. so tables answer)
+looks_told (Err error) one so = record {
+  survives = one.survives;
+  found = λ clean. tt;
+  refused = one.refused;
+}
+
 -- a look after which a call fails, since what it answers is not enough
 pub looks_damaged : {A B : Type 0} {First : Tables → A → Type 0} {Second : Tables → B → Type 0}
     {first : A} {error : StoreError} {old new : State} → Looks (Ok first) old new First
@@ -278,32 +259,6 @@ module _ {S : Type 0} (ghosts : Ghosts S) where
       (Changes (ghosts.view old) (ghosts.view new) When change))
       → Does result (state ghosts old) (state ghosts new) When change
   does_so result call kept done = record { survives = survives call; done = done; refused = kept }
-
-  -- a step that rewrites one tree, after a look
-  pub does_after_look : {T : Type 0} {When : Tables → Type 0} {change : Tables → Tables}
-      {old mid new : S} {tree : ℕ} {rows : List Row} (result : Result T StoreError)
-      → Quiet ghosts old mid → (IsClean (ghosts.view mid) → IsUnchanged (ghosts.view old) (ghosts.view mid))
-      → Quiet ghosts mid new
-      → OnErr result (IsClean (ghosts.view new)
-      → KeepsCommitted (ghosts.view mid) (ghosts.view new))
-      → OnOk result (IsClean (ghosts.view new)
-      → Rewrites (ghosts.view mid) (ghosts.view new) tree rows)
-      → (IsClean (ghosts.view new) → Rewrites (ghosts.view old) (ghosts.view new) tree rows
-      → (tables : Tables) → Holds (ghosts.view old).trees tables → When tables
-      → Holds (ghosts.view new).trees (change tables))
-      → Does result (state ghosts old) (state ghosts new) When change
-  does_after_look (Ok value) look same step kept done holds = record {
-    survives = survives (quiet_both ghosts look step);
-    done = λ clean.
-        let rewritten = rewrites_after_look (same (clean_before ghosts step clean)) (done clean) in
-        record { only = rewritten.only; made = holds clean rewritten };
-    refused = λ clean. tt;
-  }
-  does_after_look (Err error) look same step kept done holds = record {
-    survives = survives (quiet_both ghosts look step);
-    done = λ clean. tt;
-    refused = λ clean. kept_after_look (same (clean_before ghosts step clean)) (kept clean);
-  }
 
   -- a step that is one call
   pub does_alone : {T Made : Type 0} {When : Tables → Type 0} {change : Tables → Tables}

@@ -28,7 +28,7 @@ use Rattle.tree_tables.proofs.Looking.{only_looks, rewrites_after_look}
 use Rattle.tree_tables.proofs.RecordIndexes.{identity_named, mark_named}
 use Rattle.tree_tables.specs.Columns.{record_columns, identity_columns, mark_columns}
 use Rattle.tree_tables.specs.Holds.{Holds, identity_key, identity_index, mark_key, marks}
-use Rattle.tree_tables.specs.Walks.{HoldsFoundBy, IsRenewing, Renews, RenewsNext, RenewsRow}
+use Rattle.tree_tables.specs.Walks.{HoldsFoundBy, IsRenewing, RenewsNext, RenewsRow}
 use Rattle.tree_tables.specs.Walks.{last_name_key, renewed, rows_past}
 
 -- Trees that hold tables find their records by what these say,

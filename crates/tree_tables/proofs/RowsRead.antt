@@ -1,11 +1,12 @@
 -- What is read of the rows of entries, by what each row says.
-use Rattle.std.proofs.Common.{◌≡◌, List, [], ◌∷◌, map, Some, refl}
+use Rattle.std.proofs.Common.{◌≡◌, List, [], ◌∷◌, map, Some, refl, subst}
 use Rattle.std.specs.Cmp.{IsTotalOrder}
 use Rattle.std.specs.FinMap.{FinMap, IsAntisymmetric, entries, entries_sorted, find, get}
 use Rattle.std.specs.FinMap.{get-entries, is_sorted}
 use Rattle.std.specs.List.{AllByRecursion, AllZip}
 use Rattle.std.specs.Prelude.{T}
 use Rattle.std.specs.declared.cmp.Ordering.{Ordering}
+use Rattle.std.proofs.lemmas.List.{map-id}
 use Rattle.std.proofs.Common.{◌∙◌}
 use Rattle.sqlite_value.specs.Order.{Row}
 use Rattle.tree_rows.proofs.Maps.{second}
@@ -38,6 +39,15 @@ module _ {T E Y : Type 0} (columns : E → Row) (Says : Row → T → Type 0) (t
         let one_is = tells one entry row good.0 first says.0 in
         let rest_is = told_of_all rows all list good.1 says.1 rest in
         λ i. one_is i ∷ rest_is i
+
+-- Where what is read of the row of an entry is the entry, what is read of all rows are all entries.
+pub told_of_each : {T E : Type 0} (columns : E → Row) (Says : Row → T → Type 0) (told : T → E)
+    → ((entry : E) (one : T) → Says (columns entry) one → told one ≡ entry)
+    → (list : List E) (all : List T) → AllZip Says (map columns list) all → map told all ≡ list
+told_of_each columns Says told tells list all says =
+    told_of_all columns Says told (λ entry. entry) (λ entry. Unit {0})
+    (λ one entry row good is said. tells entry one (subst (λ row. Says row one) is said))
+    (map columns list) all list (nothing_asked list) says refl ∙ map-id list
 
 module _ {K V : Type 0} {R : K → K → Ordering} (total : IsTotalOrder R)
     (exact : IsAntisymmetric R) (Good : K × V → Type 0) where

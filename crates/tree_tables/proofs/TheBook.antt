@@ -1,23 +1,29 @@
 -- The one row of the book.
 use Rattle.std.proofs.Common.{◌≡◌, ℕ, List, [], ◌∷◌, Bool, true, not, cond, pos}
-use Rattle.std.proofs.Common.{refl, sym, ap, ap₂, ◌&&◌, subst, ◌∙◌}
+use Rattle.std.proofs.Common.{refl, sym, ap, ap₂, ◌&&◌, subst, ◌∙◌, Result}
+use Rattle.std.specs.Prelude.{OnErr, OnOk}
 use Rattle.std.specs.Cmp.{tied_itself}
 use Rattle.std.specs.Ordering.{is_eq, is_lt}
 use Rattle.std.specs.declared.cmp.Ordering.TheVariants.{Equal}
 use Rattle.sqlite_trees.specs.Tree.{from_key, insert_entry, remove_entry}
-use Rattle.sqlite_trees.specs.View.{View}
+use Rattle.sqlite_trees.specs.View.{View, IsClean, KeepsCommitted}
+use Rattle.sqlite_trees.specs.declared.error.StoreError.{StoreError}
+use Rattle.sqlite_trees.specs.declared.store.Store.{Ghosts}
 use Rattle.sqlite_value.proofs.KeyLemmas.{entry_cmp_total}
 use Rattle.sqlite_value.proofs.OrderLemmas.{row_cmp_total}
 use Rattle.sqlite_value.specs.Keys.{plain, prefix_cmp}
 use Rattle.sqlite_value.specs.Order.{Row, column}
 use Rattle.sqlite_value.specs.declared.value.Value.TheVariants.{Int}
-use Rattle.table_model.specs.Tables.{BookRow, Tables}
+use Rattle.table_model.specs.Tables.{BookRow}
 use Rattle.tree_rows.specs.Rows.{Finds, IsFirst, IsUnchanged, Rewrites}
+use Rattle.tree_rows.proofs.Calls.{Quiet, clean_before}
 use Rattle.tree_rows.proofs.Maps.{begins_with, prefix_of}
 use Rattle.tree_tables.proofs.Holding.{with_book}
+use Rattle.tree_tables.proofs.Looking.{does_after, only_looks, rewrites_after_look}
 use Rattle.tree_tables.specs.Columns.{book_columns}
 use Rattle.tree_tables.specs.Fits.{BookFits}
-use Rattle.tree_tables.specs.Holds.{Holds}
+use Rattle.tree_tables.specs.States.{state}
+use Rattle.tree_tables.specs.Steps.{Always, Does}
 use Rattle.tree_tables.specs.Stored.{book_entry}
 use Rattle.tree_tables.specs.declared.book_row.StoredBook.{StoredBook}
 
@@ -62,56 +68,51 @@ book_changed rows book row is =
     ∙ ap (λ b. insert_entry plain row (cond b (book_columns book ∷ []) []))
     (ap (λ o. not (is_eq o)) (tied_itself (entry_cmp_total plain) (book_columns book)))
 
--- after a look, the row of the book makes way for the one that it has now
-pub book_rewritten : (old : View) {look new : View} {tables : Tables} (now : BookRow)
-    {found made : Row} → IsUnchanged old look
-    → Rewrites old new 0 (insert_entry plain made (remove_entry plain found (look.trees 0)))
-    → found ≡ book_columns tables.book → made ≡ book_columns now → Holds old.trees tables
-    → Holds new.trees (record tables { book = now })
-book_rewritten old {tables = tables} now {made = made} same rewritten found_is made_is holds =
-    with_book holds now rewritten.others
-    (rewritten.rows_now
-    ∙ ap₂ (λ one rows. insert_entry plain made (remove_entry plain one rows)) found_is
-    (ap (λ (v : View). v.trees 0) same)
-    ∙ book_changed (old.trees 0) tables.book made holds.book
-    ∙ ap (λ row. row ∷ []) made_is)
-
 -- numbers that one column says are one
 same_number : (m n : ℕ) → Int (pos m) ≡ Int (pos n) → m ≡ n
 same_number m n e = cc
 
--- columns that say the book's numbers make its row with other sums
-pub book_said : (row : Row) (book : BookRow) (rule adopted : ℕ) → row ≡ book_columns book
-    → column row 1 ≡ Int (pos rule) → column row 2 ≡ Int (pos adopted)
-    → (rule ≡ book.rule) × (adopted ≡ book.adopted)
-book_said row book rule adopted is one two = (
-  same_number rule book.rule (sym one ∙ ap (λ r. column r 1) is),
-  same_number adopted book.adopted (sym two ∙ ap (λ r. column r 2) is),
-)
+-- columns of the book's row say the book
+book_said : (row : Row) (book : BookRow) (stored : StoredBook) → row ≡ book_columns book
+    → column row 1 ≡ Int (pos stored.rule) → column row 2 ≡ Int (pos stored.adopted)
+    → column row 3 ≡ Int (pos stored.held) → column row 4 ≡ Int (pos stored.amount)
+    → book_entry stored ≡ book
+book_said row book stored is rule_is adopted_is held_is amount_is =
+    let rule = same_number _ book.rule (sym rule_is ∙ ap (λ r. column r 1) is) in
+    let adopted = same_number _ book.adopted (sym adopted_is ∙ ap (λ r. column r 2) is) in
+    let held = same_number _ book.held (sym held_is ∙ ap (λ r. column r 3) is) in
+    let amount = same_number _ book.amount (sym amount_is ∙ ap (λ r. column r 4) is) in
+    λ i. record { rule = rule i; adopted = adopted i; held = held i; amount = amount i }
 
--- and so are its sums
-pub sums_said : (row : Row) (book : BookRow) (held amount : ℕ) → row ≡ book_columns book
-    → column row 3 ≡ Int (pos held) → column row 4 ≡ Int (pos amount)
-    → (held ≡ book.held) × (amount ≡ book.amount)
-sums_said row book held amount is one two = (
-  same_number held book.held (sym one ∙ ap (λ r. column r 3) is),
-  same_number amount book.amount (sym two ∙ ap (λ r. column r 4) is),
-)
-
--- the row of a book that says these numbers
-pub book_row_is : (row : Row) (one : BookRow) (other : StoredBook) (held amount : ℕ)
-    → row ≡ book_columns (book_entry other) → other.rule ≡ one.rule → other.adopted ≡ one.adopted
-    → other.held ≡ held → other.amount ≡ amount
-    → row ≡ book_columns (record one { held = held; amount = amount })
-book_row_is row one other held amount is rule adopted held_is amount_is =
-    is ∙ λ i. Int (pos 1) ∷ Int (pos (rule i)) ∷ Int (pos (adopted i)) ∷ Int (pos (held_is i))
-    ∷ Int (pos (amount_is i)) ∷ []
-
--- the row of a book under another rule
-pub book_ruled : (row : Row) (one : BookRow) (other : StoredBook) (rule adopted : ℕ)
-    → row ≡ book_columns (book_entry other) → other.rule ≡ rule → other.adopted ≡ adopted
-    → other.held ≡ one.held → other.amount ≡ one.amount
-    → row ≡ book_columns (record one { rule = rule; adopted = adopted })
-book_ruled row one other rule adopted is rule_is adopted_is held amount =
-    is ∙ λ i. Int (pos 1) ∷ Int (pos (rule_is i)) ∷ Int (pos (adopted_is i)) ∷ Int (pos (held i))
-    ∷ Int (pos (amount i)) ∷ []
+-- after a look, the row of the book makes way for that of the book as a change makes it
+pub book_changes : {S T : Type 0} (ghosts : Ghosts S) (change : BookRow → BookRow)
+    (stored written : StoredBook) {old mid new : S} {key found made : Row} {hit : Bool}
+    (result : Result T StoreError) → Quiet ghosts old mid
+    → (IsClean (ghosts.view mid) → IsUnchanged (ghosts.view old) (ghosts.view mid))
+    → (IsClean (ghosts.view mid) → Finds key ((ghosts.view old).trees 0) found hit)
+    → key ≡ Int (pos 1) ∷ [] → Quiet ghosts mid new
+    → OnErr result (IsClean (ghosts.view new)
+    → KeepsCommitted (ghosts.view mid) (ghosts.view new))
+    → OnOk result (IsClean (ghosts.view new) → Rewrites (ghosts.view mid) (ghosts.view new) 0
+    (insert_entry plain made (remove_entry plain found ((ghosts.view mid).trees 0))))
+    → column found 1 ≡ Int (pos stored.rule) → column found 2 ≡ Int (pos stored.adopted)
+    → column found 3 ≡ Int (pos stored.held) → column found 4 ≡ Int (pos stored.amount)
+    → made ≡ book_columns (book_entry written)
+    → ((book : BookRow) → book_entry stored ≡ book → book_entry written ≡ change book)
+    → Does result (state ghosts old) (state ghosts new) Always
+    (λ tables. record tables { book = change tables.book })
+book_changes ghosts change stored written {old = old} {key = key} {found = found} {made = made}
+    {hit = hit} result look same finds key_is step kept done rule adopted held amount made_is
+    changed =
+    does_after ghosts result look (λ clean. only_looks (ghosts.view old) (same clean)) step kept
+    done (λ clean rewritten tables holds when.
+    let before = clean_before ghosts step clean in
+    let there = book_there _ tables.book key found hit holds.book key_is (finds before) in
+    let said = book_said found tables.book stored there.1 rule adopted held amount in
+    with_book holds (change tables.book)
+    (rewrites_after_look {old = ghosts.view old} (same before) rewritten).others
+    (rewritten.rows_now
+    ∙ ap₂ (λ one rows. insert_entry plain made (remove_entry plain one rows)) there.1
+    (ap (λ (v : View). v.trees 0) (same before))
+    ∙ book_changed ((ghosts.view old).trees 0) tables.book made holds.book
+    ∙ ap (λ row. row ∷ []) (made_is ∙ ap book_columns (changed tables.book said))))

@@ -5,8 +5,8 @@ use Rattle.std.specs.Prelude.{T, filter, int_lt, slice_get, sum_by}
 use Rattle.std.specs.Cmp.{IsTotalOrder}
 use Rattle.std.specs.FinMap.{FinMap, IsAntisymmetric, entries, entries_sorted, entries-insert}
 use Rattle.std.specs.FinMap.{find, get, get-entries, insert, is_sorted, keys}
-use Rattle.std.specs.FinMap.Entries.{by_order, put, same_entries}
-use Rattle.std.specs.Ordering.{is_eq, is_lt, ordering_reverse}
+use Rattle.std.specs.FinMap.Entries.{by_order, put}
+use Rattle.std.specs.Ordering.{is_eq, is_lt}
 use Rattle.std.specs.declared.cmp.Ordering.{Ordering}
 use Rattle.std.specs.declared.cmp.Ordering.TheVariants.{Less, Equal, Greater}
 use Rattle.std.proofs.lemmas.List.Sums.{sum_by-cons}
@@ -16,25 +16,16 @@ use Rattle.tariff_rules.specs.declared.priced.Priced.{Priced}
 use Rattle.table_model.specs.TableChanges.{reprice, reprice_row, reprice_step, walk}
 use Rattle.table_model.specs.Tables.{RecordRow, Tables}
 use Rattle.tree_rows.specs.Changes.{above, is_above}
-use Rattle.tree_rows.proofs.Maps.{find_below, first, less, not_none, second}
-use Rattle.tree_rows.proofs.Passing.{above_sorted, all_passed, find_come, find_front, first_there}
+use Rattle.tree_rows.proofs.Maps.{find_below, first, not_none, second}
+use Rattle.tree_rows.proofs.Passing.{all_passed, first_there}
 use Rattle.tree_rows.proofs.Passing.{passed_with}
-use Rattle.tree_rows.proofs.Taking.{find_above, some_is}
+use Rattle.tree_rows.proofs.Remaining.{above_next}
+use Rattle.tree_rows.proofs.Taking.{some_is}
 use Rattle.tree_tables.proofs.Layouts.{record_layout}
 use Rattle.tree_tables.specs.Answers.{FindsNext}
 use Rattle.tree_tables.specs.Holds.{Holds}
 use Rattle.tree_tables.specs.Stored.{IsAsRead, stored_entry}
 use Rattle.tree_tables.specs.declared.stored_record.StoredRecord.{StoredRecord}
-
--- what is there only where a test is passed has passed it
-has_passed : {A : Type 0} (b : Bool) (found : Option A) (x : A) → cond b found None ≡ Some x
-    → b ≡ true
-has_passed true found x is = refl
-has_passed false found x is = absurd (not_none x (sym is))
-
--- what is less by a test is less
-is_less : (order : Ordering) → is_lt order ≡ true → order ≡ Less
-is_less order is = less order (subst T (sym is) tt)
 
 -- the first of a list, and the rest
 starts_with : {A : Type 0} (xs : List A) (x : A) → Some x ≡ slice_get xs 0
@@ -49,46 +40,6 @@ has_none (x ∷ xs) is = absurd (not_none x (sym is))
 
 module _ {K V : Type 0} {R : K → K → Ordering} (total : IsTotalOrder R)
     (exact : IsAntisymmetric R) where
-  -- where the first entry that is still to come is passed, the others are still to come
-  pub above_next : (at : Option K) (m : FinMap R V) (k : K) (v : V) (more : List (K × V))
-      → above at m ≡ (k, v) ∷ more → above (Some k) m ≡ more
-  above_next at m k v more is =
-      same_entries R total exact (above (Some k) m) more (above_sorted total exact (Some k) m)
-      (second _ _ up) (λ q. find_come total exact (Some k) m q ∙ alike q)
-    where
-      up : T (is_sorted R ((k, v) ∷ more))
-      up = subst (λ es. T (is_sorted R es)) is (above_sorted total exact at m)
-
-      -- the entry was still to come
-      came : is_above R at k ≡ true
-      came =
-          has_passed (is_above R at k) (get m k) v
-          (sym (find_come total exact at m k) ∙ ap (find R k) is
-          ∙ find_front total exact k v more)
-
-      -- and so was each that is after it
-      behind : (at : Option K) (q : K) → is_above R at k ≡ true → R k q ≡ Less
-          → is_above R at q ≡ true
-      behind None q first more = refl
-      behind (Some one) q first more =
-          ap is_lt (total.trans one k q (is_less (R one k) first) more)
-
-      alike : (q : K) → cond (is_lt (R k q)) (get m q) None ≡ find R q more
-      alike q =
-          elim (R k q) as (λ o. R k q ≡ o → cond (is_lt o) (get m q) None ≡ find R q more) [
-            | Less ↦ λ o.
-                ap (λ b. cond b (get m q) None) (sym (behind at q came o))
-                ∙ sym (find_come total exact at m q) ∙ ap (find R q) is
-                ∙ ap (λ r. cond (is_eq r) (Some v) (find R q more))
-                (total.antisymm q k ∙ ap ordering_reverse o)
-            | Equal ↦ λ o.
-                sym (ap (λ x. find R x more) (sym (exact k q o))
-                ∙ find_above R k more (first _ _ up))
-            | Greater ↦ λ o.
-                sym (find_below R total q k more (total.antisymm q k ∙ ap ordering_reverse o)
-                (first _ _ up))
-          ] refl
-
   -- keys stay where a value is put under one that is there
   keys_put : (k : K) (v w : V) (es : List (K × V)) → T (is_sorted R es) → find R k es ≡ Some v
       → map (λ (e : K × V). e.0) (put R k w es) ≡ map (λ (e : K × V). e.0) es

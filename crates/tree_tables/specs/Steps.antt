@@ -1,9 +1,10 @@
 -- What a look at the tables answers, and what a step inside the transaction does to them.
-use Rattle.std.specs.Prelude.{◌≡◌, ◌<◌, [], ℕ, false, IfErr, IfOk, IsTrue, OnErr, OnOk, Result}
+use Rattle.std.specs.Prelude.{◌≡◌, ◌<◌, [], ℕ, List, false, IfErr, IfOk, IsTrue, OnErr, OnOk, Result}
 use Rattle.sqlite_disk.specs.Disk.{MoreFaults}
 use Rattle.sqlite_trees.specs.Tree.{Trees}
 use Rattle.sqlite_trees.specs.View.{View, HasCause, KeepsCommitted, OnlyWrites}
 use Rattle.sqlite_trees.specs.declared.error.StoreError.{StoreError}
+use Rattle.sqlite_value.specs.Order.{Row}
 use Rattle.table_model.specs.TablesAfter.{new_tables}
 use Rattle.table_model.specs.Tables.{Tables}
 use Rattle.tree_rows.specs.Rows.{IsUnchanged}
@@ -35,6 +36,11 @@ abbrev pub FailsByStore : {A : Type 0} → Result A StoreError → State → Sta
 FailsByStore result old new When =
     IfErr result (λ error. HasCleanDisk new → (tables : Tables) → Holds old.view.trees tables
     → When tables → IsCaused old new error)
+
+-- the tree has these rows of the tables that are held
+abbrev pub HasRowsOf : View → ℕ → (Tables → List Row) → Type 0
+HasRowsOf view tree rows =
+    (tables : Tables) → Holds view.trees tables → view.trees tree ≡ rows tables
 
 -- tables that the premise holds of are changed so, and nothing else is
 pub record Changes (old new : View) (When : Tables → Type 0) (change : Tables → Tables) : Type 0

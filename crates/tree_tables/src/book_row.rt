@@ -115,6 +115,7 @@ impl<S: Store> TreeTables<S> {
     ghost use Rattle.tree_tables.specs.Steps.{Always, Does, FailsByStore, Looks, Makes};
 
     /// The row of the book, if it is there.
+    #[tactic(auto, using(crate::proofs::Looking::caused_memory))]
     pub fn find_book(&mut self) -> Result<Option<StoredBook>, StoreError>
         ensures looks { Looks result (state S.Store self.old.store) (state S.Store self.new.store)
             FindsBook }

@@ -35,9 +35,10 @@ fn charged_key(key: &mut Row, identity: &[u8]) -> Result<(), StoreError>
 
 impl<S: Store> TreeTables<S> {
     ghost use Rattle.std.specs.Prelude.{IfErr, IfOk, OnErr, OnOk};
-    ghost use Rattle.sqlite_disk.specs.Disk.{MoreFaults};
-    ghost use Rattle.sqlite_trees.specs.View.{HasCause, IsClean, IsQuiet, KeepsCommitted};
-    ghost use Rattle.tree_rows.specs.Rows.{IsFirst, IsUnchanged};
+    ghost use Rattle.sqlite_trees.specs.View.{IsClean};
+    ghost use Rattle.tree_rows.specs.Calls.{CommitsNothing, IsCausedByStore, LeavesCommitted};
+    ghost use Rattle.tree_rows.specs.Calls.{OnlyLooks};
+    ghost use Rattle.tree_rows.specs.Rows.{IsFirst};
     ghost use Rattle.tree_rows.specs.Runs.{run_of};
     ghost use Rattle.tree_tables.specs.Answers.{FindsCharged, HasCharged};
     ghost use Rattle.tree_tables.specs.Fits.{EachFits};
@@ -50,15 +51,10 @@ impl<S: Store> TreeTables<S> {
         ensures found { IfOk result (λ there. IsClean (S.Store.view self.new.store)
             → IsFirst (run_of (charged_part identity.now)
             ((S.Store.view self.old.store).trees MARKS)) self.new.row there) }
-        ensures same { OnOk result (IsClean (S.Store.view self.new.store)
-            → IsUnchanged (S.Store.view self.old.store) (S.Store.view self.new.store)) }
-        ensures kept { OnErr result (IsClean (S.Store.view self.new.store)
-            → KeepsCommitted (S.Store.view self.old.store) (S.Store.view self.new.store)) }
-        ensures cause { IfErr result (λ error. IsClean (S.Store.view self.new.store)
-            → HasCause (S.Store.view self.old.store)
-            (MoreFaults (S.Store.faults self.old.store) (S.Store.faults self.new.store)) ⊥ error) }
-        ensures quiet { IsQuiet S.Store.view S.Store.faults S.Store.recovers S.Store.is_shielded
-            self.old.store self.new.store }
+        ensures same { OnOk result (OnlyLooks S.Store self.old.store self.new.store) }
+        ensures kept { OnErr result (LeavesCommitted S.Store self.old.store self.new.store) }
+        ensures cause { IfErr result (IsCausedByStore S.Store self.old.store self.new.store) }
+        ensures quiet { CommitsNothing S.Store self.old.store self.new.store }
     {
         charged_key(&mut self.key, identity)?;
         find_row(&mut self.store, MARKS, &self.key, &mut self.row)

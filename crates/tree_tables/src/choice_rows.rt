@@ -1,6 +1,6 @@
 //! Choices by their numbers, and the tree that finds them by the names of the records.
 
-ghost use Rattle.std.specs.Prelude.{◌≡◌, IfErr, IfOk, OnOk};
+ghost use Rattle.std.specs.Prelude.{◌≡◌, OnOk};
 ghost use Rattle.tree_tables.specs.Columns.{choice_columns, choice_name_columns};
 ghost use Rattle.tree_tables.specs.Fits.{ChoiceFits};
 ghost use Rattle.tree_tables.specs.Stored.{SaysChoice};
@@ -13,7 +13,7 @@ use sqlite_trees::store::Store;
 use sqlite_value::row::Row;
 use sqlite_value::value::ValueRef;
 use std::alloc::Global;
-use tree_rows::{ReadRow, add_row, find_row, last_row, list_run};
+use tree_rows::{ReadRow, add_row, find_row, last_row};
 
 /// The tree of choices.
 const CHOICES: u32 = 8;
@@ -49,25 +49,17 @@ fn choice_name_row(row: &mut Row, name: &[u8], number: u32) -> Result<(), StoreE
     Ok(())
 }
 
-/// What the row of a choice says.
-fn read_choice(row: &Row) -> Result<StoredChoice, StoreError>
-    ensures says { IfOk result (SaysChoice row.now) }
-    ensures taken { IfErr result (λ error. ¬ ChoiceFits row.now) }
-{
-    Ok(StoredChoice {
-        number: number_at(row, 0)?,
-        name: hash_at(row, 1)?,
-        period: period_at(row, 2)?,
-    })
-}
-
 impl ReadRow for StoredChoice {
     ghost says = { SaysChoice };
 
     ghost fits = { ChoiceFits };
 
     fn read(row: &Row, _alloc: Global) -> Result<StoredChoice, StoreError> {
-        read_choice(row)
+        Ok(StoredChoice {
+            number: number_at(row, 0)?,
+            name: hash_at(row, 1)?,
+            period: period_at(row, 2)?,
+        })
     }
 }
 
@@ -113,8 +105,7 @@ impl<S: Store> TreeTables<S> {
         ensures cause { FailsByStore result (state S.Store self.old.store)
             (state S.Store self.new.store) ChoicesFit }
     {
-        self.key.clear();
-        list_run(&mut self.store, CHOICES, &self.key, &mut self.row, alloc)
+        self.list_all(CHOICES, alloc)
     }
 
     /// The number of the last choice, or 0 where there is none: one look at the end of the tree,

@@ -12,7 +12,7 @@ use sqlite_trees::store::Store;
 use sqlite_value::row::Row;
 use sqlite_value::value::ValueRef;
 use std::alloc::Global;
-use tree_rows::{ReadRow, list_run, put_row};
+use tree_rows::{ReadRow, put_row};
 
 /// The tree of closes.
 const CLOSES: u32 = 2;
@@ -90,7 +90,6 @@ impl<S: Store> TreeTables<S> {
             (state S.Store self.new.store)
             (λ tables. RowsFit CloseFits (map closed_columns (entries tables.closes))) }
     {
-        self.key.clear();
-        list_run(&mut self.store, CLOSES, &self.key, &mut self.row, alloc)
+        self.list_all(CLOSES, alloc)
     }
 }

@@ -157,7 +157,8 @@ fn charges(days: &[StoredDay], alloc: Global) -> Result<Vec<ChargeRow>, StoreErr
 
 impl<S: Store> TreeTables<S> {
     ghost use Rattle.std.specs.Prelude.{◌≡◌, IfOk, OnErr, false};
-    ghost use Rattle.sqlite_trees.specs.View.{IsClean, IsQuiet, KeepsCommitted};
+    ghost use Rattle.sqlite_trees.specs.View.{IsClean};
+    ghost use Rattle.tree_rows.specs.Calls.{CommitsNothing, LeavesCommitted};
     ghost use Rattle.table_model.specs.Steps as step;
     ghost use Rattle.tree_tables.specs.Answers.{FindsDay, ListsDays};
     ghost use Rattle.tree_tables.specs.Days.{MovesSome, NoneLater, NoneNext};
@@ -178,6 +179,7 @@ impl<S: Store> TreeTables<S> {
     }
 
     /// The charge rows of a period, by day, then centre, then shift.
+    #[tactic(auto, using(crate::proofs::Looking::caused_memory))]
     pub fn list_days(&mut self, alloc: Global, period: u16) -> Result<Vec<ChargeRow>, StoreError>
         ensures looks { Looks result (state S.Store self.old.store) (state S.Store self.new.store)
             (λ tables list. ListsDays period tables list.items) }
@@ -218,6 +220,7 @@ impl<S: Store> TreeTables<S> {
 
     /// The first row of a period that is dated after a day, if there is one, goes to the next
     /// period. Answers whether there was one.
+    #[tactic(auto, using(crate::proofs::MoveDays::none_found))]
     fn move_day(&mut self, close: &Close) -> Result<bool, StoreError>
         ensures moved { IfOk result (λ found. IsClean (S.Store.view self.new.store)
             → MovesSome (S.Store.view self.old.store) (S.Store.view self.new.store)
@@ -225,10 +228,8 @@ impl<S: Store> TreeTables<S> {
         ensures ended { IfOk result (λ found. found ≡ false
             → IsClean (S.Store.view self.new.store)
             → NoneLater (S.Store.view self.new.store).trees close.now.period close.now.through) }
-        ensures kept { OnErr result (IsClean (S.Store.view self.new.store)
-            → KeepsCommitted (S.Store.view self.old.store) (S.Store.view self.new.store)) }
-        ensures quiet { IsQuiet S.Store.view S.Store.faults S.Store.recovers S.Store.is_shielded
-            self.old.store self.new.store }
+        ensures kept { OnErr result (LeavesCommitted S.Store self.old.store self.new.store) }
+        ensures quiet { CommitsNothing S.Store self.old.store self.new.store }
     {
         later_key(&mut self.key, close)?;
         if !first_from(&mut self.store, DAYS, &self.key, &mut self.before)? {

@@ -46,7 +46,8 @@ fn is_keyed(before: &Row, last: &Row) -> Result<bool, StoreError>
 
 impl<S: Store> TreeTables<S> {
     ghost use Rattle.std.specs.Prelude.{IfOk, OnErr, OnOk};
-    ghost use Rattle.sqlite_trees.specs.View.{IsClean, IsQuiet, KeepsCommitted};
+    ghost use Rattle.sqlite_trees.specs.View.{IsClean};
+    ghost use Rattle.tree_rows.specs.Calls.{CommitsNothing, LeavesCommitted};
     ghost use Rattle.table_model.specs.Steps as step;
     ghost use Rattle.table_model.specs.TableChanges.{by_second_rule};
     ghost use Rattle.tree_tables.specs.States.{state};
@@ -60,10 +61,8 @@ impl<S: Store> TreeTables<S> {
         ensures renews { IfOk result (λ more. IsClean (S.Store.view self.new.store)
             → RenewsNext by_second_rule (S.Store.view self.old.store)
             (S.Store.view self.new.store) self.old.key self.new.key more) }
-        ensures kept { OnErr result (IsClean (S.Store.view self.new.store)
-            → KeepsCommitted (S.Store.view self.old.store) (S.Store.view self.new.store)) }
-        ensures quiet { IsQuiet S.Store.view S.Store.faults S.Store.recovers S.Store.is_shielded
-            self.old.store self.new.store }
+        ensures kept { OnErr result (LeavesCommitted S.Store self.old.store self.new.store) }
+        ensures quiet { CommitsNothing S.Store self.old.store self.new.store }
     {
         if !first_past(&mut self.store, RECORDS, &self.key, &mut self.before)? {
             return Ok(false);
@@ -76,13 +75,12 @@ impl<S: Store> TreeTables<S> {
 
     /// The rows of all records have their identities by the second rule. The trees that find
     /// records stay as they are.
+    #[tactic(auto, using(crate::proofs::Renewing::renewing_starts))]
     fn rename_rows(&mut self, alloc: Global) -> Result<(), StoreError>
         ensures renamed { OnOk result (IsClean (S.Store.view self.new.store)
             → RenamesRows (S.Store.view self.old.store) (S.Store.view self.new.store)) }
-        ensures kept { OnErr result (IsClean (S.Store.view self.new.store)
-            → KeepsCommitted (S.Store.view self.old.store) (S.Store.view self.new.store)) }
-        ensures quiet { IsQuiet S.Store.view S.Store.faults S.Store.recovers S.Store.is_shielded
-            self.old.store self.new.store }
+        ensures kept { OnErr result (LeavesCommitted S.Store self.old.store self.new.store) }
+        ensures quiet { CommitsNothing S.Store self.old.store self.new.store }
     {
         self.key.clear();
         'rows: for _ in 0..MOST_STEPS {
@@ -96,14 +94,13 @@ impl<S: Store> TreeTables<S> {
 
     /// Has the record of the first entry after the key `last` found by the identity that its row
     /// says, and makes that entry the key; or answers that there is none.
+    #[tactic(auto, using(crate::proofs::Keying::keys_none))]
     fn key_next(&mut self, last: &mut Row) -> Result<bool, StoreError>
         ensures keys { IfOk result (λ more. IsClean (S.Store.view self.new.store)
             → KeysNext (S.Store.view self.old.store) (S.Store.view self.new.store)
             last.old last.new more) }
-        ensures kept { OnErr result (IsClean (S.Store.view self.new.store)
-            → KeepsCommitted (S.Store.view self.old.store) (S.Store.view self.new.store)) }
-        ensures quiet { IsQuiet S.Store.view S.Store.faults S.Store.recovers S.Store.is_shielded
-            self.old.store self.new.store }
+        ensures kept { OnErr result (LeavesCommitted S.Store self.old.store self.new.store) }
+        ensures quiet { CommitsNothing S.Store self.old.store self.new.store }
     {
         if !first_past(&mut self.store, IDENTITIES, last, &mut self.row)? {
             return Ok(false);
@@ -127,10 +124,8 @@ impl<S: Store> TreeTables<S> {
         ensures keyed { OnOk result (IsClean (S.Store.view self.new.store)
             → MovesKeys (S.Store.view self.old.store) (S.Store.view self.new.store)
             self.old.before entry.now) }
-        ensures kept { OnErr result (IsClean (S.Store.view self.new.store)
-            → KeepsCommitted (S.Store.view self.old.store) (S.Store.view self.new.store)) }
-        ensures quiet { IsQuiet S.Store.view S.Store.faults S.Store.recovers S.Store.is_shielded
-            self.old.store self.new.store }
+        ensures kept { OnErr result (LeavesCommitted S.Store self.old.store self.new.store) }
+        ensures quiet { CommitsNothing S.Store self.old.store self.new.store }
     {
         let name = entry.get(1);
         let mark = self.before.get(CHARGED);
@@ -147,13 +142,12 @@ impl<S: Store> TreeTables<S> {
     }
 
     /// Each record is found by the identity that its row says by the second rule.
+    #[tactic(auto, using(crate::proofs::Keying::keying_starts))]
     fn key_records(&mut self, alloc: Global) -> Result<(), StoreError>
         ensures keyed { OnOk result (IsClean (S.Store.view self.new.store)
             → KeysRecords (S.Store.view self.old.store) (S.Store.view self.new.store)) }
-        ensures kept { OnErr result (IsClean (S.Store.view self.new.store)
-            → KeepsCommitted (S.Store.view self.old.store) (S.Store.view self.new.store)) }
-        ensures quiet { IsQuiet S.Store.view S.Store.faults S.Store.recovers S.Store.is_shielded
-            self.old.store self.new.store }
+        ensures kept { OnErr result (LeavesCommitted S.Store self.old.store self.new.store) }
+        ensures quiet { CommitsNothing S.Store self.old.store self.new.store }
     {
         let mut last = Row::new(alloc);
         'entries: for _ in 0..MOST_STEPS {

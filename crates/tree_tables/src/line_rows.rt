@@ -1,6 +1,6 @@
 //! Adjustment lines by period and name.
 
-ghost use Rattle.std.specs.Prelude.{◌≡◌, ◌∷◌, ◌++◌, [], IfErr, IfOk, OnOk, pos};
+ghost use Rattle.std.specs.Prelude.{◌≡◌, ◌∷◌, ◌++◌, [], OnOk, pos};
 ghost use Rattle.sqlite_value.specs.declared.value.Value.TheVariants.{Blob, Int};
 ghost use Rattle.tree_tables.specs.Columns.{line_columns};
 ghost use Rattle.tree_tables.specs.Fits.{LineFits};
@@ -57,24 +57,16 @@ fn line_row(row: &mut Row, spot: &LineKey<'_>, plus: bool) -> Result<(), StoreEr
     Ok(())
 }
 
-/// What the row of a line says.
-fn read_line(row: &Row) -> Result<StoredLine, StoreError>
-    ensures says { IfOk result (SaysLine row.now) }
-    ensures taken { IfErr result (λ error. ¬ LineFits row.now) }
-{
-    Ok(StoredLine {
-        name: hash_at(row, 1)?,
-        plus: mark_at(row, 2)?,
-    })
-}
-
 impl ReadRow for StoredLine {
     ghost says = { SaysLine };
 
     ghost fits = { LineFits };
 
-    fn read(row: &Row, alloc: Global) -> Result<StoredLine, StoreError> {
-        read_line(row)
+    fn read(row: &Row, _alloc: Global) -> Result<StoredLine, StoreError> {
+        Ok(StoredLine {
+            name: hash_at(row, 1)?,
+            plus: mark_at(row, 2)?,
+        })
     }
 }
 
@@ -112,6 +104,7 @@ impl<S: Store> TreeTables<S> {
     }
 
     /// The lines of a period, by name.
+    #[tactic(auto, using(crate::proofs::Looking::caused_memory))]
     pub fn list_lines(&mut self, alloc: Global, period: u16) -> Result<Vec<StoredLine>, StoreError>
         ensures looks { Looks result (state S.Store self.old.store) (state S.Store self.new.store)
             (λ tables list. ListsLines period tables list.items) }

@@ -2,10 +2,11 @@
 
 ghost use Rattle.std.specs.Prelude.{◌≡◌, ◌∷◌, ◌++◌, [], OnErr, OnOk, map, pos, slice_set};
 ghost use Rattle.sqlite_trees.specs.Tree.{insert_entry, remove_entry};
-ghost use Rattle.sqlite_trees.specs.View.{IsClean, IsQuiet, KeepsCommitted, KeepsSchema};
+ghost use Rattle.sqlite_trees.specs.View.{IsClean, KeepsSchema};
 ghost use Rattle.sqlite_value.specs.Keys.{plain};
 ghost use Rattle.sqlite_value.specs.Value.{owned};
 ghost use Rattle.sqlite_value.specs.declared.value.Value.TheVariants.{Blob, Int, Text};
+ghost use Rattle.tree_rows.specs.Calls.{CommitsNothing, IsSorted, LeavesCommitted};
 ghost use Rattle.tree_rows.specs.Rows.{Rewrites};
 ghost use Rattle.tree_tables.specs.Columns.{flag, record_columns};
 ghost use Rattle.tree_tables.specs.Stored.{new_entry, priced_entry};
@@ -15,7 +16,7 @@ use crate::keys::{bytes_key, number_key};
 use crate::stored_record::{StoredRecord, read_record};
 use crate::tables::TreeTables;
 use sqlite_trees::error::StoreError;
-use sqlite_trees::store::{Shape, Store};
+use sqlite_trees::store::Store;
 use sqlite_value::row::Row;
 use sqlite_value::value::ValueRef;
 use std::alloc::Global;
@@ -124,17 +125,14 @@ pub(crate) fn change_mark<S: Store>(
     old: &[ValueRef<'_>],
     new: &[ValueRef<'_>],
 ) -> Result<(), StoreError>
-    requires { IsClean (S.Store.view store.old)
-        → (S.Store.view store.old).shape MARKS ≡ Shape.Index plain }
+    requires { IsSorted S.Store store.old MARKS }
     ensures done { OnOk result (IsClean (S.Store.view store.new)
         → Rewrites (S.Store.view store.old) (S.Store.view store.new) MARKS
         (insert_entry plain (map owned new.now) (remove_entry plain (map owned old.now)
         ((S.Store.view store.old).trees MARKS)))) }
-    ensures kept { OnErr result (IsClean (S.Store.view store.new)
-        → KeepsCommitted (S.Store.view store.old) (S.Store.view store.new)) }
+    ensures kept { OnErr result (LeavesCommitted S.Store store.old store.new) }
     ensures schema { KeepsSchema (S.Store.view store.old) (S.Store.view store.new) }
-    ensures quiet { IsQuiet S.Store.view S.Store.faults S.Store.recovers S.Store.is_shielded
-        store.old store.new }
+    ensures quiet { CommitsNothing S.Store store.old store.new }
 {
     make_row(from, old)?;
     make_row(to, new)?;
@@ -159,6 +157,7 @@ impl<S: Store> TreeTables<S> {
     ghost use Rattle.tree_tables.specs.Stored.{IsAsRead, new_entry};
 
     /// The record of a name, if there is one.
+    #[tactic(auto, using(crate::proofs::Looking::caused_memory))]
     pub fn find_record(
         &mut self,
         alloc: Global,
@@ -199,6 +198,7 @@ impl<S: Store> TreeTables<S> {
     }
 
     /// The records that are not charged, by identity, then name.
+    #[tactic(auto, using(crate::proofs::Looking::caused_memory))]
     pub fn list_uncharged(&mut self, alloc: Global) -> Result<Vec<StoredRecord>, StoreError>
         ensures looks { Looks result (state S.Store self.old.store) (state S.Store self.new.store)
             (λ tables list. ListsUncharged tables list.items) }

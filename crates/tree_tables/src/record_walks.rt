@@ -2,12 +2,12 @@
 
 ghost use Rattle.std.specs.Prelude.{◌≡◌, ◌∷◌, [], IfErr, IfOk, OnErr, OnOk};
 ghost use Rattle.std.specs.Prelude.{slice_set};
-ghost use Rattle.sqlite_disk.specs.Disk.{MoreFaults};
-ghost use Rattle.sqlite_trees.specs.View.{HasCause, IsClean, IsQuiet, KeepsCommitted, KeepsSchema};
-ghost use Rattle.sqlite_value.specs.Keys.{plain};
+ghost use Rattle.sqlite_trees.specs.View.{IsClean, KeepsSchema};
 ghost use Rattle.sqlite_value.specs.Order.{column};
 ghost use Rattle.table_model.specs.Steps.{post_by};
-ghost use Rattle.tree_rows.specs.Rows.{IsFirst, IsUnchanged};
+ghost use Rattle.tree_rows.specs.Calls.{CommitsNothing, IsCausedByStore, IsSorted, LeavesCommitted};
+ghost use Rattle.tree_rows.specs.Calls.{OnlyLooks};
+ghost use Rattle.tree_rows.specs.Rows.{IsFirst};
 ghost use Rattle.tree_tables.specs.Walks.{RenewsRow, last_name_key, rows_past};
 
 use crate::column_values::{day_at, mark_at, with_column};
@@ -16,7 +16,7 @@ use crate::record_rows::{CHARGED, RECORDS};
 use crate::stored_record::{StoredRecord, read_record};
 use crate::tables::TreeTables;
 use sqlite_trees::error::StoreError;
-use sqlite_trees::store::{Shape, Store};
+use sqlite_trees::store::Store;
 use sqlite_value::row::Row;
 use std::alloc::Global;
 use tree_rows::{change_row, first_after, first_from};
@@ -41,20 +41,14 @@ pub(crate) fn first_past<S: Store>(
     key: &Row,
     row: &mut Row,
 ) -> Result<bool, StoreError>
-    requires { IsClean (S.Store.view store.old)
-        → (S.Store.view store.old).shape tree ≡ Shape.Index plain }
+    requires { IsSorted S.Store store.old tree }
     ensures found { IfOk result (λ there. IsClean (S.Store.view store.new)
         → IsFirst (rows_past key.now ((S.Store.view store.old).trees tree)) row.new there) }
-    ensures same { OnOk result (IsClean (S.Store.view store.new)
-        → IsUnchanged (S.Store.view store.old) (S.Store.view store.new)) }
+    ensures same { OnOk result (OnlyLooks S.Store store.old store.new) }
     ensures schema { KeepsSchema (S.Store.view store.old) (S.Store.view store.new) }
-    ensures kept { OnErr result (IsClean (S.Store.view store.new)
-        → KeepsCommitted (S.Store.view store.old) (S.Store.view store.new)) }
-    ensures cause { IfErr result (λ error. IsClean (S.Store.view store.new)
-        → HasCause (S.Store.view store.old)
-        (MoreFaults (S.Store.faults store.old) (S.Store.faults store.new)) ⊥ error) }
-    ensures quiet { IsQuiet S.Store.view S.Store.faults S.Store.recovers S.Store.is_shielded
-        store.old store.new }
+    ensures kept { OnErr result (LeavesCommitted S.Store store.old store.new) }
+    ensures cause { IfErr result (IsCausedByStore S.Store store.old store.new) }
+    ensures quiet { CommitsNothing S.Store store.old store.new }
 {
     if key.is_empty() {
         return first_from(store, tree, key, row);
@@ -109,7 +103,8 @@ fn post_row(row: &mut Row, before: &Row, through: i32) -> Result<bool, StoreErro
 
 impl<S: Store> TreeTables<S> {
     ghost use Rattle.std.specs.Prelude.{IfOk, OnErr};
-    ghost use Rattle.sqlite_trees.specs.View.{IsClean, IsQuiet, KeepsCommitted};
+    ghost use Rattle.sqlite_trees.specs.View.{IsClean};
+    ghost use Rattle.tree_rows.specs.Calls.{CommitsNothing, LeavesCommitted};
     ghost use Rattle.table_model.specs.Steps as step;
     ghost use Rattle.tree_tables.specs.Answers.{FindsNext};
     ghost use Rattle.tree_tables.specs.Fits.{EachFits};
@@ -119,6 +114,7 @@ impl<S: Store> TreeTables<S> {
 
     /// The record with the least name after one, or with the least of all where there is none: a
     /// step of a walk over all records, which holds no more than one of them at a time.
+    #[tactic(auto, using(crate::proofs::Looking::caused_memory))]
     pub fn find_next(
         &mut self,
         alloc: Global,
@@ -142,10 +138,8 @@ impl<S: Store> TreeTables<S> {
         ensures renews { IfOk result (λ more. IsClean (S.Store.view self.new.store)
             → RenewsNext (step.post_by through) (S.Store.view self.old.store)
             (S.Store.view self.new.store) self.old.key self.new.key more) }
-        ensures kept { OnErr result (IsClean (S.Store.view self.new.store)
-            → KeepsCommitted (S.Store.view self.old.store) (S.Store.view self.new.store)) }
-        ensures quiet { IsQuiet S.Store.view S.Store.faults S.Store.recovers S.Store.is_shielded
-            self.old.store self.new.store }
+        ensures kept { OnErr result (LeavesCommitted S.Store self.old.store self.new.store) }
+        ensures quiet { CommitsNothing S.Store self.old.store self.new.store }
     {
         if !first_past(&mut self.store, RECORDS, &self.key, &mut self.before)? {
             return Ok(false);
@@ -159,6 +153,7 @@ impl<S: Store> TreeTables<S> {
 
     /// The records that are dated on or before the day are posted as they are charged. A walk that
     /// does not end is answered as a damaged file.
+    #[tactic(auto, using(crate::proofs::Renewing::renewing_starts))]
     pub fn post_records(&mut self, through: i32) -> Result<(), StoreError>
         ensures does { Does result (state S.Store self.old.store) (state S.Store self.new.store)
             Always (step.post_rows through) }

@@ -7,6 +7,7 @@ use sqlite_trees::error::StoreError;
 use sqlite_trees::store::Store;
 use sqlite_value::row::Row;
 use std::alloc::Global;
+use tree_rows::{ReadRow, list_run};
 
 /// The tables of books in the trees of a store, a tree each: 0 the book, 1 tariffs, 2 closes,
 /// 3 records, 4 charge rows, 5 adjustment lines, 8 choices; two more that find records, 6 by
@@ -24,11 +25,16 @@ pub struct TreeTables<S: Store> {
 }
 
 impl<S: Store> TreeTables<S> {
-    ghost use Rattle.std.specs.Prelude.{◌≡◌, OnErr, OnOk};
+    ghost use Rattle.std.specs.Prelude.{◌≡◌, List, OnErr, OnOk};
+    ghost use Rattle.std.specs.List.{AllZip};
     ghost use Rattle.sqlite_trees.specs.View.{Commits, IsClean};
+    ghost use Rattle.sqlite_value.specs.Order.{Row as Columns};
+    ghost use Rattle.table_model.specs.Tables.{Tables};
+    ghost use Rattle.tree_rows.specs.Calls.{IsSorted};
+    ghost use Rattle.tree_tables.specs.Fits.{RowsFit};
     ghost use Rattle.tree_tables.specs.Holds.{HasShapes};
     ghost use Rattle.tree_tables.specs.States.{Survives, state};
-    ghost use Rattle.tree_tables.specs.Steps.{IsUndone, MayCommit};
+    ghost use Rattle.tree_tables.specs.Steps.{FailsByStore, HasRowsOf, IsUndone, Looks, MayCommit};
 
     /// The tables in a store that has their trees.
     pub fn over(alloc: Global, store: S) -> TreeTables<S>
@@ -49,6 +55,26 @@ impl<S: Store> TreeTables<S> {
         ensures shaped { IsClean (S.Store.view result) → HasShapes (S.Store.view result) }
     {
         self.store
+    }
+
+    /// Reads all rows of a tree, in order.
+    pub(crate) fn list_all<T: ReadRow + Drop>(
+        &mut self,
+        tree: u32,
+        alloc: Global,
+    ) -> Result<Vec<T>, StoreError>
+        requires { IsSorted S.Store self.old.store tree }
+        ensures looks { (rows : Tables → List Columns)
+            → HasRowsOf (S.Store.view self.old.store) tree rows
+            → Looks result (state S.Store self.old.store) (state S.Store self.new.store)
+            (λ tables all. AllZip T.ReadRow.says (rows tables) all.items) }
+        ensures cause { (rows : Tables → List Columns)
+            → HasRowsOf (S.Store.view self.old.store) tree rows
+            → FailsByStore result (state S.Store self.old.store) (state S.Store self.new.store)
+            (λ tables. RowsFit T.ReadRow.fits (rows tables)) }
+    {
+        self.key.clear();
+        list_run(&mut self.store, tree, &self.key, &mut self.row, alloc)
     }
 
     /// Commits what was written. A commit that fails rolls it back.

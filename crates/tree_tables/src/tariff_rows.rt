@@ -11,7 +11,7 @@ use sqlite_trees::store::Store;
 use sqlite_value::row::Row;
 use sqlite_value::value::ValueRef;
 use std::alloc::Global;
-use tree_rows::{ReadRow, list_run, put_row};
+use tree_rows::{ReadRow, put_row};
 
 /// The tree of tariffs.
 const TARIFFS: u32 = 1;
@@ -96,7 +96,6 @@ impl<S: Store> TreeTables<S> {
             (state S.Store self.new.store)
             (λ tables. RowsFit TariffFits (map tariff_columns (entries tables.tariffs))) }
     {
-        self.key.clear();
-        list_run(&mut self.store, TARIFFS, &self.key, &mut self.row, alloc)
+        self.list_all(TARIFFS, alloc)
     }
 }

@@ -1,7 +1,7 @@
 //! The rule of identity that an office adopts.
 
 use super::PlainLedger;
-use crate::rulings::{adopt_answer, is_done};
+use crate::rulings::is_done;
 use book_model::{LedgerFault, Naming, Ruled};
 
 impl<N: Naming + Drop> PlainLedger<N> {
@@ -9,14 +9,15 @@ impl<N: Naming + Drop> PlainLedger<N> {
     ghost use Rattle.book_core.specs.PlainBook.{IsPlainCall};
 
     /// Adopts a rule of identity: the second one, where it is not in force.
+    #[tactic(auto, using(crate::proofs::BookLemmas::kept_ruled))]
     pub(super) fn adopt_rule(&mut self, rule: u8) -> Result<Ruled, LedgerFault>
         ensures { IsPlainCall (λ ruled. ruled) self.old self.new result (adopt_outcome rule) }
     {
-        let answer = adopt_answer(self.adopted, rule);
+        let answer = self.rulings.adopt_answer(rule);
         if !is_done(&answer) {
             return answer;
         }
-        self.adopted = Some(self.closed.len() as u16 + 1);
+        self.rulings.adopt();
         Ok(Ruled::Done)
     }
 }

@@ -20,17 +20,17 @@ impl<N: Naming + Drop> PlainLedger<N> {
         let Some(held) = self.held.get(&name) else {
             return Err(LedgerFault::NoSuchRecord);
         };
-        if is_lone(&self.held, self.adopted, &held.identity_by(self.adopted)) {
+        let adopted = self.rulings.adopted();
+        if is_lone(&self.held, adopted, &held.identity_by(adopted)) {
             return Err(LedgerFault::NotDisputed);
         }
-        if is_chosen(&self.choices, self.adopted, held) {
+        if is_chosen(&self.choices, adopted, held) {
             return Ok(Ruled::Already);
         }
         if self.choices.len() >= MAX_CHOICES {
             return Err(LedgerFault::Full);
         }
-        let open = self.closed.len() as u16 + 1;
-        let choice = ChosenRecord::new(held, open)?;
+        let choice = ChosenRecord::new(held, self.rulings.open_number())?;
         self.choices.push(choice)?;
         Ok(Ruled::Done)
     }

@@ -1,38 +1,14 @@
 //! The lists that are read of a plain ledger.
 
-ghost use Rattle.std.specs.Prelude.{◌≡◌, [], IfOk, None, map};
-ghost use Rattle.book_model.specs.Rulings.{last_close as day_of_last};
-ghost use Rattle.book_core.specs.Plain.{ruled_by};
-
 use super::PlainLedger;
 use crate::charge_rows::charge_rows;
 use crate::choices::last_chosen;
-use crate::closed::ClosedPeriod;
 use crate::identities::{disputes, shared_identities};
 use crate::lines::sort_lines;
 use crate::period::Period;
 use crate::period_end::PeriodEnd;
 use book_model::{ChargeRow, Dispute, LedgerFault, Line, Naming};
-use std::alloc::{AllocError, Global};
-
-/// The day of the last close, if there was one.
-pub(super) fn last_close(closed: &[ClosedPeriod]) -> Option<i32>
-    ensures { result ≡ day_of_last (ruled_by [] closed.now [] None) }
-{
-    let last = closed.last()?;
-    Some(last.through)
-}
-
-/// The days of the closes.
-fn days_of(alloc: Global, closed: &[ClosedPeriod]) -> Result<Vec<i32>, AllocError>
-    ensures { IfOk result (λ days. days.items ≡ map (λ period. period.through) closed.now) }
-{
-    let mut days = Vec::with_capacity(alloc, closed.len())?;
-    for period in closed {
-        days.push(period.through)?;
-    }
-    Ok(days)
-}
+use std::alloc::AllocError;
 
 impl<N: Naming + Drop> PlainLedger<N> {
     ghost use Rattle.std.specs.Prelude.{◌≡◌, All, IfOk, map, ok_or};
@@ -46,11 +22,12 @@ impl<N: Naming + Drop> PlainLedger<N> {
     pub(super) fn period_end(&self, through: Option<i32>) -> Result<PeriodEnd, AllocError>
         ensures { IfOk result (IsPeriodEnd self.now.held.entries (book_in self.now).rulings through) }
     {
+        let adopted = self.rulings.adopted();
         Ok(PeriodEnd {
-            adopted: self.adopted,
-            shared: shared_identities(self.alloc, &self.held, self.adopted)?,
-            chosen: last_chosen(self.alloc, &self.choices, self.adopted)?,
-            last: last_close(&self.closed),
+            adopted,
+            shared: shared_identities(self.alloc, &self.held, adopted)?,
+            chosen: last_chosen(self.alloc, &self.choices, adopted)?,
+            last: self.rulings.last_close(),
             through,
         })
     }
@@ -60,8 +37,7 @@ impl<N: Naming + Drop> PlainLedger<N> {
         ensures { Answers (period_in self.now) result
             (ok_or (period_of (book_in self.now) number) LedgerFault.NoSuchPeriod) }
     {
-        let open = self.closed.len() + 1;
-        if number == 0 || open < number as usize {
+        if number == 0 || self.rulings.open_number() < number {
             return Err(LedgerFault::NoSuchPeriod);
         }
         match self.closed.get(number as usize - 1) {
@@ -99,7 +75,8 @@ impl<N: Naming + Drop> PlainLedger<N> {
             (disputes_outcome (N.name_of (naming_in self.now)) (book_in self.now)).answer }
         ensures shown { IfOk result (λ found. AreDisputes (map dispute_shown found.items)) }
     {
-        Ok(disputes(self.alloc, &self.held, &self.choices, self.adopted)?)
+        let adopted = self.rulings.adopted();
+        Ok(disputes(self.alloc, &self.held, &self.choices, adopted)?)
     }
 
     /// The days of the closes.
@@ -108,6 +85,6 @@ impl<N: Naming + Drop> PlainLedger<N> {
             (periods_outcome (book_in self.now)).answer }
         ensures shown { IfOk result (λ days. All IsDay days.items) }
     {
-        Ok(days_of(self.alloc, &self.closed)?)
+        Ok(self.rulings.closes().iter().copied().collect(self.alloc)?)
     }
 }

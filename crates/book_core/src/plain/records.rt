@@ -54,7 +54,7 @@ impl<N: Naming + Drop> PlainLedger<N> {
         if let Some(held) = self.held.get(&name) {
             return known_or_clash(held, bytes);
         }
-        let Some(priced) = price_in(&self.tariffs, usage) else {
+        let Some(priced) = price_in(self.rulings.tariffs(), usage) else {
             return Ok(Accepted::Unpriced);
         };
         let amount = priced.amount;

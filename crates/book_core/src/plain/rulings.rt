@@ -1,35 +1,20 @@
 //! Rulings that are submitted to a plain ledger: tariffs and closes.
 
-ghost use Rattle.std.specs.Prelude.{◌≡◌, [], None};
 ghost use Rattle.book_model.specs.RulingAnswers as spec;
-ghost use Rattle.book_core.specs.Plain.{ruled_by};
 
 use super::PlainLedger;
-use super::lists::last_close;
-use crate::accepted_tariff::AcceptedTariff;
 use crate::closed::ClosedPeriod;
 use crate::repricing::{cost_under, reprice};
-use crate::rulings::{close_answer, is_done, tariff_answer};
+use crate::rulings::is_done;
 use book_model::{LedgerFault, Naming, Ruled};
 use std::alloc::AllocError;
 use tariff_rules::Tariff;
 
-/// The day through which a period was closed, if it was.
-fn through_of(closed: &[ClosedPeriod], period: u16) -> Option<i32>
-    ensures { result ≡ spec.through_of period (ruled_by [] closed.now [] None) }
-{
-    if period == 0 {
-        return None;
-    }
-    let closed = closed.get(period as usize - 1)?;
-    Some(closed.through)
-}
-
 impl<N: Naming + Drop> PlainLedger<N> {
-    ghost use Rattle.std.specs.Prelude.{◌≡◌, ◌+◌, ◌<◌, IfOk, IfSome, Ok, OnErr, OnOk, Some, length};
+    ghost use Rattle.std.specs.Prelude.{◌≡◌, ◌<◌, IfOk, IfSome, Ok, OnErr, OnOk, Some};
     ghost use Rattle.std.specs.BTreeMap.{values};
     ghost use Rattle.book_model.specs.Words.{IsDay, close, put_in_force, last_period};
-    ghost use Rattle.book_model.specs.Words.{close_outcome, tariff_outcome};
+    ghost use Rattle.book_model.specs.Words.{close_outcome, open_number, tariff_outcome};
     ghost use Rattle.book_core.specs.PlainBook.{IsPlainCall, book_in, naming_in};
     ghost use Rattle.book_core.specs.Repricing.{cost_anew, ruled_by_cost};
 
@@ -55,7 +40,7 @@ impl<N: Naming + Drop> PlainLedger<N> {
         ensures cost { IfOk result (λ found. IfSome found
             (λ cost. cost ≡ cost_anew tariff.now (values self.now.held))) }
     {
-        match tariff_answer(&self.tariffs, last_close(&self.closed), text, tariff)? {
+        match self.rulings.tariff_answer(text, tariff)? {
             Ruled::Already => return Ok(None),
             Ruled::Done => {}
         }
@@ -75,12 +60,12 @@ impl<N: Naming + Drop> PlainLedger<N> {
         ensures refused { OnErr result (book_in self.new ≡ book_in self.old) }
         ensures naming { naming_in self.new ≡ naming_in self.old }
     {
-        let text = Some(String::from_str(self.alloc, text)?);
+        let text = String::from_str(self.alloc, text)?;
         // There is room before the first price is written: a refusal leaves each as it was.
-        self.tariffs.reserve(1)?;
+        self.rulings.reserve_tariff()?;
         reprice(&mut self.held, &tariff);
         self.total = total;
-        self.tariffs.push(AcceptedTariff { text, tariff })?;
+        self.rulings.put_tariff(text, tariff);
         Ok(())
     }
 
@@ -90,10 +75,7 @@ impl<N: Naming + Drop> PlainLedger<N> {
         ensures { IsPlainCall (λ ruled. ruled) self.old self.new result
             (close_outcome period through) }
     {
-        let current = self.closed.len() as u16 + 1;
-        let closed = through_of(&self.closed, period);
-        let last = last_close(&self.closed);
-        let answer = close_answer(current, closed, last, period, through);
+        let answer = self.rulings.close_answer(period, through);
         if !is_done(&answer) {
             return answer;
         }
@@ -104,7 +86,7 @@ impl<N: Naming + Drop> PlainLedger<N> {
     /// Ends the open period through a day. A lack of memory leaves the books as they were.
     fn end_period(&mut self, through: i32) -> Result<(), AllocError>
         requires day { IsDay through }
-        requires few { length self.old.closed.items + 1 < last_period }
+        requires few { open_number (book_in self.old) < last_period }
         ensures book { OnOk result (book_in self.new ≡ close through (book_in self.old)) }
         ensures refused { OnErr result (book_in self.new ≡ book_in self.old) }
         ensures naming { naming_in self.new ≡ naming_in self.old }
@@ -113,10 +95,10 @@ impl<N: Naming + Drop> PlainLedger<N> {
         let period_end = self.period_end(Some(through))?;
         let posted = period_end.charged_names(alloc, &self.held)?;
         let treatments = period_end.treatments(alloc, &self.held, &self.posted)?;
-        self.closed.push(ClosedPeriod {
-            through,
-            treatments,
-        })?;
+        // There is room before the period is kept: a refusal leaves each as it was.
+        self.rulings.reserve_close()?;
+        self.closed.push(ClosedPeriod { treatments })?;
+        self.rulings.put_close(through);
         self.posted = posted;
         Ok(())
     }

@@ -11,7 +11,7 @@ ghost use Rattle.table_ledger.specs.Loaded.{IsStoreFault};
 use super::TableLedger;
 use crate::finish::fault_of;
 use crate::summary::Summary;
-use book_core::{Ledger, LedgerFault, Naming};
+use book_core::{Ledger, LedgerFault, Naming, Rulings};
 use sqlite_trees::error::StoreError;
 use sqlite_trees::store::Store;
 use std::alloc::Global;
@@ -82,10 +82,8 @@ impl<S: Store, N: Naming + Drop> TableLedger<S, N> {
                 must_reopen: false,
                 naming,
                 summary: Summary {
-                    tariffs: Vec::new(alloc),
-                    closes: Vec::new(alloc),
+                    rulings: Rulings::new(alloc),
                     choices: 0,
-                    adopted: None,
                     held: 0,
                     total: 0,
                 },

@@ -1,13 +1,13 @@
-use Rattle.std.proofs.Common.{[], sym, subst}
+use Rattle.std.proofs.Common.{sym, subst}
 use Rattle.book_core.specs.Choices.{AreLast}
-use Rattle.book_core.specs.Plain.{ruled_by}
+use Rattle.book_core.specs.Plain.{rulings_of}
 use Rattle.book_core.proofs.ChoiceLemmas.{last-put, next_choices}
 use Rattle.book_core.proofs.choices.last_chosen.Goals as goal
 
 pub loop-choice-preserved : goal.loop-choice-preserved
 loop-choice-preserved c =
     let choice = c.choice-item.result in
-    subst (λ choices. AreLast (ruled_by [] [] choices c.args.adopted) c.insert.new.self)
+    subst (λ choices. AreLast (rulings_of choices c.args.adopted) c.insert.new.self)
     (sym (next_choices c.args.choices.now c.loop-choice.choice-index choice c.loop-choice-test.true
     c.choice-item.is))
     (last-put c.args.adopted _ choice _ c.identity_by.ensures c.in_ok-clone.field-0

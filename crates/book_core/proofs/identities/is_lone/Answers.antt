@@ -7,14 +7,14 @@ use Rattle.std.proofs.lemmas.List.Sums.{length-filter}
 use Rattle.book_model.specs.Words.{identity_by, same_bytes}
 use Rattle.book_model.proofs.ListLemmas.{count_by-map}
 use Rattle.book_core.specs.declared.held.HeldRecord.{HeldRecord}
-use Rattle.book_core.specs.Plain.{Entry, record_of, ruled_by}
+use Rattle.book_core.specs.Plain.{Entry, record_of, rulings_of}
 use Rattle.book_core.proofs.identities.is_lone.Goals as goal
 
 pub returns : goal.returns
 returns c =
     let held = c.args.held.now in
     let has_it : HeldRecord → Bool = λ kept.
-    same_bytes (identity_by (ruled_by [] [] [] c.args.adopted) (record_of kept))
+    same_bytes (identity_by (rulings_of [] c.args.adopted) (record_of kept))
     c.args.identity.now in
     ap (λ n. nat_eq n 1)
     (count_from_yields_List c.filter.result c.count.result c.count.ensures.ran

@@ -1,14 +1,11 @@
 use Rattle.std.proofs.Common.{◌≡◌, ◌∙◌, Some, None, ap, subst, sym}
-use Rattle.std.proofs.lemmas.Result.{err_from_is_err_and}
 use Rattle.book_model.specs.Words.{record_with, job_of}
-use Rattle.table_ledger.proofs.LineReadings.{found_there, line_found, look_refused}
-use Rattle.table_ledger.proofs.TryLemmas.{looks_known, looks_stopped}
-use Rattle.table_ledger.proofs.TryLemmas.{saw_found, saw_none}
-use Rattle.table_model.specs.Tables.{Tables}
+use Rattle.table_ledger.proofs.LineReadings.{found_there, line_found}
+use Rattle.table_ledger.proofs.OwnBooks.{cause_passed, fails_after_look}
+use Rattle.table_ledger.proofs.Refusals.{looks_failed, looks_failed_after}
+use Rattle.table_ledger.proofs.TryLemmas.{looks_known, saw_found, saw_none}
 use Rattle.tree_tables.specs.Answers.{FindsRecord}
-use Rattle.tree_tables.specs.Holds.{Holds}
-use Rattle.tree_tables.specs.States.{HasCleanDisk, state}
-use Rattle.tree_tables.specs.Steps.{IsCaused}
+use Rattle.tree_tables.specs.States.{state}
 use Rattle.tree_tables.specs.Stored.{stored_entry}
 use Rattle.tree_tables.proofs.Looking.{caused_memory}
 use Rattle.table_ledger.specs.RecordReads.{CanBeRead}
@@ -17,9 +14,7 @@ use Rattle.table_ledger.proofs.adjustments.read_line.Goals as goal
 
 pub returns-in_err-held-clause-looks : goal.returns-in_err-held-clause-looks
 returns-in_err-held-clause-looks g c =
-    let refused = err_from_is_err_and c.from_residual.result c.from_residual.ensures.1 in
-    rw refused.1 (look_refused saw_none
-    c.in_err-held.ensures.looks)
+    looks_failed _ c.from_residual.ensures.0 c.in_err-held.ensures.looks
 
 pub returns-in_default-clause-looks : goal.returns-in_default-clause-looks
 returns-in_default-clause-looks g c =
@@ -29,9 +24,8 @@ returns-in_default-clause-looks g c =
 
 pub returns-in_err-bytes-clause-looks : goal.returns-in_err-bytes-clause-looks
 returns-in_err-bytes-clause-looks g c =
-    let refused = err_from_is_err_and c.from_residual-in_err-bytes.result
-    c.from_residual-in_err-bytes.ensures.1 in
-    rw refused.1 (looks_stopped (saw_found c.in_ok-held.ensures.looks))
+    looks_failed_after _ c.from_residual-in_err-bytes.ensures.0
+    (saw_found c.in_ok-held.ensures.looks)
 
 pub returns-clause-looks : goal.returns-clause-looks
 returns-clause-looks g c =
@@ -52,14 +46,8 @@ returns-clause-looks g c =
 -- the record's row fits
 pub returns-in_err-held-clause-cause : goal.returns-in_err-held-clause-cause
 returns-in_err-held-clause-cause g c =
-    let start = state g.S.Store c.args.tables.now.store in
-    let end = state g.S.Store c.find_record.new.self.store in
-    let cause : HasCleanDisk end → (tables : Tables) → Holds start.view.trees tables
-    → CanBeRead tables → IsCaused start end c.in_err-held.field-0.0 =
-    λ clean tables holds read. c.in_err-held.ensures.cause clean tables holds
-    (read.fit.each c.args.stored.now.name) in
-    let p = err_from_is_err_and c.from_residual.result c.from_residual.ensures.1 in
-    rw (p.1, p.2) cause
+    fails_after_look _ c.from_residual.ensures.1 saw_none c.in_err-held.ensures.looks
+    (λ clean tables holds read. c.in_err-held.ensures.cause clean tables holds (read.fit.each c.args.stored.now.name))
 
 -- and its data are those of a usage record
 pub returns-in_err-bytes-clause-cause : goal.returns-in_err-bytes-clause-cause
@@ -68,14 +56,9 @@ returns-in_err-bytes-clause-cause g c =
     let end = state g.S.Store c.find_record.new.self.store in
     let name = c.args.stored.now.name in
     let held = c.in-Some.held in
-    let cause : HasCleanDisk end → (tables : Tables) → Holds start.view.trees tables
-    → CanBeRead tables → IsCaused start end c.in_err-bytes.field-0.0 =
-    λ clean tables holds read.
+    cause_passed {When = CanBeRead} start end _ _ c.from_residual-in_err-bytes.ensures.1 (λ clean tables holds read.
     let finds = subst (FindsRecord name tables) c.in-Some.is
     ((c.in_ok-held.ensures.looks.found clean).known tables holds) in
     caused_memory start end _ (c.in_err-bytes.ensures.taken
     (subst IsUsageData (sym c.deref.ensures.value)
-    (read.usage name (stored_entry held).1 (found_there name tables held finds)))) in
-    let p = err_from_is_err_and c.from_residual-in_err-bytes.result
-    c.from_residual-in_err-bytes.ensures.1 in
-    rw (p.1, p.2) cause
+    (read.usage name (stored_entry held).1 (found_there name tables held finds)))))

@@ -7,28 +7,22 @@ use Rattle.std.proofs.lemmas.Result.{err_from_is_err_and}
 use Rattle.book_model.specs.declared.line.Line.{Line}
 use Rattle.tree_tables.specs.declared.line_rows.StoredLine.{StoredLine}
 use Rattle.table_ledger.specs.LineReads.{lines_stored}
-use Rattle.table_ledger.proofs.LineReadings.{line_more, look_refused}
-use Rattle.table_ledger.proofs.TryLemmas.{looks_known, looks_stopped, saw_found, saw_so, saw_then}
-use Rattle.table_model.specs.Tables.{Tables}
-use Rattle.tree_tables.specs.Holds.{Holds}
-use Rattle.tree_tables.specs.States.{HasCleanDisk, state}
-use Rattle.tree_tables.specs.Steps.{IsCaused}
-use Rattle.table_ledger.specs.RecordReads.{CanBeRead}
+use Rattle.table_ledger.proofs.LineReadings.{line_more}
+use Rattle.table_ledger.proofs.TryLemmas.{looks_known, saw_found, saw_so, saw_then}
 use Rattle.table_ledger.proofs.OwnBooks.{fails_after_look}
+use Rattle.table_ledger.proofs.Refusals.{looks_failed_after, looks_failed_next}
 use Rattle.table_ledger.proofs.adjustments.read_lines.Goals as goal
 use Rattle.table_ledger.proofs.adjustments.read_lines.Goals.{in-Some+in_ok-push, in_default}
 
 pub returns-in_err-line-clause-looks : goal.returns-in_err-line-clause-looks
 returns-in_err-line-clause-looks g c =
-    let refused = err_from_is_err_and c.from_residual.result c.from_residual.ensures.1 in
-    rw refused.1 (look_refused c.loop-stored.invariant.saw c.in_err-line.ensures.looks)
+    looks_failed_next _ c.from_residual.ensures.0 c.loop-stored.invariant.saw
+    c.in_err-line.ensures.looks
 
 pub returns-in_err-push-clause-looks : goal.returns-in_err-push-clause-looks
 returns-in_err-push-clause-looks g c =
-    let refused = err_from_is_err_and c.from_residual-in_err-push.result
-    c.from_residual-in_err-push.ensures.1 in
-    rw refused.1 (looks_stopped (saw_then c.loop-stored.invariant.saw
-    (saw_found c.in_ok-line.ensures.looks)))
+    looks_failed_after _ c.from_residual-in_err-push.ensures.0
+    (saw_then c.loop-stored.invariant.saw (saw_found c.in_ok-line.ensures.looks))
 
 pub loop-stored-preserved : goal.loop-stored-preserved
 loop-stored-preserved g c =
@@ -64,14 +58,8 @@ returns-clause-looks g c =
 -- why a line was not read, after the others
 pub returns-in_err-line-clause-cause : goal.returns-in_err-line-clause-cause
 returns-in_err-line-clause-cause g c =
-    let start = state g.S.Store c.args.tables.now.store in
-    let end = state g.S.Store c.read_line.new.tables.store in
-    let cause : HasCleanDisk end → (tables : Tables) → Holds start.view.trees tables
-    → CanBeRead tables → IsCaused start end c.in_err-line.field-0.0 =
-    fails_after_look _ c.loop-stored.invariant.saw c.in_err-line.ensures.looks.survives
-    c.in_err-line.ensures.cause in
-    let p = err_from_is_err_and c.from_residual.result c.from_residual.ensures.1 in
-    rw (p.1, p.2) cause
+    fails_after_look _ c.from_residual.ensures.1 c.loop-stored.invariant.saw
+    c.in_err-line.ensures.looks c.in_err-line.ensures.cause
 
 -- for the list only memory may run out
 pub returns-in_err-push-clause-cause : goal.returns-in_err-push-clause-cause

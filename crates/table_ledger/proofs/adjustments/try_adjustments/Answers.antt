@@ -1,43 +1,35 @@
 use Rattle.std.proofs.Common.{◌≡◌, ◌∙◌, ap, sym, true, false}
 use Rattle.std.specs.Prelude.{List}
-use Rattle.std.proofs.lemmas.Result.{err_from_is_err_and}
 use Rattle.table_model.specs.PeriodLists.{lines_read}
 use Rattle.table_laws.specs.ListsRead.{is_period}
 use Rattle.table_laws.proofs.ListLemmas.{lists_follow}
 use Rattle.tree_tables.specs.declared.line_rows.StoredLine.{StoredLine}
 use Rattle.table_ledger.specs.LineReads.{lines_stored}
-use Rattle.table_ledger.specs.Summaries.{ruled_in}
+use Rattle.book_core.specs.OfficeRulings.{ruled_in}
 use Rattle.table_ledger.proofs.LineReadings.{lines_listed}
 use Rattle.table_ledger.proofs.ListReadings.{first_refused, later_refused, no_period, period_read}
-use Rattle.table_ledger.proofs.TryLemmas.{saw_found, saw_then, try_stopped}
-use Rattle.book_model.specs.Words.{Book}
+use Rattle.table_ledger.proofs.TryLemmas.{saw_found, saw_none, saw_then, try_stopped}
 use Rattle.table_model.specs.TablesOf.{tables_of}
-use Rattle.tree_tables.specs.States.{HasCleanDisk, state}
-use Rattle.tree_tables.specs.Steps.{IsCaused}
-use Rattle.table_ledger.specs.Ready.{IsReadyAt}
-use Rattle.table_ledger.proofs.OwnBooks.{fails_after_look}
+use Rattle.table_ledger.proofs.OwnBooks.{own_failed}
 use Rattle.table_ledger.proofs.BookLists.{own_lines, own_records, own_rise, own_shown}
 use Rattle.table_ledger.proofs.adjustments.try_adjustments.Goals as goal
 
 pub returns-then-not-has_period-clause-tries : goal.returns-then-not-has_period-clause-tries
 returns-then-not-has_period-clause-tries g c = λ naming.
     let number = c.args.period in
-    let absent : is_period number (ruled_in c.args.summary.now) ≡ false =
+    let absent : is_period number (ruled_in c.args.summary.now.rulings) ≡ false =
     sym c.has_period.ensures ∙ c.if-not-has_period.true in
     no_period number (lines_read number)
     (λ book whole. lists_follow.adjustments naming book number whole) absent
 
 pub returns-in_err-found-clause-tries : goal.returns-in_err-found-clause-tries
 returns-in_err-found-clause-tries g c = λ naming.
-    let refused = err_from_is_err_and c.from_residual.result c.from_residual.ensures.1 in
-    rw refused.1 (first_refused _ _ _ _ c.in_err-found.ensures.looks)
+    first_refused _ c.from_residual.ensures.0 c.in_err-found.ensures.looks
 
 pub returns-in_err-lines-clause-tries : goal.returns-in_err-lines-clause-tries
 returns-in_err-lines-clause-tries g c = λ naming.
-    let refused = err_from_is_err_and c.from_residual-in_err-lines.result
-    c.from_residual-in_err-lines.ensures.1 in
-    rw refused.1 (later_refused _ _ _ _ (saw_found c.in_ok-found.ensures.looks)
-    c.in_err-lines.ensures.looks)
+    later_refused _ c.from_residual-in_err-lines.ensures.0
+    (saw_found c.in_ok-found.ensures.looks) c.in_err-lines.ensures.looks
 
 pub returns-in_default-clause-tries : goal.returns-in_default-clause-tries
 returns-in_default-clause-tries g c = λ naming.
@@ -47,7 +39,7 @@ returns-in_default-clause-tries g c = λ naming.
 pub returns-clause-tries : goal.returns-clause-tries
 returns-clause-tries g c = λ naming.
     let number = c.args.period in
-    let there : is_period number (ruled_in c.args.summary.now) ≡ true =
+    let there : is_period number (ruled_in c.args.summary.now.rulings) ≡ true =
     sym c.has_period.ensures ∙ c.if-not-has_period.false in
     period_read number (lines_read number)
     (λ book whole. lists_follow.adjustments naming book number whole) c.in-Some.sorted there
@@ -63,39 +55,22 @@ returns-clause-tries g c = λ naming.
 -- the lines of the period fit
 pub returns-in_err-found-clause-own : goal.returns-in_err-found-clause-own
 returns-in_err-found-clause-own g c = λ naming wide.
-    let start = state g.S.Store c.args.tables.now.store in
-    let end = state g.S.Store c.list_lines.new.self.store in
-    let number = c.args.period in
-    let there : is_period number (ruled_in c.args.summary.now) ≡ true =
-    sym c.has_period.ensures ∙ c.if-not-has_period.false in
-    let cause : HasCleanDisk end → (book : Book)
-    → IsReadyAt naming c.args.summary.now start.view book
-    → IsCaused start end c.in_err-found.field-0.0 =
-    λ clean book ready. c.in_err-found.ensures.cause clean (tables_of naming book)
-    ready.kept.holds (own_lines ready wide number there) in
-    let p = err_from_is_err_and c.from_residual.result c.from_residual.ensures.1 in
-    rw (p.1, p.2) cause
+    own_failed _ c.from_residual.ensures.1 saw_none c.in_err-found.ensures.looks
+    c.in_err-found.ensures.cause (λ clean book ready.
+    own_lines ready wide c.args.period (sym c.has_period.ensures ∙ c.if-not-has_period.false))
 
 -- their records can be read
 pub returns-in_err-lines-clause-own : goal.returns-in_err-lines-clause-own
 returns-in_err-lines-clause-own g c = λ naming wide.
-    let start = state g.S.Store c.args.tables.now.store in
-    let end = state g.S.Store c.read_lines.new.tables.store in
-    let cause : HasCleanDisk end → (book : Book)
-    → IsReadyAt naming c.args.summary.now start.view book
-    → IsCaused start end c.in_err-lines.field-0.0 =
-    λ clean book ready. fails_after_look _ (saw_found c.in_ok-found.ensures.looks)
-    c.in_err-lines.ensures.looks.survives c.in_err-lines.ensures.cause clean
-    (tables_of naming book) ready.kept.holds (own_records ready wide) in
-    let p = err_from_is_err_and c.from_residual-in_err-lines.result
-    c.from_residual-in_err-lines.ensures.1 in
-    rw (p.1, p.2) cause
+    own_failed _ c.from_residual-in_err-lines.ensures.1
+    (saw_found c.in_ok-found.ensures.looks) c.in_err-lines.ensures.looks
+    c.in_err-lines.ensures.cause (λ clean book ready. own_records ready wide)
 
 -- and they can be shown
 pub returns-in_default-clause-own : goal.returns-in_default-clause-own
 returns-in_default-clause-own g c = λ naming wide clean book ready.
     let number = c.args.period in
-    let there : is_period number (ruled_in c.args.summary.now) ≡ true =
+    let there : is_period number (ruled_in c.args.summary.now.rulings) ≡ true =
     sym c.has_period.ensures ∙ c.if-not-has_period.false in
     let saw = saw_then (saw_found c.in_ok-found.ensures.looks)
     (saw_found c.in_ok-lines.ensures.looks) in

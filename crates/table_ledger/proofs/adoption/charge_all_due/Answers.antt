@@ -22,7 +22,7 @@ returns-in_err-stored g c =
     let chosen = c.args.chosen.now in
     record {
       does = of_blind (IsLast chosen) (IsStill chosen) (settle_of c.args.period c.args.through)
-          c.records.invariant c.from_residual.result c.from_residual.ensures.0
+          c.records.invariant _ c.from_residual.ensures.0
           c.in_err-stored.ensures.looks;
     }
 
@@ -44,8 +44,7 @@ returns-in_err-charge_due_record g c =
       does = of_fail (IsLast chosen) (IsStill chosen) step
           (of_still (IsLast chosen) (IsStill chosen) step c.records.invariant
           c.in_ok-stored.ensures.looks)
-          c.from_residual-in_err-charge_due_record.result
-          c.from_residual-in_err-charge_due_record.ensures.0 c.in_err-charge_due_record.ensures.does;
+          _ c.from_residual-in_err-charge_due_record.ensures.0 c.in_err-charge_due_record.ensures.does;
     }
 
 -- its step is done

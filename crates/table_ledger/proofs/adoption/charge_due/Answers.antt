@@ -15,7 +15,5 @@ returns g c = record {
 
 pub returns-in_err-chosen : goal.returns-in_err-chosen
 returns-in_err-chosen g c = record {
-  does =
-      does_unseen c.from_residual.result c.from_residual.ensures.0
-      c.in_err-chosen.ensures.looks;
+  does = does_unseen _ c.from_residual.ensures.0 c.in_err-chosen.ensures.looks;
 }

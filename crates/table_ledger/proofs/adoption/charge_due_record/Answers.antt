@@ -64,7 +64,5 @@ returns g c = record {
 
 pub returns-in_err-is_due : goal.returns-in_err-is_due
 returns-in_err-is_due g c = record {
-  does =
-      does_unseen c.from_residual.result c.from_residual.ensures.0
-      c.in_err-is_due.ensures.looks;
+  does = does_unseen _ c.from_residual.ensures.0 c.in_err-is_due.ensures.looks;
 }

@@ -37,7 +37,5 @@ returns g c = record {
 
 pub returns-in_err-sharing : goal.returns-in_err-sharing
 returns-in_err-sharing g c = record {
-  looks =
-      looks_failed c.from_residual.result c.from_residual.ensures.0
-      c.in_err-sharing.ensures.looks;
+  looks = looks_failed _ c.from_residual.ensures.0 c.in_err-sharing.ensures.looks;
 }

@@ -7,10 +7,11 @@ use Rattle.table_model.specs.Views.{is_due_in}
 use Rattle.table_model.proofs.AdoptionSteps.{adoption_is_steps}
 use Rattle.tree_tables.specs.States.{state}
 use Rattle.tree_tables.specs.Steps.{Always}
-use Rattle.table_ledger.specs.Summaries.{book_ruled}
+use Rattle.book_core.specs.OfficeRulings.{ruled_in}
 use Rattle.table_ledger.specs.Attempts.{LeavesOpen}
 use Rattle.table_ledger.proofs.AdoptTries.{adopt_done, adopt_is_event, adopt_makes, adopt_plain}
 use Rattle.table_ledger.proofs.AdoptTries.{adopt_remembered, adopt_remembers}
+use Rattle.table_ledger.proofs.StepLemmas.{one_commit}
 use Rattle.table_ledger.proofs.TryLemmas.{saw_none, tries_err, tries_told, try_answered, try_done}
 use Rattle.table_ledger.proofs.TryLemmas.{try_undone}
 use Rattle.table_ledger.proofs.adoption.try_adopt.Goals as goal
@@ -31,14 +32,14 @@ returns-then-not-is_done g c = record {
       let other : answer ≢ Ok Done = c.is_done.ensures.other c.if-not-is_done.true in
       try_answered view naming summary (adopt_outcome rule)
       (saw_none {state = state g.S.Store c.args.tables.now.store})
-      (subst LeavesOpen (sym is) (adopt_plain (book_ruled summary) rule))
+      (subst LeavesOpen (sym is) (adopt_plain (ruled_in summary.rulings) rule))
       (λ book ready known. adopt_makes answer rule book
       (sym (adopt_remembered summary book rule ready.remembers) ∙ sym is) other);
 }
 
 -- the commit is refused
-pub returns-in_err-keep_adoption : goal.returns-in_err-keep_adoption
-returns-in_err-keep_adoption g c = record {
+pub returns-in_err-commit_written : goal.returns-in_err-commit_written
+returns-in_err-commit_written g c = record {
   tries =
       λ naming.
       let summary = c.args.summary.now in
@@ -46,15 +47,15 @@ returns-in_err-keep_adoption g c = record {
       let outcome = adopt_outcome rule in
       let done = sym c.adopt_answer-answer.ensures
       ∙ c.is_done.ensures.done c.if-not-is_done.false in
-      tries_err view naming summary outcome c.from_residual.result c.from_residual.ensures.0
+      tries_err view naming summary outcome _ c.from_residual.ensures.0
       (λ error. tries_told view naming summary outcome
-      (try_undone view naming summary outcome (state g.S.Store c.keep_adoption.new.tables.store)
+      (try_undone view naming summary outcome (state g.S.Store c.commit_written.new.tables.store)
       Always (adoption_by_steps c.open_number-period.result c.last_close.result is_due_in)
       (saw_none {state = state g.S.Store c.args.tables.now.store})
       (λ book ready known. adopt_is_event adoption_is_steps naming summary _ book ready rule
       done c.open_number-period.result c.last_close.result
       c.open_number-period.ensures.number c.last_close.ensures)
-      c.in_err-keep_adoption.ensures.commits));
+      (one_commit _ c.in_err-commit_written.ensures c.write_adoption-written.ensures)));
 }
 
 -- the second rule is in force
@@ -68,16 +69,15 @@ returns g c = record {
       let done = sym c.adopt_answer-answer.ensures
       ∙ c.is_done.ensures.done c.if-not-is_done.false in
       try_done view naming summary (adopt_outcome rule)
-      (state g.S.Store c.keep_adoption.new.tables.store) Always
+      (state g.S.Store c.commit_written.new.tables.store) Always
       (adoption_by_steps period c.last_close.result is_due_in)
       (saw_none {state = state g.S.Store c.args.tables.now.store})
       (λ book ready known. adopt_is_event adoption_is_steps naming summary _ book ready rule
       done period c.last_close.result c.open_number-period.ensures.number
       c.last_close.ensures)
-      c.in_ok-keep_adoption.ensures.commits
+      (one_commit _ c.in_ok-commit_written.ensures c.write_adoption-written.ensures)
       (λ book ready known. adopt_done adoption_is_steps naming summary _ book ready rule
       done)
       (λ book ready known. adopt_remembers adoption_is_steps naming summary _ book ready rule
-      done _ period c.open_number-period.ensures.number refl refl refl refl refl
-      refl);
+      done _ c.adopt.ensures refl refl refl);
 }

@@ -1,31 +1,27 @@
 use Rattle.std.proofs.Common.{◌≡◌, ◌∙◌, sym, subst, true, false}
-use Rattle.std.proofs.lemmas.Result.{err_from_is_err_and}
-use Rattle.book_model.specs.Words.{AreRows, Book}
+use Rattle.book_model.specs.Words.{AreRows}
 use Rattle.table_model.specs.PeriodLists.{rows_read}
 use Rattle.table_model.specs.TablesOf.{tables_of}
-use Rattle.tree_tables.specs.States.{HasCleanDisk, state}
-use Rattle.tree_tables.specs.Steps.{IsCaused}
 use Rattle.table_laws.specs.ListsRead.{is_period}
 use Rattle.table_laws.proofs.ListLemmas.{lists_follow}
-use Rattle.table_ledger.specs.Ready.{IsReadyAt}
-use Rattle.table_ledger.specs.Summaries.{ruled_in}
+use Rattle.book_core.specs.OfficeRulings.{ruled_in}
 use Rattle.table_ledger.proofs.ListReadings.{first_refused, no_period, period_read}
 use Rattle.table_ledger.proofs.BookLists.{own_days, own_rows}
-use Rattle.table_ledger.proofs.TryLemmas.{saw_found, try_stopped}
+use Rattle.table_ledger.proofs.OwnBooks.{own_failed}
+use Rattle.table_ledger.proofs.TryLemmas.{saw_found, saw_none, try_stopped}
 use Rattle.table_ledger.proofs.charges.try_charges.Goals as goal
 
 pub returns-then-not-has_period-clause-tries : goal.returns-then-not-has_period-clause-tries
 returns-then-not-has_period-clause-tries g c = λ naming.
     let number = c.args.period in
-    let absent : is_period number (ruled_in c.args.summary.now) ≡ false =
+    let absent : is_period number (ruled_in c.args.summary.now.rulings) ≡ false =
     sym c.has_period.ensures ∙ c.if-not-has_period.true in
     no_period number (λ tables. rows_read number tables.days)
     (λ book whole. lists_follow.charges naming book number whole) absent
 
 pub returns-in_err-rows-clause-tries : goal.returns-in_err-rows-clause-tries
 returns-in_err-rows-clause-tries g c = λ naming.
-    let refused = err_from_is_err_and c.from_residual.result c.from_residual.ensures.1 in
-    rw refused.1 (first_refused _ _ _ _ c.in_err-rows.ensures.looks)
+    first_refused _ c.from_residual.ensures.0 c.in_err-rows.ensures.looks
 
 pub returns-then-not-can_show-clause-tries : goal.returns-then-not-can_show-clause-tries
 returns-then-not-can_show-clause-tries g c = λ naming.
@@ -34,7 +30,7 @@ returns-then-not-can_show-clause-tries g c = λ naming.
 pub returns-clause-tries : goal.returns-clause-tries
 returns-clause-tries g c = λ naming.
     let number = c.args.period in
-    let there : is_period number (ruled_in c.args.summary.now) ≡ true =
+    let there : is_period number (ruled_in c.args.summary.now.rulings) ≡ true =
     sym c.has_period.ensures ∙ c.if-not-has_period.false in
     period_read number (λ tables. rows_read number tables.days)
     (λ book whole. lists_follow.charges naming book number whole) c.in_ok-rows.rows there
@@ -43,24 +39,15 @@ returns-clause-tries g c = λ naming.
 -- the rows of the period fit
 pub returns-in_err-rows-clause-own : goal.returns-in_err-rows-clause-own
 returns-in_err-rows-clause-own g c = λ naming.
-    let start = state g.S.Store c.args.tables.now.store in
-    let end = state g.S.Store c.list_days.new.self.store in
-    let number = c.args.period in
-    let there : is_period number (ruled_in c.args.summary.now) ≡ true =
-    sym c.has_period.ensures ∙ c.if-not-has_period.false in
-    let cause : HasCleanDisk end → (book : Book)
-    → IsReadyAt naming c.args.summary.now start.view book
-    → IsCaused start end c.in_err-rows.field-0.0 =
-    λ clean book ready. c.in_err-rows.ensures.cause clean (tables_of naming book)
-    ready.kept.holds (own_days ready number there) in
-    let p = err_from_is_err_and c.from_residual.result c.from_residual.ensures.1 in
-    rw (p.1, p.2) cause
+    own_failed _ c.from_residual.ensures.1 saw_none c.in_err-rows.ensures.looks
+    c.in_err-rows.ensures.cause (λ clean book ready.
+    own_days ready c.args.period (sym c.has_period.ensures ∙ c.if-not-has_period.false))
 
 -- and can be shown
 pub returns-then-not-can_show-clause-own : goal.returns-then-not-can_show-clause-own
 returns-then-not-can_show-clause-own g c = λ naming clean book ready.
     let number = c.args.period in
-    let there : is_period number (ruled_in c.args.summary.now) ≡ true =
+    let there : is_period number (ruled_in c.args.summary.now.rulings) ≡ true =
     sym c.has_period.ensures ∙ c.if-not-has_period.false in
     let lists = (c.in_ok-rows.ensures.looks.found clean).known (tables_of naming book)
     ready.kept.holds in

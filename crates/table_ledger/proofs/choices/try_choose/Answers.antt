@@ -1,8 +1,8 @@
-use Rattle.std.proofs.Common.{◌∙◌, ◌≤◌, ◌<◌, ◌+◌, ap, length, refl, subst, Err, Ok, Option}
+use Rattle.std.proofs.Common.{◌∙◌, ◌<◌, ◌+◌, ap, length, refl, subst, Err, Ok, Option}
 use Rattle.std.specs.Prelude.{slice_get, ℤ}
 use Rattle.std.specs.Option.{option_map}
 use Rattle.book_core.specs.Effects.{choice_effects}
-use Rattle.book_model.specs.Words.{choose_outcome, most_choices}
+use Rattle.book_model.specs.Words.{choose_outcome}
 use Rattle.book_model.specs.declared.answer.Ruled.{Ruled}
 use Rattle.book_model.specs.declared.answer.Ruled.TheVariants.{Already}
 use Rattle.book_model.specs.declared.fault.LedgerFault.TheVariants.{Full, NoSuchRecord, NotDisputed}
@@ -18,6 +18,7 @@ use Rattle.table_ledger.proofs.ChoiceTries.{choose_again, choose_alone, choose_d
 use Rattle.table_ledger.proofs.ChoiceTries.{choose_is_event, choose_makes, choose_none}
 use Rattle.table_ledger.proofs.ChoiceTries.{choose_remembers, saw_shared}
 use Rattle.table_ledger.proofs.ListReadings.{first_refused, later_refused}
+use Rattle.table_ledger.proofs.StepLemmas.{one_commit}
 use Rattle.table_ledger.proofs.TryLemmas.{saw_found, saw_then, try_answered, tries_err, tries_told}
 use Rattle.table_ledger.proofs.TryLemmas.{try_done, try_undone}
 use Rattle.table_ledger.proofs.choices.try_choose.Goals as goal
@@ -30,11 +31,7 @@ view = λ ruled. ruled
 pub returns-in_err-stored : goal.returns-in_err-stored
 returns-in_err-stored g c = record {
   tries =
-      λ naming.
-      let outcome = choose_outcome naming c.args.name in
-      tries_err view naming c.args.summary.now outcome c.from_residual.result
-      c.from_residual.ensures.0
-      (λ error. first_refused view naming c.args.summary.now outcome c.in_err-stored.ensures.looks);
+      λ naming. first_refused _ c.from_residual.ensures.0 c.in_err-stored.ensures.looks;
 }
 
 -- there is none
@@ -80,8 +77,7 @@ returns-then-stored g c = record {
       let name = c.args.name in
       let stored = c.in-Some.stored in
       let sharing = c.in_ok-sharing.sharing.items in
-      let many : 2 ≤ length sharing =
-      subst (λ n. 2 ≤ n) (c.len.ensures ∙ c.in_ok-sharing.sharing.ok.0) c.if-len-lt2.false in
+      let many = rw (c.len.ensures ∙ c.in_ok-sharing.sharing.ok.0) at c.if-len-lt2.false in
       try_answered view naming summary (choose_outcome naming name)
       (saw_shared name stored c.in-Some.is c.deref.ensures.value c.in_ok-stored.ensures.looks
       c.in_ok-sharing.ensures.looks)
@@ -101,16 +97,14 @@ returns-then-summary-ge-MAX_CHOICES g c = record {
       let name = c.args.name in
       let stored = c.in-Some.stored in
       let sharing = c.in_ok-sharing.sharing.items in
-      let many : 2 ≤ length sharing =
-      subst (λ n. 2 ≤ n) (c.len.ensures ∙ c.in_ok-sharing.sharing.ok.0) c.if-len-lt2.false in
-      let most : most_choices ≤ summary.choices = c.if-summary-ge-MAX_CHOICES.true in
+      let many = rw (c.len.ensures ∙ c.in_ok-sharing.sharing.ok.0) at c.if-len-lt2.false in
       try_answered view naming summary (choose_outcome naming name)
       (saw_shared name stored c.in-Some.is c.deref.ensures.value c.in_ok-stored.ensures.looks
       c.in_ok-sharing.ensures.looks)
       (record { stored = refl; served = refl })
       (λ book ready known. choose_makes (Err Full) naming name book
       (choose_full naming summary name _ book ready stored known.0 sharing known.1 many
-      c.if-stored.false most)
+      c.if-stored.false c.if-summary-ge-MAX_CHOICES.true)
       (λ is. cc));
 }
 
@@ -119,48 +113,40 @@ pub returns-in_err-effects : goal.returns-in_err-effects
 returns-in_err-effects g c = record {
   tries =
       λ naming.
-      let summary = c.args.summary.now in
-      let outcome = choose_outcome naming c.args.name in
-      tries_err view naming summary outcome c.from_residual-in_err-effects.result
-      c.from_residual-in_err-effects.ensures.0
-      (λ error. later_refused view naming summary outcome
+      later_refused _ c.from_residual-in_err-effects.ensures.0
       (saw_shared c.args.name c.in-Some.stored c.in-Some.is c.deref.ensures.value
       c.in_ok-stored.ensures.looks c.in_ok-sharing.ensures.looks)
-      c.in_err-effects.ensures.looks);
+      c.in_err-effects.ensures.looks;
 }
 
 -- the commit is refused
-pub returns-in_err-keep_choice : goal.returns-in_err-keep_choice
-returns-in_err-keep_choice g c = record {
+pub returns-in_err-commit_written : goal.returns-in_err-commit_written
+returns-in_err-commit_written g c = record {
   tries =
       λ naming.
       let summary = c.args.summary.now in
       let name = c.args.name in
       let stored = c.in-Some.stored in
       let sharing = c.in_ok-sharing.sharing.items in
-      let many : 2 ≤ length sharing =
-      subst (λ n. 2 ≤ n) (c.len.ensures ∙ c.in_ok-sharing.sharing.ok.0) c.if-len-lt2.false in
-      let room : summary.choices < most_choices = c.if-summary-ge-MAX_CHOICES.false in
-      let effects = c.in_ok-effects.effects in
+      let many = rw (c.len.ensures ∙ c.in_ok-sharing.sharing.ok.0) at c.if-len-lt2.false in
       let outcome = choose_outcome naming name in
-      tries_err view naming summary outcome c.from_residual-in_err-keep_choice.result
-      c.from_residual-in_err-keep_choice.ensures.0
+      tries_err view naming summary outcome _ c.from_residual-in_err-commit_written.ensures.0
       (λ error. tries_told view naming summary outcome
       (try_undone view naming summary outcome
-      (state g.S.Store c.keep_choice.new.tables.store) (IsNext (summary.choices + 1))
-      (put_choice (summary.choices + 1) c.open_number.result name effects)
+      (state g.S.Store c.commit_written.new.tables.store) (IsNext (summary.choices + 1))
+      (put_choice (summary.choices + 1) c.open_number.result name c.in_ok-effects.effects)
       (saw_then
       (saw_shared name stored c.in-Some.is c.deref.ensures.value c.in_ok-stored.ensures.looks
       c.in_ok-sharing.ensures.looks)
       (saw_found c.in_ok-effects.ensures.looks))
       (λ book ready known. choose_is_event naming summary name _ book ready stored known.0.0
-      sharing known.0.1 many c.if-stored.false room (summary.choices + 1) c.open_number.result
-      effects refl c.open_number.ensures.number
+      sharing known.0.1 many c.if-stored.false c.if-summary-ge-MAX_CHOICES.false (summary.choices + 1) c.open_number.result
+      c.in_ok-effects.effects refl c.open_number.ensures.number
       (known.1 ∙ ap (λ (through : Option ℤ). choice_effects through
       (option_map member_at (slice_get (charged_with (stored_entry stored).1.identity
       (tables_of naming book).records) 0))
       (member_at (stored_entry stored))) c.last_close.ensures))
-      c.in_err-keep_choice.ensures.commits));
+      (one_commit _ c.in_err-commit_written.ensures c.write_choice-written.ensures)));
 }
 
 -- the record is chosen
@@ -172,39 +158,32 @@ returns g c = record {
       let name = c.args.name in
       let stored = c.in-Some.stored in
       let sharing = c.in_ok-sharing.sharing.items in
-      let many : 2 ≤ length sharing =
-      subst (λ n. 2 ≤ n) (c.len.ensures ∙ c.in_ok-sharing.sharing.ok.0) c.if-len-lt2.false in
-      let room : summary.choices < most_choices = c.if-summary-ge-MAX_CHOICES.false in
-      let effects = c.in_ok-effects.effects in
+      let many = rw (c.len.ensures ∙ c.in_ok-sharing.sharing.ok.0) at c.if-len-lt2.false in
       try_done view naming summary (choose_outcome naming name)
-      (state g.S.Store c.keep_choice.new.tables.store) (IsNext (summary.choices + 1))
-      (put_choice (summary.choices + 1) c.open_number.result name effects)
+      (state g.S.Store c.commit_written.new.tables.store) (IsNext (summary.choices + 1))
+      (put_choice (summary.choices + 1) c.open_number.result name c.in_ok-effects.effects)
       (saw_then
       (saw_shared name stored c.in-Some.is c.deref.ensures.value c.in_ok-stored.ensures.looks
       c.in_ok-sharing.ensures.looks)
       (saw_found c.in_ok-effects.ensures.looks))
       (λ book ready known. choose_is_event naming summary name _ book ready stored known.0.0
-      sharing known.0.1 many c.if-stored.false room (summary.choices + 1) c.open_number.result
-      effects refl c.open_number.ensures.number
+      sharing known.0.1 many c.if-stored.false c.if-summary-ge-MAX_CHOICES.false (summary.choices + 1) c.open_number.result
+      c.in_ok-effects.effects refl c.open_number.ensures.number
       (known.1 ∙ ap (λ (through : Option ℤ). choice_effects through
       (option_map member_at (slice_get (charged_with (stored_entry stored).1.identity
       (tables_of naming book).records) 0))
       (member_at (stored_entry stored))) c.last_close.ensures))
-      c.in_ok-keep_choice.ensures.commits
+      (one_commit _ c.in_ok-commit_written.ensures c.write_choice-written.ensures)
       (λ book ready known. choose_done naming summary name _ book ready stored known.0.0 sharing
-      known.0.1 many c.if-stored.false room)
+      known.0.1 many c.if-stored.false c.if-summary-ge-MAX_CHOICES.false)
       (λ book ready known. choose_remembers naming summary name _ book ready stored known.0.0
-      sharing known.0.1 many _ _ refl refl refl refl refl refl);
+      sharing known.0.1 many _ _ refl refl refl refl);
 }
 
 pub returns-in_err-sharing : goal.returns-in_err-sharing
 returns-in_err-sharing g c = record {
   tries =
       λ naming.
-      let summary = c.args.summary.now in
-      let outcome = choose_outcome naming c.args.name in
-      tries_err view naming summary outcome c.from_residual-in_err-sharing.result
-      c.from_residual-in_err-sharing.ensures.0
-      (λ error. later_refused view naming summary outcome (saw_found c.in_ok-stored.ensures.looks)
-      c.in_err-sharing.ensures.looks);
+      later_refused _ c.from_residual-in_err-sharing.ensures.0
+      (saw_found c.in_ok-stored.ensures.looks) c.in_err-sharing.ensures.looks;
 }

@@ -1,35 +1,25 @@
-use Rattle.tree_tables.specs.States.{state}
-use Rattle.tree_tables.specs.Steps.{Always, Does}
+use Rattle.std.proofs.Common.{ap}
+use Rattle.table_model.specs.Tables.{DayTable}
+use Rattle.tree_tables.specs.Steps.{Always}
 use Rattle.table_ledger.specs.RecordWrites.{write_line, write_mark}
-use Rattle.table_ledger.proofs.StepLemmas.{does_then}
-use Rattle.table_ledger.proofs.Refusals.{does_failed, does_failed_next}
+use Rattle.table_ledger.proofs.DueCharges.{does_seen}
+use Rattle.table_ledger.proofs.StepLemmas.{does_so}
+use Rattle.table_ledger.proofs.TryLemmas.{saw_found}
+use Rattle.table_ledger.proofs.Refusals.{does_unseen}
 use Rattle.table_ledger.proofs.choices.write_change.Goals as goal
 
--- the charge row, the line and the mark
+-- the charge row that was made, the line and the mark
 pub returns : goal.returns
-returns g c = record {
-  does =
-      let effects = c.args.effects.now in
-      let rest : Does c.write_mark.result (state g.S.Store c.change_day.new.tables.store)
-      (state g.S.Store c.write_mark.new.tables.store) Always
-      (λ tables. write_mark effects.unmark (write_line c.args.period effects.line tables)) =
-      does_then c.write_mark.result c.in_ok-write_line.ensures.does c.write_mark.ensures.does
-      (λ tables when. (tt, tt)) in
-      does_then c.write_mark.result c.in_ok-change_day.ensures.does rest
-      (λ tables when. (tt, tt));
-}
+returns g c =
+    let effects = c.args.effects.now in
+    does_seen {When = Always} c.write_effects.result (saw_found c.in_ok-day.ensures.looks)
+    (does_so c.write_effects.result c.write_effects.ensures
+    (λ tables known. (
+      tt,
+      ap (λ (days : DayTable). write_mark effects.unmark
+          (write_line c.args.period effects.line (record tables { days = days }))) known.1,
+    )))
 
-pub returns-in_err-change_day : goal.returns-in_err-change_day
-returns-in_err-change_day g c = record {
-  does =
-      does_failed c.from_residual.result c.from_residual.ensures.0
-      c.in_err-change_day.ensures.does;
-}
-
-pub returns-in_err-write_line : goal.returns-in_err-write_line
-returns-in_err-write_line g c = record {
-  does =
-      does_failed_next c.from_residual-in_err-write_line.result
-      c.from_residual-in_err-write_line.ensures.0 c.in_ok-change_day.ensures.does
-      c.in_err-write_line.ensures.does;
-}
+pub returns-in_err-day : goal.returns-in_err-day
+returns-in_err-day g c =
+    does_unseen _ c.from_residual.ensures.0 c.in_err-day.ensures.looks

@@ -20,48 +20,40 @@ same_choices period (Some gone) tables = refl
 
 -- the record before, the chosen one, and the row of the choice
 pub returns : goal.returns
-returns g c = record {
-  does =
-      let choice = c.args.choice.now in
-      let rest : Does c.put_choice.result (state g.S.Store c.withdraw.new.tables.store)
-      (state g.S.Store c.put_choice.new.self.store) (IsNext choice.number)
-      (λ tables. put_choice_row choice.number choice.name choice.period
-      (charge_in choice.period choice.name choice.effects.chosen tables)) =
-      does_then c.put_choice.result c.in_ok-charge.ensures.does c.put_choice.ensures.does
-      (λ tables next. (tt, next)) in
-      does_so c.put_choice.result
-      (does_then {When = IsNext choice.number} c.put_choice.result c.in_ok-withdraw.ensures.does
-      rest
-      (λ tables next. (
-        tt,
-        ap (λ (choices : ChoiceTable). get choices choice.number)
-            (same_choices choice.period choice.effects.withdrawn tables) ∙ next,
-      )))
-      (λ tables next. (
-        next,
-        λ i.
-            let charged : Tables = charge_in choice.period choice.name choice.effects.chosen
-            (option_map_or (λ gone. apply choice.period gone tables) choice.effects.withdrawn
-            tables) in
-            record charged {
-              choices = insert
-                  (same_choices choice.period choice.effects.withdrawn tables i) choice.number
-                  (record { name = choice.name; period = choice.period });
-            },
-      ));
-}
+returns g c =
+    let choice = c.args.choice.now in
+    let rest : Does c.put_choice.result (state g.S.Store c.withdraw.new.tables.store)
+    (state g.S.Store c.put_choice.new.self.store) (IsNext choice.number)
+    (λ tables. put_choice_row choice.number choice.name choice.period
+    (charge_in choice.period choice.name choice.effects.chosen tables)) =
+    does_then c.put_choice.result c.in_ok-charge.ensures.does c.put_choice.ensures.does
+    (λ tables next. (tt, next)) in
+    does_so c.put_choice.result
+    (does_then {When = IsNext choice.number} c.put_choice.result c.in_ok-withdraw.ensures.does
+    rest
+    (λ tables next. (
+      tt,
+      ap (λ (choices : ChoiceTable). get choices choice.number)
+          (same_choices choice.period choice.effects.withdrawn tables) ∙ next,
+    )))
+    (λ tables next. (
+      next,
+      λ i.
+          let charged : Tables = charge_in choice.period choice.name choice.effects.chosen
+          (option_map_or (λ gone. apply choice.period gone tables) choice.effects.withdrawn
+          tables) in
+          record charged {
+            choices = insert
+                (same_choices choice.period choice.effects.withdrawn tables i) choice.number
+                (record { name = choice.name; period = choice.period });
+          },
+    ))
 
 pub returns-in_err-withdraw : goal.returns-in_err-withdraw
-returns-in_err-withdraw g c = record {
-  does =
-      does_failed c.from_residual.result c.from_residual.ensures.0
-      c.in_err-withdraw.ensures.does;
-}
+returns-in_err-withdraw g c =
+    does_failed _ c.from_residual.ensures.0 c.in_err-withdraw.ensures.does
 
 pub returns-in_err-charge : goal.returns-in_err-charge
-returns-in_err-charge g c = record {
-  does =
-      does_failed_next c.from_residual-in_err-charge.result
-      c.from_residual-in_err-charge.ensures.0 c.in_ok-withdraw.ensures.does
-      c.in_err-charge.ensures.does;
-}
+returns-in_err-charge g c =
+    does_failed_next _ c.from_residual-in_err-charge.ensures.0
+    c.in_ok-withdraw.ensures.does c.in_err-charge.ensures.does

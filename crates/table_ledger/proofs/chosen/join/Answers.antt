@@ -19,15 +19,13 @@ returns-in_ok-put g c = record {
 
 pub returns-in_err-stored : goal.returns-in_err-stored
 returns-in_err-stored g c = record {
-  looks =
-      looks_failed c.from_residual.result c.from_residual.ensures.0
-      c.in_err-stored.ensures.looks;
+  looks = looks_failed _ c.from_residual.ensures.0 c.in_err-stored.ensures.looks;
 }
 
 pub returns-in_err-put : goal.returns-in_err-put
 returns-in_err-put g c = record {
   looks =
-      looks_failed_after c.from_residual-in_err-put.result c.from_residual-in_err-put.ensures.0
+      looks_failed_after _ c.from_residual-in_err-put.ensures.0
       (saw_found c.in_ok-stored.ensures.looks);
 }
 

@@ -42,6 +42,6 @@ returns g c = record {
 pub returns-in_err-join : goal.returns-in_err-join
 returns-in_err-join g c = record {
   looks =
-      looks_failed_next c.from_residual.result c.from_residual.ensures.0
+      looks_failed_next _ c.from_residual.ensures.0
       c.loop-choice.invariant.saw c.in_err-join.ensures.looks;
 }

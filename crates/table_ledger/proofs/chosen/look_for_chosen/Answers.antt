@@ -19,7 +19,5 @@ returns g c = record {
 
 pub returns-in_err-choices : goal.returns-in_err-choices
 returns-in_err-choices g c = record {
-  looks =
-      looks_failed c.from_residual.result c.from_residual.ensures.0
-      c.in_err-choices.ensures.looks;
+  looks = looks_failed _ c.from_residual.ensures.0 c.in_err-choices.ensures.looks;
 }

@@ -3,7 +3,5 @@ use Rattle.table_ledger.proofs.commits.change_day.Goals as goal
 
 pub returns-in_err-write : goal.returns-in_err-write
 returns-in_err-write g c = record {
-  does =
-      does_unseen c.from_residual.result c.from_residual.ensures.0
-      c.in_err-write.ensures.looks;
+  does = does_unseen _ c.from_residual.ensures.0 c.in_err-write.ensures.looks;
 }

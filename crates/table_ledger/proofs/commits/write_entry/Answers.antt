@@ -4,18 +4,14 @@ use Rattle.table_ledger.proofs.Refusals.{does_failed}
 use Rattle.table_ledger.proofs.commits.write_entry.Goals as goal
 
 pub returns : goal.returns
-returns g c = record {
-  does = does_then c.write_row.result c.in_ok-write_effects.ensures.does c.write_row.ensures.does
-      (λ tables new. (
-        tt,
-        new_still c.args.entry.now.effects.unmark tables.records
-            c.args.entry.now.record.name.now new,
-      ));
-}
+returns g c =
+    does_then c.write_row.result c.in_ok-write_effects.ensures c.write_row.ensures
+    (λ tables new. (
+      tt,
+      new_still c.args.entry.now.effects.unmark tables.records
+          c.args.entry.now.record.name.now new,
+    ))
 
 pub returns-in_err-write_effects : goal.returns-in_err-write_effects
-returns-in_err-write_effects g c = record {
-  does =
-      does_failed c.from_residual.result c.from_residual.ensures.0
-      c.in_err-write_effects.ensures.does;
-}
+returns-in_err-write_effects g c =
+    does_failed _ c.from_residual.ensures.0 c.in_err-write_effects.ensures

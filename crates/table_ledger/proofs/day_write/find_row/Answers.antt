@@ -4,7 +4,7 @@ use Rattle.table_ledger.proofs.day_write.find_row.Goals as goal
 
 pub returns-in_err-found-clause-looks : goal.returns-in_err-found-clause-looks
 returns-in_err-found-clause-looks g c =
-    looks_failed c.from_residual.result c.from_residual.ensures.0
+    looks_failed _ c.from_residual.ensures.0
     c.in_err-found.ensures.looks
 
 pub returns-clause-looks : goal.returns-clause-looks

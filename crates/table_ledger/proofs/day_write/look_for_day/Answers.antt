@@ -10,14 +10,13 @@ use Rattle.table_ledger.proofs.day_write.look_for_day.Goals as goal
 pub returns-in_err-find_row-in-Some-Add-clause-looks :
     goal.returns-in_err-find_row-in-Some-Add-clause-looks
 returns-in_err-find_row-in-Some-Add-clause-looks g c =
-    looks_failed c.from_residual.result c.from_residual.ensures.0
+    looks_failed _ c.from_residual.ensures.0
     c.in_err-find_row-in-Some-Add.ensures.looks
 
 pub returns-in_err-find_row-in-Some-Take-clause-looks :
     goal.returns-in_err-find_row-in-Some-Take-clause-looks
 returns-in_err-find_row-in-Some-Take-clause-looks g c =
-    looks_failed c.from_residual-in_err-find_row-in-Some-Take.result
-    c.from_residual-in_err-find_row-in-Some-Take.ensures.0
+    looks_failed _ c.from_residual-in_err-find_row-in-Some-Take.ensures.0
     c.in_err-find_row-in-Some-Take.ensures.looks
 
 pub returns-clause-looks : goal.returns-clause-looks

@@ -1,21 +1,15 @@
 use Rattle.std.proofs.Common.{◌≡◌, ◌∙◌, List, Vec, ap, map, not, subst, sym}
 use Rattle.std.specs.Global.{Global}
 use Rattle.std.specs.List.{list_any}
-use Rattle.std.specs.Prelude.{All, Bool, if◌then◌else◌}
-use Rattle.std.proofs.lemmas.Result.{err_from_is_err_and}
+use Rattle.std.specs.Prelude.{Bool, if◌then◌else◌}
 use Rattle.book_model.specs.Words.{AreDisputes, Disputed, dispute_shown}
 use Rattle.book_model.specs.declared.dispute.Dispute.{Dispute}
-use Rattle.table_model.specs.Tables.{Tables}
 use Rattle.table_model.specs.Views.{rows_with}
 use Rattle.table_laws.specs.DisputesRead.{has_none_charged, join_last}
 use Rattle.tree_tables.specs.Answers.{is_charged}
-use Rattle.tree_tables.specs.Holds.{Holds}
-use Rattle.tree_tables.specs.States.{HasCleanDisk, state}
-use Rattle.tree_tables.specs.Steps.{IsCaused}
 use Rattle.tree_tables.specs.Stored.{stored_entry}
 use Rattle.tree_tables.specs.declared.stored_record.StoredRecord.{StoredRecord}
 use Rattle.table_ledger.specs.DisputeReads.{IsShownRow}
-use Rattle.tree_tables.specs.UsageData.{IsUsageData}
 use Rattle.table_ledger.proofs.JoinLemmas.{grouped_more}
 use Rattle.table_ledger.proofs.OwnBooks.{fails_after_look}
 use Rattle.table_ledger.proofs.TryLemmas.{saw_found, saw_so, saw_then}
@@ -25,15 +19,9 @@ use Rattle.table_ledger.proofs.disputes.grouped.Goals.{then-not-branch+in_ok-joi
 -- why it is not known whether another of the identity is charged, after the earlier rows
 pub returns-in_err-has_charged-clause-cause : goal.returns-in_err-has_charged-clause-cause
 returns-in_err-has_charged-clause-cause g c =
-    let start = state g.S.Store c.args.tables.now.store in
-    let end = state g.S.Store c.has_charged.new.self.store in
-    let Usage : StoredRecord → Type 0 = λ row. IsUsageData row.data_bytes.items in
-    let cause : HasCleanDisk end → (tables : Tables) → Holds start.view.trees tables
-    → All Usage c.args.rows.now → IsCaused start end c.in_err-has_charged.field-0.0 =
-    fails_after_look _ c.loop-stored.invariant.saw c.in_err-has_charged.ensures.looks.survives
-    (λ clean tables holds when. c.in_err-has_charged.ensures.cause clean tables holds tt) in
-    let p = err_from_is_err_and c.from_residual.result c.from_residual.ensures.1 in
-    rw (p.1, p.2) cause
+    fails_after_look _ c.from_residual.ensures.1 c.loop-stored.invariant.saw
+    c.in_err-has_charged.ensures.looks
+    (λ clean tables holds when. c.in_err-has_charged.ensures.cause clean tables holds tt)
 
 -- one more row is left out, or joins the groups
 pub loop-stored-preserved : goal.loop-stored-preserved

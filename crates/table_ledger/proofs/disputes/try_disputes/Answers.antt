@@ -1,28 +1,22 @@
 use Rattle.std.proofs.Common.{◌∙◌, sym, ap, subst, List, map}
 use Rattle.std.specs.Prelude.{All, filter}
-use Rattle.std.proofs.lemmas.Result.{err_from_is_err_and}
 use Rattle.tree_tables.specs.Stored.{stored_entry}
 use Rattle.tree_tables.specs.declared.stored_record.StoredRecord.{StoredRecord}
 use Rattle.table_laws.specs.DisputesRead.{disputes_read, grouped, has_none_charged}
 use Rattle.table_laws.proofs.DisputeLemmas.{disputes_follow}
 use Rattle.table_ledger.specs.DisputeReads.{IsShownRow}
 use Rattle.table_ledger.proofs.ListReadings.{first_refused, later_refused, list_read}
-use Rattle.table_ledger.proofs.OwnBooks.{fails_after_look}
+use Rattle.table_ledger.proofs.OwnBooks.{own_failed}
 use Rattle.table_ledger.proofs.SurvivalLemmas.{clean_before}
-use Rattle.table_ledger.proofs.TryLemmas.{saw_found, saw_then, try_stopped}
-use Rattle.book_model.specs.Words.{Book}
+use Rattle.table_ledger.proofs.TryLemmas.{saw_found, saw_none, saw_then, try_stopped}
 use Rattle.table_model.specs.TablesOf.{tables_of}
-use Rattle.tree_tables.specs.States.{HasCleanDisk, state}
-use Rattle.tree_tables.specs.Steps.{IsCaused}
-use Rattle.table_ledger.specs.Ready.{IsReadyAt}
 use Rattle.tree_tables.specs.UsageData.{IsUsageData}
 use Rattle.table_ledger.proofs.BookLists.{own_records, own_shown_rows, own_usage}
 use Rattle.table_ledger.proofs.disputes.try_disputes.Goals as goal
 
 pub returns-in_err-rows-clause-tries : goal.returns-in_err-rows-clause-tries
 returns-in_err-rows-clause-tries g c = λ naming.
-    let refused = err_from_is_err_and c.from_residual.result c.from_residual.ensures.1 in
-    rw refused.1 (first_refused _ _ _ _ c.in_err-rows.ensures.looks)
+    first_refused _ c.from_residual.ensures.0 c.in_err-rows.ensures.looks
 
 pub returns-then-not-can_show-clause-tries : goal.returns-then-not-can_show-clause-tries
 returns-then-not-can_show-clause-tries g c = λ naming.
@@ -41,23 +35,15 @@ returns-clause-tries g c = λ naming.
 
 pub returns-in_err-grouped-clause-tries : goal.returns-in_err-grouped-clause-tries
 returns-in_err-grouped-clause-tries g c = λ naming.
-    let refused = err_from_is_err_and c.from_residual-in_err-grouped.result
-    c.from_residual-in_err-grouped.ensures.1 in
-    rw refused.1 (later_refused _ _ _ _ (saw_found c.in_ok-rows.ensures.looks)
-    c.in_err-grouped.ensures.looks)
+    later_refused _ c.from_residual-in_err-grouped.ensures.0
+    (saw_found c.in_ok-rows.ensures.looks) c.in_err-grouped.ensures.looks
 
 -- the rows of records fit
 pub returns-in_err-rows-clause-own : goal.returns-in_err-rows-clause-own
 returns-in_err-rows-clause-own g c = λ naming wide.
-    let start = state g.S.Store c.args.tables.now.store in
-    let end = state g.S.Store c.list_uncharged.new.self.store in
-    let cause : HasCleanDisk end → (book : Book)
-    → IsReadyAt naming c.args.summary.now start.view book
-    → IsCaused start end c.in_err-rows.field-0.0 =
-    λ clean book ready. c.in_err-rows.ensures.cause clean (tables_of naming book)
-    ready.kept.holds (own_records ready wide).fit in
-    let p = err_from_is_err_and c.from_residual.result c.from_residual.ensures.1 in
-    rw (p.1, p.2) cause
+    own_failed _ c.from_residual.ensures.1 saw_none c.in_err-rows.ensures.looks
+    c.in_err-rows.ensures.cause
+    (λ clean book ready. (own_records ready wide).fit)
 
 -- and can be shown
 pub returns-then-not-can_show-clause-own : goal.returns-then-not-can_show-clause-own
@@ -72,20 +58,11 @@ returns-then-not-can_show-clause-own g c = λ naming wide clean book ready.
 -- why they were not grouped, after the look at them
 pub returns-in_err-grouped-clause-own : goal.returns-in_err-grouped-clause-own
 returns-in_err-grouped-clause-own g c = λ naming wide.
-    let start = state g.S.Store c.args.tables.now.store in
-    let end = state g.S.Store c.grouped.new.tables.store in
-    let Usage : StoredRecord → Type 0 = λ row. IsUsageData row.data_bytes.items in
-    let survives = c.in_err-grouped.ensures.looks.survives in
-    let cause : HasCleanDisk end → (book : Book)
-    → IsReadyAt naming c.args.summary.now start.view book
-    → IsCaused start end c.in_err-grouped.field-0.0 =
-    λ clean book ready.
-    let lists = (c.in_ok-rows.ensures.looks.found (clean_before survives clean)).known
+    let looks = c.in_err-grouped.ensures.looks in
+    own_failed _ c.from_residual-in_err-grouped.ensures.1
+    (saw_found c.in_ok-rows.ensures.looks) looks c.in_err-grouped.ensures.cause
+    (λ clean book ready.
+    let lists = (c.in_ok-rows.ensures.looks.found (clean_before looks.survives clean)).known
     (tables_of naming book) ready.kept.holds in
-    let usage = subst (All Usage) (sym c.deref-2.ensures.value)
-    (own_usage ready wide c.in_ok-rows.rows.items lists) in
-    fails_after_look _ (saw_found c.in_ok-rows.ensures.looks) survives
-    c.in_err-grouped.ensures.cause clean (tables_of naming book) ready.kept.holds usage in
-    let p = err_from_is_err_and c.from_residual-in_err-grouped.result
-    c.from_residual-in_err-grouped.ensures.1 in
-    rw (p.1, p.2) cause
+    subst (All (λ (row : StoredRecord). IsUsageData row.data_bytes.items))
+    (sym c.deref-2.ensures.value) (own_usage ready wide c.in_ok-rows.rows.items lists))

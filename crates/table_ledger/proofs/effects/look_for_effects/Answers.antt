@@ -11,16 +11,14 @@ use Rattle.table_ledger.proofs.effects.look_for_effects.Goals as goal
 
 pub returns-in_err-sharing : goal.returns-in_err-sharing
 returns-in_err-sharing g c = record {
-  looks =
-      looks_failed c.from_residual.result c.from_residual.ensures.0
-      c.in_err-sharing.ensures.looks;
+  looks = looks_failed _ c.from_residual.ensures.0 c.in_err-sharing.ensures.looks;
 }
 
 pub returns-in_err-view : goal.returns-in_err-view
 returns-in_err-view g c = record {
   looks =
       looks_failed {B = Effects} {Others = λ tables effects. Unit {0}}
-      c.from_residual-in_err-view.result c.from_residual-in_err-view.ensures.0
+      _ c.from_residual-in_err-view.ensures.0
       (looks_refused {A = Effects} (saw_found c.in_ok-sharing.ensures.looks) c.in_err-view.ensures.looks);
 }
 

@@ -1,20 +1,16 @@
 use Rattle.std.proofs.Common.{◌≡◌, ◌∙◌, ap, map, sym}
-use Rattle.std.proofs.lemmas.Result.{err_from_is_err_and}
 use Rattle.table_model.specs.Tables.{Tables}
 use Rattle.std.specs.Option.{option_map}
 use Rattle.tree_tables.specs.Stored.{book_entry, close_entry, tariff_of}
-use Rattle.tree_tables.specs.Holds.{Holds}
-use Rattle.tree_tables.specs.States.{HasCleanDisk, state}
-use Rattle.tree_tables.specs.Steps.{IsCaused}
-use Rattle.table_ledger.specs.Loaded.{CanBeListed}
 use Rattle.table_ledger.proofs.OwnBooks.{fails_after_look}
-use Rattle.table_ledger.proofs.LoadLemmas.{never_missed, recalled_by, refused_at}
-use Rattle.table_ledger.proofs.TryLemmas.{looks_known, saw_found, saw_none, saw_then}
+use Rattle.table_ledger.proofs.LoadLemmas.{never_missed, recalled_by}
+use Rattle.table_ledger.proofs.Refusals.{looks_failed, looks_failed_next}
+use Rattle.table_ledger.proofs.TryLemmas.{looks_known, saw_found, saw_then}
 use Rattle.table_ledger.proofs.load.look_for_summary.Goals as goal
 
 pub returns-in_err-row-clause-looks : goal.returns-in_err-row-clause-looks
 returns-in_err-row-clause-looks g c =
-    refused_at _ c.from_residual.result c.from_residual.ensures.1 saw_none c.in_err-row.ensures.looks
+    looks_failed _ c.from_residual.ensures.0 c.in_err-row.ensures.looks
 
 pub returns-in_default-clause-looks : goal.returns-in_default-clause-looks
 returns-in_default-clause-looks g c =
@@ -24,19 +20,19 @@ returns-in_default-clause-looks g c =
 
 pub returns-in_err-tariffs-clause-looks : goal.returns-in_err-tariffs-clause-looks
 returns-in_err-tariffs-clause-looks g c =
-    refused_at _ c.from_residual-in_err-tariffs.result c.from_residual-in_err-tariffs.ensures.1
+    looks_failed_next _ c.from_residual-in_err-tariffs.ensures.0
     (saw_found c.in_ok-row.ensures.looks) c.in_err-tariffs.ensures.looks
 
 pub returns-in_err-closes-clause-looks : goal.returns-in_err-closes-clause-looks
 returns-in_err-closes-clause-looks g c =
-    refused_at _ c.from_residual-in_err-closes.result c.from_residual-in_err-closes.ensures.1
+    looks_failed_next _ c.from_residual-in_err-closes.ensures.0
     (saw_then (saw_found c.in_ok-row.ensures.looks)
     (saw_found c.in_ok-tariffs.ensures.looks))
     c.in_err-closes.ensures.looks
 
 pub returns-in_err-choices-clause-looks : goal.returns-in_err-choices-clause-looks
 returns-in_err-choices-clause-looks g c =
-    refused_at _ c.from_residual-in_err-choices.result c.from_residual-in_err-choices.ensures.1
+    looks_failed_next _ c.from_residual-in_err-choices.ensures.0
     (saw_then (saw_then (saw_found c.in_ok-row.ensures.looks)
     (saw_found c.in_ok-tariffs.ensures.looks))
     (saw_found c.in_ok-closes.ensures.looks))
@@ -61,41 +57,23 @@ returns-clause-looks g c =
 -- why the tariffs were not listed, after the look at the row of the book
 pub returns-in_err-tariffs-clause-cause : goal.returns-in_err-tariffs-clause-cause
 returns-in_err-tariffs-clause-cause g c =
-    let start = state g.S.Store c.args.tables.now.store in
-    let end = state g.S.Store c.list_tariffs.new.self.store in
-    let cause : HasCleanDisk end → (tables : Tables) → Holds start.view.trees tables
-    → CanBeListed tables → IsCaused start end c.in_err-tariffs.field-0.0 =
-    fails_after_look _ (saw_found c.in_ok-row.ensures.looks) c.in_err-tariffs.ensures.looks.survives
-    (λ clean tables holds when. c.in_err-tariffs.ensures.cause clean tables holds when.tariffs) in
-    let p = err_from_is_err_and c.from_residual-in_err-tariffs.result
-    c.from_residual-in_err-tariffs.ensures.1 in
-    rw (p.1, p.2) cause
+    fails_after_look _ c.from_residual-in_err-tariffs.ensures.1
+    (saw_found c.in_ok-row.ensures.looks) c.in_err-tariffs.ensures.looks
+    (λ clean tables holds when. c.in_err-tariffs.ensures.cause clean tables holds when.tariffs)
 
 -- why the closes were not, after both
 pub returns-in_err-closes-clause-cause : goal.returns-in_err-closes-clause-cause
 returns-in_err-closes-clause-cause g c =
-    let start = state g.S.Store c.args.tables.now.store in
-    let end = state g.S.Store c.list_closes.new.self.store in
-    let cause : HasCleanDisk end → (tables : Tables) → Holds start.view.trees tables
-    → CanBeListed tables → IsCaused start end c.in_err-closes.field-0.0 =
-    fails_after_look _ (saw_then (saw_found c.in_ok-row.ensures.looks)
-    (saw_found c.in_ok-tariffs.ensures.looks)) c.in_err-closes.ensures.looks.survives
-    (λ clean tables holds when. c.in_err-closes.ensures.cause clean tables holds when.closes) in
-    let p = err_from_is_err_and c.from_residual-in_err-closes.result
-    c.from_residual-in_err-closes.ensures.1 in
-    rw (p.1, p.2) cause
+    fails_after_look _ c.from_residual-in_err-closes.ensures.1
+    (saw_then (saw_found c.in_ok-row.ensures.looks) (saw_found c.in_ok-tariffs.ensures.looks))
+    c.in_err-closes.ensures.looks
+    (λ clean tables holds when. c.in_err-closes.ensures.cause clean tables holds when.closes)
 
 -- why the last choice was not, after all three
 pub returns-in_err-choices-clause-cause : goal.returns-in_err-choices-clause-cause
 returns-in_err-choices-clause-cause g c =
-    let start = state g.S.Store c.args.tables.now.store in
-    let end = state g.S.Store c.last_choice.new.self.store in
-    let cause : HasCleanDisk end → (tables : Tables) → Holds start.view.trees tables
-    → CanBeListed tables → IsCaused start end c.in_err-choices.field-0.0 =
-    fails_after_look _ (saw_then (saw_then (saw_found c.in_ok-row.ensures.looks)
+    fails_after_look _ c.from_residual-in_err-choices.ensures.1
+    (saw_then (saw_then (saw_found c.in_ok-row.ensures.looks)
     (saw_found c.in_ok-tariffs.ensures.looks)) (saw_found c.in_ok-closes.ensures.looks))
-    c.in_err-choices.ensures.looks.survives
-    (λ clean tables holds when. c.in_err-choices.ensures.cause clean tables holds when.choices) in
-    let p = err_from_is_err_and c.from_residual-in_err-choices.result
-    c.from_residual-in_err-choices.ensures.1 in
-    rw (p.1, p.2) cause
+    c.in_err-choices.ensures.looks
+    (λ clean tables holds when. c.in_err-choices.ensures.cause clean tables holds when.choices)

@@ -7,8 +7,8 @@ use Rattle.table_ledger.proofs.load.summary_of.Goals as goal
 use Rattle.table_ledger.proofs.load.summary_of.Goals.{then-not-is_kept-via-then-not-is_kept}
 use Rattle.table_ledger.proofs.load.summary_of.Goals.{then-not-is_kept-via-else-not-is_kept+then-not-are_few}
 
-pub invariant_of-result-clause-days : goal.invariant_of-result-clause-days
-invariant_of-result-clause-days c =
+pub of-requires-clause-days : goal.of-requires-clause-days
+of-requires-clause-days c =
     all_days c.args.closes.now c.in_ok-closes.closes.items c.in_ok-closes.ensures.have
 
 pub returns-then-not-is_kept-clause-refused : goal.returns-then-not-is_kept-clause-refused

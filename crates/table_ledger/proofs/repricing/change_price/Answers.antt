@@ -17,16 +17,12 @@ returns g c = record {
 
 pub returns-in_err-write : goal.returns-in_err-write
 returns-in_err-write g c = record {
-  does =
-      does_unseen c.from_residual.result c.from_residual.ensures.0
-      c.in_err-write.ensures.looks;
+  does = does_unseen _ c.from_residual.ensures.0 c.in_err-write.ensures.looks;
 }
 
 pub returns-in_err-change_day : goal.returns-in_err-change_day
 returns-in_err-change_day g c = record {
-  does =
-      does_failed c.from_residual-in_err-change_day.result c.from_residual-in_err-change_day.ensures.0
-      c.in_err-change_day.ensures.does;
+  does = does_failed _ c.from_residual-in_err-change_day.ensures.0 c.in_err-change_day.ensures.does;
 }
 
 pub returns-then-eq : goal.returns-then-eq

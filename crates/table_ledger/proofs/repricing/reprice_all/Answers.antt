@@ -16,7 +16,7 @@ records-init g c =
 pub returns-in_err-stored : goal.returns-in_err-stored
 returns-in_err-stored g c = record {
   does = walks_blind (reprice_step c.args.period c.args.tariff.now) c.records.invariant
-      c.from_residual.result c.from_residual.ensures.0 c.in_err-stored.ensures.looks;
+      _ c.from_residual.ensures.0 c.in_err-stored.ensures.looks;
 }
 
 -- none is left
@@ -33,7 +33,7 @@ returns-in_err-reprice g c =
     record {
       does = walks_fail step
           (walks_still step c.records.invariant c.in_ok-stored.ensures.looks)
-          c.from_residual-in_err-reprice.result c.from_residual-in_err-reprice.ensures.0
+          _ c.from_residual-in_err-reprice.ensures.0
           c.in_err-reprice.ensures.does;
     }
 

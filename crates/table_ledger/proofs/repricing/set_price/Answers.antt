@@ -22,9 +22,7 @@ returns g c = record {
 
 pub returns-in_err-set_price : goal.returns-in_err-set_price
 returns-in_err-set_price g c = record {
-  does =
-      does_failed c.from_residual.result c.from_residual.ensures.0
-      c.in_err-set_price.ensures.does;
+  does = does_failed _ c.from_residual.ensures.0 c.in_err-set_price.ensures.does;
 }
 
 pub returns-then-not-stored : goal.returns-then-not-stored

@@ -1,14 +1,15 @@
-use Rattle.std.proofs.Common.{◌≡◌, ◌∙◌, ℕ, List, [], ◌∷◌, ◌++◌, ap, refl, subst, Some}
-use Rattle.std.specs.Prelude.{string_bytes}
+use Rattle.std.proofs.Common.{◌≡◌, ◌∙◌, refl, subst, Some}
 use Rattle.tree_tables.specs.States.{state}
-use Rattle.book_model.specs.Words.{IsDay, Terms, tariff_outcome, AcceptedTerms, are_rising}
+use Rattle.book_model.specs.Words.{IsDay, Terms, tariff_outcome, with_tariff}
 use Rattle.book_model.specs.declared.answer.Ruled.{Ruled}
 use Rattle.book_model.specs.declared.fault.LedgerFault.TheVariants.{Full}
 use Rattle.table_model.specs.Steps.{tariff_by_steps}
 use Rattle.table_ledger.specs.Repricing.{CountsRecords}
 use Rattle.table_ledger.proofs.Answering.{makes_refused}
-use Rattle.table_ledger.proofs.TariffTries.{tariff_rising, tariff_full, tariff_done}
+use Rattle.table_ledger.proofs.TariffTries.{tariff_full, tariff_done}
 use Rattle.table_ledger.proofs.TariffTries.{tariff_is_event, tariff_remembered}
+use Rattle.table_ledger.proofs.Remembered.{remembers_same}
+use Rattle.table_ledger.proofs.StepLemmas.{one_commit}
 use Rattle.table_ledger.proofs.TryLemmas.{saw_found, try_answered, try_done, try_stopped}
 use Rattle.table_ledger.proofs.TryLemmas.{try_undone, tries_so, tries_err, tries_told}
 use Rattle.table_ledger.proofs.ListReadings.{first_refused}
@@ -18,12 +19,9 @@ use Rattle.table_ledger.proofs.tariff.put_in_force.Goals as goal
 abbrev view : Ruled → Ruled
 view = λ ruled. ruled
 
--- one more tariff, as its text and its terms
-more : (tariffs : List AcceptedTerms) (terms : Terms) {own text : List ℕ} {items : List AcceptedTerms}
-    → items ≡ tariffs ++ record { text = Some own; terms = terms } ∷ [] → own ≡ text
-    → items ≡ tariffs ++ record { text = Some text; terms = terms } ∷ []
-more tariffs terms is same =
-    is ∙ ap (λ own. tariffs ++ record { text = Some own; terms = terms } ∷ []) same
+-- a tariff's first day is one, whichever way the tariff is seen
+dated : {seen terms : Terms} → seen ≡ terms → IsDay seen.effective → IsDay terms.effective
+dated is day = subst (λ (terms : Terms). IsDay terms.effective) is day
 
 -- the books cannot hold what the records cost
 pub returns-in_default : goal.returns-in_default
@@ -42,39 +40,28 @@ returns-in_default g c = record {
 }
 
 -- the commit is refused
-pub returns-in_err-keep_tariff : goal.returns-in_err-keep_tariff
-returns-in_err-keep_tariff g c = record {
+pub returns-in_err-commit_written : goal.returns-in_err-commit_written
+returns-in_err-commit_written g c = record {
   tries =
       λ naming.
       let summary = c.args.summary.now in
       let text = c.args.text.now in
       let terms = c.args.tariff in
       let amount = c.in-Some.amount in
-      let day : IsDay terms.effective =
-      subst (λ (terms : Terms). IsDay terms.effective) c.tariff.view_is c.tariff.invariant in
-      let said = c.requires.said in
+      let day = dated c.tariff.view_is c.tariff.invariant in
       let outcome = tariff_outcome text in
-      let done = c.requires.done in
-      tries_err view naming summary outcome c.from_residual-in_err-keep_tariff.result
-      c.from_residual-in_err-keep_tariff.ensures.0
+      tries_err view naming summary outcome _ c.from_residual-in_err-commit_written.ensures.0
       (λ error. tries_told view naming summary outcome
       (tries_so view naming summary outcome
       (try_undone view naming summary outcome
-      (state g.S.Store c.keep_tariff.new.tables.store) (CountsRecords summary.held)
-      (tariff_by_steps c.open_number.result text terms amount)
+      (state g.S.Store c.commit_written.new.tables.store) (CountsRecords summary.held)
+      (tariff_by_steps c.open_number-period.result text terms amount)
       (saw_found (rw c.in-Some.is at c.in_ok-amount.ensures.looks))
-      (λ book ready known. tariff_is_event summary text terms said naming _ book ready done
-      amount known day c.open_number.result summary.held
-      c.open_number.ensures.number refl)
-      c.in_err-keep_tariff.ensures.commits)
-      (λ book remembers. record {
-        tariffs = c.in_ok-own.ensures.same ∙ remembers.tariffs;
-        closes = remembers.closes;
-        choices = remembers.choices;
-        adopted = remembers.adopted;
-        held = remembers.held;
-        total = remembers.total;
-      })));
+      (λ book ready known. tariff_is_event summary text terms c.requires.said naming _ book ready
+      c.requires.done amount known day c.open_number-period.result summary.held
+      c.open_number-period.ensures.number refl)
+      (one_commit _ c.in_err-commit_written.ensures c.write_tariff-written.ensures))
+      (remembers_same c.in_ok-own.ensures.same refl refl refl)));
 }
 
 -- the tariff is in force
@@ -86,53 +73,29 @@ returns g c = record {
       let text = c.args.text.now in
       let terms = c.args.tariff in
       let amount = c.in-Some.amount in
-      let day : IsDay terms.effective =
-      subst (λ (terms : Terms). IsDay terms.effective) c.tariff.view_is c.tariff.invariant in
-      let said = c.requires.said in
-      let done = c.requires.done in
+      let day = dated c.tariff.view_is c.tariff.invariant in
       try_done view naming summary (tariff_outcome text)
-      (state g.S.Store c.keep_tariff.new.tables.store) (CountsRecords summary.held)
-      (tariff_by_steps c.open_number.result text terms amount)
+      (state g.S.Store c.commit_written.new.tables.store) (CountsRecords summary.held)
+      (tariff_by_steps c.open_number-period.result text terms amount)
       (saw_found (rw c.in-Some.is at c.in_ok-amount.ensures.looks))
-      (λ book ready known. tariff_is_event summary text terms said naming _ book ready done
-      amount known day c.open_number.result summary.held
-      c.open_number.ensures.number refl)
-      c.in_ok-keep_tariff.ensures.commits
+      (λ book ready known. tariff_is_event summary text terms c.requires.said naming _ book ready
+      c.requires.done amount known day c.open_number-period.result summary.held
+      c.open_number-period.ensures.number refl)
+      (one_commit _ c.in_ok-commit_written.ensures c.write_tariff-written.ensures)
       (λ book ready known.
-      tariff_done summary text terms said naming _ book ready done amount known)
+      tariff_done summary text terms c.requires.said naming _ book ready c.requires.done amount known)
       (λ book ready known.
-      tariff_remembered summary text terms said naming _ book ready done amount known _
-      (more summary.tariffs.items terms
-      (c.push_reserved.ensures.items
-      ∙ ap (λ items. items ++ record { text = Some (string_bytes c.in_ok-own.own); terms = terms } ∷ [])
-      c.in_ok-own.ensures.same)
-      c.in_ok-own.ensures.own)
-      refl refl refl refl refl);
+      tariff_remembered summary text terms c.requires.said naming _ book ready c.requires.done
+      amount known _
+      (c.put_tariff.ensures
+      ∙ (λ i. with_tariff (Some (c.in_ok-own.ensures.own i)) terms (c.in_ok-own.ensures.same i)))
+      refl refl refl);
 }
-
-pub invariant_of-summary-2-clause-rising : goal.invariant_of-summary-2-clause-rising
-invariant_of-summary-2-clause-rising g c =
-    let summary = c.args.summary.now in
-    let text = c.args.text.now in
-    let terms = c.args.tariff in
-    let done = c.requires.done in
-    ap are_rising
-    (more summary.tariffs.items terms
-    (c.push_reserved.ensures.items
-    ∙ ap (λ items. items ++ record { text = Some (string_bytes c.in_ok-own.own); terms = terms } ∷ [])
-    c.in_ok-own.ensures.same)
-    c.in_ok-own.ensures.own)
-    ∙ tariff_rising summary text terms done
 
 pub returns-in_err-amount : goal.returns-in_err-amount
 returns-in_err-amount g c = record {
   tries =
-      λ naming.
-      let summary = c.args.summary.now in
-      let outcome = tariff_outcome c.args.text.now in
-      tries_err view naming summary outcome c.from_residual.result
-      c.from_residual.ensures.0
-      (λ error. first_refused view naming summary outcome c.in_err-amount.ensures.looks);
+      λ naming. first_refused _ c.from_residual.ensures.0 c.in_err-amount.ensures.looks;
 }
 
 pub returns-in_err-own : goal.returns-in_err-own
@@ -141,16 +104,8 @@ returns-in_err-own g c = record {
       λ naming.
       let summary = c.args.summary.now in
       let outcome = tariff_outcome c.args.text.now in
-      tries_err view naming summary outcome c.from_residual-in_err-own.result
-      c.from_residual-in_err-own.ensures.0
+      tries_err view naming summary outcome _ c.from_residual-in_err-own.ensures.0
       (λ error. tries_so view naming summary outcome
       (try_stopped view naming summary outcome (saw_found c.in_ok-amount.ensures.looks))
-      (λ book remembers. record {
-        tariffs = c.in_err-own.ensures.same ∙ remembers.tariffs;
-        closes = remembers.closes;
-        choices = remembers.choices;
-        adopted = remembers.adopted;
-        held = remembers.held;
-        total = remembers.total;
-      }));
+      (remembers_same c.in_err-own.ensures.same refl refl refl));
 }

@@ -1,44 +1,33 @@
-use Rattle.std.proofs.Common.{◌∙◌, Ok, sym}
+use Rattle.std.proofs.Common.{◌∙◌, sym}
 use Rattle.std.specs.FinMap.{keys}
 use Rattle.table_model.specs.Steps.{put_tariff_row, set_sums}
 use Rattle.table_model.specs.TableChanges.{reprice_step, walk}
-use Rattle.tree_tables.specs.Steps.{Always}
 use Rattle.table_ledger.proofs.CodeDays.{kept_day}
-use Rattle.table_ledger.proofs.StepLemmas.{does_so, does_then}
+use Rattle.table_ledger.proofs.StepLemmas.{does_both, does_so}
 use Rattle.table_ledger.proofs.Refusals.{does_failed, does_failed_next}
 use Rattle.table_ledger.proofs.tariff.write_tariff.Goals as goal
 
 -- the prices, the tariff's row and the sums
 pub returns : goal.returns
-returns g c = record {
-  does =
-      let terms = c.args.tariff.now in
-      let day = kept_day c.effective.result c.effective.ensures.day ∙ c.effective.ensures.value in
-      does_so c.set_sums.result
-      (does_then {When = Always} c.set_sums.result
-      (does_then {When = Always} (Ok c.in_ok-put_tariff.field-0) c.in_ok-reprice_all.ensures.does
-      c.in_ok-put_tariff.ensures.does (λ tables always. (tt, tt)))
-      c.set_sums.ensures.does (λ tables always. (tt, tt)))
-      (λ tables counts. (
-        tt,
-        λ i.
-            set_sums (sym counts i) c.args.sums.now.amount
-            (put_tariff_row (day i) c.args.text.now
-            (walk (reprice_step c.args.period terms) (keys tables.records) tables)),
-      ));
-}
+returns g c =
+    let terms = c.args.tariff.now in
+    let day = kept_day c.effective.result c.effective.ensures.day ∙ c.effective.ensures.value in
+    does_so c.set_sums.result
+    (does_both (does_both c.in_ok-reprice_all.ensures.does c.in_ok-put_tariff.ensures.does)
+    c.set_sums.ensures.does)
+    (λ tables counts. (
+      tt,
+      λ i.
+          set_sums (sym counts i) c.args.sums.now.amount
+          (put_tariff_row (day i) c.args.text.now
+          (walk (reprice_step c.args.period terms) (keys tables.records) tables)),
+    ))
 
 pub returns-in_err-reprice_all : goal.returns-in_err-reprice_all
-returns-in_err-reprice_all g c = record {
-  does =
-      does_failed c.from_residual.result c.from_residual.ensures.0
-      c.in_err-reprice_all.ensures.does;
-}
+returns-in_err-reprice_all g c =
+    does_failed _ c.from_residual.ensures.0 c.in_err-reprice_all.ensures.does
 
 pub returns-in_err-put_tariff : goal.returns-in_err-put_tariff
-returns-in_err-put_tariff g c = record {
-  does =
-      does_failed_next c.from_residual-in_err-put_tariff.result
-      c.from_residual-in_err-put_tariff.ensures.0 c.in_ok-reprice_all.ensures.does
-      c.in_err-put_tariff.ensures.does;
-}
+returns-in_err-put_tariff g c =
+    does_failed_next _ c.from_residual-in_err-put_tariff.ensures.0
+    c.in_ok-reprice_all.ensures.does c.in_err-put_tariff.ensures.does

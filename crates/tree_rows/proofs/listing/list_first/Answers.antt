@@ -4,8 +4,7 @@ use Rattle.sqlite_disk.specs.Disk.{MoreFaults}
 use Rattle.sqlite_trees.specs.View.{HasCause, IsClean}
 use Rattle.sqlite_value.specs.Order.{Row}
 use Rattle.tree_rows.specs.Runs.{has_part, run_of}
-use Rattle.tree_rows.proofs.Calls.{kept_on, quiet_both, schema_both, unchanged_but}
-use Rattle.tree_rows.proofs.Calls.{unchanged_on}
+use Rattle.tree_rows.proofs.Calls.{quiet_both, schema_both, unchanged_but, unchanged_on}
 use Rattle.tree_rows.proofs.Failing.{caused_by_memory}
 use Rattle.tree_rows.proofs.RunsRead.{next_fits, starts, reads_on}
 use Rattle.tree_rows.proofs.RunsRead.{ends_full, ends_with_rows, ends_before}
@@ -90,44 +89,4 @@ returns-in_err-one-clause-cause g c =
     caused_by_memory old fault error (c.in_err-one.ensures.taken
     (next_fits g.T.ReadRow.says c.args.part.now (old.trees c.args.tree) g.T.ReadRow.fits before
     now c.next.new.row c.rows.all.items so_far it begins fit)) in
-    search rules
-
-pub returns-in_err-next-clause-schema : goal.returns-in_err-next-clause-schema
-returns-in_err-next-clause-schema g c = schema_both c.rows.invariant.schema c.next.ensures.schema
-
-pub returns-in_err-next-clause-quiet : goal.returns-in_err-next-clause-quiet
-returns-in_err-next-clause-quiet g c =
-    quiet_both g.S.Store c.rows.invariant.quiet c.next.ensures.quiet
-
-pub returns-then-not-branch-clause-schema : goal.returns-then-not-branch-clause-schema
-returns-then-not-branch-clause-schema g c = schema_both c.rows.invariant.schema c.next.ensures.schema
-
-pub returns-then-not-branch-clause-quiet : goal.returns-then-not-branch-clause-quiet
-returns-then-not-branch-clause-quiet g c =
-    quiet_both g.S.Store c.rows.invariant.quiet c.next.ensures.quiet
-
-pub returns-in_err-one-clause-schema : goal.returns-in_err-one-clause-schema
-returns-in_err-one-clause-schema g c = schema_both c.rows.invariant.schema c.next.ensures.schema
-
-pub returns-in_err-one-clause-quiet : goal.returns-in_err-one-clause-quiet
-returns-in_err-one-clause-quiet g c =
-    quiet_both g.S.Store c.rows.invariant.quiet c.next.ensures.quiet
-
-pub returns-in_err-push-clause-schema : goal.returns-in_err-push-clause-schema
-returns-in_err-push-clause-schema g c = schema_both c.rows.invariant.schema c.next.ensures.schema
-
-pub returns-in_err-push-clause-quiet : goal.returns-in_err-push-clause-quiet
-returns-in_err-push-clause-quiet g c =
-    quiet_both g.S.Store c.rows.invariant.quiet c.next.ensures.quiet
-
-pub returns-then-not-branch-clause-same : goal.returns-then-not-branch-clause-same
-returns-then-not-branch-clause-same g c =
-    unchanged_on g.S.Store c.args.store.now c.rows.invariant.same c.next.ensures.quiet
-    (λ clean. (c.in_ok-next.ensures.moves clean).same)
-
-pub returns-in_err-next-clause-kept : goal.returns-in_err-next-clause-kept
-returns-in_err-next-clause-kept g c =
-    let kept =
-    kept_on g.S.Store c.args.store.now c.rows.invariant.same c.next.ensures.quiet
-    c.in_err-next.ensures.err.kept in
     search rules

@@ -1,6 +1,6 @@
 use Rattle.std.proofs.Common.{◌-◌, ◌≤◌, IsSome, length}
-use Rattle.sqlite_trees.specs.View.{IsClean, IsQuiet, KeepsSchema}
-use Rattle.tree_rows.specs.Rows.{IsUnchanged}
+use Rattle.sqlite_trees.specs.View.{IsClean, KeepsSchema}
+use Rattle.tree_rows.specs.Calls.{CommitsNothing, OnlyLooks}
 use Rattle.tree_rows.specs.declared.listing.TheConstants.{LIST}
 use Rattle.tree_rows.proofs.RunsRead.{HasRead}
 use Rattle.tree_rows.proofs.listing.list_first.Given as goal
@@ -14,10 +14,9 @@ invariant-rows g l =
       live : IsSome (now.cursors LIST);
       few : length l.all.items ≤ l.most;
       read : IsClean now → HasRead g.T.ReadRow.says l.part (old.trees l.tree) now l.all.items;
-      same : IsClean now → IsUnchanged old now;
+      same : OnlyLooks g.S.Store l.fn.store l.store;
       schema : KeepsSchema old now;
-      quiet : IsQuiet g.S.Store.view g.S.Store.faults g.S.Store.recovers g.S.Store.is_shielded
-          l.fn.store l.store;
+      quiet : CommitsNothing g.S.Store l.fn.store l.store;
     }
 
 -- the rows that are still to be read

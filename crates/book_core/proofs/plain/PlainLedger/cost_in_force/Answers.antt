@@ -2,9 +2,9 @@ use Rattle.std.proofs.Common.{◌≡◌, ◌∙◌, Bool, true, false, sym, ap, 
 use Rattle.std.specs.Prelude.{nat_lt}
 use Rattle.std.specs.BTreeMap.{values}
 use Rattle.book_model.specs.RulingAnswers.{terms_ruled}
-use Rattle.book_model.specs.Words.{is_too_dear, last_close, most_cost, with_tariff}
+use Rattle.book_model.specs.Words.{is_too_dear, most_cost, with_tariff}
 use Rattle.book_model.specs.declared.answer.Ruled.TheVariants.{Done}
-use Rattle.book_core.specs.Plain.{ruled_by}
+use Rattle.book_core.specs.OfficeRulings.{ruled_in}
 use Rattle.book_core.specs.PlainBook.{book_in}
 use Rattle.book_core.specs.Repricing.{cost_anew}
 use Rattle.book_core.proofs.RepricingLemmas.{has_room, no_room}
@@ -16,15 +16,8 @@ use Rattle.book_core.proofs.plain.PlainLedger.cost_in_force.Goals.{After-cost_un
 
 -- by the rulings the tariff can be put in force
 ruled : (g : Over) (c : After-cost_under g)
-    → terms_ruled c.args.self.now.tariffs.items (last_close (book_in c.args.self.now).rulings) false
-    c.args.text.now c.args.tariff.now ≡ Ok Done
-ruled g c =
-    let ledger = c.args.self.now in
-    let last = c.last_close.ensures ∙ (λ i. last_close (ruled_by ledger.tariffs.items
-    (c.deref-2.ensures.value i) ledger.choices.items ledger.adopted)) in
-    (λ i. terms_ruled (sym c.deref.ensures.value i) (sym last i) false c.args.text.now
-    c.args.tariff.now)
-    ∙ sym c.tariff_answer.ensures ∙ c.in_ok-tariff_answer.was ∙ ap Ok c.in-Done.is
+    → terms_ruled (ruled_in c.args.self.now.rulings) false c.args.text.now c.args.tariff.now ≡ Ok Done
+ruled g c = sym c.tariff_answer.ensures ∙ c.in_ok-tariff_answer.was ∙ ap Ok c.in-Done.is
 
 -- the test of what the records cost, on those that are held
 dear_is : (g : Over) (c : After-cost_under g) (dear : Bool)

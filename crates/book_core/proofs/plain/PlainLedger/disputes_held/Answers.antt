@@ -1,7 +1,7 @@
-use Rattle.std.proofs.Common.{sym, ap, subst, ◌∙◌, [], Ok}
+use Rattle.std.proofs.Common.{sym, ap, subst, ◌∙◌, Ok}
 use Rattle.book_core.proofs.DisputeLemmas.{disputes_in-held}
 use Rattle.book_model.specs.Words.{AreDisputes}
-use Rattle.book_core.specs.Plain.{disputes_among, ruled_by}
+use Rattle.book_core.specs.Plain.{disputes_among, rulings_of}
 use Rattle.book_core.proofs.ListLimits.{are_disputes}
 use Rattle.book_core.proofs.plain.PlainLedger.disputes_held.Goals as goal
 
@@ -9,8 +9,8 @@ pub returns-clause-disputes : goal.returns-clause-disputes
 returns-clause-disputes g c =
     let ledger = c.args.self.now in
     ap Ok (disputes_in-held ledger.kept ledger.rising
-    ∙ ap (λ choices. disputes_among (ruled_by [] [] choices ledger.adopted) ledger.held.entries)
-    (sym c.deref.ensures.value)
+    ∙ (λ i. disputes_among (rulings_of (sym c.deref.ensures.value i) (sym c.adopted-adopted.ensures i))
+    ledger.held.entries)
     ∙ sym c.in_ok-disputes.ensures)
 
 pub returns-clause-shown : goal.returns-clause-shown
@@ -18,6 +18,6 @@ returns-clause-shown g c =
     let ledger = c.args.self.now in
     subst AreDisputes
     (sym (c.in_ok-disputes.ensures
-    ∙ ap (λ choices. disputes_among (ruled_by [] [] choices ledger.adopted) ledger.held.entries)
-    c.deref.ensures.value))
+    ∙ (λ i. disputes_among (rulings_of (c.deref.ensures.value i) (c.adopted-adopted.ensures i))
+    ledger.held.entries)))
     (are_disputes ledger.kept)

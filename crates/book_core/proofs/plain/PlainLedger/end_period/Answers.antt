@@ -1,57 +1,62 @@
-use Rattle.std.proofs.Common.{◌<◌, length, sym, subst, refl, w32, to_z, of_z}
-use Rattle.std.proofs.lemmas.Int.{to_z-of_z}
+use Rattle.std.proofs.Common.{◌≡◌, ◌∙◌, ◌+◌, ◌<◌, [], ◌∷◌, Some, length, sym, subst, ap}
 use Rattle.std.proofs.lemmas.List.{length-append}
-use Rattle.book_model.specs.Words.{IsDay, last_period}
-use Rattle.book_core.specs.Treatments.{charges, has_name_in, treatment_at}
-use Rattle.book_core.proofs.BookLemmas.{book-closed, kept-ruled}
-use Rattle.book_model.proofs.DayLemmas.{day_fits}
+use Rattle.book_model.specs.Words.{IsDay, Rulings, last_period, open_by, with_close}
+use Rattle.book_core.specs.Plain.{ruled_by, with_choices}
+use Rattle.book_core.specs.PlainBook.{book_in}
+use Rattle.book_core.specs.Treatments.{IsPeriodEnd, charges, has_name_in, treatment_at}
+use Rattle.book_core.proofs.BookLemmas.{book-closed, kept_ruled}
+use Rattle.book_model.proofs.DayLemmas.{day_kept}
 use Rattle.book_core.proofs.NameLemmas.{named-closed}
+use Rattle.book_core.proofs.plain.PlainLedger.end_period.Given.{Over}
 use Rattle.book_core.proofs.plain.PlainLedger.end_period.Goals as goal
+use Rattle.book_core.proofs.plain.PlainLedger.end_period.Goals.{After-put_close}
 
-pub invariant_of-push : goal.invariant_of-push
-invariant_of-push g c =
-    let day = c.requires.day in
-    record {
-      day = subst IsDay (sym (to_z-of_z w32 c.args.through (day_fits c.args.through day))) day;
-    }
+-- the rulings then
+ruled : (g : Over) (c : After-put_close g)
+    → ruled_by c.put_close.new.self c.args.self.now.choices.items
+    ≡ with_close c.args.through (book_in c.args.self.now).rulings
+ruled g c =
+    let choices = c.args.self.now.choices.items in
+    ap (with_choices choices) c.put_close.ensures
+    ∙ (λ i. with_choices choices (with_close (day_kept c.args.through c.requires.day i)
+    (c.reserve_close.ensures.same i)))
+
+pub put_close-requires : goal.put_close-requires
+put_close-requires g c = record {
+  room = c.in_ok-reserve_close.ensures.room;
+  day = subst IsDay (sym (day_kept c.args.through c.requires.day)) c.requires.day;
+  few = subst (λ rulings. open_by rulings < last_period) (sym c.reserve_close.ensures.same)
+      c.requires.few;
+}
 
 pub returns-clause-book : goal.returns-clause-book
 returns-clause-book g c =
     let ledger = c.args.self.now in
-    book-closed ledger.tariffs.items ledger.closed.items ledger.choices.items ledger.adopted
-    ledger.kept ledger.rising ledger.posted
-    c.in_ok-posted.posted c.in_ok-period_end.period_end _ c.push.new.self.items
-    (to_z w32 (of_z w32 c.args.through))
-    c.args.through c.in_ok-push.ensures.items
-    (to_z-of_z w32 c.args.through (day_fits c.args.through c.requires.day))
-    c.in_ok-period_end.ensures c.in_ok-posted.ensures c.in_ok-treatments.ensures refl
-
--- a lack of memory for the period leaves the books as they were
-pub invariant_of-self : goal.invariant_of-self
-invariant_of-self g c =
-    let ledger = c.args.self.now in
-    record {
-      rising = ledger.rising;
-      kept = ledger.kept;
-      recalls = ledger.recalls;
-      named = ledger.named;
-      few = ledger.few;
-    }
+    let through = c.args.through in
+    book-closed ledger.kept ledger.rising ledger.posted ledger.closed.items
+    c.in_ok-period_end.period_end _ c.in_ok-posted.posted _ c.push.new.self.items through
+    (ruled g (goal.at.returns-clause-book g c).After-put_close) c.in_ok-push.ensures.items
+    (subst (λ day. IsPeriodEnd ledger.held.entries (book_in ledger).rulings (Some day)
+    c.in_ok-period_end.period_end) (day_kept through c.requires.day) c.in_ok-period_end.ensures)
+    c.in_ok-posted.ensures c.in_ok-treatments.ensures
 
 pub invariant_of-self-2 : goal.invariant_of-self-2
 invariant_of-self-2 g c =
     let ledger = c.args.self.now in
-    let pushed = c.in_ok-push.ensures in
+    let closed = ledger.closed.items in
+    let pushed = c.in_ok-push.ensures.items in
     let period_end = c.in_ok-period_end.period_end in
+    let rulings = ruled g (goal.at.invariant_of-self-2 g c).After-put_close in
     record {
       rising = ledger.rising;
-      kept = kept-ruled ledger.closed.items c.push.new.self.items ledger.choices.items
-          ledger.choices.items ledger.adopted ledger.adopted ledger.kept;
+      kept = kept_ruled _ (ap (λ (rulings : Rulings). rulings.tariffs) rulings) ledger.kept;
       recalls = ledger.recalls;
       named = named-closed (λ entry. charges period_end entry.1)
           (λ entry. treatment_at period_end (has_name_in ledger.posted entry) entry.1) ledger.held.entries
-          ledger.posted c.in_ok-posted.posted ledger.closed.items _ c.push.new.self.items
-          pushed.items ledger.named c.in_ok-posted.ensures c.in_ok-treatments.ensures;
-      few = subst (λ closed. length closed < last_period) (sym pushed.items)
-          (simp length-append c.requires.few);
+          ledger.posted c.in_ok-posted.posted closed _ c.push.new.self.items
+          pushed ledger.named c.in_ok-posted.ensures c.in_ok-treatments.ensures;
+      counted = ap length pushed ∙ length-append closed _
+          ∙ ap (λ n. n + 1) ledger.counted
+          ∙ sym (length-append (book_in ledger).rulings.closes (c.args.through ∷ []))
+          ∙ ap (λ (rulings : Rulings). length rulings.closes) (sym rulings);
     }

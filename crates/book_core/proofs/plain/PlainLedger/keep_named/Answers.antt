@@ -4,7 +4,7 @@ use Rattle.std.specs.BTreeMap.{insert_entry}
 use Rattle.book_model.specs.declared.answer.Accepted.TheVariants.{Known}
 use Rattle.book_model.specs.declared.fault.LedgerFault.TheVariants.{DigestClash}
 use Rattle.book_model.specs.Words.{accept_priced, keep, after_any, most_held, most_cost}
-use Rattle.book_model.specs.Words.{accept_event, by_bytes, same_bytes, price_in, has}
+use Rattle.book_model.specs.Words.{accept_event, by_bytes, same_bytes, price_under, has}
 use Rattle.book_model.proofs.AnswerLemmas.{answers_itself, accept_calls}
 use Rattle.book_core.specs.Plain.{AreBooked, CacheIsHeld, held_in, record_of, ruled_by}
 use Rattle.book_core.specs.PlainBook.{book_in, book_with}
@@ -43,8 +43,7 @@ pub returns-in_default-price_in : goal.returns-in_default-price_in
 returns-in_default-price_in g c =
     let usage = c.requires.same in
     let price = c.in_default-price_in.ensures.value
-    ∙ (λ i. price_in (ruled_by (c.deref.ensures.value i) c.args.self.now.closed.items
-    c.args.self.now.choices.items c.args.self.now.adopted) (usage i)) in
+    ∙ (λ i. price_under (c.tariffs.ensures i) (usage i)) in
     let book = book_in c.args.self.now in
     record {
       call = accept_calls (g.N.Naming.name_of c.args.self.now.naming) c.args.bytes.now book book _
@@ -59,8 +58,7 @@ pub returns-then-is_full : goal.returns-then-is_full
 returns-then-is_full g c =
     let usage = c.requires.same in
     let price = c.in-Some-price_in.ensures.value
-    ∙ (λ i. price_in (ruled_by (c.deref.ensures.value i) c.args.self.now.closed.items
-    c.args.self.now.choices.items c.args.self.now.adopted) (usage i)) in
+    ∙ (λ i. price_under (c.tariffs.ensures i) (usage i)) in
     let amount = c.in-Some-price_in.priced.amount in
     let book = book_in c.args.self.now in
     record {
@@ -79,17 +77,15 @@ pub invariant_of-self-2 : goal.invariant_of-self-2
 invariant_of-self-2 g c =
     let usage = c.requires.same in
     let price = c.in-Some-price_in.ensures.value
-    ∙ (λ i. price_in (ruled_by (c.deref.ensures.value i) c.args.self.now.closed.items
-    c.args.self.now.choices.items c.args.self.now.adopted) (usage i)) in
+    ∙ (λ i. price_under (c.tariffs.ensures i) (usage i)) in
     let amount = c.in-Some-price_in.priced.amount in
     let ledger = c.args.self.now in
     let names = g.N.Naming.name_of ledger.naming in
     record {
       rising = c.in_ok-insert.ensures.ordered;
       kept = subst
-          (λ entries. AreBooked names
-          (ruled_by ledger.tariffs.items ledger.closed.items ledger.choices.items ledger.adopted)
-          entries (ledger.total + amount))
+          (λ entries. AreBooked names (ruled_by ledger.rulings ledger.choices.items) entries
+          (ledger.total + amount))
           (sym c.in_ok-insert.ensures.entries)
           (kept_with ledger.kept ledger.rising c.args.bytes.now c.name_of-name.result
           c.in_ok-held.held c.in-Some-price_in.priced
@@ -113,7 +109,7 @@ invariant_of-self-2 g c =
           (sym c.in_default.ensures.value) ledger.posted ledger.closed.items ledger.named
           (λ other. ap (under_name other) (sym c.in_ok-insert.ensures.entries)
           ∙ c.in_ok-insert.ensures.updates.0 other));
-      few = ledger.few;
+      counted = ledger.counted;
     }
 
 pub returns : goal.returns
@@ -121,8 +117,7 @@ returns g c =
     let ledger = c.args.self.now in
     let usage = c.requires.same in
     let price = c.in-Some-price_in.ensures.value
-    ∙ (λ i. price_in (ruled_by (c.deref.ensures.value i) ledger.closed.items
-    ledger.choices.items ledger.adopted) (usage i)) in
+    ∙ (λ i. price_under (c.tariffs.ensures i) (usage i)) in
     let amount = c.in-Some-price_in.priced.amount in
     let missing = sym c.in_default.ensures.value in
     record {
@@ -132,11 +127,9 @@ returns g c =
           (sym price) (ap (λ n. nat_le most_held n || nat_lt most_cost (ledger.total + amount))
           (sym c.len-count.ensures.len)
           ∙ sym c.is_full.ensures ∙ c.if-is_full.false))
-          (ap (λ entries. book_with ledger.tariffs.items entries ledger.posted ledger.closed.items
-          ledger.choices.items ledger.adopted)
+          (ap (λ entries. book_with (book_in ledger).rulings entries ledger.posted ledger.closed.items)
           c.in_ok-insert.ensures.entries
-          ∙ book-kept ledger.tariffs.items ledger.held.entries ledger.posted ledger.closed.items
-          ledger.choices.items ledger.adopted
+          ∙ book-kept (book_in ledger).rulings ledger.held.entries ledger.posted ledger.closed.items
           c.name_of-name.result c.in_ok-held.held missing ledger.named
           ∙ ap (λ bytes. keep bytes (book_in ledger)) c.in_ok-held.ensures.bytes);
       naming = refl;

@@ -3,6 +3,7 @@ use Rattle.std.proofs.lemmas.Bool.{ltb-false}
 use Rattle.std.proofs.lemmas.Option.{slice_get_past, slice_get_read}
 use Rattle.std.specs.Prelude.{ok_or, slice_get, ◌-◌}
 use Rattle.book_model.specs.declared.fault.LedgerFault.TheVariants.{NoSuchPeriod}
+use Rattle.book_core.specs.PlainBook.{book_in}
 use Rattle.book_core.proofs.BookLemmas.{period_of-closed, period_of-open}
 use Rattle.book_core.proofs.plain.PlainLedger.period.Goals as goal
 
@@ -10,9 +11,8 @@ pub returns-in-Some : goal.returns-in-Some
 returns-in-Some g c =
     let ledger = c.args.self.now in
     ap (λ found. ok_or found NoSuchPeriod)
-    (period_of-closed ledger.tariffs.items ledger.held.entries ledger.posted ledger.closed.items
-    ledger.choices.items ledger.adopted
-    c.args.number c.in-Some.closed.now (omega arith)
+    (period_of-closed (book_in ledger).rulings ledger.held.entries ledger.posted ledger.closed.items
+    c.args.number c.in-Some.closed.now ledger.counted (omega arith)
     (ap (λ closed. slice_get closed (c.args.number - 1)) (sym c.deref.ensures.value)
     ∙ slice_get_read c.deref.result.now (length c.deref.result.now) (c.args.number - 1)
     c.in-Some.closed.now refl c.in-Some.ensures.lookup.3.0 c.in-Some.ensures.lookup.1))
@@ -21,10 +21,9 @@ pub returns-in_ok-period_end-in-None : goal.returns-in_ok-period_end-in-None
 returns-in_ok-period_end-in-None g c =
     let ledger = c.args.self.now in
     ap (λ found. ok_or found NoSuchPeriod)
-    (period_of-open ledger.tariffs.items ledger.closed.items ledger.choices.items ledger.adopted
-    ledger.kept ledger.rising ledger.posted
+    (period_of-open ledger.kept ledger.rising ledger.posted ledger.closed.items
     c.in_ok-period_end-in-None.field-0 c.args.number c.in_ok-period_end-in-None.ensures
-    (omega arith) (omega arith)
+    ledger.counted (omega arith) (omega arith)
     (ap (λ closed. slice_get closed (c.args.number - 1)) (sym c.deref.ensures.value)
     ∙ slice_get_past c.deref.result.now (c.args.number - 1)
     (ltb-false (c.args.number - 1) (length c.deref.result.now)

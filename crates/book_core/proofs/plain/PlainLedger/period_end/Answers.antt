@@ -1,17 +1,19 @@
-use Rattle.std.proofs.Common.{◌∙◌, [], None, ap, refl, subst}
-use Rattle.book_model.specs.Words.{last_close}
-use Rattle.book_core.specs.Choices.{AreLast}
-use Rattle.book_core.specs.Plain.{ruled_by}
+use Rattle.std.proofs.Common.{◌∙◌, [], ap, refl, nat_le}
+use Rattle.std.specs.Prelude.{count_by}
+use Rattle.book_core.specs.Choices.{last_of}
+use Rattle.book_core.specs.Plain.{entry_has_identity, rulings_of}
 use Rattle.book_core.proofs.plain.PlainLedger.period_end.Goals as goal
 
 pub returns : goal.returns
-returns g c = record {
-  adopted = refl;
-  shared = c.in_ok-shared_identities.ensures;
-  chosen = subst (λ choices. AreLast (ruled_by [] [] choices c.args.self.now.adopted)
-      c.in_ok-last_chosen.field-0)
-      c.deref.ensures.value c.in_ok-last_chosen.ensures;
-  last = c.last_close.ensures
-      ∙ ap (λ closed. last_close (ruled_by [] closed [] None)) c.deref-2.ensures.value;
-  through = refl;
-}
+returns g c =
+    let adopted = c.adopted-adopted.ensures in
+    record {
+      adopted = adopted;
+      shared = λ identity. c.in_ok-shared_identities.ensures identity
+          ∙ ap (λ adopted. nat_le 2 (count_by (entry_has_identity (rulings_of [] adopted) identity)
+          c.args.self.now.held.entries)) adopted;
+      chosen = λ identity. c.in_ok-last_chosen.ensures identity
+          ∙ (λ i. last_of (rulings_of (c.deref.ensures.value i) (adopted i)) identity);
+      last = c.last_close.ensures;
+      through = refl;
+    }

@@ -1,6 +1,5 @@
 use Rattle.std.proofs.Common.{refl, subst, sym}
 use Rattle.sqlite_trees.specs.Tree.{Trees}
-use Rattle.book_model.specs.Words.{no_rulings}
 use Rattle.tree_tables.specs.States.{state}
 use Rattle.tree_tables.specs.Steps.{HasNoRows}
 use Rattle.table_ledger.specs.Commits.{IsAtRest}
@@ -9,11 +8,9 @@ use Rattle.table_ledger.proofs.ledger.TableLedger.create.Goals as goal
 
 pub returns-in-Ok-clause-books : goal.returns-in-Ok-clause-books
 returns-in-Ok-clause-books g c = λ clean rest none.
-    let tariffs = c.new.ensures.items in
-    let closes = c.new-in-Ok.ensures.items in
     let given = sym c.over-tables.ensures in
     created (g.N.Naming.name_of c.args.naming) (state g.S.Store c.make_books.new.tables.store) _
     (λ (trees : Trees). g.met.S.Store.settled c.make_books.new.tables.store trees) clean
     (c.in-Ok.ensures.made clean (subst (λ store. IsAtRest (g.S.Store.view store)) given rest)
     (subst (λ store. HasNoRows (g.S.Store.view store).trees) given none))
-    (λ i. record no_rulings { tariffs = tariffs i; closes = closes i }) refl refl refl
+    c.new.ensures refl refl refl

@@ -1,9 +1,5 @@
-use Rattle.sqlite_trees.specs.Tree.{Trees}
-use Rattle.std.proofs.Common.{Vec, ◌∙◌, sym, true≢false}
-use Rattle.std.specs.Global.{Global}
-use Rattle.book_model.specs.declared.row.ChargeRow.{ChargeRow}
-use Rattle.book_model.specs.Words.{charges_outcome}
-use Rattle.tree_tables.specs.States.{state}
+use Rattle.std.proofs.Common.{◌∙◌, sym, true≢false}
+use Rattle.table_ledger.specs.LedgerState.{ledger_state}
 use Rattle.table_ledger.proofs.OneCall.{call_reopen}
 use Rattle.table_ledger.proofs.FinishedLists.{own_settled}
 use Rattle.table_ledger.proofs.FinishLemmas.{call_settled}
@@ -11,23 +7,12 @@ use Rattle.table_ledger.proofs.ledger.TableLedgerLedger.charges.Goals as goal
 
 pub returns-then-self-clause-rows : goal.returns-then-self-clause-rows
 returns-then-self-clause-rows g c =
-    call_reopen (λ (rows : Vec ChargeRow Global). rows.items)
-    (record {
-      naming = g.N.Naming.name_of c.args.self.now.naming;
-      state = state g.S.Store c.args.self.now.tables.store;
-      must_reopen = c.args.self.now.must_reopen;
-      summary = c.args.self.now.summary;
-    }) (charges_outcome c.args.period) c.if-self.true
+    call_reopen (ledger_state g.S.Store g.N.Naming.name_of c.args.self.now) c.if-self.true
 
 pub returns-clause-rows : goal.returns-clause-rows
 returns-clause-rows g c =
-    let old = c.args.self.now in
-    let names = g.N.Naming.name_of old.naming in
-    call_settled g.S.Store (λ (rows : Vec ChargeRow Global). rows.items) names old.summary old.summary
-    old.tables.store c.try_charges-tried.new.tables.store c.finish.new.tables.store (charges_outcome c.args.period)
-    old.must_reopen c.finish.new.must_reopen c.try_charges-tried.result c.finish.result c.if-self.false
-    (λ (trees : Trees). g.met.S.Store.settled old.tables.store trees)
-    (c.try_charges-tried.ensures.tries names) c.finish.ensures.settles
+    call_settled g.S.Store c.args.self.now.tables.store c.if-self.false g.met.S.Store.settled
+    c.finish.ensures.settles (c.try_charges-tried.ensures.tries _)
 
 -- a ledger that is to be reopened lists nothing
 pub returns-then-self-clause-own : goal.returns-then-self-clause-own
@@ -37,10 +22,6 @@ returns-then-self-clause-own g c = λ other clean books open_now.
 -- what fails is the store's own
 pub returns-clause-own : goal.returns-clause-own
 returns-clause-own g c =
-    let old = c.args.self.now in
-    let names = g.N.Naming.name_of old.naming in
-    own_settled g.S.Store (λ (rows : Vec ChargeRow Global). rows.items) names old.summary
-    old.tables.store c.try_charges-tried.new.tables.store c.finish.new.tables.store (charges_outcome c.args.period)
-    old.must_reopen c.finish.new.must_reopen c.try_charges-tried.result c.finish.result
-    (c.try_charges-tried.ensures.tries names) (c.try_charges-tried.ensures.own names) c.finish.ensures.settles
+    own_settled g.S.Store c.args.self.now.tables.store c.finish.ensures.settles
+    (c.try_charges-tried.ensures.tries _) (c.try_charges-tried.ensures.own _)
     c.finish.ensures.served c.finish.ensures.mended

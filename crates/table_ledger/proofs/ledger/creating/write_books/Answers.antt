@@ -6,21 +6,18 @@ use Rattle.table_ledger.proofs.ledger.creating.write_books.Goals as goal
 
 pub returns-in_err-find_book : goal.returns-in_err-find_book
 returns-in_err-find_book g c = record {
-  makes =
-      makes_failed c.from_residual.result c.from_residual.ensures.0
-      c.in_err-find_book.ensures.looks.survives;
+  makes = makes_failed _ c.from_residual.ensures.0 c.in_err-find_book.ensures.looks.survives;
 }
 
 pub returns-then-is_some : goal.returns-then-is_some
 returns-then-is_some g c = record {
-  makes =
-      makes_none c.in_ok-find_book.ensures.looks.survives;
+  makes = makes_none c.in_ok-find_book.ensures.looks.survives;
 }
 
 pub returns-in_err-make_book : goal.returns-in_err-make_book
 returns-in_err-make_book g c = record {
   makes =
-      makes_failed c.from_residual-in_err-make_book.result c.from_residual-in_err-make_book.ensures.0
+      makes_failed _ c.from_residual-in_err-make_book.ensures.0
       (survives_then c.in_ok-find_book.ensures.looks.survives
       c.in_err-make_book.ensures.makes.survives);
 }

@@ -1,11 +1,5 @@
-use Rattle.std.proofs.Common.{◌∙◌, rules, subst, sym, true≢false}
-use Rattle.sqlite_disk.specs.Disk.{MoreFaults}
-use Rattle.table_model.specs.Tables.{Tables}
-use Rattle.tree_rows.proofs.Failing.{caused_by_memory}
+use Rattle.std.proofs.Common.{◌∙◌, subst, sym, true≢false}
 use Rattle.tree_tables.specs.Fits.{BookFits}
-use Rattle.tree_tables.specs.Holds.{Holds}
-use Rattle.tree_tables.specs.States.{HasCleanDisk, state}
-use Rattle.tree_tables.specs.Steps.{Always, IsCaused}
 use Rattle.tree_tables.proofs.Looking.{any_err, looks_found}
 use Rattle.tree_tables.proofs.TheBook.{book_fits, book_there}
 use Rattle.tree_tables.proofs.tables.TreeTables.find_book.Goals as goal
@@ -20,18 +14,7 @@ returns-then-not-branch g c = record {
       (c.in_ok-find_row.ensures.found clean)).0 ∙ c.if-not-branch.true)));
 }
 
--- for a key only memory may be lacking
-pub returns-in_err-number_key-clause-cause : goal.returns-in_err-number_key-clause-cause
-returns-in_err-number_key-clause-cause g c =
-    let start = state g.S.Store c.args.self.now.store in
-    let cause : HasCleanDisk start → (tables : Tables) → Holds start.view.trees tables
-    → Always tables → IsCaused start start c.in_err-number_key.field-0.0 =
-    λ clean tables holds always.
-    caused_by_memory start.view (MoreFaults start.faults start.faults) _
-    c.in_err-number_key.ensures.memory in
-    search rules
-
--- and the row of a book fits
+-- the row of a book fits
 pub returns-in_err-read_book-clause-cause : goal.returns-in_err-read_book-clause-cause
 returns-in_err-read_book-clause-cause g c =
     any_err c.from_residual-in_err-read_book.result (λ error clean tables holds always.

@@ -1,12 +1,7 @@
-use Rattle.std.proofs.lemmas.Result.{err_from_is_err_and}
-use Rattle.table_model.specs.Tables.{Tables}
 use Rattle.tree_tables.specs.Fits.{EachFits}
-use Rattle.tree_tables.specs.Holds.{Holds}
-use Rattle.tree_tables.specs.States.{HasCleanDisk, state}
-use Rattle.tree_tables.specs.Steps.{IsCaused}
 use Rattle.tree_tables.proofs.ChargedRows.{charged_fits, charged_is, charged_is_named}
 use Rattle.tree_tables.proofs.ChargedRows.{charged_none, name_looked}
-use Rattle.tree_tables.proofs.Looking.{fails_after_look, looks_also, looks_found}
+use Rattle.tree_tables.proofs.Looking.{any_err, err_on, fails_after_look, looks_also, looks_found}
 use Rattle.tree_tables.proofs.tables.TreeTables.find_charged.Goals as goal
 
 -- no record of the identity is charged
@@ -19,16 +14,10 @@ returns-then-not-branch-clause-looks g c =
 -- a mark that fits is read
 pub returns-in_err-name-clause-cause : goal.returns-in_err-name-clause-cause
 returns-in_err-name-clause-cause g c =
-    let start = state g.S.Store c.args.self.now.store in
-    let end = state g.S.Store c.find_mark.new.self.store in
-    let cause : HasCleanDisk end → (tables : Tables) → Holds start.view.trees tables
-    → EachFits tables → IsCaused start end c.in_err-name.field-0.0 =
-    λ clean tables holds fit. absurd (c.in_err-name.ensures.taken
+    any_err c.from_residual-in_err-name.result (λ error clean tables holds fit.
+    absurd (c.in_err-name.ensures.taken
     (charged_fits tables c.args.identity.now c.find_mark.new.self.row holds.marks
-    (rw c.if-not-branch.false at (c.in_ok-find_mark.ensures.found clean)) fit)) in
-    let p = err_from_is_err_and c.from_residual-in_err-name.result
-    c.from_residual-in_err-name.ensures.1 in
-    rw (p.1, p.2) cause
+    (rw c.if-not-branch.false at (c.in_ok-find_mark.ensures.found clean)) fit)))
 
 -- the record of the name is read
 pub returns-clause-looks : goal.returns-clause-looks
@@ -45,18 +34,13 @@ returns-clause-looks g c =
 -- why it was not
 pub returns-in_err-record_named-clause-cause : goal.returns-in_err-record_named-clause-cause
 returns-in_err-record_named-clause-cause g c =
-    let start = state g.S.Store c.args.self.now.store in
-    let end = state g.S.Store c.record_named.new.self.store in
     let named = name_looked g.S.Store c.args.self.now.store c.find_mark.new.self.store
     c.args.identity.now c.in_ok-name.name c.find_mark.new.self.row c.find_mark.ensures.quiet
     c.in_ok-find_mark.ensures.same
     (λ clean. rw c.if-not-branch.false at (c.in_ok-find_mark.ensures.found clean))
     c.in_ok-name.ensures.read in
-    let cause : HasCleanDisk end → (tables : Tables) → Holds start.view.trees tables
-    → EachFits tables → IsCaused start end c.in_err-record_named.field-0.0 =
-    fails_after_look {When = EachFits} _ named c.in_err-record_named.ensures.looks.survives
+    err_on _ c.from_residual-in_err-record_named.result
+    c.from_residual-in_err-record_named.ensures.1
+    (fails_after_look {When = EachFits} _ named c.in_err-record_named.ensures.looks.survives
     (λ clean tables holds names fit. c.in_err-record_named.ensures.cause clean tables holds
-    (charged_is_named tables c.args.identity.now c.in_ok-name.name names fit)) in
-    let p = err_from_is_err_and c.from_residual-in_err-record_named.result
-    c.from_residual-in_err-record_named.ensures.1 in
-    rw (p.1, p.2) cause
+    (charged_is_named tables c.args.identity.now c.in_ok-name.name names fit)))

@@ -1,16 +1,8 @@
 use Rattle.std.proofs.Common.{◌∷◌, [], ◌∙◌}
-use Rattle.tree_tables.proofs.Keying.{keys_kept, keys_none, keys_one}
+use Rattle.tree_tables.proofs.Keying.{keys_kept, keys_one}
 use Rattle.tree_rows.proofs.Calls.{clean_before, unchanged_both}
 use Rattle.tree_tables.proofs.Looking.{found_before}
 use Rattle.tree_tables.proofs.tables.TreeTables.key_next.Goals as goal
-
--- no entry is left
-pub returns-then-not-branch-clause-keys : goal.returns-then-not-branch-clause-keys
-returns-then-not-branch-clause-keys g c clean =
-    keys_none (g.S.Store.view c.args.self.now.store)
-    (g.S.Store.view c.first_past.new.store) c.args.last.now c.first_past.new.row
-    (c.in_ok-first_past.ensures.same clean) c.args.last.now
-    (rw c.if-not-branch.true at (c.in_ok-first_past.ensures.found clean))
 
 -- its record is found by the identity that its row says
 pub returns-then-branch-clause-keys : goal.returns-then-branch-clause-keys

@@ -1,18 +1,7 @@
-use Rattle.std.proofs.Common.{rules}
 use Rattle.table_model.specs.Steps.{rename_rows}
-use Rattle.tree_tables.proofs.Keying.{keying_starts}
 use Rattle.tree_rows.proofs.Calls.{clean_before}
 use Rattle.tree_tables.proofs.Looking.{only_both}
 use Rattle.tree_tables.proofs.tables.TreeTables.key_records.Goals as goal
-
-pub entries-init : goal.entries-init
-entries-init g c = record {
-  only = search rules;
-  keying = λ clean tables found.
-      keying_starts (g.S.Store.view c.args.self.now.store).trees tables c.new-last.result
-      c.new-last.ensures found;
-  quiet = search rules;
-}
 
 -- all are found so
 pub returns-then-not-branch-clause-keyed : goal.returns-then-not-branch-clause-keyed

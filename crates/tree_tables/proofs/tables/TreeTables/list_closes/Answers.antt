@@ -1,20 +1,11 @@
-use Rattle.std.proofs.Common.{◌≤◌, ◌^◌, List, length, subst, sym}
-use Rattle.std.specs.List.{AllByRecursion}
-use Rattle.sqlite_value.specs.Order.{Row}
-use Rattle.tree_tables.proofs.Looking.{err_so, looks_alone}
-use Rattle.tree_tables.specs.Fits.{CloseFits}
-use Rattle.tree_tables.proofs.Rulings.{all_closes, closes_run}
+use Rattle.std.specs.FinMap.{entries}
+use Rattle.tree_tables.proofs.Looking.{looks_told}
+use Rattle.tree_tables.proofs.Rulings.{closes_said}
 use Rattle.tree_tables.proofs.tables.TreeTables.list_closes.Goals as goal
 
 pub returns : goal.returns
 returns g c = record {
-  looks = looks_alone g.S.Store c.list_run.result c.list_run.ensures.quiet
-      c.list_run.ensures.same c.list_run.ensures.kept c.list_run.ensures.found
-      (λ answer found clean tables holds.
-      all_closes _ tables c.clear.new.self answer.items holds c.clear.ensures found);
-  cause = err_so c.list_run.result c.list_run.ensures.cause
-      (λ error cause clean tables holds rows.
-      let run = closes_run _ tables c.clear.new.self holds c.clear.ensures in
-      cause clean (subst (AllByRecursion CloseFits) (sym run) rows.fit)
-      (subst (λ (rows : List Row). length rows ≤ 2 ^ 32) (sym run) rows.few));
+  looks = looks_told c.list_all.result (c.list_all.ensures.looks _ (λ tables holds. holds.closes))
+      (λ tables all. closes_said (entries tables.closes) all.items);
+  cause = c.list_all.ensures.cause _ (λ tables holds. holds.closes);
 }

@@ -1,12 +1,10 @@
-use Rattle.std.proofs.Common.{Ok, rules, subst, sym}
-use Rattle.table_model.specs.Tables.{Tables}
+use Rattle.std.proofs.Common.{Ok, subst, sym}
 use Rattle.tree_rows.specs.Runs.{run_of}
 use Rattle.tree_tables.specs.Answers.{FindsNamed}
 use Rattle.tree_tables.specs.Fits.{AllNamed, EndsInName, RecordsFit, RowsFit}
-use Rattle.tree_tables.specs.Holds.{Holds}
-use Rattle.tree_tables.specs.States.{HasCleanDisk, state}
-use Rattle.tree_tables.specs.Steps.{IsCaused, Looks}
-use Rattle.tree_tables.proofs.Looking.{caused_memory, err_so, fails_after_look, looks_after_look, looks_found}
+use Rattle.tree_tables.specs.States.{state}
+use Rattle.tree_tables.specs.Steps.{Looks}
+use Rattle.tree_tables.proofs.Looking.{err_on, err_so, fails_after_look, looks_after_look, looks_found}
 use Rattle.tree_tables.proofs.RecordLists.{EndIn, all_named, mark_rows, marks_fit, uncharged_found}
 use Rattle.tree_tables.proofs.tables.TreeTables.list_uncharged.Goals as goal
 
@@ -34,25 +32,12 @@ returns g c =
           (all_named tables fit key names.items c.in_ok-number_key.ensures.made ends))));
     }
 
--- for a key only memory may be lacking
-pub returns-in_err-number_key-clause-cause : goal.returns-in_err-number_key-clause-cause
-returns-in_err-number_key-clause-cause g c =
-    let start = state g.S.Store c.args.self.now.store in
-    let cause : HasCleanDisk start → (tables : Tables) → Holds start.view.trees tables
-    → RecordsFit tables → IsCaused start start c.in_err-number_key.field-0.0 =
-    λ clean tables holds fit. caused_memory start start _ c.in_err-number_key.ensures.memory in
-    search rules
-
 -- the rows of the marks fit where those of the records do
 pub returns-in_err-names-clause-cause : goal.returns-in_err-names-clause-cause
 returns-in_err-names-clause-cause g c =
-    let start = state g.S.Store c.args.self.now.store in
-    let end = state g.S.Store c.list_run.new.store in
-    let cause : HasCleanDisk end → (tables : Tables) → Holds start.view.trees tables
-    → RecordsFit tables → IsCaused start end c.in_err-names.field-0.0 =
-    λ clean tables holds fit.
+    err_on _ c.from_residual-in_err-names.result c.from_residual-in_err-names.ensures.1
+    (λ clean tables holds fit.
     let key = c.number_key.new.key in
     let rows = subst (λ rows. RowsFit EndsInName (run_of key rows)) (sym holds.marks)
     (marks_fit tables fit key c.in_ok-number_key.ensures.made) in
-    c.in_err-names.ensures.cause clean rows.fit rows.few in
-    search rules
+    c.in_err-names.ensures.cause clean rows.fit rows.few)

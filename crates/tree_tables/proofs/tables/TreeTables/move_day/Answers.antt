@@ -1,7 +1,7 @@
 use Rattle.std.proofs.Common.{◌≡◌, ◌∙◌, ◌+◌, suc, sym, ap, arith}
 use Rattle.table_model.specs.TablesOf.{row_key}
 use Rattle.tree_tables.specs.Columns.{day_columns}
-use Rattle.tree_tables.proofs.MoveDays.{none_found, one_moved, other_found, some_looked, some_more}
+use Rattle.tree_tables.proofs.MoveDays.{one_moved, other_found, some_looked, some_more}
 use Rattle.tree_rows.proofs.Calls.{clean_before}
 use Rattle.tree_tables.proofs.tables.TreeTables.move_day.Goals as goal
 
@@ -16,16 +16,7 @@ returns-then-not-is_of-clause-moved g c clean =
     some_looked c.args.close.now.period c.args.close.now.through
     (c.in_ok-first_from.ensures.same clean)
 
--- no row is left
-pub returns-then-not-branch-clause-ended : goal.returns-then-not-branch-clause-ended
-returns-then-not-branch-clause-ended g c ended clean =
-    none_found c.args.close.now.period c.args.close.now.through
-    (g.S.Store.view c.args.self.now.store) (g.S.Store.view c.first_from.new.store)
-    c.first_from.new.row c.in_ok-first_from.field-0
-    (c.in_ok-first_from.ensures.same clean) (c.in_ok-first_from.ensures.found clean)
-    c.in_ok-later_key.ensures c.if-not-branch.true
-
--- or none of the period
+-- where the row that is found is of another period, none of the period is left
 pub returns-then-not-is_of-clause-ended : goal.returns-then-not-is_of-clause-ended
 returns-then-not-is_of-clause-ended g c ended clean =
     other_found c.args.close.now.period c.args.close.now.through

@@ -1,20 +1,11 @@
-use Rattle.std.proofs.Common.{false, rules, subst, w32}
+use Rattle.std.proofs.Common.{subst, w32}
 use Rattle.std.proofs.lemmas.Int.{to_z-of_z}
 use Rattle.table_model.specs.Steps.{post_by}
 use Rattle.tree_rows.proofs.Calls.{clean_before, quiet_both}
 use Rattle.tree_tables.proofs.Looking.{does_well, only_both}
-use Rattle.tree_tables.proofs.Renewing.{posted_held, renewing_starts}
+use Rattle.tree_tables.proofs.Renewing.{posted_held}
 use Rattle.tree_tables.specs.Walks.{IsRenewing, RenewsNext}
 use Rattle.tree_tables.proofs.tables.TreeTables.post_records.Goals as goal
-
-pub steps-init : goal.steps-init
-steps-init g c = record {
-  only = search rules;
-  renewing = λ clean tables holds.
-      renewing_starts (post_by _) (g.S.Store.view c.args.self.now.store).trees tables c.clear.new.self
-      c.clear.ensures holds;
-  quiet = search rules;
-}
 
 -- all are posted
 pub returns-then-not-branch : goal.returns-then-not-branch

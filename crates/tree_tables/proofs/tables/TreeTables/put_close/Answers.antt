@@ -1,21 +1,18 @@
-use Rattle.std.specs.FinMap.{insert}
-use Rattle.tree_rows.proofs.Keyed.{rows_put}
-use Rattle.tree_tables.proofs.Holding.{with_closes}
+use Rattle.table_model.specs.Steps.{put_close_row}
+use Rattle.table_model.specs.Tables.{Tables}
+use Rattle.tree_tables.proofs.Holding.{table_put, with_closes}
 use Rattle.tree_tables.proofs.Layouts.{closed_layout}
 use Rattle.tree_tables.proofs.Looking.{does_alone}
 use Rattle.tree_tables.proofs.tables.TreeTables.put_close.Goals as goal
 
 pub returns : goal.returns
-returns g c = record {
-  does = does_alone g.S.Store c.put_row.result c.put_row.ensures.quiet c.put_row.ensures.kept
-      c.put_row.ensures.puts
-      (λ clean puts. record {
-        only = puts.rewrites.only;
-        made = λ tables holds when.
-            let period = c.args.close.now.period in
-            let day = c.args.close.now.through in
-            with_closes holds (insert tables.closes period day) puts.rewrites.others
-            (rows_put closed_layout tables.closes period day puts holds.closes
-            c.in_ok-period_key.ensures.made c.in_ok-close_row.ensures);
-      });
-}
+returns g c =
+    let close = c.args.close.now in
+    record {
+      does = does_alone g.S.Store c.put_row.result c.put_row.ensures.quiet c.put_row.ensures.kept
+          c.put_row.ensures.puts (λ clean puts. table_put closed_layout
+          (λ (tables : Tables). tables.closes) close.period close.through
+          (put_close_row close.period close.through) puts c.in_ok-period_key.ensures.made
+          c.in_ok-close_row.ensures (λ tables holds. holds.closes)
+          (λ tables holds. with_closes holds _));
+    }

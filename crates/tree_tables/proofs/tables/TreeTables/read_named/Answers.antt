@@ -1,11 +1,6 @@
-use Rattle.std.proofs.lemmas.Result.{err_from_is_err_and}
-use Rattle.table_model.specs.Tables.{Tables}
 use Rattle.tree_tables.specs.Fits.{AllNamed}
-use Rattle.tree_tables.specs.Holds.{Holds}
-use Rattle.tree_tables.specs.States.{HasCleanDisk, state}
-use Rattle.tree_tables.specs.Steps.{IsCaused}
 use Rattle.tree_tables.proofs.FoundNames.{named_more, one_named}
-use Rattle.tree_tables.proofs.Looking.{fails_after_look, looks_also}
+use Rattle.tree_tables.proofs.Looking.{err_on, fails_after_look, looks_also}
 use Rattle.tree_tables.proofs.tables.TreeTables.read_named.Goals as goal
 
 -- one more record is found
@@ -19,22 +14,15 @@ loop-named-preserved g c =
 -- why a record was not found, after the others
 pub returns-in_err-record-clause-cause : goal.returns-in_err-record-clause-cause
 returns-in_err-record-clause-cause g c =
-    let start = state g.S.Store c.args.self.now.store in
-    let end = state g.S.Store c.record_named.new.self.store in
     let names = c.args.names.now in
-    let cause : HasCleanDisk end → (tables : Tables) → Holds start.view.trees tables
-    → AllNamed names tables → IsCaused start end c.in_err-record.field-0.0 =
-    fails_after_look {When = AllNamed names} _ c.loop-named.invariant
+    err_on _ c.from_residual.result c.from_residual.ensures.1
+    (fails_after_look {When = AllNamed names} _ c.loop-named.invariant
     c.in_err-record.ensures.looks.survives (λ clean tables holds so_far all.
     c.in_err-record.ensures.cause clean tables holds
-    (one_named tables names c.loop-named.named-index _ c.loop-named-test.true all)) in
-    let p = err_from_is_err_and c.from_residual.result
-    c.from_residual.ensures.1 in
-    rw (p.1, p.2) cause
+    (one_named tables names c.loop-named.named-index _ c.loop-named-test.true all)))
 
 -- for the list only memory may be lacking
 pub returns-in_err-push-clause-cause : goal.returns-in_err-push-clause-cause
 returns-in_err-push-clause-cause g c =
-    let p = err_from_is_err_and c.from_residual-in_err-push.result
-    c.from_residual-in_err-push.ensures.1 in
-    rw (p.1, p.2) (λ clean tables holds all. tt)
+    err_on _ c.from_residual-in_err-push.result c.from_residual-in_err-push.ensures.1
+    (λ clean tables holds all. tt)

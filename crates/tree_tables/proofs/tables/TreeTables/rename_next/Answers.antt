@@ -1,4 +1,4 @@
-use Rattle.std.proofs.Common.{false, refl, true}
+use Rattle.std.proofs.Common.{refl}
 use Rattle.table_model.specs.TableChanges.{by_second_rule}
 use Rattle.tree_rows.proofs.Calls.{clean_before}
 use Rattle.tree_tables.proofs.Renewing.{renews_none, renews_one}

@@ -1,18 +1,6 @@
-use Rattle.std.proofs.Common.{rules}
-use Rattle.table_model.specs.TableChanges.{by_second_rule}
 use Rattle.tree_rows.proofs.Calls.{clean_before}
 use Rattle.tree_tables.proofs.Looking.{only_both}
-use Rattle.tree_tables.proofs.Renewing.{renewing_starts}
 use Rattle.tree_tables.proofs.tables.TreeTables.rename_rows.Goals as goal
-
-pub rows-init : goal.rows-init
-rows-init g c = record {
-  only = search rules;
-  renewing = λ clean tables holds.
-      renewing_starts by_second_rule (g.S.Store.view c.args.self.now.store).trees tables
-      c.clear.new.self c.clear.ensures holds;
-  quiet = search rules;
-}
 
 -- all rows have theirs
 pub returns-then-not-branch-clause-renamed : goal.returns-then-not-branch-clause-renamed

@@ -1,28 +1,24 @@
-use Rattle.std.proofs.Common.{◌∙◌}
-use Rattle.tree_rows.proofs.Calls.{clean_before}
-use Rattle.tree_tables.proofs.Looking.{does_after_look}
-use Rattle.tree_tables.proofs.TheBook.{book_there, book_rewritten, book_said, book_row_is}
+use Rattle.std.proofs.Common.{◌∙◌, ap}
+use Rattle.table_model.specs.Tables.{BookRow}
+use Rattle.tree_tables.proofs.TheBook.{book_changes}
 use Rattle.tree_tables.proofs.tables.TreeTables.set_sums.Goals as goal
 
 pub returns : goal.returns
-returns g c = record {
-  does = does_after_look g.S.Store c.change_row.result c.find_row.ensures.quiet
-      c.in_ok-find_row.ensures.same c.change_row.ensures.quiet c.change_row.ensures.kept
-      c.change_row.ensures.done
-      (λ clean rewritten tables holds when.
-      let before = clean_before g.S.Store c.change_row.ensures.quiet clean in
-      let there = book_there _ tables.book c.number_key.new.key c.find_row.new.row
-      c.in_ok-find_row.field-0 holds.book c.in_ok-number_key.ensures.made
-      (c.in_ok-find_row.ensures.found before) in
-      let said = book_said c.find_row.new.row tables.book c.in_ok-read_book.field-0.rule
-      c.in_ok-read_book.field-0.adopted there.1 c.in_ok-read_book.ensures.rule
-      c.in_ok-read_book.ensures.adopted in
-      let made = c.with_sums-book.ensures in
-      book_rewritten (g.S.Store.view c.args.self.now.store) (record tables.book {
-        held = c.args.sums.now.held;
-        amount = c.args.sums.now.amount;
-      }) (c.in_ok-find_row.ensures.same before) rewritten there.1
-      (book_row_is c.book_row.new.row tables.book c.with_sums-book.result
-      c.args.sums.now.held c.args.sums.now.amount c.in_ok-book_row.ensures
-      (made.rule ∙ said.0) (made.adopted ∙ said.1) made.held made.amount) holds);
-}
+returns g c =
+    let sums = c.args.sums.now in
+    let made = c.with_sums-book.ensures in
+    record {
+      does = book_changes g.S.Store (λ book. record book { held = sums.held; amount = sums.amount })
+          c.in_ok-read_book.field-0 c.with_sums-book.result c.change_row.result
+          c.find_row.ensures.quiet c.in_ok-find_row.ensures.same c.in_ok-find_row.ensures.found
+          c.in_ok-number_key.ensures.made c.change_row.ensures.quiet c.change_row.ensures.kept
+          c.change_row.ensures.done c.in_ok-read_book.ensures.rule
+          c.in_ok-read_book.ensures.adopted c.in_ok-read_book.ensures.held
+          c.in_ok-read_book.ensures.amount c.in_ok-book_row.ensures
+          (λ book is i. record {
+            rule = (made.rule ∙ ap (λ (b : BookRow). b.rule) is) i;
+            adopted = (made.adopted ∙ ap (λ (b : BookRow). b.adopted) is) i;
+            held = made.held i;
+            amount = made.amount i;
+          });
+    }

@@ -1,0 +1,124 @@
+//! The refusals of the books by their numbers, and what is said of each.
+
+ghost use Rattle.std.specs.Prelude.{◌≡◌, Some};
+ghost use Rattle.book_model.specs.Faults.{ledger_number};
+ghost use Rattle.program_output.specs.Explanations.{Explains, HasFaultNumber, texts_of};
+ghost use Rattle.program_output.specs.Meanings as spec;
+
+use crate::explanations::{Explanation, FaultKind};
+use book_core::LedgerFault;
+use tariff_rules::TariffFault;
+
+/// The refusal of the books that has a number.
+fn of_number(number: u16) -> Option<LedgerFault>
+    ensures { HasFaultNumber ledger_number number result }
+{
+    match number {
+        1 => Some(LedgerFault::Memory),
+        2 => Some(LedgerFault::Store),
+        3 => Some(LedgerFault::Reopen),
+        4 => Some(LedgerFault::Full),
+        5 => Some(LedgerFault::DigestClash),
+        6 => Some(LedgerFault::TariffDate),
+        7 => Some(LedgerFault::TariffExists),
+        8 => Some(LedgerFault::RecordsDated),
+        9 => Some(LedgerFault::WrongPeriod(0)),
+        10 => Some(LedgerFault::NotLater),
+        11 => Some(LedgerFault::NoSuchPeriod),
+        12 => Some(LedgerFault::NoSuchRecord),
+        13 => Some(LedgerFault::NotDisputed),
+        14 => Some(LedgerFault::OldRule),
+        15 => Some(LedgerFault::TariffRefused(TariffFault::Syntax)),
+        16 => Some(LedgerFault::NotBooks),
+        _ => None,
+    }
+}
+
+/// What a refusal of the books means, and what to do about it.
+#[tactic(auto, unfolding(crate::specs::Meanings::ledger_texts))]
+fn explanation_of(fault: LedgerFault) -> Explanation
+    ensures { texts_of (ledger_number fault) spec.ledger_texts
+        ≡ Some (result.meaning.now, result.advice.now) }
+{
+    match fault {
+        LedgerFault::Memory => Explanation {
+            meaning: "There was not enough memory for this step. What was answered before it still \
+                 holds.",
+            advice: "Run the command again with more memory; nothing is counted twice.",
+        },
+        LedgerFault::Store => Explanation {
+            meaning: "The file of the books could not be read or written, or its contents are not \
+                 books.",
+            advice: "Check the disk and the file's permissions, then run the command again; nothing \
+                 is counted twice.",
+        },
+        LedgerFault::Reopen => Explanation {
+            meaning: "The books have to be opened again after a fault in their file.",
+            advice: "Run the command again; nothing is counted twice.",
+        },
+        LedgerFault::Full => Explanation {
+            meaning: "A limit is reached: 50,000,000 records, their total cost, 9,999 periods or \
+                 1,000,000 choices.",
+            advice: "Begin new books; if a tariff was refused, submit one with lower prices.",
+        },
+        LedgerFault::DigestClash => Explanation {
+            meaning: "Another record has the same SHA-256 name as a record that is held. The first one \
+                 is kept.",
+            advice: "Keep the dump: this is not known to have happened anywhere.",
+        },
+        LedgerFault::TariffDate => Explanation {
+            meaning: "The tariff begins no later than the last close or the last tariff.",
+            advice: "Date it later than both; held records that are dated on its first day or later \
+                 are priced anew.",
+        },
+        LedgerFault::TariffExists => Explanation {
+            meaning: "Another tariff begins on the same day.",
+            advice: "Date this one later.",
+        },
+        LedgerFault::RecordsDated => Explanation {
+            meaning: "An old number, no longer in use: records are dated on a tariff's first day or \
+                 later.",
+            advice: "There is nothing to do: such records are priced anew.",
+        },
+        LedgerFault::WrongPeriod(_) => Explanation {
+            meaning: "Another period is open; its number follows this one.",
+            advice: "Close that period first, or name it.",
+        },
+        LedgerFault::NotLater => Explanation {
+            meaning: "The day is not later than that of the last close.",
+            advice: "Name a later day.",
+        },
+        LedgerFault::NoSuchPeriod => Explanation {
+            meaning: "There is no such period yet: periods are numbered from 1 to the open one.",
+            advice: "Ask for one of these.",
+        },
+        LedgerFault::NoSuchRecord => Explanation {
+            meaning: "No record of that name is held.",
+            advice: "Take the name from the list of disputes.",
+        },
+        LedgerFault::NotDisputed => Explanation {
+            meaning: "No held record contradicts that one: it is charged already.",
+            advice: "Take the name from the list of disputes.",
+        },
+        LedgerFault::OldRule => Explanation {
+            meaning: "The second rule of identity is in force, and the first can't come back.",
+            advice: "There is nothing to do.",
+        },
+        LedgerFault::TariffRefused(_) => Explanation {
+            meaning: "The text is not a tariff.",
+            advice: "The line on standard error has the tariff's own number: see explain tariff.",
+        },
+        LedgerFault::NotBooks => Explanation {
+            meaning: "The file holds no books.",
+            advice: "Name another file, or make new books with init.",
+        },
+    }
+}
+
+/// What the refusal of the books with a number means, and what to do about it.
+pub(crate) fn explained(number: u16) -> Option<Explanation>
+    ensures { Explains FaultKind.Ledger number result }
+{
+    let fault = of_number(number)?;
+    Some(explanation_of(fault))
+}
