@@ -342,10 +342,10 @@ class History:
 
     def ask_more(self):
         """Asks for a table, and of periods that are not there."""
-        books, behind = self.books, self.books.open + 1
-        for period in (max(1, books.open - 1), 0, behind):
+        books, later = self.books, self.books.open + 1
+        for period in (max(1, books.open - 1), 0, later):
             self.ask("table %d" % period, books.of_period(books.table, period))
-        self.ask("statement %d" % behind, books.of_period(books.statement, behind))
+        self.ask("statement %d" % later, books.of_period(books.statement, later))
         self.ask("adjustments 0", books.of_period(books.adjustments, 0))
 
     def ask_books(self, words, answer, body=()):

@@ -12,7 +12,7 @@ class NotKnown(Exception):
 
 
 def read(script):
-    """Each line of a script that is no answer, with its body and the answer behind it."""
+    """Each line of a script that is no answer, with its body and the answer after it."""
     lines = []
     for line in script.splitlines():
         if line.startswith("|"):
@@ -163,7 +163,7 @@ class Rows:
         self.is_counted = False
 
     def is_refused(self):
-        """Counts a call of the books, and tells whether it is the one that is refused."""
+        """Counts a call of the books, and says whether it is the one that is refused."""
         if self.calls_left is None:
             return False
         self.calls_left -= 1

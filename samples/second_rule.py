@@ -13,7 +13,7 @@ SCRIPTS = {
                         "calls accounts classes disputes statements reports largest one_name requests "
                         "requests_imports requests_failures",
     "second_rule_flat.rows": "flat_books",
-    "second_rule_in_tables.rows": "kept_rows table_model kept_choices changed_rows unavailable",
+    "second_rule_in_tables.rows": "kept_rows kept_tables kept_choices changed_rows unavailable",
     "second_rule_in_files.rows": "choices_in_files"}
 
 
