@@ -21,18 +21,16 @@ use Rattle.book_model.specs.declared.answer.Ruled.{Ruled}
 use Rattle.book_model.specs.declared.answer.Ruled.TheVariants.{Done, Already}
 use Rattle.book_model.proofs.StepLemmas.{books_follow_history}
 use Rattle.book_core.specs.Ledgers.{Seen}
-use Rattle.book_core.specs.Transition.{Transition, Then, IsTransition}
+use Rattle.book_core.specs.Transition.{Transition, NoEvent, Then, IsTransition}
 use Rattle.book_core.specs.Calls.{Makes, Calls, listed}
-use Rattle.book_core.specs.Follow.{FollowsHistory}
+use Rattle.book_core.specs.Follow.{FollowsHistory, MakesAnswered}
 use Rattle.book_core.proofs.NamedLemmas.{its_name}
 use Rattle.book_core.proofs.TransitionLemmas.{after_all-append}
 
--- such work makes answered events of the book of any history that calls made
-abbrev pub MakesAnswered : Naming → Transition → Type 0
-MakesAnswered naming Made =
-    (history : List Event) (was : Bool) (events : List Event) (is : Bool)
-    → Made was (book_after history) events is
-    → IsMadeByCalls naming history → IsMadeByCalls naming (events ++ history)
+-- work without an event makes none
+pub none_answered : (naming : Naming) → MakesAnswered naming NoEvent
+none_answered naming = λ history was events is none answered.
+    subst (λ events. IsMadeByCalls naming (events ++ history)) (sym none.none) answered
 
 -- the book after events is that of the history with them
 pub after_all-book_of : (events history : List Event)

@@ -1,13 +1,28 @@
 //! The books in a store, and the store of a file, which is closed after a visit. What is done to
 //! open books is written for any store, so that it is proved once.
 
+ghost use Rattle.std.specs.Prelude.{◌≡◌, true, false, is_some, ⊤, IfErr, IfOk, IsTrue};
 ghost use Rattle.sqlite_store.specs.FileStore.{view};
+ghost use Rattle.sqlite_trees.specs.Tree.{Trees};
 ghost use Rattle.sqlite_trees.specs.View.{IsClean};
-ghost use Rattle.tree_tables.specs.Holds.{HasShapes};
+ghost use Rattle.sqlite_wal.specs.Reads.{AreClean};
+ghost use Rattle.sqlite_wal.specs.Recovery.{Image};
+ghost use Rattle.book_model.specs.Words.{Book};
+ghost use Rattle.book_trees.specs.Closing.{IsShort, MayBeFound};
+ghost use Rattle.book_files.specs.Faults.{HasFaultCause, IsResumed, store_fault};
+ghost use Rattle.book_files.specs.NewBooks.{IsEmpty, LeavesNew, LeavesNewBooks};
+ghost use Rattle.book_files.specs.Unused.{SaysUnused, are_unused, unused_by};
+ghost use Rattle.book_restarts.specs.FileBooks.{HoldsBook, LeavesBook, LeavesTrees, StandsAt};
+ghost use Rattle.book_restarts.specs.FileBooks.{done_by, file_names};
+ghost use Rattle.table_ledger.specs.Ready.{IsStoredIn};
+ghost use Rattle.table_model.specs.TablesOf.{tables_of};
+ghost use Rattle.tree_tables.specs.Holds.{HasShapes, has_book};
+ghost use Rattle.tree_tables.specs.States.{HasCleanDisk, state};
+ghost use Rattle.tree_tables.specs.Steps.{Looks};
 
 use book_audit::{Audited, Watch, audit_trees};
 use book_core::{LedgerFault, ShaNames};
-use book_trees::checkpoint_log;
+use book_trees::{Closed, close_books};
 use office::{RepositoryFault, Visit};
 use sqlite_disk::{Disk, Files};
 use sqlite_store::FileStore;
@@ -15,51 +30,91 @@ use sqlite_trees::error::StoreError;
 use sqlite_trees::store::Store;
 use std::alloc::Global;
 use table_ledger::TableLedger;
-use tree_tables::TreeTables;
+use tree_tables::{StoredBook, TreeTables};
 
-/// Visits the books in a store. They name records by SHA-256. The store is given back.
+/// Visits the books in a store. They name records by SHA-256. The store is given back: whatever a
+/// stop may leave of it holds what the visit made of its book.
 fn visit_in<S: Store, V: Visit + Drop>(
     alloc: Global,
     store: S,
     visit: V,
-) -> (Result<V::Answer, LedgerFault>, S)
+) -> (Result<V::Answer, RepositoryFault>, S)
     requires { IsClean (S.Store.view store) → HasShapes (S.Store.view store) }
+    ensures left { (book : Book) → StandsAt file_names book (S.Store.view store)
+        → IsClean (S.Store.view result.1) → (trees : Trees) → S.Store.recovers result.1 trees
+        → LeavesTrees file_names (done_by V.Visit.work file_names visit result.0) book trees }
+    ensures clean { IsClean (S.Store.view result.1) → IsClean (S.Store.view store) }
+    ensures there { IfOk result.0 (λ answer. IsClean (S.Store.view result.1)
+        → has_book (S.Store.view store).trees ≡ true) }
+    ensures cause { IfErr result.0 (λ fault. IsClean (S.Store.view result.1)
+        → HasFaultCause (has_book (S.Store.view store).trees ≡ false) ⊥ ⊤ fault) }
 {
     match TableLedger::open(alloc, store, ShaNames) {
         Ok(mut books) => {
             let answer = visit.visit(&mut books);
             (Ok(answer), books.close_store())
         }
-        Err((fault, store)) => (Err(fault), store),
+        Err((fault, store)) => (Err(RepositoryFault::Ledger(fault)), store),
     }
 }
 
 /// Makes new books in a store that has none. The store is given back.
-fn make_in<S: Store>(alloc: Global, store: S) -> (Result<(), LedgerFault>, S)
+fn make_in<S: Store>(alloc: Global, store: S) -> (Result<(), RepositoryFault>, S)
     requires { IsClean (S.Store.view store) → HasShapes (S.Store.view store) }
+    ensures left { (IsClean (S.Store.view store) → IsEmpty (S.Store.view store))
+        → IsClean (S.Store.view result.1) → (trees : Trees) → S.Store.recovers result.1 trees
+        → LeavesNew file_names (S.Store.view store) result.0 trees }
+    ensures clean { IsClean (S.Store.view result.1) → IsClean (S.Store.view store) }
+    ensures kinds { IfErr result.0 (HasFaultCause ⊥ ⊥ ⊤) }
 {
     match TableLedger::create(alloc, store, ShaNames) {
         Ok(books) => (Ok(()), books.close_store()),
-        Err((fault, store)) => (Err(fault), store),
+        Err((fault, store)) => (Err(RepositoryFault::Ledger(fault)), store),
     }
 }
 
+/// Whether nothing was submitted to books with this row, and as many tariffs and closes.
+fn is_unused(book: &StoredBook, tariffs: usize, closes: usize) -> bool
+    ensures { result ≡ unused_by tariffs closes book.now.held book.now.adopted }
+{
+    let is_unruled = (tariffs == 0) & (closes == 0);
+    let is_empty = book.held == 0;
+    let is_first_rule = book.adopted == 0;
+    is_unruled & is_empty & is_first_rule
+}
+
 /// Whether nothing was submitted to books yet, if their row is there.
-fn are_new<S: Store>(
-    alloc: Global,
-    tables: &mut TreeTables<S>,
-) -> Result<Option<bool>, StoreError> {
+fn are_new<S: Store>(alloc: Global, tables: &mut TreeTables<S>) -> Result<Option<bool>, StoreError>
+    ensures looks { Looks result (state S.Store tables.old.store) (state S.Store tables.new.store)
+        SaysUnused }
+    ensures row { IfOk result (λ found. HasCleanDisk (state S.Store tables.new.store)
+        → is_some found ≡ has_book (S.Store.view tables.old.store).trees) }
+{
     let Some(book) = tables.find_book()? else {
         return Ok(None);
     };
     let tariffs = tables.list_tariffs(alloc)?;
     let closes = tables.list_closes(alloc)?;
-    let has_none = tariffs.is_empty() && closes.is_empty();
-    Ok(Some(has_none && book.held == 0 && book.adopted == 0))
+    Ok(Some(is_unused(&book, tariffs.len(), closes.len())))
+}
+
+/// The same of the books in a store, which is given back.
+fn look_for_new<S: Store>(alloc: Global, store: S) -> (Result<Option<bool>, StoreError>, S)
+    requires { IsClean (S.Store.view store) → HasShapes (S.Store.view store) }
+    ensures looks { Looks result.0 (state S.Store store) (state S.Store result.1) SaysUnused }
+    ensures row { IfOk result.0 (λ found. HasCleanDisk (state S.Store result.1)
+        → is_some found ≡ has_book (S.Store.view store).trees) }
+    ensures shaped { IsClean (S.Store.view result.1) → HasShapes (S.Store.view result.1) }
+{
+    let mut tables = TreeTables::over(alloc, store);
+    let found = are_new(alloc, &mut tables);
+    (found, tables.into_store())
 }
 
 /// What a fault of the store means.
-fn fault_of(error: StoreError) -> RepositoryFault {
+fn fault_of(error: StoreError) -> RepositoryFault
+    ensures { result ≡ store_fault error }
+{
     RepositoryFault::Ledger(match error {
         StoreError::OutOfMemory => LedgerFault::Memory,
         _ => LedgerFault::Store,
@@ -67,70 +122,102 @@ fn fault_of(error: StoreError) -> RepositoryFault {
 }
 
 /// Continues new books that were stopped while they were made, with or without their row. Books to
-/// which anything was submitted belong to somebody.
+/// which anything was submitted belong to somebody: nothing is written to them.
 fn resume_in<S: Store>(alloc: Global, store: S) -> (Result<(), RepositoryFault>, S)
     requires { IsClean (S.Store.view store) → HasShapes (S.Store.view store) }
+    ensures held { (book : Book) → StandsAt file_names book (S.Store.view store)
+        → IsClean (S.Store.view result.1) → (trees : Trees) → S.Store.recovers result.1 trees
+        → IsStoredIn file_names book trees }
+    ensures told { (book : Book) → StandsAt file_names book (S.Store.view store)
+        → IsClean (S.Store.view result.1)
+        → IsResumed (are_unused (tables_of file_names book)) result.0 }
+    ensures left { (IsClean (S.Store.view store) → IsEmpty (S.Store.view store))
+        → IsClean (S.Store.view result.1) → (trees : Trees) → S.Store.recovers result.1 trees
+        → LeavesNew file_names (S.Store.view store) result.0 trees }
+    ensures clean { IsClean (S.Store.view result.1) → IsClean (S.Store.view store) }
+    ensures cause { IfErr result.0 (λ fault. IsClean (S.Store.view result.1)
+        → HasFaultCause ⊥ (has_book (S.Store.view store).trees ≡ true) ⊤ fault) }
 {
-    let mut tables = TreeTables::over(alloc, store);
-    let found = are_new(alloc, &mut tables);
-    let store = tables.into_store();
-    match found {
-        Ok(None) => {
-            let (made, store) = make_in(alloc, store);
-            (made.map_err(RepositoryFault::Ledger), store)
-        }
-        Ok(Some(true)) => (Ok(()), store),
-        Ok(Some(false)) => (Err(RepositoryFault::Exists), store),
-        Err(error) => (Err(fault_of(error)), store),
+    let (found, store) = look_for_new(alloc, store);
+    let found = match found {
+        Ok(found) => found,
+        Err(error) => return (Err(fault_of(error)), store),
+    };
+    let Some(is_new) = found else {
+        return make_in(alloc, store);
+    };
+    if is_new {
+        (Ok(()), store)
+    } else {
+        (Err(RepositoryFault::Exists), store)
     }
 }
 
-/// Closes the store of a file, and brings what its log holds into the file. A fault here loses
-/// nothing, and is ignored. Until the files that are given back are dropped nobody else has them.
-fn close<D: Disk>(store: FileStore<D>) -> Files<D> {
-    let mut store = store;
-    let _ = checkpoint_log(&mut store);
-    store.close()
-}
-
-/// What came of open books, after which the file is closed.
-fn closed<D: Disk, T: Drop>(
-    came: (Result<T, LedgerFault>, FileStore<D>),
-) -> (Result<T, RepositoryFault>, Files<D>) {
-    let (answer, store) = came;
-    (answer.map_err(RepositoryFault::Ledger), close(store))
-}
-
-/// Visits the books in a file that was opened, and closes it.
+/// Visits the books in a file that was opened, and closes it: whatever may be found of it then, and
+/// wherever a stop comes within this, holds what the visit made of the book.
 pub(crate) fn visit_and_close<D: Disk, V: Visit + Drop>(
     alloc: Global,
     store: FileStore<D>,
     visit: V,
-) -> (Result<V::Answer, RepositoryFault>, Files<D>)
+) -> (Result<V::Answer, RepositoryFault>, Closed<D>)
     requires { HasShapes (view store) }
+    ensures left { IsTrue result.1.is_kept → (book : Book) → StandsAt file_names book (view store)
+        → (image : Image) → MayBeFound D.Disk result.1.files image
+        → ∥ LeavesBook file_names (done_by V.Visit.work file_names visit result.0) book image ∥₁ }
+    ensures short { IsShort D.Disk result.1 }
+    ensures clean { AreClean D.Disk result.1.files.log result.1.files.db → IsClean (view store) }
+    ensures there { IfOk result.0 (λ answer.
+        AreClean D.Disk result.1.files.log result.1.files.db
+        → has_book (view store).trees ≡ true) }
+    ensures cause { IfErr result.0 (λ fault.
+        AreClean D.Disk result.1.files.log result.1.files.db
+        → HasFaultCause (has_book (view store).trees ≡ false) ⊥ ⊤ fault) }
 {
-    closed(visit_in(alloc, store, visit))
+    let (answer, store) = visit_in(alloc, store, visit);
+    (answer, close_books(store))
 }
 
-/// Makes new books in a file whose trees were made, and closes it.
+/// Makes new books in a file whose trees were made, and closes it. Whatever may be found of it then,
+/// and wherever a stop comes within this, are the new books; or, where they were not made, the trees
+/// may still be as they were.
 pub(crate) fn make_and_close<D: Disk>(
     alloc: Global,
     store: FileStore<D>,
-) -> (Result<(), RepositoryFault>, Files<D>)
+) -> (Result<(), RepositoryFault>, Closed<D>)
     requires { HasShapes (view store) }
+    ensures left { IsTrue result.1.is_kept → (IsClean (view store) → IsEmpty (view store))
+        → (image : Image) → MayBeFound D.Disk result.1.files image
+        → LeavesNewBooks file_names (view store) result.0 image }
+    ensures kinds { IfErr result.0 (HasFaultCause ⊥ ⊥ ⊤) }
 {
-    closed(make_in(alloc, store))
+    let (made, store) = make_in(alloc, store);
+    (made, close_books(store))
 }
 
-/// Continues new books in a file that was left while they were made, and closes it.
+/// Continues new books in a file that was left while they were made, and closes it. Whatever may be
+/// found of it then, and wherever a stop comes within this: books are as they were, and where all
+/// tables had no row, new books are made as ever.
 pub(crate) fn resume_and_close<D: Disk>(
     alloc: Global,
     store: FileStore<D>,
-) -> (Result<(), RepositoryFault>, Files<D>)
+) -> (Result<(), RepositoryFault>, Closed<D>)
     requires { HasShapes (view store) }
+    ensures held { IsTrue result.1.is_kept → (book : Book) → StandsAt file_names book (view store)
+        → (image : Image) → MayBeFound D.Disk result.1.files image
+        → HoldsBook file_names book image }
+    ensures told { (book : Book) → StandsAt file_names book (view store)
+        → AreClean D.Disk result.1.files.log result.1.files.db
+        → IsResumed (are_unused (tables_of file_names book)) result.0 }
+    ensures left { IsTrue result.1.is_kept → (IsClean (view store) → IsEmpty (view store))
+        → (image : Image) → MayBeFound D.Disk result.1.files image
+        → LeavesNewBooks file_names (view store) result.0 image }
+    ensures clean { AreClean D.Disk result.1.files.log result.1.files.db → IsClean (view store) }
+    ensures cause { IfErr result.0 (λ fault.
+        AreClean D.Disk result.1.files.log result.1.files.db
+        → HasFaultCause ⊥ (has_book (view store).trees ≡ true) ⊤ fault) }
 {
-    let (answer, store) = resume_in(alloc, store);
-    (answer, close(store))
+    let (made, store) = resume_in(alloc, store);
+    (made, close_books(store))
 }
 
 /// Audits the books in a file that was opened, and drops it. Nothing was written, and what its log

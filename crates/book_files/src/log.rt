@@ -1,6 +1,7 @@
 //! The log that lies beside a file of books while a command runs, and what a command leaves of it.
 
-use book_trees::needs_no_log;
+use book_trees::{Closed, LogLeft, is_short, needs_no_log};
+use sqlite_disk::{Disk, Files};
 use std::fs::File;
 use std::{fs, io};
 
@@ -43,18 +44,35 @@ impl<'a> Log<'a> {
         }
     }
 
+    /// Drops the files of books that were closed, with their log where it holds nothing, and says
+    /// whether it holds a part of the books.
+    pub(crate) fn release<D: Disk + Drop>(&self, closed: Closed<D>) -> bool {
+        let has_log = closed.log != LogLeft::Short;
+        if !has_log {
+            self.remove_if_empty();
+        }
+        drop(closed);
+        has_log
+    }
+
     /// Takes the log of new books away, whatever it holds, where these could not be made.
     pub(crate) fn remove(&self) {
         let _ = fs::remove_file(self.rt, self.path.as_str());
     }
 
-    /// Drops the files of an opening that must leave them as they were: a log that the opening made
-    /// is removed. Where there are no files another program may have them, and nothing is touched.
-    pub(crate) fn leave<F: Drop>(&self, files: Option<F>) {
-        if files.is_some() && !self.was_there {
+    /// Drops the files of an opening that must leave them as they were, and says whether their log
+    /// may hold a part of them: a log that the opening made is removed. Where there are no files
+    /// another program may have them, and nothing is touched.
+    pub(crate) fn leave<D: Disk + Drop>(&self, files: Option<Files<D>>) -> bool {
+        let Some(mut files) = files else {
+            return false;
+        };
+        let has_log = !is_short(&mut files.log);
+        if !has_log && !self.was_there {
             self.remove_if_empty();
         }
         drop(files);
+        has_log
     }
 }
 

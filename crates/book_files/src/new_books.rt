@@ -1,20 +1,20 @@
 //! New books are made under a second name, and get their own once they are whole: a stop at any
 //! moment leaves whole books under that name, or nothing.
 
-use crate::books::{make_and_close, resume_and_close};
 use crate::log::{Log, is_there, sync_folder};
-use crate::repository::{Files, Supposed, failed, refused};
+use crate::repository::{Files, failed};
+use crate::session::{Ended, make_at, resume_at};
 use book_core::LedgerFault;
-use book_trees::{OpenFault, create_at, open_at};
 use office::RepositoryFault;
-use sqlite_disk::Files as Pair;
+use sqlite_disk::{Disk, Files as Pair, Unknown};
 use sqlite_std_file::FileFrom;
 use std::fs::File;
 use std::{fs, io};
 
-impl<P: Supposed> Files<'_, P> {
+impl Files<'_> {
     /// Makes new books under a name that nothing has. Where they can't be made, what this call
-    /// began is removed; what a stopped earlier call left is continued.
+    /// began is removed. What a stopped earlier call left is continued; where that fails too, it stays
+    /// with its log, by which the next call tells a file that was begun from a damaged one.
     pub(crate) fn make_new(&self, book: &str) -> Result<(), RepositoryFault> {
         self.expect_none(book)?;
         let begun = beside(self.rt, book, "new").map_err(|error| failed(&error))?;
@@ -36,10 +36,14 @@ impl<P: Supposed> Files<'_, P> {
         match named {
             Err(fault) if is_first && fault != RepositoryFault::Busy => {
                 self.remove_begun(begun.as_str(), &log, files.is_some());
+                drop(files);
             }
-            _ => {}
+            // Nothing was written to the file of somebody.
+            Err(RepositoryFault::Exists) => {
+                log.leave(files);
+            }
+            _ => drop(files),
         }
-        log.leave(files);
         named
     }
 
@@ -72,7 +76,7 @@ impl<P: Supposed> Files<'_, P> {
 
     /// Nothing may have the name, nor that of a log or a journal beside it, whose contents would be
     /// taken for new books' own.
-    fn expect_none(&self, book: &str) -> Result<(), RepositoryFault> {
+    pub(crate) fn expect_none(&self, book: &str) -> Result<(), RepositoryFault> {
         match has_traces(self.rt, book) {
             Ok(false) => Ok(()),
             Ok(true) => Err(RepositoryFault::Exists),
@@ -84,43 +88,19 @@ impl<P: Supposed> Files<'_, P> {
     fn make_in(
         &self,
         begun: &str,
-    ) -> (
-        Result<(), RepositoryFault>,
-        Option<Pair<FileFrom<P::Start>>>,
-    ) {
+    ) -> (Result<(), RepositoryFault>, Option<Pair<FileFrom<Unknown>>>) {
         let seed = match self.seed() {
             Ok(seed) => seed,
             Err(fault) => return (Err(fault), None),
         };
-        match create_at(self.rt, begun, seed, self.supposed.start()) {
-            Ok(store) => {
-                let (made, files) = make_and_close(self.rt.alloc(), store);
-                (made, Some(files))
+        match make_at(self.rt, begun, seed, Unknown) {
+            // The file holds something: books whose trees are all there, or somebody's.
+            (Err(RepositoryFault::Ledger(LedgerFault::NotBooks)), ended) => {
+                drop(ended);
+                let (made, ended) = resume_at(self.rt, begun, seed, Unknown);
+                in_hand(made, ended)
             }
-            Err((OpenFault::NotBooks, files)) => {
-                drop(files);
-                self.resume_in(begun, seed)
-            }
-            Err((fault, files)) => (Err(refused(fault)), files),
-        }
-    }
-
-    /// Continues books whose trees are all there. Any other file belongs to somebody.
-    fn resume_in(
-        &self,
-        begun: &str,
-        seed: u64,
-    ) -> (
-        Result<(), RepositoryFault>,
-        Option<Pair<FileFrom<P::Start>>>,
-    ) {
-        match open_at(self.rt, begun, seed, self.supposed.start()) {
-            Ok(store) => {
-                let (made, files) = resume_and_close(self.rt.alloc(), store);
-                (made, Some(files))
-            }
-            Err((OpenFault::NotBooks, files)) => (Err(RepositoryFault::Exists), files),
-            Err((fault, files)) => (Err(refused(fault)), files),
+            (made, ended) => in_hand(made, ended),
         }
     }
 
@@ -143,8 +123,24 @@ impl<P: Supposed> Files<'_, P> {
     }
 }
 
+/// What came of new books, with their files. Where no memory was left to see that the files hold
+/// books, that is said.
+fn in_hand<D: Disk + Drop>(
+    made: Result<(), RepositoryFault>,
+    ended: Ended<D>,
+) -> (Result<(), RepositoryFault>, Option<Pair<D>>) {
+    match ended {
+        Ended::Refused(files) => (made, files),
+        Ended::Closed(closed) if closed.is_kept => (made, Some(closed.files)),
+        Ended::Closed(closed) => {
+            let fault = RepositoryFault::Ledger(LedgerFault::Memory);
+            (Err(fault), Some(closed.files))
+        }
+    }
+}
+
 /// The path of a file that belongs to another.
-fn beside(rt: &HostRuntime, book: &str, what: &str) -> io::Result<String> {
+pub(crate) fn beside(rt: &HostRuntime, book: &str, what: &str) -> io::Result<String> {
     Ok(format!(in rt.alloc(); "{book}-{what}")?)
 }
 

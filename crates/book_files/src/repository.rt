@@ -1,12 +1,17 @@
 //! The files of one machine, by their paths.
 
-use crate::books::{audit_and_close, visit_and_close};
+ghost use Rattle.std.specs.Prelude.{◌≡◌};
+ghost use Rattle.std.specs.IoError.{error_kind};
+ghost use Rattle.book_files.specs.Faults.{file_fault, look_answer, open_fault};
+
+use crate::books::audit_and_close;
 use crate::log::Log;
+use crate::session::{Ended, visit_at};
 use book_audit::{Audited, AuditedRepository, Finding, Place, Watch, Wrong};
 use book_core::LedgerFault;
-use book_trees::{LeftByLedger, LookFault, OpenFault, look_through_at, open_at};
-use office::{Repository, RepositoryFault, Visit};
-use sqlite_disk::Unknown;
+use book_trees::{LookFault, OpenFault, look_through_at};
+use office::{Opened, Repository, RepositoryFault, Visit};
+use sqlite_disk::{Disk, Unknown};
 use std::hash::{BuildHasher, RandomState};
 use std::io::{ErrorKind, Read};
 use std::{fs, io};
@@ -14,39 +19,17 @@ use std::{fs, io};
 /// What every database of SQLite begins with, and so each file of books from the first on.
 const MAGIC: [u8; 16] = *b"SQLite format 3\0";
 
-/// What is supposed of files as they are opened. No code can read it: the clauses of opening are
-/// proved of whatever is supposed, as long as it is nothing, or what a ledger left.
-pub trait Supposed {
-    /// Stands for what one opening finds.
-    type Start: LeftByLedger;
-
-    /// What the next opening finds.
-    fn start(&self) -> Self::Start;
-}
-
-/// For a program to name: nothing is known about what its files hold. What is proved of openings is
-/// proved for any `Supposed`.
-pub struct Anything;
-
-impl Supposed for Anything {
-    type Start = Unknown;
-
-    fn start(&self) -> Unknown {
-        Unknown
-    }
-}
-
-/// Files, each with the books of one office.
+/// Files, each with the books of one office. Nothing is known about what they hold: what is proved
+/// of an opening is proved whatever that is, as long as it is nothing, or what a ledger left.
 #[derive(Drop)]
-pub struct Files<'a, P: Supposed> {
+pub struct Files<'a> {
     pub(crate) rt: &'a HostRuntime,
-    pub(crate) supposed: &'a P,
 }
 
-impl<'a, P: Supposed> Files<'a, P> {
+impl<'a> Files<'a> {
     /// The files that this machine has.
-    pub fn of(rt: &'a HostRuntime, supposed: &'a P) -> Files<'a, P> {
-        Files { rt, supposed }
+    pub fn of(rt: &'a HostRuntime) -> Files<'a> {
+        Files { rt }
     }
 
     /// A number that nobody can foresee, for the digests of a store.
@@ -67,6 +50,14 @@ impl<'a, P: Supposed> Files<'a, P> {
         }
         Log::of(self.rt, book).map_err(|error| failed(&error))
     }
+
+    /// What a session on a file that may hold books begins with: its log, and a number for the
+    /// digests.
+    pub(crate) fn begin_with(&self, book: &str) -> Result<(Log<'a>, u64), RepositoryFault> {
+        let log = self.log_of(book)?;
+        let seed = self.seed()?;
+        Ok((log, seed))
+    }
 }
 
 /// Whether a file begins as books do. What is not a regular file is not read: it might never end.
@@ -84,7 +75,9 @@ fn begins_as_books(rt: &HostRuntime, book: &str) -> io::Result<bool> {
 }
 
 /// What the failure of a file means.
-pub(crate) fn failed(error: &io::Error) -> RepositoryFault {
+pub(crate) fn failed(error: &io::Error) -> RepositoryFault
+    ensures { result ≡ file_fault (error_kind error.now) }
+{
     match error.kind() {
         ErrorKind::AlreadyExists => RepositoryFault::Exists,
         ErrorKind::OutOfMemory => RepositoryFault::Ledger(LedgerFault::Memory),
@@ -93,7 +86,9 @@ pub(crate) fn failed(error: &io::Error) -> RepositoryFault {
 }
 
 /// What it means that books were not opened or made.
-pub(crate) fn refused(fault: OpenFault) -> RepositoryFault {
+pub(crate) fn refused(fault: OpenFault) -> RepositoryFault
+    ensures { result ≡ open_fault fault }
+{
     match fault {
         OpenFault::NotBooks => RepositoryFault::Ledger(LedgerFault::NotBooks),
         OpenFault::Memory => RepositoryFault::Ledger(LedgerFault::Memory),
@@ -104,7 +99,9 @@ pub(crate) fn refused(fault: OpenFault) -> RepositoryFault {
 }
 
 /// What is answered where a file was not audited.
-fn not_looked_through(fault: LookFault) -> Result<Audited, RepositoryFault> {
+pub(crate) fn not_looked_through(fault: LookFault) -> Result<Audited, RepositoryFault>
+    ensures { result ≡ look_answer fault }
+{
     match fault {
         LookFault::Pages => Ok(Audited::Unsound(Finding {
             place: Place::File,
@@ -114,7 +111,7 @@ fn not_looked_through(fault: LookFault) -> Result<Audited, RepositoryFault> {
     }
 }
 
-impl<P: Supposed> Repository for Files<'_, P> {
+impl Repository for Files<'_> {
     /// Says whether the file is there.
     fn expect(&self, book: &str) -> Result<(), RepositoryFault> {
         match fs::exists(self.rt, book) {
@@ -130,39 +127,74 @@ impl<P: Supposed> Repository for Files<'_, P> {
     }
 
     /// Visits the books of a file that is there. What a ledger left in it is opened at the same
-    /// cost whatever it holds: the whole file is not read. After the visit the books are one file.
-    fn open<V: Visit + Drop>(&self, book: &str, visit: V) -> Result<V::Answer, RepositoryFault> {
-        let log = self.log_of(book)?;
-        match open_at(self.rt, book, self.seed()?, self.supposed.start()) {
-            Ok(store) => {
-                let (answer, files) = visit_and_close(self.rt.alloc(), store, visit);
-                log.remove_if_empty();
-                drop(files);
-                answer
+    /// cost whatever it holds: the whole file is not read. After the visit the books are one file,
+    /// where their log could be brought into it.
+    fn open<V: Visit + Drop>(&self, book: &str, visit: V) -> Opened<V::Answer> {
+        match self.begin_with(book) {
+            Ok((log, seed)) => {
+                let (answer, ended) = visit_at(self.rt, book, seed, Unknown, visit);
+                released(&log, answer, ended)
             }
-            Err((fault, files)) => {
-                log.leave(files);
-                Err(refused(fault))
-            }
+            Err(fault) => without_log(Err(fault)),
         }
     }
 }
 
-impl<P: Supposed> AuditedRepository for Files<'_, P> {
+impl AuditedRepository for Files<'_> {
     /// Audits the whole file: all of its pages, and then each row of its trees. The files are left
     /// as they were.
-    fn audit<W: Watch>(&self, book: &str, watch: &mut W) -> Result<Audited, RepositoryFault> {
-        let log = self.log_of(book)?;
-        match look_through_at(self.rt, book, self.seed()?, self.supposed.start()) {
+    fn audit<W: Watch>(&self, book: &str, watch: &mut W) -> Opened<Audited> {
+        let (log, seed) = match self.begin_with(book) {
+            Ok(begun) => begun,
+            Err(fault) => return without_log(Err(fault)),
+        };
+        let (answer, files) = match look_through_at(self.rt, book, seed, Unknown) {
             Ok(store) => {
                 let (audited, files) = audit_and_close(self.rt.alloc(), store, watch);
-                log.leave(Some(files));
-                audited
+                (audited, Some(files))
             }
-            Err((fault, files)) => {
-                log.leave(files);
-                not_looked_through(fault)
-            }
+            Err((fault, files)) => (not_looked_through(fault), files),
+        };
+        let has_log = log.leave(files);
+        Opened { answer, has_log }
+    }
+
+    /// Copies the books of a file, and whatever their log holds of them, into one file. They are
+    /// only read.
+    fn back_up<W: Watch>(&self, book: &str, copy: &str, watch: &mut W) -> Opened<Audited> {
+        self.copy_books(book, copy, watch)
+    }
+}
+
+/// What came of a session, whose files are dropped. Where no memory was left to see that they hold
+/// books, that is said in place of an answer.
+pub(crate) fn released<T: Drop, D: Disk + Drop>(
+    log: &Log<'_>,
+    answer: Result<T, RepositoryFault>,
+    ended: Ended<D>,
+) -> Opened<T> {
+    match ended {
+        Ended::Closed(closed) => {
+            let is_kept = closed.is_kept;
+            let has_log = log.release(closed);
+            let answer = if is_kept {
+                answer
+            } else {
+                Err(RepositoryFault::Unseen)
+            };
+            Opened { answer, has_log }
         }
+        Ended::Refused(files) => {
+            let has_log = log.leave(files);
+            Opened { answer, has_log }
+        }
+    }
+}
+
+/// What came of files that were not opened.
+pub(crate) fn without_log<T: Drop>(answer: Result<T, RepositoryFault>) -> Opened<T> {
+    Opened {
+        answer,
+        has_log: false,
     }
 }

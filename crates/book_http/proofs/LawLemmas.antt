@@ -9,7 +9,8 @@ use Rattle.book_model.proofs.StepLemmas.{books_follow_history}
 use Rattle.book_model.specs.declared.fault.LedgerFault.{LedgerFault}
 use Rattle.book_core.specs.Ledgers.{Seen}
 use Rattle.book_core.specs.Transition.{IsTransition}
-use Rattle.book_core.proofs.FollowLemmas.{MakesAnswered, called_events, follows, after_all-book_of}
+use Rattle.book_core.proofs.FollowLemmas.{called_events, follows, after_all-book_of}
+use Rattle.book_core.specs.Follow.{MakesAnswered}
 use Rattle.book_import.specs.declared.receipt.Receipt.{Receipt}
 use Rattle.book_import.specs.Dumps.{stop_after}
 use Rattle.book_import.specs.Imports.{Imports}

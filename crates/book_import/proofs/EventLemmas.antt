@@ -9,7 +9,8 @@ use Rattle.book_model.specs.declared.answer.Accepted.{Accepted}
 use Rattle.book_model.specs.declared.fault.LedgerFault.{LedgerFault}
 use Rattle.book_model.specs.declared.fault.LedgerFault.TheVariants.{Memory, Store}
 use Rattle.book_core.specs.Calls.{listed}
-use Rattle.book_core.proofs.FollowLemmas.{MakesAnswered, accept_event-answered}
+use Rattle.book_core.proofs.FollowLemmas.{accept_event-answered}
+use Rattle.book_core.specs.Follow.{MakesAnswered}
 use Rattle.book_import.specs.declared.receipt.Receipt.{Receipt}
 use Rattle.book_import.specs.declared.receipt.Stop.{Stop}
 use Rattle.book_import.specs.declared.receipt.Stop.TheVariants.{Ledger}

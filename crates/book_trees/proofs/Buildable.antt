@@ -17,8 +17,7 @@ use Rattle.sqlite_trees.specs.Sound.{begins, fits_kind, is_free_name, may_follow
 use Rattle.sqlite_trees.specs.Sound.{same_name}
 use Rattle.sqlite_trees.specs.View.{IsStorable}
 use Rattle.sqlite_value.specs.Order.{number, value_cmp}
-use Rattle.book_trees.specs.LedgerFiles.{page_size}
-use Rattle.book_trees.specs.Refusals.{HoldsNothing}
+use Rattle.book_trees.specs.LedgerFiles.{page_size, HoldsNothing}
 use Rattle.book_trees.specs.Schema.{books_schema, sorted}
 
 -- the tables and indexes of books can be in one list

@@ -1,9 +1,11 @@
 -- From what the files held to what an opened store shows.
-use Rattle.std.proofs.Common.{◌≡◌, ◌≢◌, ◌<◌, ℕ, List, [], length, true, IsTrue}
+use Rattle.std.proofs.Common.{◌≡◌, ◌≢◌, List, [], true, IsTrue}
 use Rattle.std.proofs.Common.{refl, sym, subst, ap, ◌∙◌, inl, inr, arith}
+use Rattle.std.proofs.Math.Logic.{∥∥₁_elim}
 use Rattle.sqlite_disk.specs.declared.Disk.{Ghosts}
 use Rattle.sqlite_pages.specs.PageMap.{PageMap}
-use Rattle.sqlite_pool.specs.File.{in_use}
+use Rattle.sqlite_pool.specs.File.{in_use, IsSoundFile}
+use Rattle.sqlite_pool.specs.Opening.{IsBlankFile}
 use Rattle.sqlite_pool.specs.Stored.{Recovers, RecoversAs}
 use Rattle.sqlite_pool.specs.StoredLaws.{recovers_once, readable, RecoversAs-from}
 use Rattle.sqlite_store.specs.Db.{IsFile, rows_at}
@@ -17,19 +19,12 @@ use Rattle.sqlite_store.specs.declared.store.FileStore.{FileStore}
 use Rattle.sqlite_store.specs.declared.store.open.Unopened.{Unopened}
 use Rattle.sqlite_trees.specs.declared.store.Shape.TheVariants.{Table}
 use Rattle.sqlite_value.specs.Order.{Row}
-use Rattle.sqlite_wal.specs.Recovery.{Image}
 use Rattle.sqlite_wal.specs.State.{State}
+use Rattle.book_trees.proofs.BlankFiles.{blank_unsound}
 use Rattle.book_trees.proofs.ListingLemmas.{books_listed}
 use Rattle.book_trees.specs.LedgerFiles.{page_size, HoldsBooks, AreLeft}
 use Rattle.book_trees.specs.Listing.{lists_books}
 use Rattle.book_trees.specs.Schema.{books_schema}
-
--- a file of no length recovers to nothing
-none_empty : (size : ℕ) (image : Image) (pages : PageMap) → Recovers size image pages
-    → image.db ≡ [] → ⊥
-none_empty size image pages found empty =
-    let there : 0 < length {A = ℕ} [] = subst (λ (db : List ℕ). 0 < length db) empty found.present
-    in absurd (omega (arith, there))
 
 -- an empty list of rows does not list books
 none_listed : lists_books [] ≡ true → ⊥
@@ -75,21 +70,33 @@ module _ {D : Type 0} {g : Ghosts D} (old mid : Unopened D g) (rows : List Row)
       ∙ ap (λ (p : PageMap). rows_at page_size (in_use page_size p) Table 1)
       (same_pages held.pages held.found)) ∙ books_listed held.pages held.file
 
+  -- the pages are those of a sound file
+  sound_pages : (state_of mid).page_size ≡ page_size → ∥ IsSoundFile page_size listed.pages ∥₁
+  sound_pages size =
+      subst (λ s. ∥ IsSoundFile s listed.pages ∥₁) size
+      (subst (λ (p : PageMap). ∥ IsSoundFile (state_of mid).page_size p ∥₁) listed.shows.committed
+      listed.shows.clean.sound)
+
+  -- so the files hold more than a part of a first page
+  never_blank : (state_of mid).page_size ≡ page_size → IsBlankFile page_size (image old) → ⊥
+  never_blank size blank =
+      ∥∥₁_elim (sound_pages size) (λ one other. absurd one) λ sound.
+      blank_unsound (image old) listed.pages found_old sound blank
+
   -- files that a ledger left and that list something are those of books,
-  holds_books : rows ≢ [] → AreLeft (image old) → HoldsBooks (image old)
-  holds_books some (inl empty) =
-      absurd (none_empty _ (image old) listed.pages found_old empty)
-  holds_books some (inr (inl none)) =
+  holds_books : rows ≢ [] → (state_of mid).page_size ≡ page_size → AreLeft (image old)
+      → HoldsBooks (image old)
+  holds_books some size (inl (inl blank)) = absurd (never_blank size blank)
+  holds_books some size (inl (inr none)) =
       absurd (some (rows_are
       ∙ ap (λ (p : PageMap). rows_at page_size (in_use page_size p) Table 1)
       (same_pages none.pages none.found) ∙ none.empty.1))
-  holds_books some (inr (inr held)) = held
+  holds_books some size (inr held) = held
 
-  -- so an open that trusts them may be asked for
-  pub has_file : lists_books rows ≡ true → AreLeft (image old)
-      → (state_of mid).page_size ≡ page_size → wanted_by mid ≡ books_schema → HasFile mid
-  has_file books left size schema =
-      let held = holds_books (some_listed rows books) left in
+  -- which an open may be asked for
+  pub held_file : HoldsBooks (image old) → (state_of mid).page_size ≡ page_size
+      → wanted_by mid ≡ books_schema → HasFile mid
+  held_file held size schema =
       let file : IsFile page_size books_schema listed.pages =
       subst (IsFile page_size books_schema) (sym (same_pages held.pages held.found)) held.file in (
         listed.pages,
@@ -97,6 +104,12 @@ module _ {D : Type 0} {g : Ghosts D} (old mid : Unopened D g) (rows : List Row)
         subst (λ s. IsFile s (wanted_by mid) listed.pages) (sym size)
             (subst (λ (w : List Wanted). IsFile page_size w listed.pages) (sym schema) file),
       )
+
+  -- also one that trusts them
+  pub has_file : lists_books rows ≡ true → AreLeft (image old)
+      → (state_of mid).page_size ≡ page_size → wanted_by mid ≡ books_schema → HasFile mid
+  has_file books left size schema =
+      held_file (holds_books (some_listed rows books) size left) size schema
 
   -- what is then committed are the pages that were listed,
   pub committed_listed : (pages : PageMap) → (state_of mid).page_size ≡ page_size

@@ -3,6 +3,7 @@ use Rattle.std.specs.Prelude.{◌≡◌, ◌⊎◌, ◌+◌, ◌<◌, ◌^◌, [
 use Rattle.sqlite_disk.specs.declared.Disk.{Ghosts}
 use Rattle.sqlite_disk.specs.declared.files.Files.{Files}
 use Rattle.sqlite_pages.specs.PageMap.{PageMap}
+use Rattle.sqlite_pool.specs.Opening.{IsBlankFile}
 use Rattle.sqlite_pool.specs.Stored.{Recovers}
 use Rattle.sqlite_store.specs.Db.{IsFile}
 use Rattle.sqlite_store.specs.Listing.{file_trees}
@@ -36,14 +37,23 @@ pub record HoldsNone (image : Image) : Type 0 where
   pub found : Recovers page_size image pages
   pub empty : IsEmptyFile page_size pages
 
--- The files are empty, or a ledger left them. A stop inside the making of books leaves a database
--- that was begun.
+-- the files hold no database, or one that was begun and has no table
+abbrev pub HoldsNothing : Image → Type 0
+HoldsNothing image = IsBlankFile page_size image ⊎ HoldsNone image
+
+-- The files are empty, or a ledger left them. A stop inside the making of books leaves a part of the
+-- first page, or a database that was begun.
 abbrev pub AreLeft : Image → Type 0
-AreLeft image = (image.db ≡ []) ⊎ (HoldsNone image ⊎ HoldsBooks image)
+AreLeft image = HoldsNothing image ⊎ HoldsBooks image
 
 -- no table has a row
 abbrev pub AreEmptyTables : Trees → Type 0
 AreEmptyTables trees = (tree : ℕ) → tree < 2 ^ 32 → trees tree ≡ []
+
+-- the files hold books whose tables have no row
+pub record HoldsEmptyBooks (image : Image) : Type 0 where
+  pub held : HoldsBooks image
+  pub empty : AreEmptyTables (trees_held held)
 
 -- A log with no room for its header and that of a page is passed over.
 abbrev pub shortest_log : ℕ

@@ -3,7 +3,6 @@ use Rattle.std.specs.Prelude.{◌≡◌, ◌⊎◌, ◌+◌, ◌≤◌, ℕ, ⊤
 use Rattle.sqlite_disk.specs.Disk.{MoreFaults}
 use Rattle.sqlite_disk.specs.declared.Disk.{Ghosts}
 use Rattle.sqlite_disk.specs.declared.files.Files.{Files}
-use Rattle.sqlite_pool.specs.Opening.{IsBlankFile}
 use Rattle.sqlite_pool.specs.Stored.{IsUnreadable, RecoversAs}
 use Rattle.sqlite_store.specs.Unopened.{files_of, IsFullFile, StopsCreating}
 use Rattle.sqlite_store.specs.declared.error.OpenError.{OpenError}
@@ -12,7 +11,7 @@ use Rattle.sqlite_store.specs.declared.store.open.Unopened.{Unopened}
 use Rattle.sqlite_wal.specs.Files.{outcomes}
 use Rattle.sqlite_wal.specs.Reads.{AreClean}
 use Rattle.sqlite_wal.specs.Recovery.{Image}
-use Rattle.book_trees.specs.LedgerFiles.{image_of, page_size, HoldsNone}
+use Rattle.book_trees.specs.LedgerFiles.{image_of, page_size, HoldsEmptyBooks, HoldsNothing}
 use Rattle.book_trees.specs.declared.faults.OpenFault.{OpenFault}
 use Rattle.book_trees.specs.declared.faults.OpenFault.TheVariants.{NotBooks, Memory, Store, Busy}
 use Rattle.book_trees.specs.declared.faults.OpenFault.TheVariants.{Path}
@@ -34,9 +33,19 @@ HasCause old new AtLimit Held Store = MoreFaults old new ⊎ AtLimit
 HasCause old new AtLimit Held Busy = ⊥
 HasCause old new AtLimit Held Path = ⊥
 
--- the files hold no database, or one that was begun and has no table
-abbrev pub HoldsNothing : Image → Type 0
-HoldsNothing image = IsBlankFile page_size image ⊎ HoldsNone image
+-- What a stop within the making of books leaves of files that held nothing: nothing still, or all
+-- the tables, with no row.
+abbrev pub IsBegun : Image → Type 0
+IsBegun image = HoldsNothing image ⊎ ∥ HoldsEmptyBooks image ∥₁
+
+-- the files at a path were not opened: for want of memory, since another program has them, or
+-- since they are out of reach
+abbrev pub IsUnopened : OpenFault → Type 0
+IsUnopened fault = (fault ≡ Memory) ⊎ ((fault ≡ Busy) ⊎ (fault ≡ Path))
+
+-- files are as they were found, or stand for the same pages
+abbrev pub IsAsFound : Image → Image → Type 0
+IsAsFound first left = (left ≡ first) ⊎ RecoversAs page_size first left
 
 module _ {D : Type 0} (g : Ghosts D) where
   -- how often calls of the two files have failed
@@ -57,6 +66,11 @@ module _ {D : Type 0} (g : Ghosts D) where
   abbrev pub StopCreating : Files D → Type 0
   StopCreating files =
       ∥ ((it : Unopened D g) × ((files.log, files.db) ≡ files_of it) × StopsCreating it) ∥₁
+
+  -- refused files were there, and held this: why they were refused
+  abbrev pub IsRefusedFor : Type 0 → (Files D → Type 0) → OpenFault → Files D → Type 0
+  IsRefusedFor Held AtLimit fault files =
+      AreClean g files.log files.db → HasCause 0 (faults_in files) (AtLimit files) Held fault
 
   -- A crash leaves what it could leave before, or what stands for the same pages. Files that stood
   -- for no database stay as they were.

@@ -1,13 +1,16 @@
 //! The log of books is moved into their file, as is done before they are closed.
 
-ghost use Rattle.std.specs.Prelude.{◌≡◌, ◌≤◌, ◌<◌, ◌↔◌, length, IsTrue};
-ghost use Rattle.sqlite_store.specs.FileStore.{view, recovers};
+ghost use Rattle.std.specs.Prelude.{◌≡◌, ◌≤◌, ◌<◌, ◌↔◌, ℕ, List, length, IfErr, IsOk, IsTrue, OnOk};
+ghost use Rattle.sqlite_store.specs.FileStore.{faults, log_frames, recovers, state, view};
 ghost use Rattle.sqlite_trees.specs.Tree.{Trees};
-ghost use Rattle.sqlite_trees.specs.View.{doubt};
+ghost use Rattle.sqlite_trees.specs.View.{doubt, IsClean};
+ghost use Rattle.sqlite_wal.specs.Reads.{AreClean, IsClean as IsCleanFile};
 ghost use Rattle.sqlite_wal.specs.Recovery.{Image};
+ghost use Rattle.book_trees.specs.Closing.{IsStuckFor, LeavesLog, MayBeFound};
 ghost use Rattle.book_trees.specs.LedgerFiles.{shortest_log, without_log, HoldsBooks, trees_held};
 
-use sqlite_disk::Disk;
+use crate::reopening::keeps_books;
+use sqlite_disk::{Disk, Files};
 use sqlite_store::FileStore;
 use sqlite_trees::error::StoreError;
 use sqlite_trees::store::Store;
@@ -16,11 +19,94 @@ use sqlite_trees::store::Store;
 /// committed is in one of the two all the while: however this ends, and wherever a stop comes
 /// within it, no trees can be found but those that might have been found before.
 pub fn checkpoint_log<D: Disk>(store: &mut FileStore<D>) -> Result<(), StoreError>
+    ensures moved { OnOk result (IsTrue (view store.old).is_open → log_frames store.new ≡ 0) }
+    ensures cause { IsClean (view store.new) → IsTrue (view store.old).is_open
+        → IfErr result (IsStuckFor (faults store.old) (faults store.new)) }
     ensures outcomes { (trees : Trees) → recovers store.new trees → recovers store.old trees }
     ensures clean { doubt (view store.old).is_clean ≤ doubt (view store.new).is_clean }
 {
     store.rollback();
     store.checkpoint()
+}
+
+/// What a close leaves of the log.
+#[derive(Clone, Copy, Debug, PartialEq, Eq)]
+pub enum LogLeft {
+    /// It is too short to hold anything, and may be deleted: the file alone holds the books.
+    Short,
+    /// None of its pages is left in it, and yet it is not seen to be short.
+    Emptied,
+    /// It may hold pages, which this kept from being moved into the file.
+    Kept(StoreError),
+}
+
+/// The files of books that were closed.
+#[derive(Drop)]
+pub struct Closed<D: Disk> {
+    pub files: Files<D>,
+    /// They were found to hold books. To find out takes memory.
+    pub is_kept: bool,
+    pub log: LogLeft,
+}
+
+/// Whether a log is too short to hold anything.
+pub fn is_short<D: Disk>(log: &mut D) -> bool
+    ensures short { IsTrue result → IsCleanFile D.Disk log.new
+        → length (D.Disk.seen log.new) < shortest_log }
+    ensures clean { IsCleanFile D.Disk log.new → IsCleanFile D.Disk log.old }
+    ensures crash { (c : List ℕ) → D.Disk.may_leave log.new c → D.Disk.may_leave log.old c }
+{
+    if !log.may_be_used() {
+        return false;
+    }
+    match log.len() {
+        Ok(len) => needs_no_log(len as u64),
+        Err(_error) => false,
+    }
+}
+
+/// Closes books, whatever was going on in them, and brings what their log holds into the file. A
+/// fault here loses nothing: what is then left of the log belongs to the books. Until the files are
+/// dropped nobody else has them. Whatever may be found of them then, also where the log is deleted
+/// because it is short, and wherever a stop comes within this, holds tables that an open might have
+/// found before.
+pub fn close_books<D: Disk>(store: FileStore<D>) -> Closed<D>
+    ensures honest { AreClean D.Disk result.files.log result.files.db
+        → IsTrue (state store).is_clean }
+    ensures left { IsTrue result.is_kept → (image : Image) → MayBeFound D.Disk result.files image
+        → ∥ ((held : HoldsBooks image) × recovers store (trees_held held)) ∥₁ }
+    // A log that is not short holds no page, or a call failed as its pages were moved.
+    ensures log { LeavesLog D.Disk store result.files result.log }
+{
+    let mut store = store;
+    let moved = checkpoint_log(&mut store);
+    let is_kept = match keeps_books(&store) {
+        Ok(is_kept) => is_kept,
+        Err(_refused) => false,
+    };
+    let mut files = store.close();
+    let log = log_left(&mut files.log, moved);
+    Closed {
+        files,
+        is_kept,
+        log,
+    }
+}
+
+/// What is left of a log, whose pages were moved or not.
+fn log_left<D: Disk>(log: &mut D, moved: Result<(), StoreError>) -> LogLeft
+    ensures short { result ≡ LogLeft.Short → IsCleanFile D.Disk log.new
+        → length (D.Disk.seen log.new) < shortest_log }
+    ensures emptied { result ≡ LogLeft.Emptied → IsOk moved }
+    ensures kept { (error : StoreError) → result ≡ LogLeft.Kept error → moved ≡ Err error }
+    ensures clean { IsCleanFile D.Disk log.new → IsCleanFile D.Disk log.old }
+    ensures crash { (c : List ℕ) → D.Disk.may_leave log.new c → D.Disk.may_leave log.old c }
+{
+    match moved {
+        Err(error) => LogLeft::Kept(error),
+        Ok(()) if is_short(log) => LogLeft::Short,
+        Ok(()) => LogLeft::Emptied,
+    }
 }
 
 /// The length of a log's header and of a page's. An open passes over a log that is shorter.

@@ -1,7 +1,16 @@
 //! Files of books are looked through, whatever they hold.
 
-ghost use Rattle.std.specs.Prelude.{◌≡◌, IfOk, IsTrue};
-ghost use Rattle.sqlite_store.specs.FileStore.{view, schema_of, IsReady};
+ghost use Rattle.std.specs.Prelude.{◌≡◌, IfErr, IfOk, IfSome, IsTrue, MatchOption};
+ghost use Rattle.sqlite_store.specs.FileStore.{state, view, schema_of, IsReady};
+ghost use Rattle.sqlite_store.specs.Unopened.{image, state_of, wanted_by, AreUsable};
+ghost use Rattle.sqlite_store.specs.Unopened.{IsFullFile, Opens};
+ghost use Rattle.sqlite_wal.specs.Files.{image_at};
+ghost use Rattle.sqlite_wal.specs.Reads.{AreClean};
+ghost use Rattle.sqlite_wal.specs.Recovery.{Image};
+ghost use Rattle.book_trees.specs.LedgerFiles.{image_of, page_size, HoldsBooks, trees_held};
+ghost use Rattle.book_trees.specs.Looks.{look_fault_for, HasLookCause, IsLookRefusedFor};
+ghost use Rattle.book_trees.specs.Looks.{IsUnopenedLook};
+ghost use Rattle.book_trees.specs.Refusals.{faults_in, AreFull, AreKept, IsAsFound, MayLeave};
 ghost use Rattle.book_trees.specs.Schema.{books_schema};
 ghost use Rattle.tree_tables.specs.Holds.{HasShapes};
 
@@ -11,7 +20,7 @@ use crate::unopened::unopened;
 use sqlite_disk::{Disk, Files, Start};
 use sqlite_pager::Options;
 use sqlite_std_file::{FileFrom, open};
-use sqlite_store::{FileStore, OpenError};
+use sqlite_store::{FileStore, OpenError, Unopened};
 use std::alloc::Global;
 
 /// Why files were not looked through, or what was found.
@@ -23,8 +32,53 @@ pub enum LookFault {
     Open(OpenFault),
 }
 
-/// Opens two files, and looks through all of their pages: the header, the free list, and each tree.
-/// If there is no store they are given back.
+/// What an error of the store stands for, while the pages are looked through.
+fn look_fault(error: OpenError) -> LookFault
+    ensures { result ≡ look_fault_for error }
+{
+    match error {
+        OpenError::Refused => LookFault::Pages,
+        OpenError::OutOfMemory => LookFault::Open(OpenFault::Memory),
+        OpenError::Io | OpenError::Full => LookFault::Open(OpenFault::Store),
+    }
+}
+
+/// Looks through all pages of files of which nothing is known: the header, the free list, and each
+/// tree.
+fn look_through_all<D: Disk>(files: Unopened<D>) -> Result<FileStore<D>, (LookFault, Unopened<D>)>
+    requires usable { AreUsable files }
+    requires schema { wanted_by files ≡ books_schema }
+    requires size { (state_of files).page_size ≡ page_size }
+    ensures ready { IfOk result IsReady }
+    ensures schema { IfOk result (λ store. schema_of store ≡ books_schema) }
+    ensures trees { IfOk result (λ store. HasShapes (view store)) }
+    ensures size { IfOk result (λ store. IsTrue (state store).is_clean
+        → (state store).page_size ≡ page_size) }
+    ensures honest { IfOk result (λ store. IsTrue (state store).is_clean
+        → IsTrue (state_of files).is_clean) }
+    ensures found { IfOk result (λ store. IsTrue (state store).is_clean
+        → (held : HoldsBooks (image files)) → (view store).trees ≡ trees_held held) }
+    ensures cause { IfErr result (λ refusal. IsTrue (state_of refusal.1).is_clean
+        → HasLookCause (state_of files).faults (state_of refusal.1).faults (IsFullFile refusal.1)
+        (HoldsBooks (image files)) refusal.0) }
+    ensures unharmed { IfErr result (λ refusal. IsTrue (state_of refusal.1).is_clean
+        → Opens files (state_of refusal.1)) }
+{
+    let mut files = files;
+    let listed = match files.read_catalog() {
+        Ok(listed) => listed,
+        Err(error) => return Err((LookFault::Open(fault_of(error)), files)),
+    };
+    if !lists_books(listed.as_slice()) {
+        return Err((LookFault::Open(OpenFault::NotBooks), files));
+    }
+    match files.open() {
+        Ok(store) => Ok(store),
+        Err((error, files)) => Err((look_fault(error), files)),
+    }
+}
+
+/// Opens two files, and looks through all of their pages. If there is no store they are given back.
 pub fn look_through<D: Disk>(
     alloc: Global,
     files: Files<D>,
@@ -35,22 +89,27 @@ pub fn look_through<D: Disk>(
     ensures ready { IfOk result IsReady }
     ensures schema { IfOk result (λ store. schema_of store ≡ books_schema) }
     ensures trees { IfOk result (λ store. HasShapes (view store)) }
+    ensures size { IfOk result (λ store. IsTrue (state store).is_clean
+        → (state store).page_size ≡ page_size) }
+    ensures honest { IfOk result (λ store. IsTrue (state store).is_clean
+        → AreClean D.Disk files.log files.db) }
+    ensures found { IfOk result (λ store. IsTrue (state store).is_clean
+        → (held : HoldsBooks (image_of D.Disk files)) → (view store).trees ≡ trees_held held) }
+
+    // Files that hold books are not looked through only because of memory and the disk.
+    ensures cause { IfErr result (λ refusal. AreClean D.Disk refusal.1.log refusal.1.db
+        → HasLookCause (faults_in D.Disk files) (faults_in D.Disk refusal.1)
+        (AreFull D.Disk refusal.1) (HoldsBooks (image_of D.Disk files)) refusal.0) }
+    ensures unharmed { IfErr result (λ refusal. AreClean D.Disk refusal.1.log refusal.1.db
+        → AreKept D.Disk files refusal.1) }
 {
-    let mut files = match unopened(alloc, files, options) {
+    let files = match unopened(alloc, files, options) {
         Ok(files) => files,
         Err(files) => return Err((LookFault::Open(OpenFault::Memory), files)),
     };
-    let listed = match files.read_catalog() {
-        Ok(listed) => listed,
-        Err(error) => return Err((LookFault::Open(fault_of(error)), files.close())),
-    };
-    if !lists_books(listed.as_slice()) {
-        return Err((LookFault::Open(OpenFault::NotBooks), files.close()));
-    }
-    match files.open() {
+    match look_through_all(files) {
         Ok(store) => Ok(store),
-        Err((OpenError::Refused, files)) => Err((LookFault::Pages, files.close())),
-        Err((error, files)) => Err((LookFault::Open(fault_of(error)), files.close())),
+        Err((fault, files)) => Err((fault, files.close())),
     }
 }
 
@@ -64,6 +123,14 @@ pub fn look_through_at<S: Start>(
     ensures ready { IfOk result IsReady }
     ensures schema { IfOk result (λ store. schema_of store ≡ books_schema) }
     ensures trees { IfOk result (λ store. HasShapes (view store)) }
+
+    // What a stop leaves of files that were not looked through is what they held, or stands for the
+    // same.
+    ensures cause { IfErr result (λ refusal. MatchOption refusal.1 (IsUnopenedLook refusal.0)
+        (IsLookRefusedFor ⟦<FileFrom<S> as Disk>⟧ (HoldsBooks (image_at S.Start))
+        (AreFull ⟦<FileFrom<S> as Disk>⟧) refusal.0)) }
+    ensures kept { IfErr result (λ refusal. IfSome refusal.1 (λ files. (left : Image)
+        → MayLeave ⟦<FileFrom<S> as Disk>⟧ files left → IsAsFound (image_at S.Start) left)) }
 {
     let files = match open(rt, path, start) {
         Ok(files) => files,

@@ -1,6 +1,5 @@
 //! What the files of a ledger hold as they are opened.
 
-ghost use Rattle.std.specs.Prelude.{◌≡◌, []};
 ghost use Rattle.std.proofs.Common.{refl, inl};
 ghost use Rattle.sqlite_wal.specs.Files.{image_at};
 ghost use Rattle.book_trees.specs.LedgerFiles.{AreLeft};
@@ -15,5 +14,5 @@ pub trait LeftByLedger: Start {
 /// For `main` to name, as ever: at this type a clause on values says nothing of a file that is not
 /// empty.
 impl LeftByLedger for Unknown {
-    ghost left = { inl refl };
+    ghost left = { inl (inl (inl refl)) };
 }

@@ -4,6 +4,7 @@
 
 mod catalog;
 mod closing;
+mod copying;
 mod faults;
 mod integrity;
 mod ledger_files;
@@ -14,7 +15,8 @@ mod reopening;
 mod schema;
 mod unopened;
 
-pub use closing::{checkpoint_log, needs_no_log};
+pub use closing::{Closed, LogLeft, checkpoint_log, close_books, is_short, needs_no_log};
+pub use copying::{copy_files, copy_to, lock_at};
 pub use faults::OpenFault;
 pub use integrity::{LookFault, look_through, look_through_at};
 pub use ledger_files::LeftByLedger;

@@ -1,13 +1,14 @@
 //! New books are made.
 
-ghost use Rattle.std.specs.Prelude.{◌≡◌, None, IsTrue, IfOk, IfErr};
+ghost use Rattle.std.specs.Prelude.{◌≡◌, ◌⊎◌, None, IsTrue, IfOk, IfErr, IfSome, MatchOption};
 ghost use Rattle.sqlite_store.specs.FileStore.{state, view, schema_of, IsReady};
 ghost use Rattle.sqlite_wal.specs.Files.{image_at};
 ghost use Rattle.sqlite_wal.specs.Reads.{AreClean};
 ghost use Rattle.sqlite_wal.specs.Recovery.{Image};
 ghost use Rattle.book_trees.specs.LedgerFiles.{image_of, page_size, HoldsBooks, trees_held};
-ghost use Rattle.book_trees.specs.LedgerFiles.{AreEmptyTables};
-ghost use Rattle.book_trees.specs.Refusals.{faults_in, AreKept, HasCause, HoldsNothing};
+ghost use Rattle.book_trees.specs.LedgerFiles.{AreEmptyTables, HoldsNothing};
+ghost use Rattle.book_trees.specs.Refusals.{faults_in, AreKept, HasCause};
+ghost use Rattle.book_trees.specs.Refusals.{IsBegun, IsRefusedFor, IsUnopened, MayLeave};
 ghost use Rattle.book_trees.specs.Refusals.{StopCreating};
 ghost use Rattle.book_trees.specs.Schema.{books_schema};
 ghost use Rattle.tree_tables.specs.Holds.{HasShapes};
@@ -46,6 +47,14 @@ pub fn create_files<D: Disk>(
         → ∥ ((image : Image) × (held : HoldsBooks image) × (state store).may_leave image
         × AreEmptyTables (trees_held held)) ∥₁) }
 
+    // Wherever a stop comes, files that held nothing are as they were, or hold a part of nothing, or
+    // all the tables, with no row.
+    ensures begun { IfOk result (λ store. HoldsNothing (image_of D.Disk files) → (left : Image)
+        → (state store).may_leave left → MayLeave D.Disk files left ⊎ IsBegun left) }
+    ensures begun_refused { IfErr result (λ refusal. HoldsNothing (image_of D.Disk files)
+        → (left : Image) → MayLeave D.Disk refusal.1 left
+        → MayLeave D.Disk files left ⊎ IsBegun left) }
+
     // Files that hold nothing are refused only because of memory and the disk.
     ensures cause { IfErr result (λ refusal. AreClean D.Disk refusal.1.log refusal.1.db
         → HasCause (faults_in D.Disk files) (faults_in D.Disk refusal.1)
@@ -83,6 +92,16 @@ pub fn create_at<S: Start>(
     ensures left { IfOk result (λ store. IsTrue (state store).is_clean
         → ∥ ((image : Image) × (held : HoldsBooks image) × (state store).may_leave image
         × AreEmptyTables (trees_held held)) ∥₁) }
+
+    // Wherever a stop comes, files that held nothing hold a part of nothing, or all the tables.
+    ensures begun { IfOk result (λ store. HoldsNothing (image_at S.Start) → (left : Image)
+        → (state store).may_leave left → IsBegun left) }
+    ensures begun_refused { IfErr result (λ refusal. HoldsNothing (image_at S.Start)
+        → IfSome refusal.1 (λ files. (left : Image)
+        → MayLeave ⟦<FileFrom<S> as Disk>⟧ files left → IsBegun left)) }
+    ensures cause { IfErr result (λ refusal. MatchOption refusal.1 (IsUnopened refusal.0)
+        (IsRefusedFor ⟦<FileFrom<S> as Disk>⟧ (HoldsNothing (image_at S.Start))
+        (StopCreating ⟦<FileFrom<S> as Disk>⟧) refusal.0)) }
 {
     let files = match open(rt, path, start) {
         Ok(files) => files,

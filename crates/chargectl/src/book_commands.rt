@@ -2,15 +2,18 @@
 //! what the books say, or the stop of an import, and then the output.
 
 ghost use Rattle.office.specs.Requests.{IsAskableUnread};
+ghost use Rattle.std.specs.Prelude.{IsOk};
 ghost use Rattle.office.proofs.AskLemmas.{askable_once};
+ghost use Rattle.chargectl.specs.Visits.{AsksOnce, once_answered};
 
 use crate::command_fault::{CommandFault, ended};
+use crate::ended::Ended;
 use crate::progress::{ClearingWriter, WatchedReader, WatchedRows};
 use book_audit::{Audited, AuditedRepository, audit_text};
 use book_core::{Ledger, LedgerFault, Sink, Source};
 use book_reports::ReportFault;
 use command_line::DumpFile;
-use office::{Answer, Asked, Reply, Report, Repository, Visit, answer};
+use office::{Answer, Asked, Opened, Reply, Report, Repository, Visit, answer};
 use program_output::name_of_text;
 use smf_text::day_of_text;
 use std::alloc::Global;
@@ -34,6 +37,10 @@ struct OfficeRequest<R: Read + Drop, W: Write + Drop> {
 impl<R: Read + Drop, W: Write + Drop> Visit for OfficeRequest<R, W> {
     /// What the books answered was written, or the first fault.
     type Answer = Result<(), CommandFault>;
+
+    ghost work = { λ naming request told. AsksOnce naming request.asked (IsOk told) };
+
+    ghost answered = { λ naming request told. once_answered naming request.asked (IsOk told) };
 
     fn visit<L: Ledger>(self, books: &mut L) -> Result<(), CommandFault> {
         let mut source = Source::new(self.input);
@@ -65,16 +72,26 @@ fn ask_books<S: Repository, R: Read + Drop, O: Write + Drop>(
     asked: Asked,
     input: R,
     output: O,
-) -> Result<(), CommandFault>
+) -> Ended
     requires { IsAskableUnread asked }
 {
+    let is_change = !matches!(&asked, Asked::Report(_));
     let office_request = OfficeRequest {
         alloc: rt.alloc(),
         asked,
         input,
         output,
     };
-    repository.open(book, office_request)?
+    let Opened { answer, has_log } = repository.open(book, office_request);
+    let came = match answer {
+        Ok(told) => told,
+        Err(fault) => Err(CommandFault::from(fault)),
+    };
+    Ended {
+        came,
+        has_log,
+        is_change,
+    }
 }
 
 /// Submits a tariff.
@@ -84,10 +101,10 @@ pub(crate) fn tariff<S: Repository, O: Write + Drop>(
     book: &str,
     file: &str,
     output: O,
-) -> Result<(), CommandFault> {
+) -> Result<Ended, CommandFault> {
     repository.expect(book)?;
     let asked = Asked::Tariff(tariff_text(rt, file)?);
-    ask_books(rt, repository, book, asked, io::empty(), output)
+    Ok(ask_books(rt, repository, book, asked, io::empty(), output))
 }
 
 /// The text of a tariff file.
@@ -114,13 +131,13 @@ pub(crate) fn close<S: Repository, O: Write + Drop>(
     period: u16,
     date: &str,
     output: O,
-) -> Result<(), CommandFault> {
+) -> Result<Ended, CommandFault> {
     let Some(through) = day_of_text(date) else {
         return Err(CommandFault::Argument);
     };
     repository.expect(book)?;
     let asked = Asked::Close { period, through };
-    ask_books(rt, repository, book, asked, io::empty(), output)
+    Ok(ask_books(rt, repository, book, asked, io::empty(), output))
 }
 
 /// Chooses the record of a name.
@@ -130,13 +147,13 @@ pub(crate) fn choose<S: Repository, O: Write + Drop>(
     book: &str,
     name: &str,
     output: O,
-) -> Result<(), CommandFault> {
+) -> Result<Ended, CommandFault> {
     let Some(name) = name_of_text(name) else {
         return Err(CommandFault::Argument);
     };
     repository.expect(book)?;
     let asked = Asked::Choose(name);
-    ask_books(rt, repository, book, asked, io::empty(), output)
+    Ok(ask_books(rt, repository, book, asked, io::empty(), output))
 }
 
 /// Adopts the later rule of identity.
@@ -145,10 +162,10 @@ pub(crate) fn adopt<S: Repository, O: Write + Drop>(
     repository: &S,
     book: &str,
     output: O,
-) -> Result<(), CommandFault> {
+) -> Result<Ended, CommandFault> {
     repository.expect(book)?;
     let asked = Asked::Adopt(LATER_RULE);
-    ask_books(rt, repository, book, asked, io::empty(), output)
+    Ok(ask_books(rt, repository, book, asked, io::empty(), output))
 }
 
 /// Reads a dump into the books, and prints the receipt line, whatever stopped the import.
@@ -158,13 +175,13 @@ pub(crate) fn import_dump<S: Repository, O: Write + Drop>(
     book: &str,
     dump: DumpFile<'_>,
     output: O,
-) -> Result<(), CommandFault> {
+) -> Result<Ended, CommandFault> {
     repository.expect(book)?;
     let asked = Asked::Import(dump.layout);
     let is_shown = !dump.quiet && rt.stderr().is_terminal();
     let input = WatchedReader::open(rt, dump.file, is_shown)?;
     let output = ClearingWriter::new(rt, output, is_shown);
-    ask_books(rt, repository, book, asked, input, output)
+    Ok(ask_books(rt, repository, book, asked, input, output))
 }
 
 /// Prints a report of the books.
@@ -174,10 +191,10 @@ pub(crate) fn report<S: Repository, O: Write + Drop>(
     book: &str,
     report: Report,
     output: O,
-) -> Result<(), CommandFault> {
+) -> Result<Ended, CommandFault> {
     repository.expect(book)?;
     let asked = Asked::Report(report);
-    ask_books(rt, repository, book, asked, io::empty(), output)
+    Ok(ask_books(rt, repository, book, asked, io::empty(), output))
 }
 
 /// Audits the whole file of books, and prints the result.
@@ -187,13 +204,51 @@ pub(crate) fn audit<S: AuditedRepository, O: Write + Drop>(
     book: &str,
     quiet: bool,
     output: O,
-) -> Result<(), CommandFault> {
+) -> Result<Ended, CommandFault> {
     repository.expect(book)?;
     let mut rows = WatchedRows::new(rt, !quiet && rt.stderr().is_terminal());
     let audited = repository.audit(book, &mut rows);
     rows.clear();
-    let audited = audited?;
-    let text = audit_text(rt.alloc(), &audited)?;
+    Ok(show_audited(rt.alloc(), audited, output))
+}
+
+/// Copies books to another file, audits the copy, and prints the result.
+pub(crate) fn back_up<S: AuditedRepository, O: Write + Drop>(
+    rt: &HostRuntime,
+    repository: &S,
+    book: &str,
+    copy: &str,
+    quiet: bool,
+    output: O,
+) -> Result<Ended, CommandFault> {
+    repository.expect(book)?;
+    let mut rows = WatchedRows::new(rt, !quiet && rt.stderr().is_terminal());
+    let audited = repository.back_up(book, copy, &mut rows);
+    rows.clear();
+    Ok(show_audited(rt.alloc(), audited, output))
+}
+
+/// Prints what came of an audit. Books that are unsound end the command so, whatever became of the
+/// text.
+fn show_audited<O: Write + Drop>(alloc: Global, audited: Opened<Audited>, output: O) -> Ended {
+    let Opened { answer, has_log } = audited;
+    let came = match answer {
+        Ok(audited) => write_audited(alloc, &audited, output),
+        Err(fault) => Err(CommandFault::from(fault)),
+    };
+    Ended {
+        came,
+        has_log,
+        is_change: false,
+    }
+}
+
+fn write_audited<O: Write + Drop>(
+    alloc: Global,
+    audited: &Audited,
+    output: O,
+) -> Result<(), CommandFault> {
+    let text = audit_text(alloc, audited)?;
     let written = write_text(&text, output);
     match audited {
         Audited::Sound(_) => written,

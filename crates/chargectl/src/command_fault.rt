@@ -88,6 +88,7 @@ impl From<RepositoryFault> for CommandFault {
             RepositoryFault::Exists => CommandFault::Exists,
             RepositoryFault::Busy => CommandFault::Busy,
             RepositoryFault::Ledger(fault) => CommandFault::Ledger(fault),
+            RepositoryFault::Unseen => CommandFault::Ledger(LedgerFault::Memory),
         }
     }
 }

@@ -4,6 +4,7 @@
 mod book_commands;
 mod command_fault;
 mod connection;
+mod ended;
 mod program;
 mod progress;
 mod serve;

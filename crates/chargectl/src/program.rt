@@ -1,7 +1,8 @@
 //! What the program does with its words and streams.
 
-use crate::book_commands::{adopt, audit, choose, close, import_dump, report, tariff};
+use crate::book_commands::{adopt, audit, back_up, choose, close, import_dump, report, tariff};
 use crate::command_fault::{CommandFault, ended};
+use crate::ended::Ended;
 use crate::progress::WatchedReader;
 use crate::serve::serve;
 use book_audit::AuditedRepository;
@@ -32,9 +33,9 @@ pub fn command<S: AuditedRepository, I: Read + Drop, O: Write + Drop, E: Write>(
     }
 }
 
-fn status_of<E: Write>(ended: Result<(), CommandFault>, errors: &mut E) -> Status {
+fn status_of<E: Write>(ended: Result<Ended, CommandFault>, errors: &mut E) -> Status {
     match ended {
-        Ok(()) => Status::Done,
+        Ok(ended) => ended.write_to(errors),
         Err(command_fault) => command_fault.write_to(errors),
     }
 }
@@ -46,7 +47,7 @@ fn run<S: AuditedRepository, I: Read + Drop, O: Write + Drop>(
     request: Request<'_>,
     input: I,
     output: O,
-) -> Result<(), CommandFault> {
+) -> Result<Ended, CommandFault> {
     match request {
         Request::Trial {
             layout,
@@ -55,10 +56,13 @@ fn run<S: AuditedRepository, I: Read + Drop, O: Write + Drop>(
             record,
         } => {
             let tariff = Tariff::flat(rt.alloc(), cpu, excp, record);
-            run_trial(rt.alloc(), layout, tariff, input, output)
+            let came = run_trial(rt.alloc(), layout, tariff, input, output);
+            Ok(Ended::without_log(came))
         }
-        Request::Check(dump) => check(rt, dump, output),
-        Request::Explain { kind, number } => explain(kind, number, output),
+        Request::Check(dump) => Ok(Ended::without_log(check(rt, dump, output))),
+        Request::Explain { kind, number } => {
+            Ok(Ended::without_log(explain(kind, number, output)))
+        }
         Request::OfBooks { book, asked } => run_on_books(rt, repository, book, asked, output),
     }
 }
@@ -70,9 +74,9 @@ fn run_on_books<S: AuditedRepository, O: Write + Drop>(
     book: &str,
     asked: BookRequest<'_>,
     output: O,
-) -> Result<(), CommandFault> {
+) -> Result<Ended, CommandFault> {
     match asked {
-        BookRequest::Init => Ok(repository.make(book)?),
+        BookRequest::Init => Ok(Ended::without_log(Ok(repository.make(book)?))),
         BookRequest::Tariff { file } => tariff(rt, repository, book, file, output),
         BookRequest::Import(dump) => import_dump(rt, repository, book, dump, output),
         BookRequest::Close { period, date } => close(rt, repository, book, period, date, output),
@@ -80,6 +84,9 @@ fn run_on_books<S: AuditedRepository, O: Write + Drop>(
         BookRequest::Adopt => adopt(rt, repository, book, output),
         BookRequest::Print(asked) => report(rt, repository, book, asked, output),
         BookRequest::Audit { quiet } => audit(rt, repository, book, quiet, output),
+        BookRequest::BackUp { copy, quiet } => {
+            back_up(rt, repository, book, copy, quiet, output)
+        }
         BookRequest::Serve { port, requests } => serve(
             rt, repository, book, port, requests, output,
         ),
@@ -124,6 +131,7 @@ fn numbered(kind: NumberKind) -> FaultKind {
         NumberKind::Ledger => FaultKind::Ledger,
         NumberKind::Tariff => FaultKind::Tariff,
         NumberKind::Damaged => FaultKind::Damage,
+        NumberKind::Log => FaultKind::Log,
     }
 }
 

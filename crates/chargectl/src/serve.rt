@@ -1,12 +1,16 @@
 //! Serves the books over HTTP, to this machine only.
 
 ghost use Rattle.std.specs.Prelude.{◌≡◌};
+ghost use Rattle.book_laws.proofs.CallLemmas.{some_are_answered};
+ghost use Rattle.book_laws.specs.Calls.{SomeCalls};
+ghost use Rattle.chargectl.specs.Visits.{IsServedBy};
 
 use crate::command_fault::CommandFault;
 use crate::connection::Client;
+use crate::ended::Ended;
 use book_core::{Ledger, LedgerFault, Sink, Source};
 use book_http::{Served, serve_one};
-use office::{Repository, Visit};
+use office::{AwayBooks, Opened, Repository, RepositoryFault, Visit};
 use std::io;
 use std::io::Write;
 use std::net::{TcpListener, TcpStream};
@@ -15,7 +19,8 @@ use std::net::{TcpListener, TcpStream};
 const UNAVAILABLE: u16 = 503;
 
 /// Answers a given number of connections, one after the other, and says what became of each. After
-/// a fault of the books' store their file is closed and opened again.
+/// a fault of the books' store their file is closed and opened again; while it can't be opened,
+/// each connection is answered without the books, and the next one tries again.
 pub(crate) fn serve<S: Repository, O: Write + Drop>(
     rt: &HostRuntime,
     repository: &S,
@@ -23,7 +28,7 @@ pub(crate) fn serve<S: Repository, O: Write + Drop>(
     port: u16,
     requests: u32,
     mut output: O,
-) -> Result<(), CommandFault> {
+) -> Result<Ended, CommandFault> {
     repository.expect(book)?;
     let first = FirstSession {
         rt,
@@ -31,21 +36,85 @@ pub(crate) fn serve<S: Repository, O: Write + Drop>(
         requests,
         output: &mut output,
     };
-    let (listener, mut left) = repository.open(book, first)??;
-    // Each session but the last answers at least one connection.
-    for _ in 0..requests {
-        let Some(requests) = left else {
-            return Ok(());
-        };
-        let next = Session {
-            rt,
-            listener: &listener,
-            requests,
-            output: &mut output,
-        };
-        left = repository.open(book, next)??;
+    let Opened { answer, has_log } = repository.open(book, first);
+    match answer {
+        Ok(Ok((listener, left))) => {
+            let server = Server {
+                rt,
+                repository,
+                book,
+                listener: &listener,
+            };
+            Ok(server.serve_on(left, has_log, &mut output))
+        }
+        Ok(Err(error)) => Ok(ended(Err(CommandFault::from(error)), has_log)),
+        Err(fault) => Ok(ended(Err(CommandFault::from(fault)), has_log)),
     }
-    Ok(())
+}
+
+/// How a service ended. It may have taken imports.
+fn ended(came: Result<(), CommandFault>, has_log: bool) -> Ended {
+    Ended {
+        came,
+        has_log,
+        is_change: true,
+    }
+}
+
+/// A service whose port was taken.
+#[derive(Drop)]
+struct Server<'a, S: Repository> {
+    rt: &'a HostRuntime,
+    repository: &'a S,
+    book: &'a str,
+    listener: &'a TcpListener,
+}
+
+impl<S: Repository> Server<'_, S> {
+    /// Answers the connections that are left, each of which tries to open the books, where they are
+    /// not open.
+    fn serve_on<O: Write>(&self, left: u32, has_log: bool, output: &mut O) -> Ended {
+        let mut left = left;
+        let mut has_log = has_log;
+        // Each session answers at least one connection.
+        for _ in 0..left {
+            if left == 0 {
+                break;
+            }
+            let session = Session {
+                rt: self.rt,
+                listener: self.listener,
+                requests: left,
+                output: &mut *output,
+            };
+            let opened = self.repository.open(self.book, session);
+            has_log = opened.has_log;
+            let Opened { answer, .. } = opened;
+            let served = match answer {
+                Ok(served) => served,
+                Err(RepositoryFault::Unseen) => {
+                    return ended(Err(CommandFault::from(RepositoryFault::Unseen)), has_log);
+                }
+                Err(_) => serve_away(self.rt, self.listener, left, output),
+            };
+            left = match served {
+                Ok(left) => left,
+                Err(error) => return ended(Err(CommandFault::from(error)), has_log),
+            };
+        }
+        ended(Ok(()), has_log)
+    }
+}
+
+/// Answers the next connection while the books can't be opened, and says how many are left.
+fn serve_away<O: Write>(
+    rt: &HostRuntime,
+    listener: &TcpListener,
+    requests: u32,
+    output: &mut O,
+) -> io::Result<u32> {
+    let _ = serve_next(rt, listener, &mut AwayBooks, output)?;
+    Ok(requests.saturating_sub(1))
 }
 
 /// The first time that the books are open; the port is taken then too.
@@ -58,10 +127,14 @@ struct FirstSession<'a, O: Write> {
 }
 
 impl<'a, O: Write> Visit for FirstSession<'a, O> {
-    /// The port, and how many connections are left where the books are to be opened again.
-    type Answer = io::Result<(TcpListener, Option<u32>)>;
+    /// The port, and how many connections are left for the books to be opened again.
+    type Answer = io::Result<(TcpListener, u32)>;
 
-    fn visit<L: Ledger>(self, books: &mut L) -> io::Result<(TcpListener, Option<u32>)> {
+    ghost work = { λ naming _ _. SomeCalls naming };
+
+    ghost answered = { λ naming _ _. some_are_answered naming };
+
+    fn visit<L: Ledger>(self, books: &mut L) -> io::Result<(TcpListener, u32)> {
         let listener = listen(self.rt, self.port, self.output)?;
         let left = serve_while_open(self.rt, &listener, self.requests, books, self.output)?;
         Ok((listener, left))
@@ -78,10 +151,14 @@ struct Session<'a, O: Write> {
 }
 
 impl<'a, O: Write> Visit for Session<'a, O> {
-    /// How many connections are left where the books are to be opened again.
-    type Answer = io::Result<Option<u32>>;
+    /// How many connections are left for the books to be opened again.
+    type Answer = io::Result<u32>;
 
-    fn visit<L: Ledger>(self, books: &mut L) -> io::Result<Option<u32>> {
+    ghost work = { λ naming _ _. SomeCalls naming };
+
+    ghost answered = { λ naming _ _. some_are_answered naming };
+
+    fn visit<L: Ledger>(self, books: &mut L) -> io::Result<u32> {
         serve_while_open(self.rt, self.listener, self.requests, books, self.output)
     }
 }
@@ -94,22 +171,40 @@ fn listen<O: Write>(rt: &HostRuntime, port: u16, output: &mut O) -> io::Result<T
     Ok(listener)
 }
 
-/// Answers a given number of connections, or up to the first fault of the books' store: then it
-/// says how many are left.
+/// Answers a given number of connections, or up to the first fault of the books' store, and says
+/// how many are left.
 fn serve_while_open<L: Ledger, O: Write>(
     rt: &HostRuntime,
     listener: &TcpListener,
     requests: u32,
     books: &mut L,
     output: &mut O,
-) -> io::Result<Option<u32>> {
+) -> io::Result<u32>
+    ensures { IsServedBy (L.seen books.old) (L.seen books.new) }
+{
     for before in 0..requests {
-        let served = serve_next(rt, listener, books, output)?;
-        if may_have_failed(served) && must_reopen(books) {
-            return Ok(Some(requests - before - 1));
+        let has_failed = serve_and_look(rt, listener, books, output)?;
+        if has_failed {
+            return Ok(requests - before - 1);
         }
     }
-    Ok(None)
+    Ok(0)
+}
+
+/// Answers the next connection, and says whether the books' store has failed.
+fn serve_and_look<L: Ledger, O: Write>(
+    rt: &HostRuntime,
+    listener: &TcpListener,
+    books: &mut L,
+    output: &mut O,
+) -> io::Result<bool>
+    ensures { IsServedBy (L.seen books.old) (L.seen books.new) }
+{
+    let served = serve_next(rt, listener, books, output)?;
+    if !may_have_failed(served) {
+        return Ok(false);
+    }
+    Ok(must_reopen(books))
 }
 
 /// The books may have failed: they could not answer, or what they answered was not written.
@@ -124,7 +219,8 @@ fn may_have_failed(served: Served) -> bool {
 /// The store of the books has failed: they answer nothing more until they are opened again. A lack
 /// of memory is no such fault.
 fn must_reopen<L: Ledger>(books: &mut L) -> bool
-    ensures { result ≡ (L.seen books.new).must_reopen }
+    ensures reopen { result ≡ (L.seen books.new).must_reopen }
+    ensures served { IsServedBy (L.seen books.old) (L.seen books.new) }
 {
     match books.periods() {
         Err(fault) => fault == LedgerFault::Reopen || fault == LedgerFault::Store,
@@ -138,7 +234,9 @@ fn serve_next<L: Ledger, O: Write>(
     listener: &TcpListener,
     books: &mut L,
     output: &mut O,
-) -> io::Result<Served> {
+) -> io::Result<Served>
+    ensures { IsServedBy (L.seen books.old) (L.seen books.new) }
+{
     let (stream, _) = listener.accept()?;
     let served = answer(rt, &stream, books);
     say_served(output, served)?;
@@ -146,7 +244,9 @@ fn serve_next<L: Ledger, O: Write>(
 }
 
 /// Answers one connection. Where the clock fails the time is not bounded, so nothing is read.
-fn answer<L: Ledger>(rt: &HostRuntime, stream: &TcpStream, books: &mut L) -> Served {
+fn answer<L: Ledger>(rt: &HostRuntime, stream: &TcpStream, books: &mut L) -> Served
+    ensures { IsServedBy (L.seen books.old) (L.seen books.new) }
+{
     let Ok(client) = Client::accepted(rt, stream) else {
         return Served::ReadFault;
     };

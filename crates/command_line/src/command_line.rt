@@ -38,6 +38,7 @@ fn clap_arg<'a>(alloc: Global, word: Argument, highest: u32) -> Arg<'a> {
             .help(help)
             .action(ArgAction::SetTrue),
         Argument::InPlace(valued) => value_arg(alloc, valued, highest).required(true),
+        Argument::Last(valued, text) => value_arg(alloc, valued, highest).default_value(text),
         Argument::Named(valued) => value_arg(alloc, valued, highest)
             .long(valued.name)
             .required(true),

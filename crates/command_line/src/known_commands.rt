@@ -19,6 +19,8 @@ pub(crate) enum Argument {
     },
     /// A value in its place.
     InPlace(ValuedArgument),
+    /// The last value in its place, and its default where it is left out.
+    Last(ValuedArgument, &'static str),
     /// A value after its name, which may not be left out.
     Named(ValuedArgument),
     /// A value after its name, and its default where it is left out.
@@ -69,6 +71,13 @@ const TARIFF: Argument = Argument::InPlace(ValuedArgument {
     name: "file",
     shown: "FILE",
     help: "The tariff",
+    kind: ValueKind::Text,
+});
+
+const COPY: Argument = Argument::InPlace(ValuedArgument {
+    name: "file",
+    shown: "FILE",
+    help: "The file of the copy, which is not there yet",
     kind: ValueKind::Text,
 });
 
@@ -160,19 +169,22 @@ const REQUESTS: Argument = Argument::Named(ValuedArgument {
 const NUMBER_KIND: Argument = Argument::InPlace(ValuedArgument {
     name: "kind",
     shown: "KIND",
-    help: "What kind of number it is",
-    kind: ValueKind::OneOf(&["frame", "ledger", "tariff", "damaged"]),
+    help: "What kind of number it is, or the word log",
+    kind: ValueKind::OneOf(&["frame", "ledger", "tariff", "damaged", "log"]),
 });
 
-const NUMBER: Argument = Argument::InPlace(ValuedArgument {
-    name: "number",
-    shown: "NUMBER",
-    help: "The number on standard error or in a list",
-    kind: ValueKind::Number,
-});
+const NUMBER: Argument = Argument::Last(
+    ValuedArgument {
+        name: "number",
+        shown: "NUMBER",
+        help: "The number on standard error or in a list; the word log has none",
+        kind: ValueKind::Number,
+    },
+    "0",
+);
 
 /// The commands in the order of the program's help.
-pub(crate) static KNOWN_COMMANDS: [KnownCommand; 14] = [
+pub(crate) static KNOWN_COMMANDS: [KnownCommand; 15] = [
     KnownCommand {
         name: "trial",
         about: "Prices a dump from standard input in new books, and prints their statement",
@@ -234,13 +246,18 @@ pub(crate) static KNOWN_COMMANDS: [KnownCommand; 14] = [
         words: &[BOOK, QUIET],
     },
     KnownCommand {
+        name: "backup",
+        about: "Copies the books to another file, and audits the copy",
+        words: &[BOOK, COPY, QUIET],
+    },
+    KnownCommand {
         name: "serve",
         about: "Serves the books over HTTP, to this machine only",
         words: &[BOOK, PORT, REQUESTS],
     },
     KnownCommand {
         name: "explain",
-        about: "Says what a number means, and what to do",
+        about: "Says what a number or a word on standard error means, and what to do",
         words: &[NUMBER_KIND, NUMBER],
     },
 ];

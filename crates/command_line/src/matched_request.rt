@@ -60,6 +60,7 @@ fn asked_in<'a>(name: &str, found: &ArgMatches<'a>) -> Option<BookRequest<'a>> {
         "choose" => choice_in(found),
         "adopt" => Some(BookRequest::Adopt),
         "audit" => Some(audit_in(found)),
+        "backup" => back_up_in(found),
         "serve" => serve_in(found),
         _ => Some(BookRequest::Print(report_in(name, found)?)),
     }
@@ -108,6 +109,12 @@ fn audit_in<'a>(found: &ArgMatches<'_>) -> BookRequest<'a> {
     BookRequest::Audit { quiet }
 }
 
+fn back_up_in<'a>(found: &ArgMatches<'a>) -> Option<BookRequest<'a>> {
+    let copy = found.get_str("file")?;
+    let quiet = found.get_flag("quiet");
+    Some(BookRequest::BackUp { copy, quiet })
+}
+
 fn serve_in<'a>(found: &ArgMatches<'_>) -> Option<BookRequest<'a>> {
     let port = u16::try_from(found.get_one::<u32>("port")?).ok()?;
     let requests = found.get_one::<u32>("requests")?;
@@ -125,6 +132,7 @@ fn number_kind(word: &str) -> NumberKind {
         "frame" => NumberKind::Frame,
         "ledger" => NumberKind::Ledger,
         "tariff" => NumberKind::Tariff,
+        "log" => NumberKind::Log,
         _ => NumberKind::Damaged,
     }
 }

@@ -12,6 +12,8 @@ pub enum NumberKind {
     Tariff,
     /// What is wrong with a damaged record.
     Damaged,
+    /// The log that a command left beside books, which has no number: 0 stands for none.
+    Log,
 }
 
 /// A dump in a file.
@@ -58,6 +60,13 @@ pub enum BookRequest<'a> {
         /// No progress is shown.
         quiet: bool,
     },
+    /// The books copied to another file, and the copy audited.
+    BackUp {
+        /// The path of the copy.
+        copy: &'a str,
+        /// No progress is shown.
+        quiet: bool,
+    },
     /// The books served over HTTP, to this machine only.
     Serve {
         port: u16,
@@ -82,7 +91,7 @@ pub enum Request<'a> {
     },
     /// What every record of a file is.
     Check(DumpFile<'a>),
-    /// What a number on standard error or in a list means.
+    /// What a number on standard error or in a list means, or a word that has none.
     Explain {
         kind: NumberKind,
         number: u16,

@@ -11,7 +11,8 @@ use Rattle.book_model.proofs.OrderLemmas.{order_is_free}
 use Rattle.book_model.proofs.StepLemmas.{books_follow_history}
 use Rattle.book_core.specs.Calls.{Calls, listed}
 use Rattle.book_core.specs.Ledgers.{Seen, IsOpenAt}
-use Rattle.book_core.proofs.FollowLemmas.{MakesAnswered, calls_answered, tariff_answered}
+use Rattle.book_core.proofs.FollowLemmas.{calls_answered, tariff_answered}
+use Rattle.book_core.specs.Follow.{MakesAnswered}
 use Rattle.book_core.proofs.FollowLemmas.{adopt_answered, choose_answered, close_answered}
 use Rattle.book_core.proofs.TransitionLemmas.{after_all-append}
 use Rattle.book_import.specs.Dumps.{stop_after}

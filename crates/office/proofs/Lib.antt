@@ -1,6 +1,7 @@
--- One request to the books, as work; what work leaves of an open ledger; the laws; and requests one after
--- another.
+-- One request to the books, as work; what work leaves of an open ledger; the laws; requests one after
+-- another; and calls on books that are away.
 pub mod AskLemmas
 pub mod LeavingLemmas
 pub mod LawLemmas
 pub mod RunLemmas
+pub mod AwayLemmas

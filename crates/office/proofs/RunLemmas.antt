@@ -5,7 +5,8 @@ use Rattle.book_model.specs.Words.{front, Naming, Book, Event, after_all, IsMade
 use Rattle.book_core.specs.Transition.{Transition, NoEvent, Then}
 use Rattle.book_core.proofs.TransitionLemmas.{after_all-append}
 use Rattle.book_model.specs.declared.fault.LedgerFault.{LedgerFault}
-use Rattle.book_core.proofs.FollowLemmas.{MakesAnswered, then_answered}
+use Rattle.book_core.proofs.FollowLemmas.{then_answered}
+use Rattle.book_core.specs.Follow.{MakesAnswered}
 use Rattle.book_import.specs.Dumps.{stop_after}
 use Rattle.book_import.specs.Imports.{Handles}
 use Rattle.book_import.proofs.RepeatLemmas.{is_whole, twice_is_once}

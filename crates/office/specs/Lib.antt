@@ -1,8 +1,9 @@
 -- Read in this order: what is asked and what the books answer, also with no reader at hand; what
--- is written of it; and the laws.
+-- is written of it; the laws; and books that can't be opened now.
 pub mod Requests
 pub mod Runs
 pub mod Answers
 pub mod Outcomes
 pub mod Laws
 pub mod Repeats
+pub mod Away

@@ -3,6 +3,7 @@
 
 mod answering;
 mod asking;
+mod away;
 mod laws;
 mod repository;
 mod request;
@@ -10,8 +11,9 @@ mod running;
 
 pub use answering::answer;
 pub use asking::{ask, ask_without_reader};
+pub use away::AwayBooks;
 pub use book_reports::Report;
 pub use laws::{answers_are_free, answers_follow_history, run_twice_is_once};
-pub use repository::{Repository, RepositoryFault, Visit};
+pub use repository::{Opened, Repository, RepositoryFault, Visit};
 pub use request::{Answer, Asked, Reply};
 pub use running::run;

@@ -4,13 +4,35 @@
 
 use book_core::{Ledger, LedgerFault};
 
-/// Something that is done with books while they are open.
+/// Something that is done with books while they are open, by calls of their ledger.
 pub trait Visit {
+    ghost use Rattle.book_model.specs.Words.{Naming};
+    ghost use Rattle.book_core.specs.Transition.{Transition, IsTransition};
+    ghost use Rattle.book_core.specs.Follow.{MakesAnswered};
+
     /// What comes of it.
     type Answer: Drop;
 
+    /// What it does to the books, where this comes of it.
+    ghost work: { Naming → Self → Self.Answer → Transition };
+
     /// Does it. The books are closed afterwards.
-    fn visit<L: Ledger>(self, books: &mut L) -> Self::Answer;
+    fn visit<L: Ledger>(self, books: &mut L) -> Self::Answer
+        ensures { IsTransition (L.seen books.old) (L.seen books.new)
+            (work (L.seen books.old).naming self result) };
+
+    /// What it makes of books that calls made, calls made.
+    ghost answered: { (naming : Naming) (it : Self) (answer : Self.Answer)
+        → MakesAnswered naming (work naming it answer) };
+}
+
+/// What came of an opening of books.
+#[derive(Drop)]
+pub struct Opened<T: Drop> {
+    /// What was done with them, or why they were not opened.
+    pub answer: Result<T, RepositoryFault>,
+    /// Their file does not hold them alone: a log beside it holds a part of them.
+    pub has_log: bool,
 }
 
 /// Why there are no open books.
@@ -24,6 +46,8 @@ pub enum RepositoryFault {
     Busy,
     /// There was no memory, the store failed, or it holds no books.
     Ledger(LedgerFault),
+    /// The books were open, and no memory was left to see that their closed files hold them.
+    Unseen,
 }
 
 /// Where books are kept by their names.
@@ -35,5 +59,5 @@ pub trait Repository {
     fn make(&self, book: &str) -> Result<(), RepositoryFault>;
 
     /// Opens the books of a name, does something with them, and closes them.
-    fn open<V: Visit + Drop>(&self, book: &str, visit: V) -> Result<V::Answer, RepositoryFault>;
+    fn open<V: Visit + Drop>(&self, book: &str, visit: V) -> Opened<V::Answer>;
 }

@@ -7,10 +7,10 @@ use Rattle.tariff_rules.specs.Faults.{tariff_number}
 use Rattle.book_model.specs.Faults.{ledger_number}
 use Rattle.program_output.specs.declared.explanations.FaultKind.{FaultKind}
 use Rattle.program_output.specs.declared.explanations.FaultKind.TheVariants.{Frame, Ledger, Tariff}
-use Rattle.program_output.specs.declared.explanations.FaultKind.TheVariants.{Damage}
+use Rattle.program_output.specs.declared.explanations.FaultKind.TheVariants.{Damage, Log}
 use Rattle.program_output.specs.declared.explanations.Explanation.{Explanation}
 use Rattle.program_output.specs.Meanings.{Texts, frame_texts, ledger_texts, tariff_texts}
-use Rattle.program_output.specs.Meanings.{damage_texts}
+use Rattle.program_output.specs.Meanings.{damage_texts, log_texts}
 
 -- the texts of a number, where a list has those of 1, 2, 3 and so on
 abbrev pub texts_of : ℕ → List Texts → Option Texts
@@ -33,11 +33,18 @@ abbrev pub ExplainsBy : {F : Type 0} → (F → ℕ) → List Texts → ℕ → 
 ExplainsBy number_of texts number (Some told) = IsExplanation number_of texts number told
 ExplainsBy number_of texts number None = (fault : _) → number_of fault ≢ number
 
+-- a word that has no number is explained under 0, and under nothing else
+abbrev pub ExplainsWord : Texts → ℕ → Option Explanation → Type 0
+ExplainsWord texts number (Some told) =
+    (number ≡ 0) × (texts ≡ (told.meaning.now, told.advice.now))
+ExplainsWord texts number None = number ≢ 0
+
 abbrev pub Explains : FaultKind → ℕ → Option Explanation → Type 0
 Explains Frame = ExplainsBy frame_number frame_texts
 Explains Ledger = ExplainsBy ledger_number ledger_texts
 Explains Tariff = ExplainsBy tariff_number tariff_texts
 Explains Damage = ExplainsBy damage_number damage_texts
+Explains Log = ExplainsWord log_texts
 
 -- two numbers with the same meaning are the same
 abbrev pub MeaningsFixNumbers : List Texts → Type 0

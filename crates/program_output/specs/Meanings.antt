@@ -244,3 +244,12 @@ damage_texts =
       not_charged,
     ) ∷
     []
+
+-- the log that a command left beside books
+unfoldable pub log_texts : Texts
+log_texts = (
+  codes "The books are in two files, BOOK and BOOK-wal, since the log BOOK-wal could "
+      ++ codes "not be brought into BOOK.",
+  codes "Keep both files together; make room on the disk, and read any report of the "
+      ++ codes "books. To copy them, use backup.",
+)

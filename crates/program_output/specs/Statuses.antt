@@ -1,5 +1,5 @@
 -- How the program ends, and the exit statuses.
-use Rattle.std.specs.Prelude.{ℕ}
+use Rattle.std.specs.Prelude.{ℕ, Bool, true}
 use Rattle.book_model.specs.declared.fault.LedgerFault.{LedgerFault}
 use Rattle.book_model.specs.declared.fault.LedgerFault.TheVariants as ledger
 use Rattle.book_import.specs.declared.receipt.Stop.{Stop}
@@ -39,3 +39,9 @@ stop_status (Frame fault) = Refused
 stop_status Read = Io
 stop_status ReadLimit = Io
 stop_status (Ledger fault) = ledger_status fault
+
+-- A command that left a log beside the books, by its status and whether it may have changed them: a
+-- change that went well is in two files, and their store is at fault for that.
+abbrev pub log_status : Status → Bool → Status
+log_status Done true = Store
+log_status status is_change = status

@@ -2,7 +2,7 @@
 
 ghost use Rattle.program_output.specs.Explanations.{Explains};
 
-use crate::{damages, frame_faults, ledger_faults, tariff_faults};
+use crate::{damages, frame_faults, ledger_faults, log_notice, tariff_faults};
 
 /// What kind of thing a number stands for.
 #[derive(Clone, Copy)]
@@ -15,6 +15,8 @@ pub enum FaultKind {
     Tariff,
     /// What is wrong with a damaged record.
     Damage,
+    /// The log that a command left beside books. It has no number, and is explained under 0.
+    Log,
 }
 
 /// What a number means.
@@ -35,5 +37,6 @@ pub fn explained(kind: FaultKind, number: u16) -> Option<Explanation>
         FaultKind::Ledger => ledger_faults::explained(number),
         FaultKind::Tariff => tariff_faults::explained(number),
         FaultKind::Damage => damages::explained(number),
+        FaultKind::Log => log_notice::explained(number),
     }
 }

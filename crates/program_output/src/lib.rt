@@ -9,6 +9,7 @@ mod frame_faults;
 mod laws;
 mod ledger_faults;
 mod listing;
+mod log_notice;
 mod message;
 mod names;
 mod status;
@@ -20,7 +21,7 @@ pub use explanations::{Explanation, FaultKind, explained};
 pub use laws::{numbers_are_one_to_one, same_records_same_texts};
 pub use message::{
     PROGRAM, arguments_failed, books_busy, books_unsound, input_refused, io_failed, ledger_refused,
-    no_such_number, out_of_memory, report_failed, stopped,
+    log_left, no_such_number, out_of_memory, report_failed, stopped,
 };
 pub use names::name_of_text;
 pub use status::Status;

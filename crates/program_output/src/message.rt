@@ -2,7 +2,7 @@
 
 ghost use Rattle.std.specs.Prelude.{◌≡◌};
 ghost use Rattle.program_output.specs.Statuses as spec;
-ghost use Rattle.program_output.specs.Statuses.{report_status, stop_status};
+ghost use Rattle.program_output.specs.Statuses.{log_status, report_status, stop_status};
 
 use crate::status::Status;
 use book_core::LedgerFault;
@@ -125,6 +125,18 @@ pub fn books_busy<E: Write>(errors: &mut E) -> Status
 {
     say_word(errors, "busy");
     Status::Store
+}
+
+/// Says that the log beside the books holds a part of them. A change of books that went well ends so
+/// with a status of its own: a copy of their file alone may lack it.
+pub fn log_left<E: Write>(errors: &mut E, status: Status, is_change: bool) -> Status
+    ensures { result ≡ log_status status is_change }
+{
+    say_word(errors, "log");
+    match status {
+        Status::Done if is_change => Status::Store,
+        _ => status,
+    }
 }
 
 /// Says why a ledger refused.

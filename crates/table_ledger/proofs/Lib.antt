@@ -30,6 +30,7 @@ mod JoinLemmas
 mod OpenLemmas
 mod LoadLemmas
 mod OwnBooks
+mod RowTold
 mod BookRows
 mod BookLists
 mod FinishedLists

@@ -1,5 +1,5 @@
 -- Steps inside one transaction, one after the other, and their commit.
-use Rattle.std.proofs.Common.{◌≡◌, ◌∙◌, Result, Ok, Err, refl, sym, ap, subst, true≢false}
+use Rattle.std.proofs.Common.{◌≡◌, ◌∙◌, Result, Ok, Err, false, refl, sym, ap, subst, true≢false}
 use Rattle.std.specs.Prelude.{IsErr, OnErr, OnOk}
 use Rattle.sqlite_trees.specs.Tree.{Trees}
 use Rattle.sqlite_trees.specs.View.{View, Commits, OnlyWrites}
@@ -8,7 +8,7 @@ use Rattle.sqlite_trees.specs.declared.store.Store.{Ghosts}
 use Rattle.table_model.specs.TablesAfter.{new_tables}
 use Rattle.table_model.specs.Tables.{Tables}
 use Rattle.tree_rows.specs.Rows.{IsUnchanged}
-use Rattle.tree_tables.specs.Holds.{Holds}
+use Rattle.tree_tables.specs.Holds.{Holds, has_book}
 use Rattle.tree_tables.specs.States.{State, HasCleanDisk, Survives, state}
 use Rattle.tree_tables.specs.Steps.{Always, Changes, Does, HasNoRows, IsUndone, Makes, MayCommit}
 use Rattle.tree_tables.specs.Steps.{KeepsLastCommit}
@@ -177,6 +177,7 @@ pub makes_none : {T : Type 0} {old new : State} {error : StoreError}
     → Survives old new (λ trees. ⊥) → MakesNew {T = T} (Err error) old new
 makes_none survives = record {
   survives = survives_so survives (λ clean trees none. absurd none);
+  absent = λ clean. tt;
   made = λ clean rest none. tt;
 }
 
@@ -188,17 +189,26 @@ makes_refused saw makes = makes_none (survives_then saw.survives makes.survives)
 
 -- it was written after a look, and committed
 pub makes_all : {T U : Type 0} {first old middle last : State} {Known : Tables → Type 0} {made : U}
-    (result : Result T StoreError) → Saw first old Known → Makes (Ok made) old middle
+    (result : Result T StoreError) → Saw first old Known
+    → (HasCleanDisk old → has_book first.view.trees ≡ false) → Makes (Ok made) old middle
     → OnOk result (HasCleanDisk last → Commits middle.view last.view)
     → Survives middle last (MayCommit middle.view) → MakesNew result first last
-makes_all {T} {first = first} {old = old} {middle = middle} {last = last} result saw makes commits survives = record {
+makes_all {T} {first = first} {old = old} {middle = middle} {last = last} result saw absent makes commits survives = record {
   survives = survives_both (survives_then saw.survives makes.survives) survives
       (λ clean trees none. absurd none)
-      (λ clean trees whole none.
-      subst (λ (found : Trees). Holds found new_tables) (sym whole.whole) (holds clean none));
+      (λ clean trees whole. record {
+        absent = absent (before clean);
+        whole = λ none. subst (λ (found : Trees). Holds found new_tables) (sym whole.whole)
+            (holds clean none);
+      });
+  absent = λ clean. on_ok result (absent (before clean));
   made = λ clean rest none. ended result commits clean rest none;
 }
   where
+    on_ok : {P : Type 0} (result : Result T StoreError) → P → OnOk result P
+    on_ok (Ok value) said = said
+    on_ok (Err error) said = tt
+
     behind : HasCleanDisk last → HasCleanDisk middle
     behind clean = clean_before survives clean
 

@@ -1,6 +1,6 @@
 -- What is read from a store when its books are opened.
-use Rattle.std.specs.Prelude.{◌≡◌, ◌≢◌, ◌⊎◌, ◌≤◌, ◌<◌, ◌+◌, ◌^◌, All, IfErr, IfOk, Option, Some, None, Result, Ok, []}
-use Rattle.std.specs.Prelude.{Err, List, ℕ, ℤ, int_lt, length, map, false, true}
+use Rattle.std.specs.Prelude.{◌≡◌, ◌≢◌, ◌⊎◌, ◌↔◌, ◌≤◌, ◌<◌, ◌+◌, ◌^◌, All, IfErr, IfOk, Option, Some, None}
+use Rattle.std.specs.Prelude.{Bool, Result, Ok, [], Err, List, ℕ, ℤ, int_lt, length, map, false, true}
 use Rattle.std.specs.List.{AllZip, last_or}
 use Rattle.std.specs.List.Sorted.{IsStrictlySortedBy}
 use Rattle.std.specs.Option.{option_map_or}
@@ -27,7 +27,7 @@ use Rattle.tree_tables.specs.Stored.{close_entry, tariff_of}
 use Rattle.tree_tables.specs.declared.book_row.StoredBook.{StoredBook as Stored}
 use Rattle.tree_tables.specs.declared.closed_rows.Close.{Close}
 use Rattle.tree_tables.specs.declared.tariff_rows.StoredTariff.{StoredTariff}
-use Rattle.table_ledger.specs.Commits.{Stores}
+use Rattle.table_ledger.specs.Commits.{IsAtRest, Stores}
 use Rattle.table_ledger.specs.LedgerState.{LedgerState, seen_on}
 use Rattle.book_core.specs.OfficeRulings.{ruled_in}
 use Rattle.table_ledger.specs.declared.summary.Summary.{Summary}
@@ -140,6 +140,23 @@ abbrev pub FailsAsItsOwn : {V : Type 0} → Result V LedgerFault → LedgerState
 FailsAsItsOwn result old new =
     IfErr result (λ fault. fault ≢ NoSuchPeriod → HasCleanDisk new.state
     → (seen_on old).is_books → old.must_reopen ≡ false → IsOpenCause old.state new.state fault)
+
+-- Whether there are books is told by their row: that there are none is answered where it is not
+-- there, and only there.
+abbrev pub TellsBooks : Bool → Result Summary LedgerFault → Type 0
+TellsBooks there (Ok summary) = there ≡ true
+TellsBooks there (Err fault) = (fault ≡ NotBooks) ↔ (there ≡ false)
+
+-- Why books were not opened, by whether their row is there: that there are none is answered only
+-- where it is not; and there the answer is this one, or there is a cause in the store.
+pub record IsToldBy (there : Bool) (old new : State) (fault : LedgerFault) : Type 0 where
+  pub none : fault ≡ NotBooks → there ≡ false
+  pub absent : there ≡ false → IsAtRest old.view → (fault ≡ NotBooks) ⊎ IsOpenCause old new fault
+
+-- a summary is read only where the row of the book is there, and a fault tells whether it is
+abbrev pub ReadsByRow : Bool → State → State → Result Summary LedgerFault → Type 0
+ReadsByRow there old new (Ok summary) = there ≡ true
+ReadsByRow there old new (Err fault) = IsToldBy there old new fault
 
 -- books that calls made are read again, or there is such a cause
 abbrev pub ReadsItsOwn : Result Summary LedgerFault → State → State → Type 0

@@ -1,20 +1,24 @@
 -- New books are made in a store.
-use Rattle.std.specs.Prelude.{OnOk, Result}
+use Rattle.std.specs.Prelude.{◌≡◌, false, OnOk, Result}
 use Rattle.sqlite_trees.specs.Tree.{Trees}
 use Rattle.sqlite_trees.specs.View.{View}
 use Rattle.sqlite_trees.specs.declared.error.StoreError.{StoreError}
 use Rattle.table_model.specs.TablesAfter.{new_tables}
-use Rattle.tree_tables.specs.Holds.{Holds}
+use Rattle.tree_tables.specs.Holds.{Holds, has_book}
 use Rattle.tree_tables.specs.States.{State, HasCleanDisk, Survives}
 use Rattle.tree_tables.specs.Steps.{HasNoRows}
 use Rattle.table_ledger.specs.Commits.{IsAtRest, Stores}
 
--- what the commit may leave if a stop comes within it: new books, whole
-abbrev pub MayHoldNew : View → Trees → Type 0
-MayHoldNew old trees = HasNoRows old.trees → Holds trees new_tables
+-- What the commit may leave if a stop comes within it: new books, whole. Where the row of a book is
+-- there, nothing is committed.
+pub record MayHoldNew (old : View) (trees : Trees) : Type 0 where
+  pub absent : has_book old.trees ≡ false
+  pub whole : HasNoRows old.trees → Holds trees new_tables
 
--- The tables of new books are made and committed, if the trees had no rows.
+-- The tables of new books are made and committed, if the trees had no rows; and none are made where
+-- the row of a book is there.
 pub record MakesNew {T : Type 0} (result : Result T StoreError) (old new : State) : Type 0 where
   pub survives : Survives old new (MayHoldNew old.view)
+  pub absent : HasCleanDisk new → OnOk result (has_book old.view.trees ≡ false)
   pub made : HasCleanDisk new → IsAtRest old.view → HasNoRows old.view.trees
       → OnOk result (Stores new.view new_tables)

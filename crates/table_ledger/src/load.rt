@@ -3,14 +3,15 @@
 ghost use Rattle.std.specs.Prelude.{◌≡◌, ◌⊎◌, ◌<◌, ◌≤◌, IfErr, IfOk, IsTrue, List, None, false, length};
 ghost use Rattle.std.specs.Prelude.{true, ℕ, ℤ, IfSome, Option};
 ghost use Rattle.std.specs.List.{AllZip, last_or};
-ghost use Rattle.tree_tables.specs.States.{state};
+ghost use Rattle.tree_tables.specs.Holds.{has_book};
+ghost use Rattle.tree_tables.specs.States.{HasCleanDisk, state};
 ghost use Rattle.book_model.specs.Words.{Rulings, AcceptedTerms, are_rising, last_period, most_cost};
 ghost use Rattle.book_model.specs.Words.{most_choices, most_held};
-ghost use Rattle.tree_tables.specs.Steps.{FailsByStore, Looks};
+ghost use Rattle.tree_tables.specs.Steps.{FailsByStore, IsCaused, Looks};
 ghost use Rattle.table_ledger.specs.Loaded.{AreCloses, AreRowsOf, CanBeListed, IsCloseDay, IsBookRow};
 ghost use Rattle.table_ledger.specs.Loaded.{IsNextClose, IsOpenFault, IsLoaded, IsStoreFault};
 ghost use Rattle.table_ledger.specs.Loaded.{Reads, ReadsItsOwn, SaysRule, SaysTariff, SummarizesRows};
-ghost use Rattle.table_ledger.specs.Loaded.{TellsTariff};
+ghost use Rattle.table_ledger.specs.Loaded.{ReadsByRow, TellsBooks, TellsTariff};
 
 use crate::finish::fault_of;
 use crate::summary::Summary;
@@ -196,6 +197,11 @@ fn look_for_summary<S: Store>(
     ensures kinds { IfOk result (λ answer. IfErr answer IsOpenFault) }
     ensures cause { FailsByStore result (state S.Store tables.old.store)
         (state S.Store tables.new.store) CanBeListed }
+    ensures tells { IfOk result (λ answer. HasCleanDisk (state S.Store tables.new.store)
+        → TellsBooks (has_book (S.Store.view tables.old.store).trees) answer) }
+    ensures absent { IfErr result (λ error. HasCleanDisk (state S.Store tables.new.store)
+        → has_book (S.Store.view tables.old.store).trees ≡ false
+        → IsCaused (state S.Store tables.old.store) (state S.Store tables.new.store) error) }
 {
     let Some(row) = tables.find_book()? else {
         return Ok(Err(LedgerFault::NotBooks));
@@ -215,6 +221,9 @@ pub(crate) fn read_summary<S: Store>(
     ensures kinds { IfErr result IsOpenFault }
     ensures own { ReadsItsOwn result (state S.Store tables.old.store)
         (state S.Store tables.new.store) }
+    ensures row { HasCleanDisk (state S.Store tables.new.store)
+        → ReadsByRow (has_book (S.Store.view tables.old.store).trees)
+        (state S.Store tables.old.store) (state S.Store tables.new.store) result }
 {
     match look_for_summary(alloc, tables) {
         Ok(answer) => answer,

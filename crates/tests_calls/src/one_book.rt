@@ -1,9 +1,10 @@
-//! A shelf with one book in memory.
+//! Shelves with one book in memory.
 
 use book_audit::{Audited, AuditedRepository, Watch};
 use book_core::{LedgerFault, Naming, PlainLedger};
-use office::{Repository, RepositoryFault, Visit};
+use office::{AwayBooks, Opened, Repository, RepositoryFault, Visit};
 use std::alloc::Global;
+use std::cell::Cell;
 use tariff_rules::Tariff;
 
 /// Gives all records the same name, so that books refuse the second one.
@@ -38,19 +39,69 @@ impl Repository for OneBook {
         Err(RepositoryFault::Exists)
     }
 
-    fn open<V: Visit + Drop>(&self, _book: &str, visit: V) -> Result<V::Answer, RepositoryFault> {
+    fn open<V: Visit + Drop>(&self, _book: &str, visit: V) -> Opened<V::Answer> {
         let Some(tariff) = Tariff::flat(self.alloc, 20_000, 500, 0) else {
-            return Err(RepositoryFault::Io);
+            return without_log(Err(RepositoryFault::Io));
         };
         match PlainLedger::flat(self.alloc, OneName, tariff) {
-            Ok(mut books) => Ok(visit.visit(&mut books)),
-            Err(_refused) => Err(RepositoryFault::Ledger(LedgerFault::Memory)),
+            Ok(mut books) => without_log(Ok(visit.visit(&mut books))),
+            Err(_refused) => without_log(Err(RepositoryFault::Ledger(LedgerFault::Memory))),
         }
     }
 }
 
 impl AuditedRepository for OneBook {
-    fn audit<W: Watch>(&self, _book: &str, _watch: &mut W) -> Result<Audited, RepositoryFault> {
-        Err(RepositoryFault::Io)
+    fn audit<W: Watch>(&self, _book: &str, _watch: &mut W) -> Opened<Audited> {
+        without_log(Err(RepositoryFault::Io))
+    }
+
+    fn back_up<W: Watch>(&self, _book: &str, _copy: &str, _watch: &mut W) -> Opened<Audited> {
+        without_log(Err(RepositoryFault::Io))
+    }
+}
+
+/// What came of books in memory, which have no log.
+fn without_log<T: Drop>(answer: Result<T, RepositoryFault>) -> Opened<T> {
+    Opened {
+        answer,
+        has_log: false,
+    }
+}
+
+/// One book whose store fails under its first session, and which can't be opened the second time.
+#[derive(Drop)]
+pub(crate) struct AwayTwice {
+    pub(crate) book: OneBook,
+    /// How often it was to be opened.
+    pub(crate) opened: Cell<u32>,
+}
+
+impl Repository for AwayTwice {
+    fn expect(&self, book: &str) -> Result<(), RepositoryFault> {
+        self.book.expect(book)
+    }
+
+    fn make(&self, book: &str) -> Result<(), RepositoryFault> {
+        self.book.make(book)
+    }
+
+    fn open<V: Visit + Drop>(&self, book: &str, visit: V) -> Opened<V::Answer> {
+        let opened = self.opened.get();
+        self.opened.set(opened.saturating_add(1));
+        match opened {
+            0 => without_log(Ok(visit.visit(&mut AwayBooks))),
+            1 => without_log(Err(RepositoryFault::Ledger(LedgerFault::Store))),
+            _ => self.book.open(book, visit),
+        }
+    }
+}
+
+impl AuditedRepository for AwayTwice {
+    fn audit<W: Watch>(&self, book: &str, watch: &mut W) -> Opened<Audited> {
+        self.book.audit(book, watch)
+    }
+
+    fn back_up<W: Watch>(&self, book: &str, copy: &str, watch: &mut W) -> Opened<Audited> {
+        self.book.back_up(book, copy, watch)
     }
 }

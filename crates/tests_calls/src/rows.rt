@@ -1,9 +1,11 @@
-//! The worked rows of two variants, of closes and of tariffs, one request after the other.
+//! The worked rows of two variants, of closes, of tariffs, of choices and of adoption, one request
+//! after the other.
 
 use crate::lines::{
-    FEBRUARY_ROW, HEADING, IDENTITY, MEMBER_1201, MEMBER_1202, SAMPLE_MEMBER, SAMPLE_MINUS,
-    SAMPLE_PLUS, SAMPLE_ROW, SUM_OF_MINUS, SUM_OF_NONE, SUM_OF_PLUS, TABLE_HEADING, TOTAL_OF_NONE,
-    TOTAL_OF_ONE,
+    FEBRUARY_ROW, HEADING, IDENTITY, LATER_START_MEMBER, LATER_START_PLUS, MEMBER_1201,
+    MEMBER_1202, PLUS_1201, ROW_OF_BOTH_RUNS, SAMPLE_MEMBER, SAMPLE_MINUS, SAMPLE_PLUS, SAMPLE_ROW,
+    SUM_OF_MINUS, SUM_OF_NONE, SUM_OF_PLUS, SUM_OF_THE_CHOICE, TABLE_HEADING, TOTAL_OF_BOTH_RUNS,
+    TOTAL_OF_NONE, TOTAL_OF_ONE,
 };
 use crate::runs::{Expected, Step, Steps};
 use crate::sample::Record;
@@ -17,12 +19,20 @@ const SAMPLE: (Step, Expected) = (Step::Import(&[Record::Sample]), Expected::Kep
 
 const VARIANT: (Step, Expected) = (Step::Import(&[Record::Variant1201]), Expected::Kept);
 
+const LATER_START: (Step, Expected) = (Step::Import(&[Record::LaterStart]), Expected::Kept);
+
 const CLOSE: (Step, Expected) = (Step::Close(1, "2024-01-31"), Expected::Done);
 
 /// The sample and the variant are in dispute.
 const DISPUTE: (Step, Expected) = (
     Step::Report(Report::DisputeList),
     Expected::Lines(&["DISPUTES 1", IDENTITY, MEMBER_1201, SAMPLE_MEMBER]),
+);
+
+/// Nothing is in dispute.
+const NO_DISPUTE: (Step, Expected) = (
+    Step::Report(Report::DisputeList),
+    Expected::Lines(&["DISPUTES 0"]),
 );
 
 /// Nothing is charged in the first period, which is open.
@@ -166,8 +176,84 @@ const TARIFFS_IN_ORDER: Steps = &[
     ),
 ];
 
+/// Either record of a dispute is chosen after the close, the one that was charged first.
+const VARIANT_AFTER_CLOSE_AND_CHOICES: Steps = &[
+    TARIFF,
+    SAMPLE,
+    CLOSE,
+    VARIANT,
+    DISPUTE,
+    (Step::Choose(Record::Sample), Expected::Done),
+    (
+        Step::Report(Report::AdjustmentList(2)),
+        Expected::Lines(&["ADJUSTMENTS PERIOD 2 OPEN", SUM_OF_NONE]),
+    ),
+    (Step::Choose(Record::Variant1201), Expected::Done),
+    (Step::Choose(Record::Variant1201), Expected::Already),
+    (
+        Step::Choose(Record::Step2),
+        Expected::Refused(LedgerFault::NoSuchRecord),
+    ),
+    NO_DISPUTE,
+    (
+        Step::Report(Report::AdjustmentList(2)),
+        Expected::Lines(&[
+            "ADJUSTMENTS PERIOD 2 OPEN",
+            PLUS_1201,
+            SAMPLE_MINUS,
+            SUM_OF_THE_CHOICE,
+        ]),
+    ),
+];
+
+/// The second rule of identity ends a dispute in which a closed period had charged one record.
+const SECOND_RUN_AFTER_CLOSE: Steps = &[
+    TARIFF,
+    SAMPLE,
+    CLOSE,
+    LATER_START,
+    REVERSED,
+    (
+        Step::Report(Report::DisputeList),
+        Expected::Lines(&["DISPUTES 1", IDENTITY, LATER_START_MEMBER, SAMPLE_MEMBER]),
+    ),
+    (Step::Adopt(2), Expected::Done),
+    (Step::Adopt(2), Expected::Already),
+    (Step::Adopt(1), Expected::Refused(LedgerFault::OldRule)),
+    (
+        Step::Choose(Record::Sample),
+        Expected::Refused(LedgerFault::NotDisputed),
+    ),
+    NO_DISPUTE,
+    (
+        Step::Report(Report::AdjustmentList(2)),
+        Expected::Lines(&["ADJUSTMENTS PERIOD 2 OPEN", LATER_START_PLUS, SUM_OF_PLUS]),
+    ),
+];
+
+/// Under the second rule the older of two choices counts again.
+const AN_OLDER_CHOICE_COMES_BACK: Steps = &[
+    TARIFF,
+    SAMPLE,
+    VARIANT,
+    LATER_START,
+    (Step::Choose(Record::Sample), Expected::Done),
+    (Step::Choose(Record::LaterStart), Expected::Done),
+    (Step::Adopt(2), Expected::Done),
+    NO_DISPUTE,
+    (
+        Step::Report(Report::Statement(1)),
+        Expected::Lines(&[
+            "STATEMENT PERIOD 1 OPEN",
+            HEADING,
+            ROW_OF_BOTH_RUNS,
+            TOTAL_OF_BOTH_RUNS,
+        ]),
+    ),
+];
+
 /// All rows, each of new books.
-pub(crate) const ROWS: [Steps; 7] = [
+pub(crate) const ROWS: [Steps; 10] = [
     TWO_VARIANTS,
     THE_VARIANT_FIRST,
     VARIANT_AFTER_CLOSE,
@@ -175,4 +261,7 @@ pub(crate) const ROWS: [Steps; 7] = [
     THIRD_VARIANT,
     DATED_AFTER_CLOSE,
     TARIFFS_IN_ORDER,
+    VARIANT_AFTER_CLOSE_AND_CHOICES,
+    SECOND_RUN_AFTER_CLOSE,
+    AN_OLDER_CHOICE_COMES_BACK,
 ];

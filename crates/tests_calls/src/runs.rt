@@ -24,6 +24,8 @@ pub(crate) enum Step {
     Tariff(&'static str),
     Import(&'static [Record]),
     Close(u16, &'static str),
+    Choose(Record),
+    Adopt(u8),
     Report(Report),
 }
 
@@ -65,6 +67,8 @@ fn request_of(alloc: Global, step: Step) -> Option<Asked>
             let through = day_of_text(day)?;
             Some(Asked::Close { period, through })
         }
+        Step::Choose(record) => Some(Asked::Choose(record.name())),
+        Step::Adopt(rule) => Some(Asked::Adopt(rule)),
         Step::Report(report) => Some(Asked::Report(report)),
     }
 }

@@ -1,5 +1,7 @@
 //! The records of the worked rows.
 
+use book_core::{Naming, ShaNames};
+
 /// How long each is, its descriptor included.
 pub(crate) const LEN: usize = 168;
 
@@ -42,6 +44,8 @@ pub(crate) enum Record {
     Variant1202,
     /// The end of step 2.
     Step2,
+    /// Initiated a hundredth of a second later: a second run of the step.
+    LaterStart,
     /// Dated 2024-02-01.
     February1,
     /// At 18:00.
@@ -58,6 +62,7 @@ impl Record {
             Record::Variant1201 => (160, [0x00, 0x00, 0x04, 0xB1]),
             Record::Variant1202 => (160, [0x00, 0x00, 0x04, 0xB2]),
             Record::Step2 => (112, [0x00, 0x02, 0x00, 0x00]),
+            Record::LaterStart => (128, [0x00, 0x2B, 0xDA, 0x91]),
             Record::February1 => (10, [0x01, 0x24, 0x03, 0x2F]),
             Record::At18 => (6, [0x00, 0x62, 0xE0, 0x80]),
             Record::Before18 => (6, [0x00, 0x62, 0xE0, 0x7F]),
@@ -72,5 +77,10 @@ impl Record {
             *place = *byte;
         }
         bytes
+    }
+
+    /// The name under which books hold it.
+    pub(crate) fn name(self) -> [u8; 32] {
+        ShaNames.name(&self.bytes()[4..])
     }
 }

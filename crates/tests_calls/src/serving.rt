@@ -2,17 +2,16 @@
 //! connects a client as soon as a line is whole, and reads what that client was answered as soon as
 //! the next line is. The port is taken before the first line, so no client waits for the server.
 
-use crate::one_book::OneBook;
+use crate::one_book::{AwayTwice, OneBook};
 use crate::sample::Record;
+use book_audit::AuditedRepository;
 use chargectl::{Status, command};
+use std::cell::Cell;
 use std::io;
 use std::io::Write;
 use std::net::{Shutdown, TcpListener, TcpStream};
 use std::test::Fail;
 use std::time::Duration;
-
-/// How many clients there are.
-const CLIENTS: &str = "14";
 
 /// How long a client waits for its answer, which is there before it is read, in seconds.
 const READ_TIMEOUT: u64 = 5;
@@ -37,7 +36,7 @@ type Client = (&'static str, Option<Record>, Parting);
 const POST: &str = "POST /import HTTP/1.1\r\nContent-Length: 168\r\n\r\n";
 
 /// One client after the other.
-static ALL: [Client; 14] = [
+static CLIENTS: [Client; 14] = [
     ("GET /periods HTTP/1.1\r\n\r\n", None, Parting::Reads),
     ("", None, Parting::Ends),
     ("GET /periods HT", None, Parting::Reads),
@@ -70,6 +69,26 @@ static ALL: [Client; 14] = [
     // The books are still those that hold the sample: they were not opened again.
     (POST, Some(Record::Sample), Parting::Reads),
 ];
+
+/// Clients of books that are away for two of them.
+static CLIENTS_OF_AWAY_BOOKS: [Client; 3] = [
+    ("GET /periods HTTP/1.1\r\n\r\n", None, Parting::Reads),
+    (POST, Some(Record::Sample), Parting::Reads),
+    ("GET /periods HTTP/1.1\r\n\r\n", None, Parting::Reads),
+];
+
+/// What they see: each is answered, and the books are back for the third.
+const SEEN_OF_AWAY_BOOKS: &str = "READY
+SERVED 503
+HTTP/1.1 503 Service Unavailable
+503 Service Unavailable
+SERVED 503
+HTTP/1.1 503 Service Unavailable
+KEPT 0 KNOWN 0 UNPRICED 0 OTHER 0 HEADERS 0 TRAILERS 0 LOST 0 CONTINUED 0 DAMAGED 0 STOP LEDGER 3
+SERVED 200
+HTTP/1.1 200 OK
+1 OPEN
+";
 
 /// What the server says, each line before what its client reads: the first line of the answer, and
 /// the last one.
@@ -117,6 +136,7 @@ KEPT 0 KNOWN 1 UNPRICED 0 OTHER 0 HEADERS 0 TRAILERS 0 LOST 0 CONTINUED 0 DAMAGE
 struct Clients<'a> {
     rt: &'a HostRuntime,
     port: u16,
+    all: &'static [Client],
     /// How many have connected.
     connected: usize,
     /// The connection that the server answers now, and whether its client reads the answer.
@@ -143,7 +163,7 @@ impl Clients<'_> {
 
     /// Connects the next client, and sends its request.
     fn send_next(&mut self) -> io::Result<()> {
-        let Some((head, record, parting)) = ALL.get(self.connected) else {
+        let Some((head, record, parting)) = self.all.get(self.connected) else {
             return Ok(());
         };
         self.connected = self.connected.saturating_add(1);
@@ -181,9 +201,10 @@ fn free_port(rt: &HostRuntime) -> io::Result<u16> {
 }
 
 /// The words of a command that serves a given number of connections.
-fn serve_words(rt: &HostRuntime, port: u16) -> io::Result<Vec<String>> {
+fn serve_words(rt: &HostRuntime, port: u16, requests: usize) -> io::Result<Vec<String>> {
     let alloc = rt.alloc();
     let port = format!(in alloc; "{port}")?;
+    let requests = format!(in alloc; "{requests}")?;
     let mut words = Vec::new(alloc);
     for word in [
         "chargectl",
@@ -192,35 +213,59 @@ fn serve_words(rt: &HostRuntime, port: u16) -> io::Result<Vec<String>> {
         "--port",
         port.as_str(),
         "--requests",
-        CLIENTS,
+        requests.as_str(),
     ] {
         words.push(String::from_str(alloc, word)?)?;
     }
     Ok(words)
 }
 
-#[test]
-fn clients_are_served_one_after_the_other(rt: HostRuntime) -> Result<(), Fail> {
-    let port = free_port(&rt)?;
-    let words = serve_words(&rt, port)?;
-    let repository = OneBook { alloc: rt.alloc() };
+/// Serves clients from books. Whether all went well, and what the server said and they saw.
+fn seen_by<S: AuditedRepository>(
+    rt: &HostRuntime,
+    repository: &S,
+    all: &'static [Client],
+) -> Result<(bool, Vec<u8>), Fail> {
+    let port = free_port(rt)?;
+    let words = serve_words(rt, port, all.len())?;
     let mut errors = Vec::new(rt.alloc());
     let mut clients = Clients {
-        rt: &rt,
+        rt,
         port,
+        all,
         connected: 0,
         now: None,
         seen: Vec::new(rt.alloc()),
     };
     let status = command(
-        &rt,
-        &repository,
+        rt,
+        repository,
         &words,
         io::empty(),
         &mut clients,
         &mut errors,
     );
-    assert!(rt; status == Status::Done && errors.is_empty());
-    assert_eq!(rt; String::from_utf8(clients.seen)?.as_str(), SEEN);
+    let is_done = status == Status::Done && errors.is_empty();
+    Ok((is_done, clients.seen))
+}
+
+#[test]
+fn clients_are_served_one_after_the_other(rt: HostRuntime) -> Result<(), Fail> {
+    let repository = OneBook { alloc: rt.alloc() };
+    let (is_done, seen) = seen_by(&rt, &repository, CLIENTS.as_slice())?;
+    assert!(rt; is_done);
+    assert_eq!(rt; String::from_utf8(seen)?.as_str(), SEEN);
+    Ok(())
+}
+
+#[test]
+fn clients_are_answered_while_the_books_are_away(rt: HostRuntime) -> Result<(), Fail> {
+    let repository = AwayTwice {
+        book: OneBook { alloc: rt.alloc() },
+        opened: Cell::new(0),
+    };
+    let (is_done, seen) = seen_by(&rt, &repository, CLIENTS_OF_AWAY_BOOKS.as_slice())?;
+    assert!(rt; is_done);
+    assert_eq!(rt; String::from_utf8(seen)?.as_str(), SEEN_OF_AWAY_BOOKS);
     Ok(())
 }

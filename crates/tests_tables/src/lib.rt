@@ -25,7 +25,9 @@
 //! | `stops FILE written` | the same, where what was written was not lost |
 //! | `stops FILE torn` | the same, where the first half of the write in progress got there |
 //! | `stops FILE twice`, `stops FILE twice written` | the same, where the disk stopped again at each call on the way back into the books |
+//! | `stops FILE all-again` | the same, where the books then got all commands once more, and not from the one in hand on |
 //! | `refuses memory` | what was found when the store answered each of its calls in turn that memory ran out |
+//! | `refuses memory files` | the same, where the books were in two files |
 //!
 //! The body of `stops` and of `refuses` is a run of commands. The row continues with the books
 //! after it. Each word of an import names one record there.
@@ -33,6 +35,7 @@
 
 mod changed_rows;
 mod each_call;
+mod empty_store;
 mod lines;
 mod names;
 mod plain_books;

@@ -1,16 +1,18 @@
 //! Memory that runs out at each call of a store.
 
+use crate::empty_store::EmptyStore;
 use crate::refusing_store::RefusingStore;
 use crate::run::{Run, reported};
 use crate::trees::Trees;
 use crate::uninterrupted::{Books, Mismatch, Uninterrupted, run_uninterrupted, snapshot_of};
 use book_core::{Ledger, LedgerFault, ShaNames};
+use sqlite_disk::Memory;
+use sqlite_store::FileStore;
 use sqlite_trees::memory::MemStore;
 use sqlite_trees::store::Store;
 use std::alloc::{AllocError, Global};
 use table_ledger::TableLedger;
 use tests_scripts::{Ask, Named, push_line};
-use tree_tables::trees_in_memory;
 
 /// More calls than any run makes of a store.
 const ENOUGH: u64 = 50_000;
@@ -68,12 +70,12 @@ fn work<L: Ledger>(run: Run<'_>, ledger: &mut L) -> Result<Option<Refused>, Mism
 
 /// Makes books in a store that refuses the call after a given number, and works on them up to that
 /// call. Answers the books, and how far they came until then; nothing where no call was refused.
-fn begin(
+fn begin<S: EmptyStore>(
     run: Run<'_>,
     calls: u64,
-) -> Result<(Books<RefusingStore<MemStore>>, Option<Refused>), Mismatch> {
+) -> Result<(Books<RefusingStore<S>>, Option<Refused>), Mismatch> {
     let alloc = run.named.alloc();
-    let Ok(store) = trees_in_memory(alloc) else {
+    let Some(store) = S::empty(alloc) else {
         return Err(Mismatch("NO MEMORY"));
     };
     let (mut books, is_refused) = create_in(alloc, Trees::over(RefusingStore::new(store, calls)))?;
@@ -89,10 +91,10 @@ fn begin(
 }
 
 /// Books as a refused call left them are those after the last change that was reported.
-fn look(
+fn look<S: EmptyStore>(
     run: Run<'_>,
     whole: &Uninterrupted,
-    books: Books<RefusingStore<MemStore>>,
+    books: Books<RefusingStore<S>>,
     refused: Refused,
 ) -> Result<(), Mismatch> {
     let (found, _) = snapshot_of(run, books)?;
@@ -104,10 +106,10 @@ fn look(
 }
 
 /// They still serve: the command that was refused and those after it bring them to the end.
-fn finish(
+fn finish<S: EmptyStore>(
     run: Run<'_>,
     whole: &Uninterrupted,
-    books: Books<RefusingStore<MemStore>>,
+    books: Books<RefusingStore<S>>,
     refused: Refused,
 ) -> Result<(), Mismatch> {
     let mut books = books;
@@ -122,8 +124,12 @@ fn finish(
 
 /// Makes a run on books whose store refuses the call after a given number, twice: what is found is
 /// checked, and then how it ends. Answers whether the run came to that call.
-fn try_refusal(run: Run<'_>, whole: &Uninterrupted, calls: u64) -> Result<bool, Mismatch> {
-    let (books, refused) = begin(run, calls)?;
+fn try_refusal<S: EmptyStore>(
+    run: Run<'_>,
+    whole: &Uninterrupted,
+    calls: u64,
+) -> Result<bool, Mismatch> {
+    let (books, refused) = begin::<S>(run, calls)?;
     let Some(refused) = refused else {
         let is_untold = books.close_store().has_refused();
         return if is_untold {
@@ -133,7 +139,7 @@ fn try_refusal(run: Run<'_>, whole: &Uninterrupted, calls: u64) -> Result<bool, 
         };
     };
     look(run, whole, books, refused)?;
-    let (books, _) = begin(run, calls)?;
+    let (books, _) = begin::<S>(run, calls)?;
     finish(run, whole, books, refused)?;
     Ok(true)
 }
@@ -141,10 +147,10 @@ fn try_refusal(run: Run<'_>, whole: &Uninterrupted, calls: u64) -> Result<bool, 
 /// Refuses the calls of a run one by one, up to one that the run does not come to. Answers the
 /// result: how many changes the run has and how many calls were refused, or the first refusal that
 /// leaves what it should not.
-fn swept(run: Run<'_>, whole: &Uninterrupted) -> Result<String, AllocError> {
+fn swept<S: EmptyStore>(run: Run<'_>, whole: &Uninterrupted) -> Result<String, AllocError> {
     let alloc = run.named.alloc();
     for calls in 0..ENOUGH {
-        match try_refusal(run, whole, calls) {
+        match try_refusal::<S>(run, whole, calls) {
             Ok(true) => {}
             Ok(false) => return whole.met(alloc, "REFUSED", calls as usize),
             Err(other) => return format!(in alloc; "BEHIND {calls} CALLS {}", other.0),
@@ -153,7 +159,7 @@ fn swept(run: Run<'_>, whole: &Uninterrupted) -> Result<String, AllocError> {
     String::from_str(alloc, "EVERY RUN WAS REFUSED")
 }
 
-/// Answers `refuses memory`, with commands, and gives back the trees whose books got them without a
+/// Answers `refuses memory`, or `refuses memory files`, with commands, and gives back the trees whose books got them without a
 /// refusal, and whether the line was read.
 pub(crate) fn answer_refusals<S: Store + Drop>(
     named: &Named,
@@ -161,14 +167,21 @@ pub(crate) fn answer_refusals<S: Store + Drop>(
     ask: Ask<'_>,
     out: &mut Vec<u8>,
 ) -> Result<(Trees<S>, bool), AllocError> {
-    if ask.words != ["memory"].as_slice() {
-        return Ok((trees, false));
-    }
+    let in_files = match *ask.words {
+        ["memory"] => false,
+        ["memory", "files"] => true,
+        _ => return Ok((trees, false)),
+    };
     let run = Run {
         named,
         body: ask.body,
     };
     let (whole, trees) = run_uninterrupted(run, trees)?;
-    push_line(out, swept(run, &whole)?.as_str())?;
+    let told = if in_files {
+        swept::<FileStore<Memory>>(run, &whole)?
+    } else {
+        swept::<MemStore>(run, &whole)?
+    };
+    push_line(out, told.as_str())?;
     Ok((trees, true))
 }

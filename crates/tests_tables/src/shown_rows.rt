@@ -208,14 +208,29 @@ pub(crate) fn shown_table<S: Store + Drop>(
     }
 }
 
-/// All rows of all trees, an empty line after those of each; none where one can't be read.
-pub(crate) fn all_rows<S: Store + Drop>(alloc: Global, trees: &mut Trees<S>) -> Option<Vec<u8>> {
+/// All rows of some trees, an empty line after those of each; none where one can't be read.
+fn rows_of<S: Store + Drop>(
+    alloc: Global,
+    trees: &mut Trees<S>,
+    first: u32,
+    last: u32,
+) -> Option<Vec<u8>> {
     let mut text = Vec::new(alloc);
-    for tree in 0..=CHOICE_NAMES {
+    for tree in first..=last {
         for row in &trees.rows(alloc, tree)? {
             push_whole(alloc, &mut text, &row.0).ok()?;
         }
         text.push(b'\n').ok()?;
     }
     Some(text)
+}
+
+/// All rows of all trees but those of choices.
+pub(crate) fn all_rows<S: Store + Drop>(alloc: Global, trees: &mut Trees<S>) -> Option<Vec<u8>> {
+    rows_of(alloc, trees, BOOK, MARKS)
+}
+
+/// All rows of the trees of choices.
+pub(crate) fn all_choices<S: Store + Drop>(alloc: Global, trees: &mut Trees<S>) -> Option<Vec<u8>> {
+    rows_of(alloc, trees, CHOICES, CHOICE_NAMES)
 }

@@ -2,7 +2,7 @@
 
 use crate::run::Run;
 use crate::stopping_disk::{Found, Stop, StoppingDisk};
-use crate::sweep::{Met, try_stops};
+use crate::sweep::{Met, Then, try_stops};
 use crate::trees::Trees;
 use crate::uninterrupted::{Mismatch, Uninterrupted, run_uninterrupted};
 use sqlite_disk::{Files, Memory};
@@ -26,15 +26,19 @@ enum StoppedFile {
 struct Sweep {
     stopped: StoppedFile,
     found: Found,
-    /// And once more at each call on the way back.
-    twice: bool,
+    then: Then,
 }
 
 impl Sweep {
     /// How many calls further on the next run is stopped. After each stop there are many calls on
     /// the way back, so only every seventh is tried then.
     fn stride(self) -> u64 {
-        if self.twice { 7 } else { 1 }
+        if self.is_twice() { 7 } else { 1 }
+    }
+
+    /// It is stopped once more on the way back.
+    fn is_twice(self) -> bool {
+        matches!(self.then, Then::SecondStop)
     }
 }
 
@@ -75,7 +79,7 @@ fn stop_at(
         found: sweep.found,
     };
     let files = failing(run.named.alloc(), sweep.stopped, stop);
-    try_stops::<FileStore<StoppingDisk<Memory>>>(run, whole, files, sweep.twice)
+    try_stops::<FileStore<StoppingDisk<Memory>>>(run, whole, files, sweep.then)
 }
 
 /// Stops a run after a given number of calls, and where that is asked once more at each call on the
@@ -88,11 +92,12 @@ fn stop_after(
     stops: &mut usize,
 ) -> Result<bool, Mismatch> {
     for again in 0..ENOUGH {
-        let calls_again = if sweep.twice { again } else { u64::MAX };
+        let is_twice = sweep.is_twice();
+        let calls_again = if is_twice { again } else { u64::MAX };
         let met = stop_at(run, whole, sweep, calls, calls_again)?;
-        let counts = if sweep.twice { met.again } else { met.stopped };
+        let counts = if is_twice { met.again } else { met.stopped };
         *stops = stops.saturating_add(usize::from(counts));
-        if !sweep.twice || !met.again {
+        if !is_twice || !met.again {
             return Ok(met.stopped);
         }
     }
@@ -124,18 +129,21 @@ fn sweep_of(words: &[&str]) -> Option<Sweep> {
         "database" => StoppedFile::Database,
         _ => return None,
     };
-    let (found, twice) = match *rest {
-        [] => (Found::Synced, false),
-        ["written"] => (Found::Written, false),
-        ["torn"] => (Found::Torn, false),
-        ["twice"] => (Found::Synced, true),
-        ["twice", "written"] => (Found::Written, true),
+    let (then, kept) = match rest {
+        ["twice", kept @ ..] => (Then::SecondStop, kept),
+        ["all-again", kept @ ..] => (Then::AllAgain, kept),
+        kept => (Then::InHand, kept),
+    };
+    let found = match *kept {
+        [] => Found::Synced,
+        ["written"] => Found::Written,
+        ["torn"] => Found::Torn,
         _ => return None,
     };
     Some(Sweep {
         stopped,
         found,
-        twice,
+        then,
     })
 }
 

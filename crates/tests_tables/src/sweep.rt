@@ -146,6 +146,40 @@ fn finish<S: Restart>(
     }
 }
 
+/// Gives the books that are left all commands once more, from the first on, whatever each is
+/// answered. What was done before is not done again, so that brings them to the end. Only choices
+/// may have been made again, one after the other, up to the last.
+fn start_over<S: Restart>(
+    run: Run<'_>,
+    whole: &Uninterrupted,
+    left: Remains<S>,
+) -> Result<(), Mismatch> {
+    let alloc = run.named.alloc();
+    let (mut books, _) = reopen(alloc, left)?;
+    run.give_from(&mut books, 0)?;
+    if books.periods().is_err() {
+        return Err(Mismatch("OTHER ANSWERS"));
+    }
+    let (books, _) = reopen(alloc, Remains::Store(books.close_store()))?;
+    let (end, _) = snapshot_of(run, books)?;
+    if whole.is_end_but_for_choices(&end) {
+        Ok(())
+    } else {
+        Err(Mismatch("ANOTHER END"))
+    }
+}
+
+/// What comes after a stop.
+#[derive(Clone, Copy)]
+pub(crate) enum Then {
+    /// The books that are found get the command in hand once more, and those after it.
+    InHand,
+    /// The same, after a second stop on the way back into the books.
+    SecondStop,
+    /// They get all commands once more, from the first on.
+    AllAgain,
+}
+
 /// Where a disk stopped.
 #[derive(Clone, Copy)]
 pub(crate) struct Met {
@@ -156,13 +190,13 @@ pub(crate) struct Met {
 }
 
 /// Makes a run on books in files that may fail, and answers where it was stopped, if what is found
-/// and how it ends are as they have to be. Where `twice` says so, that is checked only after a
-/// second stop on the way back.
+/// and how it ends are as they have to be. Where there is to be a second stop on the way back, that
+/// is checked only after it.
 pub(crate) fn try_stops<S: Restart>(
     run: Run<'_>,
     whole: &Uninterrupted,
     files: S::Disks,
-    twice: bool,
+    then: Then,
 ) -> Result<Met, Mismatch> {
     let (progress, left) = start::<S>(run, files)?;
     let (left, is_shut) = checkpoint_log(left);
@@ -171,13 +205,17 @@ pub(crate) fn try_stops<S: Restart>(
         stopped: progress.stopped || !is_shut,
         again,
     };
-    if twice && !again {
+    if matches!(then, Then::SecondStop) && !again {
         return Ok(met);
     }
     let (found, trees) = snapshot_of(run, books)?;
     if !whole.is_reached(progress, &found) {
         return Err(Mismatch("OTHER BOOKS"));
     }
-    finish(run, whole, progress, Remains::Store(trees.into_store()))?;
+    let left = Remains::Store(trees.into_store());
+    match then {
+        Then::InHand | Then::SecondStop => finish(run, whole, progress, left)?,
+        Then::AllAgain => start_over(run, whole, left)?,
+    }
     Ok(met)
 }

@@ -6,6 +6,7 @@ ghost use Rattle.sqlite_trees.specs.View.{IsClean};
 ghost use Rattle.tree_tables.specs.Holds.{HasShapes};
 
 use crate::changed_rows::{change_of, change_rows};
+use crate::empty_store::EmptyStore;
 use crate::lines::Lines;
 use crate::names::Names;
 use crate::refusals::answer_refusals;
@@ -17,7 +18,6 @@ use sqlite_trees::memory::MemStore;
 use std::alloc::{AllocError, Global};
 use table_ledger::TableLedger;
 use tests_scripts::{Ask, Named, push_line};
-use tree_tables::trees_in_memory;
 
 /// The trees, while no books are open on them.
 #[derive(Drop)]
@@ -81,20 +81,9 @@ fn begun_store(alloc: Global, words: &[&str], names: Names) -> Option<MemStore>
         → HasShapes (memory_view store)) }
 {
     match *words {
-        ["empty"] => empty_store(alloc),
+        ["empty"] => MemStore::empty(alloc),
         ["new" | "one-name"] => new_store(alloc, names),
         _ => None,
-    }
-}
-
-/// A store without books.
-fn empty_store(alloc: Global) -> Option<MemStore>
-    ensures shaped { IfSome result (λ store. IsClean (memory_view store)
-        → HasShapes (memory_view store)) }
-{
-    match trees_in_memory(alloc) {
-        Ok(store) => Some(store),
-        Err(_refused) => None,
     }
 }
 
@@ -103,11 +92,8 @@ fn new_store(alloc: Global, names: Names) -> Option<MemStore>
     ensures shaped { IfSome result (λ store. IsClean (memory_view store)
         → HasShapes (memory_view store)) }
 {
-    match trees_in_memory(alloc) {
-        Ok(store) => match TableLedger::create(alloc, store, names) {
-            Ok(books) => Some(books.close_store()),
-            Err(_refused) => None,
-        },
+    match TableLedger::create(alloc, MemStore::empty(alloc)?, names) {
+        Ok(books) => Some(books.close_store()),
         Err(_refused) => None,
     }
 }

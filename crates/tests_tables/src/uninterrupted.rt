@@ -2,7 +2,7 @@
 
 use crate::lines::Lines;
 use crate::run::{Progress, Run, ask_of};
-use crate::shown_rows::all_rows;
+use crate::shown_rows::{all_choices, all_rows};
 use crate::trees::Trees;
 use book_core::ShaNames;
 use sqlite_trees::store::Store;
@@ -23,11 +23,28 @@ impl From<AllocError> for Mismatch {
     }
 }
 
-/// Books as they are between two changes: all their rows, and all their texts.
+/// Books as they are between two changes: all their rows, those of choices apart, and all their
+/// texts.
 #[derive(Drop, PartialEq)]
 pub(crate) struct Snapshot {
-    pub(crate) rows: Vec<u8>,
-    pub(crate) texts: Vec<u8>,
+    rows: Vec<u8>,
+    choices: Vec<u8>,
+    texts: Vec<u8>,
+}
+
+impl Snapshot {
+    /// Books with these texts, in trees; none where a row can't be read.
+    fn of<S: Store + Drop>(
+        alloc: Global,
+        trees: &mut Trees<S>,
+        texts: Vec<u8>,
+    ) -> Option<Snapshot> {
+        Some(Snapshot {
+            rows: all_rows(alloc, trees)?,
+            choices: all_choices(alloc, trees)?,
+            texts,
+        })
+    }
 }
 
 /// What a run that nothing stops leaves: new books, and those after each change.
@@ -60,6 +77,14 @@ impl Uninterrupted {
         self.snapshots.last() == Some(found)
     }
 
+    /// These are the books at its end, though other choices may have led there.
+    pub(crate) fn is_end_but_for_choices(&self, found: &Snapshot) -> bool {
+        match self.snapshots.last() {
+            Some(end) => end.rows == found.rows && end.texts == found.texts,
+            None => false,
+        }
+    }
+
     /// How many changes it makes, and how often something came in its way: more often than that, or
     /// how often.
     pub(crate) fn met(
@@ -85,8 +110,8 @@ pub(crate) fn snapshot_of<S: Store + Drop>(
     let mut books = books;
     let texts = run.texts(&mut books)?;
     let mut trees = Trees::over(books.close_store());
-    match all_rows(run.named.alloc(), &mut trees) {
-        Some(rows) => Ok((Snapshot { rows, texts }, trees)),
+    match Snapshot::of(run.named.alloc(), &mut trees, texts) {
+        Some(snapshot) => Ok((snapshot, trees)),
         None => Err(Mismatch("OTHER ROWS")),
     }
 }
@@ -110,8 +135,8 @@ fn add_snapshot<S: Store + Drop>(
     snapshots: &mut Vec<Snapshot>,
 ) -> Result<Trees<S>, AllocError> {
     let (mut trees, texts) = answered(run, trees, ask_of(&["changes"]))?;
-    if let Some(rows) = all_rows(run.named.alloc(), &mut trees) {
-        snapshots.push(Snapshot { rows, texts })?;
+    if let Some(snapshot) = Snapshot::of(run.named.alloc(), &mut trees, texts) {
+        snapshots.push(snapshot)?;
     }
     Ok(trees)
 }

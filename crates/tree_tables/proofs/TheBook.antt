@@ -1,11 +1,11 @@
 -- The one row of the book.
-use Rattle.std.proofs.Common.{◌≡◌, ℕ, List, [], ◌∷◌, Bool, true, not, cond, pos}
+use Rattle.std.proofs.Common.{◌≡◌, ℕ, List, [], ◌∷◌, Bool, true, false, not, cond, pos, arith}
 use Rattle.std.proofs.Common.{refl, sym, ap, ap₂, ◌&&◌, subst, ◌∙◌, Result}
 use Rattle.std.specs.Prelude.{OnErr, OnOk}
 use Rattle.std.specs.Cmp.{tied_itself}
 use Rattle.std.specs.Ordering.{is_eq, is_lt}
 use Rattle.std.specs.declared.cmp.Ordering.TheVariants.{Equal}
-use Rattle.sqlite_trees.specs.Tree.{from_key, insert_entry, remove_entry}
+use Rattle.sqlite_trees.specs.Tree.{Trees, from_key, insert_entry, remove_entry}
 use Rattle.sqlite_trees.specs.View.{View, IsClean, KeepsCommitted}
 use Rattle.sqlite_trees.specs.declared.error.StoreError.{StoreError}
 use Rattle.sqlite_trees.specs.declared.store.Store.{Ghosts}
@@ -14,7 +14,7 @@ use Rattle.sqlite_value.proofs.OrderLemmas.{row_cmp_total}
 use Rattle.sqlite_value.specs.Keys.{plain, prefix_cmp}
 use Rattle.sqlite_value.specs.Order.{Row, column}
 use Rattle.sqlite_value.specs.declared.value.Value.TheVariants.{Int}
-use Rattle.table_model.specs.Tables.{BookRow}
+use Rattle.table_model.specs.Tables.{BookRow, Tables}
 use Rattle.tree_rows.specs.Rows.{Finds, IsFirst, IsUnchanged, Rewrites}
 use Rattle.tree_rows.proofs.Calls.{Quiet, clean_before}
 use Rattle.tree_rows.proofs.Maps.{begins_with, prefix_of}
@@ -22,8 +22,9 @@ use Rattle.tree_tables.proofs.Holding.{with_book}
 use Rattle.tree_tables.proofs.Looking.{does_after, only_looks, rewrites_after_look}
 use Rattle.tree_tables.specs.Columns.{book_columns}
 use Rattle.tree_tables.specs.Fits.{BookFits}
+use Rattle.tree_tables.specs.Holds.{Holds, begin_with_book, has_book}
 use Rattle.tree_tables.specs.States.{state}
-use Rattle.tree_tables.specs.Steps.{Always, Does}
+use Rattle.tree_tables.specs.Steps.{Always, Does, HasNoRows}
 use Rattle.tree_tables.specs.Stored.{book_entry}
 use Rattle.tree_tables.specs.declared.book_row.StoredBook.{StoredBook}
 
@@ -50,6 +51,38 @@ book_there rows book key row hit is named finds =
           ∙ ap is_eq (at_first book),
       both.1,
     )
+
+-- what a look-up finds, by the first of the rows from the key on
+found_first : (rows : List Row) (row : Row) (there : Bool) → IsFirst rows row there
+    → (there && is_eq (prefix_cmp plain row (Int (pos 1) ∷ []))) ≡ begin_with_book rows
+found_first rows row true (more, is) = ap begin_with_book (sym is)
+found_first rows row false none = ap begin_with_book (sym none)
+
+-- so a look-up tells whether the row of the book is there
+pub book_found : (trees : Trees) (key row : Row) (hit : Bool) → key ≡ Int (pos 1) ∷ []
+    → Finds key (trees 0) row hit → hit ≡ has_book trees
+unfolding has_book
+book_found trees key row hit named finds =
+    finds.is
+    ∙ ap (λ (key : Row). finds.there && is_eq (prefix_cmp plain row key)) named
+    ∙ found_first (from_key plain (Int (pos 1) ∷ []) (trees 0)) row finds.there
+    (subst (λ (key : Row). IsFirst (from_key plain key (trees 0)) row finds.there) named finds.first)
+
+-- trees that hold tables have it
+pub book_held : (trees : Trees) (tables : Tables) → Holds trees tables → has_book trees ≡ true
+unfolding has_book
+book_held trees tables holds =
+    ap (λ rows. begin_with_book (from_key plain (Int (pos 1) ∷ []) rows)) holds.book
+    ∙ ap (λ o. begin_with_book (cond (is_lt o) [] (book_columns tables.book ∷ [])))
+    (at_first tables.book)
+    ∙ ap is_eq (at_first tables.book)
+
+-- and trees with no row do not
+pub book_absent : (trees : Trees) → HasNoRows trees → has_book trees ≡ false
+unfolding has_book
+book_absent trees none =
+    ap (λ rows. begin_with_book (from_key plain (Int (pos 1) ∷ []) rows))
+    (none.empty 0 (omega arith))
 
 -- the row of a book has its numbers
 pub book_fits : (book : BookRow) → BookFits (book_columns book)

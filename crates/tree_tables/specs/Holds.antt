@@ -1,14 +1,16 @@
 -- The trees that hold the tables: one for each table, in the order of its key, two more that find
 -- records, by their identities and by their marks, and one more that finds choices, by the names of
 -- the records that were chosen.
-use Rattle.std.specs.Prelude.{◌≡◌, ℕ, List, [], ◌∷◌, map, Some}
+use Rattle.std.specs.Prelude.{◌≡◌, ℕ, Bool, false, List, [], ◌∷◌, map, pos, Some}
 use Rattle.std.specs.FinMap.{FinMap, entries, get}
-use Rattle.std.specs.Ordering.{nat_cmp}
+use Rattle.std.specs.Ordering.{is_eq, nat_cmp}
 use Rattle.std.specs.declared.cmp.Ordering.{Ordering}
-use Rattle.sqlite_trees.specs.Tree.{Trees}
+use Rattle.sqlite_trees.specs.Tree.{Trees, from_key}
 use Rattle.sqlite_trees.specs.View.{View}
 use Rattle.sqlite_trees.specs.declared.store.Shape.TheVariants.{Index}
-use Rattle.sqlite_value.specs.Keys.{plain}
+use Rattle.sqlite_value.specs.Keys.{plain, prefix_cmp}
+use Rattle.sqlite_value.specs.Order.{Row}
+use Rattle.sqlite_value.specs.declared.value.Value.TheVariants.{Int}
 use Rattle.book_model.specs.declared.row.ChargeRow.{ChargeRow}
 use Rattle.book_model.specs.declared.row.RowKey.{RowKey}
 use Rattle.table_model.specs.Tables.{ChoiceRow, ChoiceTable, DayTable, RecordRow, RecordTable}
@@ -63,6 +65,16 @@ pub record Holds (trees : Trees) (tables : Tables) : Type 0 where
   pub marks : trees 7 ≡ map mark_columns (entries (marks tables.records))
   pub choices : trees 8 ≡ map choice_columns (entries tables.choices)
   pub choice_name_index : trees 9 ≡ map choice_name_columns (entries (choice_name_index tables.choices))
+
+-- whether rows begin with one that has the number of the book's
+abbrev pub begin_with_book : List Row → Bool
+begin_with_book [] = false
+begin_with_book (row ∷ rows) = is_eq (prefix_cmp plain row (Int (pos 1) ∷ []))
+
+-- Whether the row of the book is there: of the rows of its tree from number 1 on, the first has that
+-- number.
+unfoldable pub has_book : Trees → Bool
+has_book trees = begin_with_book (from_key plain (Int (pos 1) ∷ []) (trees 0))
 
 -- each of the trees is sorted by its whole rows, in this transaction and in the last commit
 pub record HasShapes (view : View) : Type 0 where

@@ -108,11 +108,12 @@ fn with_rule(book: &StoredBook, rule: u64, period: u16) -> StoredBook
 }
 
 impl<S: Store> TreeTables<S> {
-    ghost use Rattle.std.specs.Prelude.{◌≡◌, ◌<◌, ◌^◌};
+    ghost use Rattle.std.specs.Prelude.{◌≡◌, ◌<◌, ◌^◌, false, is_some, IfErr, IfOk};
     ghost use Rattle.table_model.specs.Steps as step;
     ghost use Rattle.tree_tables.specs.Answers.{FindsBook};
-    ghost use Rattle.tree_tables.specs.States.{state};
-    ghost use Rattle.tree_tables.specs.Steps.{Always, Does, FailsByStore, Looks, Makes};
+    ghost use Rattle.tree_tables.specs.Holds.{has_book};
+    ghost use Rattle.tree_tables.specs.States.{HasCleanDisk, state};
+    ghost use Rattle.tree_tables.specs.Steps.{Always, Does, FailsByStore, IsCaused, Looks, Makes};
 
     /// The row of the book, if it is there.
     #[tactic(auto, using(crate::proofs::Looking::caused_memory))]
@@ -121,6 +122,13 @@ impl<S: Store> TreeTables<S> {
             FindsBook }
         ensures cause { FailsByStore result (state S.Store self.old.store)
             (state S.Store self.new.store) Always }
+
+        // Whatever the trees hold, it says whether the row is there.
+        ensures row { IfOk result (λ found. HasCleanDisk (state S.Store self.new.store)
+            → is_some found ≡ has_book (S.Store.view self.old.store).trees) }
+        ensures absent { IfErr result (λ error. HasCleanDisk (state S.Store self.new.store)
+            → has_book (S.Store.view self.old.store).trees ≡ false
+            → IsCaused (state S.Store self.old.store) (state S.Store self.new.store) error) }
     {
         number_key(&mut self.key, FIRST)?;
         if !find_row(&mut self.store, BOOK, &self.key, &mut self.row)? {

@@ -1,7 +1,8 @@
 //! New books in a store whose trees have no rows yet.
 
-ghost use Rattle.std.specs.Prelude.{◌≡◌, IfErr, OnOk};
+ghost use Rattle.std.specs.Prelude.{◌≡◌, false, IfErr, OnOk};
 ghost use Rattle.table_model.specs.TablesAfter.{new_tables};
+ghost use Rattle.tree_tables.specs.Holds.{has_book};
 ghost use Rattle.tree_tables.specs.States.{HasCleanDisk, Survives, state};
 ghost use Rattle.tree_tables.specs.Steps.{HasNoRows};
 ghost use Rattle.table_ledger.specs.Commits.{IsAtRest, Stores};
@@ -38,6 +39,8 @@ fn make_books<S: Store>(tables: &mut TreeTables<S>) -> Result<(), LedgerFault>
         → OnOk result (Stores (S.Store.view tables.new.store) new_tables) }
     ensures survives { Survives (state S.Store tables.old.store) (state S.Store tables.new.store)
         (MayHoldNew (S.Store.view tables.old.store)) }
+    ensures absent { HasCleanDisk (state S.Store tables.new.store)
+        → OnOk result (has_book (S.Store.view tables.old.store).trees ≡ false) }
     ensures kinds { IfErr result IsStoreFault }
 {
     match write_books(tables) {
@@ -47,11 +50,11 @@ fn make_books<S: Store>(tables: &mut TreeTables<S>) -> Result<(), LedgerFault>
 }
 
 impl<S: Store, N: Naming + Drop> TableLedger<S, N> {
-    ghost use Rattle.std.specs.Prelude.{◌≡◌, IfErr, IfOk};
+    ghost use Rattle.std.specs.Prelude.{◌≡◌, false, IfErr, IfOk};
     ghost use Rattle.sqlite_trees.specs.View.{IsClean};
     ghost use Rattle.book_model.specs.Words.{new_book};
     ghost use Rattle.book_core.specs.Ledgers.{IsOpenAt};
-    ghost use Rattle.tree_tables.specs.Holds.{HasShapes};
+    ghost use Rattle.tree_tables.specs.Holds.{HasShapes, has_book};
     ghost use Rattle.tree_tables.specs.States.{HasCleanDisk, Survives, state};
     ghost use Rattle.tree_tables.specs.Steps.{HasNoRows};
     ghost use Rattle.table_ledger.specs.Commits.{IsAtRest};
@@ -66,7 +69,11 @@ impl<S: Store, N: Naming + Drop> TableLedger<S, N> {
             → IsAtRest (S.Store.view store) → HasNoRows (S.Store.view store).trees
             → IsOpenAt (N.name_of naming) new_book (⟦<TableLedger<S, N> as Ledger>⟧.seen ledger)) }
 
-        // A stop within it leaves what was there, or new books.
+        // Where the row of a book is there, none are made.
+        ensures absent { IfOk result (λ ledger. HasCleanDisk (state S.Store ledger.tables.store)
+            → has_book (S.Store.view store).trees ≡ false) }
+
+        // A stop within it leaves what was there, or new books where there was no row.
         ensures crash { IfOk result (λ ledger. Survives (state S.Store store)
             (state S.Store ledger.tables.store) (MayHoldNew (S.Store.view store))) }
         ensures crash_refused { IfErr result (λ refused. Survives (state S.Store store)

@@ -8,7 +8,7 @@ use std::alloc::Global;
 use tree_tables::TreeTables;
 
 impl<S: Store, N: Naming + Drop> TableLedger<S, N> {
-    ghost use Rattle.std.specs.Prelude.{◌≡◌, IfErr, IfOk};
+    ghost use Rattle.std.specs.Prelude.{◌≡◌, true, IfErr, IfOk};
     ghost use Rattle.sqlite_trees.specs.View.{IsClean};
     ghost use Rattle.book_model.specs.Words.{Book};
     ghost use Rattle.book_core.specs.Ledgers.{IsOpenAt};
@@ -16,10 +16,10 @@ impl<S: Store, N: Naming + Drop> TableLedger<S, N> {
     ghost use Rattle.table_model.specs.TablesOf.{tables_of};
     ghost use Rattle.table_laws.specs.FromCalls.{IsFromCalls};
     ghost use Rattle.tree_rows.specs.Rows.{IsUnchanged};
-    ghost use Rattle.tree_tables.specs.Holds.{HasShapes, Holds};
+    ghost use Rattle.tree_tables.specs.Holds.{HasShapes, Holds, has_book};
     ghost use Rattle.tree_tables.specs.States.{HasCleanDisk, Survives, state};
     ghost use Rattle.table_ledger.specs.Commits.{Stores};
-    ghost use Rattle.table_ledger.specs.Loaded.{HasTexts, IsOpenCause, IsOpenFault};
+    ghost use Rattle.table_ledger.specs.Loaded.{HasTexts, IsOpenCause, IsOpenFault, IsToldBy};
 
     /// The books that a store holds.
     pub fn open(alloc: Global, store: S, naming: N) -> Result<TableLedger<S, N>, (LedgerFault, S)>
@@ -42,6 +42,13 @@ impl<S: Store, N: Naming + Drop> TableLedger<S, N> {
             → HasCleanDisk (state S.Store refused.1) → (tables : Tables)
             → ¬ Holds (S.Store.view store).trees tables) }
         ensures refused { IfErr result (λ refused. IsOpenFault refused.0) }
+
+        // There are books exactly where their row is there.
+        ensures there { IfOk result (λ ledger. HasCleanDisk (state S.Store ledger.tables.store)
+            → has_book (S.Store.view store).trees ≡ true) }
+        ensures told { IfErr result (λ refused. HasCleanDisk (state S.Store refused.1)
+            → IsToldBy (has_book (S.Store.view store).trees) (state S.Store store)
+            (state S.Store refused.1) refused.0) }
 
         // What calls made is read again, unless memory runs out or the disk fails.
         ensures own { IfErr result (λ refused. HasCleanDisk (state S.Store refused.1)

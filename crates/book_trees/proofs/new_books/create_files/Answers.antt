@@ -1,18 +1,19 @@
 use Rattle.std.proofs.Common.{◌≡◌, sym, ap, subst, ◌∙◌}
 use Rattle.std.proofs.Math.Logic.{∥∥₁_map}
-use Rattle.sqlite_store.specs.FileStore.{view, schema_of}
+use Rattle.sqlite_store.specs.FileStore.{state, view, schema_of}
 use Rattle.sqlite_store.specs.Laws.{stays_at}
 use Rattle.sqlite_store.specs.Unopened.{image, state_of, CanCreate, Opens, StopsCreating}
 use Rattle.sqlite_trees.proofs.Doubt.{no_doubt}
 use Rattle.sqlite_trees.specs.Tree.{Trees}
+use Rattle.book_trees.proofs.Begun.{begun, begun_files, may_leave_last}
 use Rattle.book_trees.proofs.Buildable.{can_create, holds_nothing}
 use Rattle.book_trees.proofs.EachLeft.{each_found}
 use Rattle.book_trees.proofs.FileParts.{end_honest, file_cause, files_kept, first_honest}
-use Rattle.book_trees.proofs.FileParts.{first_image}
+use Rattle.book_trees.proofs.FileParts.{clean_if_left, first_image}
 use Rattle.book_trees.proofs.Refused.{cause_of}
 use Rattle.book_trees.proofs.Trees.{has_trees}
-use Rattle.book_trees.specs.LedgerFiles.{image_of}
-use Rattle.book_trees.specs.Refusals.{faults_in, HasCause, HoldsNothing, StopCreating}
+use Rattle.book_trees.specs.LedgerFiles.{image_of, HoldsNothing}
+use Rattle.book_trees.specs.Refusals.{faults_in, HasCause, StopCreating}
 use Rattle.book_trees.specs.Schema.{books_schema}
 use Rattle.book_trees.specs.declared.faults.OpenFault.{OpenFault}
 use Rattle.book_trees.proofs.new_books.create_files.Goals as goal
@@ -89,3 +90,28 @@ returns-in-Err-create-clause-unharmed g c clean something =
           (holds_nothing old c.in-Ok.ensures.size started)));
     } in
     files_kept old end first last given back c.in-Ok.ensures.size opens
+
+pub returns-in-Ok-create-clause-begun : goal.returns-in-Ok-create-clause-begun
+returns-in-Ok-create-clause-begun g c nothing left may =
+    let given = c.in-Ok.ensures.files in
+    let old = c.in-Ok.files in
+    let first = c.args.files in
+    let clean = clean_if_left c.in-Ok-create.store.pool left may in
+    begun_files old first given left
+    (begun old c.in-Ok.ensures.size c.in-Ok.ensures.schema (state c.in-Ok-create.store)
+    (c.in-Ok-create.ensures.kept clean)
+    (subst HoldsNothing (sym (first_image old old first first given (sym given))) nothing) left may)
+
+pub returns-in-Err-create-clause-begun_refused : goal.returns-in-Err-create-clause-begun_refused
+returns-in-Err-create-clause-begun_refused g c nothing left may =
+    let given = c.in-Ok.ensures.files in
+    let old = c.in-Ok.files in
+    let end = c.in-Err-create.files in
+    let first = c.args.files in
+    let last = c.close.result in
+    let back = c.close.ensures in
+    begun_files old first given left
+    (begun old c.in-Ok.ensures.size c.in-Ok.ensures.schema (state_of end)
+    (c.in-Err-create.ensures.unharmed (end_honest old end first last given back may.0))
+    (subst HoldsNothing (sym (first_image old end first last given back)) nothing) left
+    (may_leave_last end last back left may))

@@ -1,10 +1,10 @@
-use Rattle.std.proofs.Common.{subst, sym}
+use Rattle.std.proofs.Common.{◌≡◌, subst, sym, true}
 use Rattle.sqlite_trees.specs.Tree.{Trees}
 use Rattle.table_model.specs.TablesOf.{tables_of}
-use Rattle.tree_tables.specs.Holds.{Holds}
+use Rattle.tree_tables.specs.Holds.{Holds, has_book}
 use Rattle.tree_tables.specs.States.{HasCleanDisk, state}
 use Rattle.table_ledger.specs.Commits.{Stores}
-use Rattle.table_ledger.specs.Loaded.{IsOpenCause}
+use Rattle.table_ledger.specs.Loaded.{IsOpenCause, IsToldBy}
 use Rattle.table_ledger.proofs.LoadLemmas.{never_both, read_open}
 use Rattle.table_ledger.proofs.ledger.TableLedger.open.Goals as goal
 
@@ -38,3 +38,19 @@ returns-in-Err-clause-own g c = λ clean book calls texts keeping.
     c.over-tables.ensures
     (subst (λ store. IsOpenCause (state g.S.Store c.over-tables.result.store)
     (state g.S.Store store) fault) (sym c.into_store.ensures.same) own)
+
+pub returns-in-Ok-clause-there : goal.returns-in-Ok-clause-there
+returns-in-Ok-clause-there g c = λ clean.
+    subst (λ store. has_book (g.S.Store.view store).trees ≡ true) c.over-tables.ensures
+    (c.in-Ok.ensures.row clean)
+
+pub returns-in-Err-clause-told : goal.returns-in-Err-clause-told
+returns-in-Err-clause-told g c = λ clean.
+    let first = c.over-tables.result.store in
+    let fault = c.in-Err.fault in
+    let told = c.in-Err.ensures.row
+    (subst (λ store. HasCleanDisk (state g.S.Store store)) c.into_store.ensures.same clean) in
+    subst (λ store. IsToldBy (has_book (g.S.Store.view store).trees) (state g.S.Store store)
+    (state g.S.Store c.into_store.result) fault) c.over-tables.ensures
+    (subst (λ store. IsToldBy (has_book (g.S.Store.view first).trees) (state g.S.Store first)
+    (state g.S.Store store) fault) (sym c.into_store.ensures.same) told)

@@ -1,3 +1,4 @@
+use Rattle.std.proofs.Common.{◌∙◌, sym}
 use Rattle.table_ledger.proofs.Refusals.{makes_failed}
 use Rattle.table_ledger.proofs.StepLemmas.{makes_all, makes_none}
 use Rattle.table_ledger.proofs.SurvivalLemmas.{survives_then}
@@ -26,5 +27,7 @@ pub returns : goal.returns
 returns g c = record {
   makes =
       makes_all c.commit.result (saw_found c.in_ok-find_book.ensures.looks)
+      (λ clean. sym (c.in_ok-find_book.ensures.row clean) ∙ sym c.is_some.ensures
+      ∙ c.if-is_some.false)
       c.in_ok-make_book.ensures.makes c.commit.ensures.committed c.commit.ensures.survives;
 }

@@ -1,0 +1,8 @@
+-- The lemmas: what a session leaves of files; what is left where new books are made; where they are
+-- continued; that books to which nothing was submitted are those of no history; why a session has no
+-- answer.
+pub mod SessionParts
+pub mod NewParts
+pub mod ResumeParts
+pub mod UnusedBooks
+pub mod Causes

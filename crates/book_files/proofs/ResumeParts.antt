@@ -1,0 +1,166 @@
+-- New books are continued: a look whether anything was submitted to them, and what is left.
+use Rattle.std.proofs.Common.{◌≡◌, ◌∙◌, Bool, true, false, IsTrue, List, Option, None, Some, Result, Ok}
+use Rattle.std.proofs.Common.{Err, length, ap, inl, inr, is_some, subst, sym, true≢false}
+use Rattle.std.proofs.lemmas.List.{length-map}
+use Rattle.std.specs.Prelude.{IfOk, IsErr}
+use Rattle.std.specs.Option.{option_map}
+use Rattle.sqlite_trees.specs.Tree.{Trees}
+use Rattle.sqlite_trees.specs.View.{View, IsClean}
+use Rattle.sqlite_trees.specs.declared.error.StoreError.{StoreError}
+use Rattle.book_model.specs.Words.{Book, Naming}
+use Rattle.table_model.specs.Tables.{Tables}
+use Rattle.table_model.specs.TablesOf.{tables_of}
+use Rattle.office.specs.declared.repository.RepositoryFault.{RepositoryFault}
+use Rattle.tree_rows.specs.Rows.{IsUnchanged}
+use Rattle.tree_tables.proofs.Looking.{looks_also}
+use Rattle.tree_tables.proofs.TheBook.{book_absent, book_held}
+use Rattle.tree_tables.specs.Answers.{FindsBook, ListsCloses, ListsTariffs}
+use Rattle.tree_tables.specs.Holds.{has_book}
+use Rattle.tree_tables.specs.States.{State, HasCleanDisk, Survives}
+use Rattle.tree_tables.specs.Steps.{Looks, Sees}
+use Rattle.tree_tables.specs.Stored.{book_entry, close_entry, tariff_of}
+use Rattle.tree_tables.specs.declared.book_row.StoredBook.{StoredBook}
+use Rattle.tree_tables.specs.declared.closed_rows.Close.{Close}
+use Rattle.tree_tables.specs.declared.tariff_rows.StoredTariff.{StoredTariff}
+use Rattle.table_ledger.specs.Commits.{IsAtRest}
+use Rattle.table_ledger.specs.Ready.{IsStoredIn}
+use Rattle.book_restarts.specs.FileBooks.{RestsAt}
+use Rattle.book_files.specs.Faults.{IsResumed}
+use Rattle.book_files.specs.NewBooks.{IsEmpty, LeavesNew}
+use Rattle.book_files.specs.Unused.{SaysUnused, are_unused, unused_by}
+
+-- a look that is refused
+pub looks_failed : {A B : Type 0} {old new : State} {Answers : Tables → A → Type 0}
+    {Others : Tables → B → Type 0} {error : StoreError} (result : Result A StoreError)
+    → IsErr result → Looks {A = B} (Err error) old new Others → Looks result old new Answers
+looks_failed (Err other) failed looks =
+    record { survives = looks.survives; found = λ clean. tt; refused = looks.refused }
+looks_failed (Ok value) failed looks = absurd (true≢false (sym failed))
+
+-- no tables are without the row of their book
+pub never_absent : (tables : Tables) (found : Option StoredBook) → found ≡ None
+    → FindsBook tables found → SaysUnused tables None
+never_absent tables found none finds =
+    absurd (let here = sym finds ∙ ap (option_map book_entry) none in cc)
+
+-- what the row and the two lists say
+pub says_unused : (tables : Tables) (found : Option StoredBook) (book : StoredBook)
+    (tariffs : List StoredTariff) (closes : List Close) (unused : Bool) → found ≡ Some book
+    → FindsBook tables found → ListsTariffs tables tariffs → ListsCloses tables closes
+    → unused ≡ unused_by (length tariffs) (length closes) book.held book.adopted
+    → SaysUnused tables (Some unused)
+says_unused tables found book tariffs closes unused is finds texts days says =
+    let row : book_entry book ≡ tables.book =
+    (let here = sym (ap (option_map book_entry) is) ∙ finds in cc) in
+    let many = sym (length-map tariffs tariff_of) ∙ ap length texts in
+    let ended = sym (length-map closes close_entry) ∙ ap length days in
+    ap Some (says ∙ (λ i. unused_by (many i) (ended i) (row i).held (row i).adopted))
+
+-- three looks, one after another, tell it
+pub looks_unused : {A B : Type 0} {first one two last : State} {found : Option StoredBook}
+    {tariffs : A} {closes : B} {unused : Bool} {Texts : Tables → A → Type 0}
+    {Days : Tables → B → Type 0} → Looks (Ok found) first one FindsBook
+    → Looks (Ok tariffs) one two Texts → Looks (Ok closes) two last Days
+    → ((tables : Tables) → FindsBook tables found → Texts tables tariffs → Days tables closes
+    → SaysUnused tables (Some unused))
+    → Looks (Ok (Some unused)) first last SaysUnused
+looks_unused {found = found} {tariffs = tariffs} {Texts = Texts} book texts days says =
+    looks_also (looks_also {Both = λ tables (found : Option StoredBook). FindsBook tables found
+    × Texts tables tariffs} {third = found} book texts (λ tables finds lists. (finds, lists))) days
+    (λ tables known lists. says tables known.0 known.1 lists)
+
+-- A look at a store whose trees are at rest leaves them.
+module _ (old new : State)
+    (settled : (trees : Trees) → IsTrue old.view.is_open → old.may_leave trees
+    → trees ≡ old.view.committed)
+    (survives : Survives old new (λ trees. ⊥))
+  where
+    pub looked_leaves : IsAtRest old.view → HasCleanDisk new → (trees : Trees) → new.may_leave trees
+        → trees ≡ old.view.trees
+    looked_leaves rest clean trees left =
+        elim (survives.crash clean trees left) [
+          | inl was ↦ settled trees rest.is_open was ∙ sym rest.settled
+          | inr none ↦ absurd none
+        ]
+
+    -- so the book that they held is held
+    pub looked_holds : (names : Naming) (book : Book) → RestsAt names book old.view
+        → HasCleanDisk new → (trees : Trees) → new.may_leave trees → IsStoredIn names book trees
+    looked_holds names book at clean trees left =
+        subst (IsStoredIn names book) (sym (looked_leaves at.rest clean trees left)) at.kept
+
+-- a row that was looked for is that of the book
+pub row_of_book : (names : Naming) (book : Book) (view : View) → RestsAt names book view
+    → has_book view.trees ≡ true
+row_of_book names book view at = book_held view.trees (tables_of names book) at.kept.holds
+
+-- a store with no rows has none after a look
+pub empty_after : (old new : View) → IsUnchanged old new → IsEmpty old → IsEmpty new
+empty_after old new same empty = record {
+  rest = record {
+    is_open = ap (λ (v : View). v.is_open) same ∙ empty.rest.is_open;
+    sound = ap (λ (v : View). v.is_broken) same ∙ empty.rest.sound;
+    settled = ap (λ (v : View). v.trees) same ∙ empty.rest.settled
+        ∙ sym (ap (λ (v : View). v.committed) same);
+  };
+  none = record {
+    empty = λ tree low. ap (λ (v : View). v.trees tree) same ∙ empty.none.empty tree low;
+  };
+}
+
+-- and what is left of it then, is left of it as it was
+pub leaves_before : {A F : Type 0} (names : Naming) (old new : View) (result : Result A F)
+    (trees : Trees) → IsClean old → IsUnchanged old new → LeavesNew names new result trees
+    → LeavesNew names old result trees
+leaves_before names old new (Ok made) trees clean same left = left
+leaves_before names old new (Err fault) trees clean same (inl was) =
+    inl (clean, was.1 ∙ ap (λ (v : View). v.trees) same)
+leaves_before names old new (Err fault) trees clean same (inr kept) = inr kept
+
+-- a row in a store with no rows
+pub never_there : {X : Type 0} (view : View) → IsEmpty view → true ≡ has_book view.trees → X
+never_there view empty there = absurd (true≢false (there ∙ book_absent view.trees empty.none))
+
+-- no row in a store of a book
+pub never_gone : {X : Type 0} (names : Naming) (book : Book) (view : View) → RestsAt names book view
+    → false ≡ has_book view.trees → X
+never_gone names book view at gone =
+    absurd (true≢false (sym (row_of_book names book view at) ∙ sym gone))
+
+-- What was looked for in a store was found, or not.
+module _ (old new : State) (found : Result (Option Bool) StoreError)
+    (looks : Looks found old new SaysUnused)
+    (row : IfOk found (λ there. HasCleanDisk new → is_some there ≡ has_book old.view.trees))
+  where
+    -- whether the row of the book is there
+    pub told_row : (there : Option Bool) → found ≡ Ok there → HasCleanDisk new
+        → is_some there ≡ has_book old.view.trees
+    told_row there is clean =
+        let said : HasCleanDisk new → is_some there ≡ has_book old.view.trees =
+        subst (λ (found : Result (Option Bool) StoreError). IfOk found (λ there. HasCleanDisk new
+        → is_some there ≡ has_book old.view.trees)) is row in
+        said clean
+
+    -- nothing was written
+    seen : (there : Option Bool) → found ≡ Ok there → HasCleanDisk new
+        → Sees old.view new.view (λ tables. SaysUnused tables there)
+    seen there is clean =
+        subst (λ (found : Result (Option Bool) StoreError). IfOk found (λ there.
+        Sees old.view new.view (λ tables. SaysUnused tables there))) is (looks.found clean)
+
+    pub looked_same : (there : Option Bool) → found ≡ Ok there → HasCleanDisk new
+        → IsUnchanged old.view new.view
+    looked_same there is clean = (seen there is clean).same
+
+    -- whether anything was submitted to the book
+    pub told_unused : (names : Naming) (book : Book) (unused : Bool) → found ≡ Ok (Some unused)
+        → RestsAt names book old.view → HasCleanDisk new
+        → unused ≡ are_unused (tables_of names book)
+    told_unused names book unused is at clean =
+        let said = (seen (Some unused) is clean).known (tables_of names book) at.kept.holds in cc
+
+-- that all went well is answered where nothing was submitted
+pub resumed_unused : {A : Type 0} (unused : Bool) (result : Result A RepositoryFault)
+    → IsResumed unused result → IfOk result (λ made. unused ≡ true)
+resumed_unused unused (Ok made) told = told
+resumed_unused unused (Err fault) told = tt

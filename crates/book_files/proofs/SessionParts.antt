@@ -1,0 +1,154 @@
+-- What a session leaves of files, part by part.
+use Rattle.std.proofs.Common.{◌≡◌, IsTrue, List, [], ◌++◌, ℕ, refl, sym, ap, subst, inl, inr}
+use Rattle.std.proofs.Common.{Option, None, Some, Result, Ok, Err, false}
+use Rattle.std.proofs.Math.Logic.{∥∥₁_elim, ∥∥₁_map, ∥∥₁_prop}
+use Rattle.std.specs.Prelude.{IfSome}
+use Rattle.sqlite_disk.specs.declared.Disk.{Ghosts}
+use Rattle.sqlite_disk.specs.declared.files.Files.{Files}
+use Rattle.sqlite_store.specs.FileStore.{state, view, recovers, IsReady}
+use Rattle.sqlite_store.specs.declared.store.FileStore.{FileStore}
+use Rattle.sqlite_trees.proofs.Doubt.{clean_of}
+use Rattle.sqlite_trees.specs.Tree.{Trees}
+use Rattle.sqlite_wal.specs.Reads.{AreClean}
+use Rattle.sqlite_wal.specs.Recovery.{Image}
+use Rattle.book_model.specs.Words.{Book, Event, book_after, IsMadeByCalls, Naming}
+use Rattle.book_core.specs.Follow.{MakesAnswered}
+use Rattle.book_core.specs.Transition.{Transition, NoEvent}
+use Rattle.book_trees.specs.Closing.{IsShort, IsWithoutLog, LeavesLog, MayBeFound}
+use Rattle.book_trees.specs.declared.closing.Closed.{Closed}
+use Rattle.book_trees.specs.LedgerFiles.{HoldsBooks, trees_held, without_log}
+use Rattle.book_trees.specs.Refusals.{IsAsFound, MayLeave}
+use Rattle.book_trees.proofs.ShortLogs.{holds_alone}
+use Rattle.table_ledger.specs.Ready.{IsStoredIn}
+use Rattle.book_restarts.specs.FileBooks.{HoldsBook, LeavesBook, LeavesTrees}
+use Rattle.book_restarts.specs.FileBooks.{GoesOn, StandsAt, done_by}
+use Rattle.book_restarts.proofs.SessionLemmas.{book_goes_on, found_goes_on, held_as_found}
+use Rattle.book_restarts.proofs.SessionLemmas.{held_leaves}
+use Rattle.book_files.specs.Sessions.{IsFileAlone, MayFollow}
+use Rattle.book_files.specs.declared.session.Ended.TheVariants.{Refused}
+use Rattle.book_files.specs.declared.session.Ended.TheVariants as ended
+
+-- whatever may be found, the files are honest
+pub found_clean : {D : Type 0} (g : Ghosts D) (files : Files D) (image : Image)
+    → MayBeFound g files image → AreClean g files.log files.db
+found_clean g files image (inl may) = may.0
+found_clean g files image (inr alone) = alone.clean
+
+-- what trees hold, the files hold
+pub closed_leaves : {D : Type 0} {g : Ghosts D} (names : Naming) (Made : Transition) (book : Book)
+    (image : Image) (store : FileStore D g)
+    → ∥ ((held : HoldsBooks image) × recovers store (trees_held held)) ∥₁
+    → ((trees : Trees) → recovers store trees → LeavesTrees names Made book trees)
+    → ∥ LeavesBook names Made book image ∥₁
+closed_leaves names Made book image store held each =
+    ∥∥₁_map held λ found. held_leaves names Made book image found.0 (each (trees_held found.0) found.1)
+
+-- a log that is said to be short is short
+pub closed_short : {D : Type 0} (g : Ghosts D) (store : FileStore D g) (closed : Closed D)
+    → LeavesLog g store closed.files closed.log → IsShort g closed
+closed_short g store closed leaves = λ is. subst (LeavesLog g store closed.files) is leaves
+
+-- so what is found of the file alone may be found
+pub alone_follows : {D : Type 0} (g : Ghosts D) (closed : Closed D) (image : Image)
+    → IsShort g closed → IsFileAlone g (ended.Closed closed) image
+    → MayFollow g (ended.Closed closed) image
+alone_follows g closed image short alone = (
+  alone.0,
+  inr (record { clean = alone.2; short = short alone.1 alone.2; gone = alone.3; file = alone.4 }),
+)
+
+-- a store that was opened on books stands at the book
+pub opened_stands : {D : Type 0} {g : Ghosts D} (names : Naming) (book : Book) (first : Image)
+    (store : FileStore D g) → IsReady store
+    → (IsTrue (state store).is_clean → (held : HoldsBooks first) → (view store).trees ≡ trees_held held)
+    → (held : HoldsBooks first) → IsStoredIn names book (trees_held held)
+    → StandsAt names book (view store)
+opened_stands names book first store ready found held kept = λ clean. record {
+  rest = record {
+    is_open = ready.is_open clean;
+    sound = ready.sound clean;
+    settled = ready.clean;
+  };
+  kept = subst (IsStoredIn names book) (sym (found (clean_of _ clean) held)) kept;
+}
+
+-- what is done in a visit is answered, where its work is
+pub done_answered : {V A F : Type 0} (work : Naming → V → A → Transition) (names : Naming) (visit : V)
+    → ((answer : A) → MakesAnswered names (work names visit answer)) → (result : Result A F)
+    → MakesAnswered names (done_by work names visit result)
+done_answered work names visit answers (Ok answer) = answers answer
+done_answered work names visit answers (Err fault) = λ history was events is none answered.
+    subst (λ (events : List Event). IsMadeByCalls names (events ++ history)) (sym none.none) answered
+
+-- what an opened store leaves of each book, the files leave of each history
+pub session_goes_on : {D : Type 0} {g : Ghosts D} (names : Naming) (Made : Transition)
+    (first image : Image) (store : FileStore D g) → IsReady store
+    → (IsTrue (state store).is_clean → (held : HoldsBooks first) → (view store).trees ≡ trees_held held)
+    → MakesAnswered names Made
+    → ((book : Book) → StandsAt names book (view store) → ∥ LeavesBook names Made book image ∥₁)
+    → GoesOn names Made first image
+session_goes_on names Made first image store ready found answers each =
+    book_goes_on names Made first image answers λ book held.
+    ∥∥₁_elim held ∥∥₁_prop λ kept.
+    each book (opened_stands names book first store ready found kept.0 kept.1)
+
+-- without a log that held nothing, files hold the same book
+held_alone : {D : Type 0} (g : Ghosts D) (names : Naming) (book : Book) (files : Files D)
+    (image : Image) → IsWithoutLog g files image
+    → HoldsBook names book (record { log = g.seen files.log; db = image.db })
+    → HoldsBook names book image
+held_alone g names book files image alone held =
+    let whole : Image = record { log = g.seen files.log; db = image.db } in
+    let same : without_log whole ≡ image =
+    ap (λ (log : List ℕ). record { log = log; db = image.db }) (sym alone.gone) in
+    subst (HoldsBook names book) same (∥∥₁_map held λ found.
+    let kept = holds_alone whole alone.short found.0 in
+    (kept.0, subst (IsStoredIn names book) (sym kept.1) found.1))
+
+-- files that were refused go on as they were
+pub refused_goes_on : {D : Type 0} (g : Ghosts D) → ((file : D) → g.may_leave file (g.seen file))
+    → (names : Naming) (first : Image) (files : Option (Files D))
+    → IfSome files (λ files. (left : Image) → MayLeave g files left → IsAsFound first left)
+    → (image : Image) → MayFollow g (Refused files) image → GoesOn names NoEvent first image
+refused_goes_on g stays names first None kept image never = absurd never
+refused_goes_on g stays names first (Some files) kept image (inl may) =
+    found_goes_on names first image (kept image may)
+refused_goes_on g stays names first (Some files) kept image (inr alone) = λ history held. ∣ (record {
+  events = [];
+  is = false;
+  made = record { none = refl; same = refl };
+  left = record {
+    answered = held.answered;
+    held = held_alone g names (book_after history) files image alone
+        (held_as_found names (book_after history) first
+        (record { log = g.seen files.log; db = image.db })
+        (kept (record { log = g.seen files.log; db = image.db })
+        (alone.clean, (stays files.log, alone.file))) held.held);
+  };
+}) ∣₁
+
+-- what is held of each book, is held of each history
+pub held_goes_on : {D : Type 0} {g : Ghosts D} (names : Naming) (first image : Image)
+    (store : FileStore D g) → IsReady store
+    → (IsTrue (state store).is_clean → (held : HoldsBooks first) → (view store).trees ≡ trees_held held)
+    → ((book : Book) → StandsAt names book (view store) → HoldsBook names book image)
+    → GoesOn names NoEvent first image
+held_goes_on names first image store ready found each history held =
+    ∥∥₁_elim held.held ∥∥₁_prop λ kept. ∣ (record {
+      events = [];
+      is = false;
+      made = record { none = refl; same = refl };
+      left = record {
+        answered = held.answered;
+        held = each (book_after history)
+            (opened_stands names (book_after history) first store ready found kept.0 kept.1);
+      };
+    }) ∣₁
+
+-- where nothing was done to open books, nothing was made of them, whatever was answered
+pub looked_only : {V A F : Type 0} (names : Naming) (visit : V) (result : Result A F) (book : Book)
+    (image : Image)
+    → ∥ LeavesBook names (done_by (λ (naming : Naming) (it : V) (answer : A). NoEvent) names visit
+    result) book image ∥₁ → ∥ LeavesBook names NoEvent book image ∥₁
+looked_only names visit (Ok answer) book image left = left
+looked_only names visit (Err fault) book image left = left

@@ -1,0 +1,140 @@
+-- Books to which nothing was submitted are those of no history.
+use Rattle.std.proofs.Common.{◌≡◌, ◌∙◌, ℕ, ℤ, suc, true, List, [], ◌∷◌, ◌++◌, ◌||◌}
+use Rattle.std.proofs.Common.{Some, Result, Ok, Err, length, ap, arith, refl}
+use Rattle.std.proofs.Common.{sym, true≢false, unwrap_or, length-append}
+use Rattle.std.specs.Prelude.{◌&&◌, ◌==◌, IfOk}
+use Rattle.std.specs.FinMap as fin
+use Rattle.std.specs.FinMap.{entries}
+use Rattle.std.specs.List.{list_any}
+use Rattle.std.proofs.Math.Logic.{∥∥₁_elim}
+use Rattle.std.proofs.lemmas.Bool.Decides.{nat_tests}
+use Rattle.std.proofs.lemmas.List.Elements.{All-pop}
+use Rattle.sqlite_wal.specs.Recovery.{Image}
+use Rattle.book_model.proofs.RecordSets.{first_of, has_with, is, is_itself, second_of}
+use Rattle.book_model.specs.Words.{AcceptedTerms, Book, Choice, Event, Naming, Records}
+use Rattle.book_model.specs.Words.{PeriodClosed, RecordChosen, RecordKept, SecondRuleAdopted}
+use Rattle.book_model.specs.Words.{TariffAccepted, book_after, has, members, open_by}
+use Rattle.book_model.specs.Sound.{IsChoiceOf}
+use Rattle.book_trees.specs.LedgerFiles.{HoldsBooks, trees_held}
+use Rattle.table_laws.proofs.ReadableLemmas.{calls_read}
+use Rattle.table_laws.proofs.RulingsReading.{closes_kept, tariffs_kept}
+use Rattle.table_laws.specs.FromCalls.{IsFromCalls}
+use Rattle.table_laws.specs.Readable.{IsReadable}
+use Rattle.table_model.specs.TablesOf.{close_entries, tables_of, tariff_entries}
+use Rattle.table_ledger.specs.Ready.{IsStoredIn}
+use Rattle.book_restarts.specs.FileBooks.{HoldsHistory}
+use Rattle.book_files.specs.Unused.{are_unused, unused_by}
+
+-- there are as many rows as tariffs
+tariffs_many : (tariffs : List AcceptedTerms) → length (tariff_entries tariffs) ≡ length tariffs
+tariffs_many [] = refl
+tariffs_many (tariff ∷ tariffs) = ap suc (tariffs_many tariffs)
+
+-- and as many as closes
+closes_many : (number : ℕ) (days : List ℤ) → length (close_entries number days) ≡ length days
+closes_many number [] = refl
+closes_many number (day ∷ days) = ap suc (closes_many (suc number) days)
+
+-- what four tests say
+record AreNone (tariffs closes held adopted : ℕ) : Type 0 where
+  tariffs_none : tariffs ≡ 0
+  closes_none : closes ≡ 0
+  held_none : held ≡ 0
+  never : adopted ≡ 0
+
+-- a number that passes the test is 0
+passes_zero : (number : ℕ) → (number == 0) ≡ true → number ≡ 0
+passes_zero number passed = grind (arith, nat_tests, passed)
+
+are_none : (tariffs closes held adopted : ℕ) → unused_by tariffs closes held adopted ≡ true
+    → AreNone tariffs closes held adopted
+are_none tariffs closes held adopted passed =
+    let three = first_of ((tariffs == 0) && (closes == 0) && (held == 0)) (adopted == 0) passed in
+    let two = first_of ((tariffs == 0) && (closes == 0)) (held == 0) three in
+    record {
+      tariffs_none = passes_zero tariffs (first_of (tariffs == 0) (closes == 0) two);
+      closes_none = passes_zero closes (second_of (tariffs == 0) (closes == 0) two);
+      held_none =
+          passes_zero held (second_of ((tariffs == 0) && (closes == 0)) (held == 0) three);
+      never = passes_zero adopted
+          (second_of ((tariffs == 0) && (closes == 0) && (held == 0)) (adopted == 0) passed);
+    }
+
+-- a list of no length has nothing
+no_length : {A : Type 0} (xs : List A) → length xs ≡ 0 → xs ≡ []
+no_length [] none = refl
+no_length (x ∷ xs) none = absurd (omega (arith, none))
+
+-- where no record is held, this one is not
+not_held : (held : Records) (bytes : List ℕ) → length (members held) ≡ 0 → has held bytes ≡ true → ⊥
+not_held held bytes none there =
+    true≢false (sym there ∙ fin.contains_key-keys held bytes
+    ∙ ap (list_any (is bytes)) (no_length (members held) none))
+
+-- a list with one more is not empty
+one_more : {A : Type 0} (xs : List A) (x : A) → length (xs ++ x ∷ []) ≡ 0 → ⊥
+one_more xs x none = omega (arith, length-append xs (x ∷ []), none)
+
+-- what the tables of an unused book say of it
+module _ (naming : Naming) (book : Book) (calls : IsFromCalls naming book)
+    (unused : are_unused (tables_of naming book) ≡ true) where
+  whole : IsReadable naming book
+  whole = calls_read naming book calls
+
+  none : AreNone (length (entries (tables_of naming book).tariffs))
+      (length (entries (tables_of naming book).closes)) (tables_of naming book).book.held
+      (tables_of naming book).book.adopted
+  none = are_none _ _ _ _ unused
+
+  no_tariffs : length book.rulings.tariffs ≡ 0
+  no_tariffs =
+      sym (tariffs_many book.rulings.tariffs)
+      ∙ sym (ap length (tariffs_kept book.rulings.tariffs whole.rising)) ∙ none.tariffs_none
+
+  no_closes : length book.rulings.closes ≡ 0
+  no_closes =
+      sym (closes_many 1 book.rulings.closes) ∙ sym (ap length (closes_kept book.rulings.closes))
+      ∙ none.closes_none
+
+-- so a history with an event is that of no such book
+used : (naming : Naming) (event : Event) (older : List Event)
+    → IsFromCalls naming (book_after (event ∷ older))
+    → are_unused (tables_of naming (book_after (event ∷ older))) ≡ true → ⊥
+used naming (RecordKept bytes) older calls unused =
+    let before = book_after older in
+    not_held (book_after (RecordKept bytes ∷ older)).held bytes
+    (none naming (book_after (RecordKept bytes ∷ older)) calls unused).held_none
+    (has_with before.held bytes bytes ∙ ap (λ t. t || has before.held bytes) (is_itself bytes))
+used naming (TariffAccepted text terms) older calls unused =
+    one_more (book_after older).rulings.tariffs (record { text = text; terms = terms })
+    (no_tariffs naming (book_after (TariffAccepted text terms ∷ older)) calls unused)
+used naming (PeriodClosed day) older calls unused =
+    one_more (book_after older).rulings.closes day
+    (no_closes naming (book_after (PeriodClosed day ∷ older)) calls unused)
+used naming (RecordChosen bytes) older calls unused =
+    let book = book_after (RecordChosen bytes ∷ older) in
+    let before = (book_after older).rulings in
+    let choice : Choice = record { chosen = bytes; period = open_by before } in
+    let chosen = (All-pop (IsChoiceOf book.held) book.rulings.choices before.choices (Some choice)
+    refl (whole naming book calls unused).sound.chosen).1 in
+    not_held book.held bytes (none naming book calls unused).held_none chosen
+used naming SecondRuleAdopted older calls unused =
+    let book = book_after (SecondRuleAdopted ∷ older) in
+    let before = (book_after older).rulings in
+    let begun = (whole naming book calls unused).adopted
+    (unwrap_or before.adopted (open_by before)) refl in
+    let never = (none naming book calls unused).never in
+    omega (arith, begun.numbered, never)
+
+-- what files held that were continued is that of no history, where all went well
+pub none_resumed : {A F : Type 0} (names : Naming) (history : List Event) (first : Image)
+    (result : Result A F) → HoldsHistory names history first
+    → ((held : HoldsBooks first) → IsStoredIn names (book_after history) (trees_held held)
+    → IfOk result (λ made. are_unused (tables_of names (book_after history)) ≡ true))
+    → IfOk result (λ made. history ≡ [])
+none_resumed names history first (Err fault) held unused = tt
+none_resumed names [] first (Ok made) held unused = refl
+none_resumed names (event ∷ older) first (Ok made) held unused =
+    let never : ⊥ = ∥∥₁_elim held.held (λ one other. absurd one) λ kept.
+    used names event older kept.1.calls (unused kept.0 kept.1) in
+    absurd never

@@ -1,0 +1,53 @@
+use Rattle.std.proofs.Common.{◌≡◌, ◌∙◌, ap, is_some, length, sym}
+use Rattle.table_model.specs.Tables.{Tables}
+use Rattle.tree_tables.proofs.Looking.{looks_after_look, looks_so, was_clean}
+use Rattle.book_files.specs.Unused.{unused_by}
+use Rattle.book_files.proofs.ResumeParts.{looks_failed, looks_unused, never_absent, says_unused}
+use Rattle.book_files.proofs.books.are_new.Goals as goal
+
+pub returns-in_err-book-clause-looks : goal.returns-in_err-book-clause-looks
+returns-in_err-book-clause-looks g c =
+    looks_failed _ c.from_residual.ensures.0 c.in_err-book.ensures.looks
+
+pub returns-in_default-clause-looks : goal.returns-in_default-clause-looks
+returns-in_default-clause-looks g c =
+    let none = c.in_default.is in
+    looks_so c.in_ok-book.ensures.looks
+    (λ (tables : Tables) known. never_absent tables c.in_ok-book.field-0 none known)
+
+pub returns-in_default-clause-row : goal.returns-in_default-clause-row
+returns-in_default-clause-row g c = λ clean.
+    sym (ap is_some c.in_default.is) ∙ c.in_ok-book.ensures.row clean
+
+pub returns-in_err-tariffs-clause-looks : goal.returns-in_err-tariffs-clause-looks
+returns-in_err-tariffs-clause-looks g c =
+    looks_failed _ c.from_residual-in_err-tariffs.ensures.0
+    (looks_after_look _ c.in_ok-book.ensures.looks c.in_err-tariffs.ensures.looks
+    (λ tables second known after. after))
+
+pub returns-in_err-closes-clause-looks : goal.returns-in_err-closes-clause-looks
+returns-in_err-closes-clause-looks g c =
+    looks_failed _ c.from_residual-in_err-closes.ensures.0
+    (looks_after_look _ c.in_ok-book.ensures.looks (looks_after_look _ c.in_ok-tariffs.ensures.looks
+    c.in_err-closes.ensures.looks (λ tables second known after. after))
+    (λ tables second known after. after))
+
+pub returns-clause-looks : goal.returns-clause-looks
+returns-clause-looks g c =
+    let found = c.in_ok-book.field-0 in
+    let tariffs = c.in_ok-tariffs.tariffs in
+    let closes = c.in_ok-closes.closes in
+    let many : c.len.result ≡ length tariffs.items = c.len.ensures ∙ tariffs.ok.0 in
+    let ended : c.len-2.result ≡ length closes.items = c.len-2.ensures ∙ closes.ok.0 in
+    looks_unused c.in_ok-book.ensures.looks c.in_ok-tariffs.ensures.looks
+    c.in_ok-closes.ensures.looks
+    (λ tables finds texts days. says_unused tables found c.in-Some.book tariffs.items closes.items
+    c.is_unused.result c.in-Some.is finds texts days
+    (c.is_unused.ensures ∙ (λ i. unused_by (many i) (ended i) c.in-Some.book.held
+    c.in-Some.book.adopted)))
+
+pub returns-clause-row : goal.returns-clause-row
+returns-clause-row g c = λ clean.
+    sym (ap is_some c.in-Some.is) ∙ c.in_ok-book.ensures.row
+    (was_clean c.in_ok-tariffs.ensures.looks.survives
+    (was_clean c.in_ok-closes.ensures.looks.survives clean))

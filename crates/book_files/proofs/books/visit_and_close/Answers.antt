@@ -1,0 +1,33 @@
+use Rattle.sqlite_trees.proofs.Doubt.{no_doubt}
+use Rattle.book_restarts.specs.FileBooks.{file_names}
+use Rattle.book_files.proofs.Causes.{err_so, ok_so}
+use Rattle.book_files.proofs.SessionParts.{closed_leaves, closed_short, found_clean}
+use Rattle.book_files.proofs.books.visit_and_close.Goals as goal
+
+pub returns-clause-left : goal.returns-clause-left
+returns-clause-left g c = λ kept book stands image may.
+    let closed = c.close_books.result in
+    let clean = no_doubt _ (c.close_books.ensures.honest
+    (found_clean g.D.Disk closed.files image may)) in
+    closed_leaves file_names _ book image c.visit_in-answer.result.1
+    (c.close_books.ensures.left kept image may)
+    (λ trees left. c.visit_in-answer.ensures.left book stands clean trees left)
+
+pub returns-clause-short : goal.returns-clause-short
+returns-clause-short g c =
+    closed_short g.D.Disk c.visit_in-answer.result.1 c.close_books.result
+    c.close_books.ensures.log
+
+pub returns-clause-clean : goal.returns-clause-clean
+returns-clause-clean g c = λ clean.
+    c.visit_in-answer.ensures.clean (no_doubt _ (c.close_books.ensures.honest clean))
+
+pub returns-clause-cause : goal.returns-clause-cause
+returns-clause-cause g c =
+    err_so c.visit_in-answer.result.0 c.visit_in-answer.ensures.cause (λ fault cause clean.
+    cause (no_doubt _ (c.close_books.ensures.honest clean)))
+
+pub returns-clause-there : goal.returns-clause-there
+returns-clause-there g c =
+    ok_so c.visit_in-answer.result.0 c.visit_in-answer.ensures.there (λ answer there clean.
+    there (no_doubt _ (c.close_books.ensures.honest clean)))

@@ -1,0 +1,58 @@
+use Rattle.std.proofs.Common.{◌≡◌, ◌∙◌, false, inl, inr, subst, sym}
+use Rattle.sqlite_trees.specs.Tree.{Trees}
+use Rattle.sqlite_trees.specs.View.{IsClean}
+use Rattle.book_restarts.proofs.OpenStores.{clean_before}
+use Rattle.book_restarts.proofs.SessionLemmas.{none_leaves, visit_leaves}
+use Rattle.book_restarts.specs.FileBooks.{file_names}
+use Rattle.table_ledger.specs.Ready.{IsStoredIn}
+use Rattle.tree_tables.specs.Holds.{has_book}
+use Rattle.book_files.proofs.Causes.{opened_cause}
+use Rattle.book_files.proofs.books.visit_in.Goals as goal
+
+pub returns-in-Ok-clause-left : goal.returns-in-Ok-clause-left
+returns-in-Ok-clause-left g c = λ book stands clean trees left.
+    let before = c.in-Ok.books in
+    let after = c.visit-answer.new.books in
+    let work = c.visit-answer.ensures in
+    let same = c.close_store.ensures.same in
+    let still : IsClean (g.S.Store.view after.tables.store) =
+    subst (λ store. IsClean (g.S.Store.view store)) same clean in
+    let first = work.honest still in
+    let at = stands (clean_before _ _ c.in-Ok.ensures.crash.clean first) in
+    let opened = c.in-Ok.ensures.books first book at.kept.calls
+    (record { holds = at.kept.holds; rest = at.rest }) in
+    visit_leaves file_names (g.S.Store.view after.tables.store)
+    (g.S.Store.recovers after.tables.store) after.must_reopen after.summary
+    (λ (trees : Trees). g.met.S.Store.settled after.tables.store trees) _ file_names
+    (g.V.Visit.work file_names c.args.visit c.visit-answer.result) book opened work still trees
+    (subst (λ store. g.S.Store.recovers store trees) same left)
+
+pub returns-in-Ok-clause-clean : goal.returns-in-Ok-clause-clean
+returns-in-Ok-clause-clean g c = λ clean.
+    clean_before _ _ c.in-Ok.ensures.crash.clean (c.visit-answer.ensures.honest
+    (subst (λ store. IsClean (g.S.Store.view store)) c.close_store.ensures.same clean))
+
+pub returns-in-Ok-clause-there : goal.returns-in-Ok-clause-there
+returns-in-Ok-clause-there g c = λ clean.
+    c.in-Ok.ensures.there (c.visit-answer.ensures.honest
+    (subst (λ store. IsClean (g.S.Store.view store)) c.close_store.ensures.same clean))
+
+pub returns-in-Err-clause-left : goal.returns-in-Err-clause-left
+returns-in-Err-clause-left g c = λ book stands clean trees left.
+    let survives = c.in-Err.ensures.crash_refused in
+    let at = stands (clean_before _ _ survives.clean clean) in
+    elim (survives.crash clean trees left) [
+      | inl was ↦ none_leaves file_names book trees (subst (IsStoredIn file_names book)
+          (sym (g.met.S.Store.settled c.args.store trees at.rest.is_open was
+          ∙ sym at.rest.settled)) at.kept)
+      | inr none ↦ absurd none
+    ]
+
+pub returns-in-Err-clause-clean : goal.returns-in-Err-clause-clean
+returns-in-Err-clause-clean g c = λ clean.
+    clean_before _ _ c.in-Err.ensures.crash_refused.clean clean
+
+pub returns-in-Err-clause-cause : goal.returns-in-Err-clause-cause
+returns-in-Err-clause-cause g c = λ clean.
+    opened_cause (has_book (g.S.Store.view c.args.store).trees ≡ false) ⊥ c.in-Err.fault (λ none. (c.in-Err.ensures.told clean).none none)
+    c.in-Err.ensures.refused

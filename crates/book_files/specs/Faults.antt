@@ -1,0 +1,88 @@
+-- Why a session on files has no answer.
+use Rattle.std.specs.Prelude.{◌≡◌, ◌⊎◌, Bool, true, false, None, Some, Result, Ok, Err, ⊤}
+use Rattle.std.specs.declared.io.ErrorKind.{ErrorKind}
+use Rattle.std.specs.declared.io.ErrorKind.TheVariants as kind
+use Rattle.sqlite_disk.specs.Disk.{MoreFaults}
+use Rattle.sqlite_disk.specs.declared.Disk.{Ghosts}
+use Rattle.sqlite_disk.specs.declared.files.Files.{Files}
+use Rattle.sqlite_trees.specs.declared.error.StoreError.{StoreError}
+use Rattle.sqlite_trees.specs.declared.error.StoreError.TheVariants as store
+use Rattle.sqlite_wal.specs.Reads.{AreClean}
+use Rattle.book_model.specs.declared.fault.LedgerFault.TheVariants as ledger
+use Rattle.book_audit.specs.declared.audited.Audited.{Audited}
+use Rattle.book_audit.specs.declared.audited.Audited.TheVariants.{Unsound}
+use Rattle.book_audit.specs.declared.finding.Place.TheVariants.{File}
+use Rattle.book_audit.specs.declared.finding.Wrong.TheVariants.{Pages as WrongPages}
+use Rattle.book_trees.specs.Refusals.{faults_in}
+use Rattle.book_trees.specs.declared.faults.OpenFault.{OpenFault}
+use Rattle.book_trees.specs.declared.faults.OpenFault.TheVariants as opening
+use Rattle.book_trees.specs.declared.integrity.LookFault.{LookFault}
+use Rattle.book_trees.specs.declared.integrity.LookFault.TheVariants.{Pages, Open}
+use Rattle.book_files.specs.declared.session.Ended.{Ended}
+use Rattle.book_files.specs.declared.session.Ended.TheVariants.{Closed, Refused}
+use Rattle.office.specs.declared.repository.RepositoryFault.{RepositoryFault}
+use Rattle.office.specs.declared.repository.RepositoryFault.TheVariants.{Io, Exists, Busy, Ledger}
+
+-- what the failure of a file means
+abbrev pub file_fault : ErrorKind → RepositoryFault
+file_fault kind.AlreadyExists = Exists
+file_fault kind.OutOfMemory = Ledger ledger.Memory
+file_fault _ = Io
+
+-- what an error of a store means
+abbrev pub store_fault : StoreError → RepositoryFault
+store_fault store.OutOfMemory = Ledger ledger.Memory
+store_fault _ = Ledger ledger.Store
+
+-- what it means that books were not opened or made
+abbrev pub open_fault : OpenFault → RepositoryFault
+open_fault opening.NotBooks = Ledger ledger.NotBooks
+open_fault opening.Memory = Ledger ledger.Memory
+open_fault opening.Store = Ledger ledger.Store
+open_fault opening.Busy = Busy
+open_fault opening.Path = Io
+
+-- the same, where books were to be continued that a stop left while they were made: any other file
+-- belongs to somebody
+abbrev pub resume_fault : OpenFault → RepositoryFault
+resume_fault opening.NotBooks = Exists
+resume_fault opening.Memory = Ledger ledger.Memory
+resume_fault opening.Store = Ledger ledger.Store
+resume_fault opening.Busy = Busy
+resume_fault opening.Path = Io
+
+-- what is answered where a file was not audited: where its pages are wrong, that it is unsound
+abbrev pub look_answer : LookFault → Result Audited RepositoryFault
+look_answer Pages = Ok (Unsound (record { place = File; wrong = WrongPages }))
+look_answer (Open fault) = Err (open_fault fault)
+
+-- no files are in hand: memory ran out, another program has them, or they are out of reach
+abbrev pub IsWithoutFiles : RepositoryFault → Type 0
+IsWithoutFiles fault = (fault ≡ Ledger ledger.Memory) ⊎ ((fault ≡ Busy) ⊎ (fault ≡ Io))
+
+-- Files are in hand, and a fault has its cause: that there are no books, that books are there, or
+-- that a store failed. Memory may run out at any time. No other fault comes then.
+abbrev pub HasFaultCause : Type 0 → Type 0 → Type 0 → RepositoryFault → Type 0
+HasFaultCause Absent There Failed (Ledger ledger.NotBooks) = Absent
+HasFaultCause Absent There Failed (Ledger ledger.Memory) = ⊤
+HasFaultCause Absent There Failed (Ledger ledger.Store) = Failed
+HasFaultCause Absent There Failed Exists = There
+HasFaultCause Absent There Failed _ = ⊥
+
+-- Books were to be continued, and this says whether anything was submitted to them: they are new
+-- where it was answered that all went well; and that books are there is answered only where they are
+-- not.
+abbrev pub IsResumed : {A : Type 0} → Bool → Result A RepositoryFault → Type 0
+IsResumed unused (Ok made) = unused ≡ true
+IsResumed unused (Err fault) = HasFaultCause ⊥ (unused ≡ false) ⊤ fault
+
+-- Why a session has no answer, by what is in hand of its files: what is said of a fault where they
+-- were not opened, by a failure of their disk or a limit of the format; and where they were.
+abbrev pub HasNoAnswerFor : {D : Type 0} (g : Ghosts D) → (Files D → Type 0)
+    → (Type 0 → RepositoryFault → Type 0) → (RepositoryFault → Type 0) → RepositoryFault → Ended D
+    → Type 0
+HasNoAnswerFor g AtLimit Unopened Opened fault (Refused None) = IsWithoutFiles fault
+HasNoAnswerFor g AtLimit Unopened Opened fault (Refused (Some files)) =
+    AreClean g files.log files.db → Unopened (MoreFaults 0 (faults_in g files) ⊎ AtLimit files) fault
+HasNoAnswerFor g AtLimit Unopened Opened fault (Closed closed) =
+    AreClean g closed.files.log closed.files.db → Opened fault

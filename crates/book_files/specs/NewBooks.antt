@@ -1,0 +1,46 @@
+-- What is left where new books are made.
+use Rattle.std.specs.Prelude.{◌≡◌, ◌⊎◌, IsTrue, None, Some, Result, Ok, Err, []}
+use Rattle.sqlite_disk.specs.declared.Disk.{Ghosts}
+use Rattle.sqlite_trees.specs.Tree.{Trees}
+use Rattle.sqlite_trees.specs.View.{View, IsClean}
+use Rattle.sqlite_wal.specs.Recovery.{Image}
+use Rattle.book_model.specs.Words.{Naming, new_book}
+use Rattle.book_files.specs.declared.session.Ended.{Ended}
+use Rattle.book_files.specs.declared.session.Ended.TheVariants.{Closed, Refused}
+use Rattle.book_trees.specs.Closing.{MayBeFound}
+use Rattle.book_trees.specs.LedgerFiles.{HoldsBooks, trees_held}
+use Rattle.book_trees.specs.Refusals.{IsBegun, MayLeave}
+use Rattle.book_restarts.specs.FileBooks.{HoldsHistory}
+use Rattle.table_ledger.specs.Commits.{IsAtRest}
+use Rattle.table_ledger.specs.Ready.{IsStoredIn}
+use Rattle.tree_tables.specs.Steps.{HasNoRows}
+
+-- a store is open between two transactions, and its trees have no row
+pub record IsEmpty (view : View) : Type 0 where
+  pub rest : IsAtRest view
+  pub none : HasNoRows view.trees
+
+-- Trees in which new books were made hold these. Where they were not made, trees are as they were,
+-- or hold new books.
+abbrev pub LeavesNew : {A F : Type 0} → Naming → View → Result A F → Trees → Type 0
+LeavesNew naming old (Ok made) trees = IsStoredIn naming new_book trees
+LeavesNew naming old (Err fault) trees =
+    (IsClean old × (trees ≡ old.trees)) ⊎ IsStoredIn naming new_book trees
+
+-- so do files
+abbrev pub LeavesNewBooks : {A F : Type 0} → Naming → View → Result A F → Image → Type 0
+LeavesNewBooks naming old result image =
+    ∥ ((held : HoldsBooks image) × LeavesNew naming old result (trees_held held)) ∥₁
+
+-- What may be found where new books were made of files that held nothing: the books of no history;
+-- or, where they were not made, nothing, or all tables with no row, or these books.
+abbrev pub MakesBooks : {A F : Type 0} → Naming → Result A F → Image → Type 0
+MakesBooks naming (Ok made) image = HoldsHistory naming [] image
+MakesBooks naming (Err fault) image = ∥ (IsBegun image ⊎ HoldsHistory naming [] image) ∥₁
+
+-- What the next call may find of the files that this one had: where they were not opened, as they
+-- are, with their log.
+abbrev pub MayBeMade : {D : Type 0} (g : Ghosts D) → Ended D → Image → Type 0
+MayBeMade g (Closed closed) image = IsTrue closed.is_kept × MayBeFound g closed.files image
+MayBeMade g (Refused (Some files)) image = MayLeave g files image
+MayBeMade g (Refused None) image = ⊥

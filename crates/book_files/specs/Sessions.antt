@@ -1,0 +1,30 @@
+-- What may be found of the files of books after a session.
+use Rattle.std.specs.Prelude.{◌≡◌, Option, None, Some, IsTrue, []}
+use Rattle.sqlite_disk.specs.declared.Disk.{Ghosts}
+use Rattle.sqlite_disk.specs.declared.files.Files.{Files}
+use Rattle.sqlite_wal.specs.Reads.{AreClean}
+use Rattle.sqlite_wal.specs.Recovery.{Image}
+use Rattle.book_trees.specs.Closing.{MayBeFound}
+use Rattle.book_trees.specs.declared.closing.LogLeft.TheVariants.{Short}
+use Rattle.book_files.specs.declared.session.Ended.{Ended}
+use Rattle.book_files.specs.declared.session.Ended.TheVariants.{Closed, Refused}
+
+-- What the next session may find of the files that this one had, where they are known to hold
+-- books.
+abbrev pub MayFollow : {D : Type 0} (g : Ghosts D) → Ended D → Image → Type 0
+MayFollow g (Closed closed) image = IsTrue closed.is_kept × MayBeFound g closed.files image
+MayFollow g (Refused (Some files)) image = MayBeFound g files image
+MayFollow g (Refused None) image = ⊥
+
+-- What may be found of the file of books that were closed, where their log was short, and no log is
+-- there any more.
+abbrev pub IsFileAlone : {D : Type 0} (g : Ghosts D) → Ended D → Image → Type 0
+IsFileAlone g (Closed closed) image =
+    IsTrue closed.is_kept × (closed.log ≡ Short) × AreClean g closed.files.log closed.files.db
+    × (image.log ≡ []) × g.may_leave closed.files.db image.db
+IsFileAlone g (Refused files) image = ⊥
+
+-- The files are in hand, and no lie of a disk was taken as true.
+abbrev pub AreHonest : {D : Type 0} (g : Ghosts D) → Option (Files D) → Type 0
+AreHonest g (Some files) = AreClean g files.log files.db
+AreHonest g None = ⊥

@@ -1,0 +1,112 @@
+//! A copy of books under another name: it is begun under a second name, and gets its own once it is
+//! whole and sound.
+
+use crate::copies::{Copied, CopyFault, copy_at};
+use crate::log::{Log, sync_folder};
+use crate::new_books::beside;
+use crate::repository::{Files, failed, not_looked_through, released, without_log};
+use book_audit::{Audited, AuditedRepository, Watch};
+use book_core::LedgerFault;
+use book_trees::LookFault;
+use office::{Opened, RepositoryFault};
+use sqlite_disk::Unknown;
+use std::fs;
+use std::fs::File;
+
+impl Files<'_> {
+    /// Copies the books of a file to a name that nothing has. Where the copy is not sound, or can't
+    /// be made, nothing is left of it.
+    pub(crate) fn copy_books<W: Watch>(
+        &self,
+        book: &str,
+        copy: &str,
+        watch: &mut W,
+    ) -> Opened<Audited> {
+        let (log, seed) = match self.begin_with(book) {
+            Ok(begun) => begun,
+            Err(fault) => return without_log(Err(fault)),
+        };
+        let begun = match self.begin_copy(copy) {
+            Ok(begun) => begun,
+            Err(fault) => return without_log(Err(fault)),
+        };
+        let (copied, has_log) = self.copy_into(book, &log, begun.as_str(), seed);
+        let answer = match copied {
+            Ok(()) => self.name_if_sound(begun.as_str(), copy, watch),
+            Err(CopyFault::Pages) => not_looked_through(LookFault::Pages),
+            Err(CopyFault::Refused(fault)) => Err(fault),
+        };
+        let is_named = matches!(&answer, Ok(Audited::Sound(_)));
+        if !is_named {
+            let _ = fs::remove_file(self.rt, begun.as_str());
+        }
+        Opened { answer, has_log }
+    }
+
+    /// Makes the file in which a copy is begun, and says its name. Nothing may have it, nor the name
+    /// of the copy.
+    fn begin_copy(&self, copy: &str) -> Result<String, RepositoryFault> {
+        self.expect_none(copy)?;
+        let begun = beside(self.rt, copy, "new").map_err(|error| failed(&error))?;
+        self.expect_none(begun.as_str())?;
+        match File::create_new(self.rt, begun.as_str()) {
+            Ok(_) => Ok(begun),
+            Err(error) => Err(failed(&error)),
+        }
+    }
+
+    /// Copies the books into the file that was begun, which then holds all of them, and says whether
+    /// their own log holds a part of them. The log of a copy that fails is removed.
+    fn copy_into(
+        &self,
+        book: &str,
+        log: &Log<'_>,
+        begun: &str,
+        seed: u64,
+    ) -> (Result<(), CopyFault>, bool) {
+        let begun_log = match Log::of(self.rt, begun) {
+            Ok(begun_log) => begun_log,
+            Err(error) => return (Err(CopyFault::Refused(failed(&error))), false),
+        };
+        let Copied {
+            answer: copied,
+            original,
+            copy,
+        } = copy_at(self.rt, book, Unknown, begun, Unknown, seed);
+        let has_log = log.leave(original);
+        let Opened {
+            answer: closed,
+            has_log: has_own_log,
+        } = released(&begun_log, Ok(()), copy);
+        let answer = copied.and(whole(closed, has_own_log));
+        if answer.is_err() {
+            begun_log.remove();
+        }
+        (answer, has_log)
+    }
+
+    /// Audits a copy that is whole, and gives a sound one its name.
+    fn name_if_sound<W: Watch>(
+        &self,
+        begun: &str,
+        copy: &str,
+        watch: &mut W,
+    ) -> Result<Audited, RepositoryFault> {
+        let audited = self.audit(begun, watch).answer?;
+        if let Audited::Sound(_) = &audited {
+            self.expect_none(copy)?;
+            fs::rename(self.rt, begun, copy).map_err(|error| failed(&error))?;
+            sync_folder(self.rt, copy).map_err(|error| failed(&error))?;
+        }
+        Ok(audited)
+    }
+}
+
+/// A copy is whole where its files were closed, and it needs no log.
+fn whole(closed: Result<(), RepositoryFault>, has_log: bool) -> Result<(), CopyFault> {
+    match closed {
+        Ok(()) if has_log => Err(CopyFault::Refused(RepositoryFault::Ledger(LedgerFault::Store))),
+        Ok(()) => Ok(()),
+        Err(fault) => Err(CopyFault::Refused(fault)),
+    }
+}

@@ -1,0 +1,103 @@
+//! A copy of the books in a file, made while nobody else has them.
+
+ghost use Rattle.std.specs.Prelude.{IsOk};
+ghost use Rattle.sqlite_wal.specs.Files.{image_at};
+ghost use Rattle.sqlite_wal.specs.Recovery.{Image};
+ghost use Rattle.book_core.specs.Transition.{NoEvent};
+ghost use Rattle.book_files.specs.Sessions.{AreHonest, MayFollow};
+ghost use Rattle.book_restarts.specs.FileBooks.{GoesOn, file_names};
+
+use crate::books::visit_and_close;
+use crate::repository::refused;
+use crate::session::Ended;
+use book_core::Ledger;
+use book_trees::{LookFault, copy_to, lock_at};
+use office::{RepositoryFault, Visit};
+use sqlite_disk::{Disk, Files, Start};
+use sqlite_std_file::FileFrom;
+
+/// A visit that asks the books nothing.
+#[derive(Drop)]
+struct Look;
+
+impl Visit for Look {
+    ghost use Rattle.book_core.specs.Transition.{NoEvent};
+    ghost use Rattle.book_core.proofs.FollowLemmas.{none_answered};
+
+    /// They were opened.
+    type Answer = ();
+
+    ghost work = { λ _ _ _. NoEvent };
+
+    ghost answered = { λ naming _ _. none_answered naming };
+
+    fn visit<L: Ledger>(self, _books: &mut L) {}
+}
+
+/// Why there is no copy of books.
+#[derive(Clone, Copy)]
+pub enum CopyFault {
+    /// The pages of the copy are not those of books.
+    Pages,
+    /// The books were not opened, or not copied.
+    Refused(RepositoryFault),
+}
+
+/// What came of a copy, with the files that were copied.
+#[derive(Drop)]
+pub struct Copied<A: Disk, B: Disk> {
+    pub answer: Result<(), CopyFault>,
+    /// None are in hand where they were not opened.
+    pub original: Option<Files<A>>,
+    pub copy: Ended<B>,
+}
+
+/// Copies the books in the file at a path over the file at another, looks through the copy, opens
+/// the books in it, and closes it. `S` and `T` stand for what the two files hold. Where no disk
+/// lied, what may be found of the copy holds the history that was found of the books.
+pub fn copy_at<S: Start, T: Start>(
+    rt: &HostRuntime,
+    path: &str,
+    start: S,
+    copy: &str,
+    held: T,
+    seed: u64,
+) -> Copied<FileFrom<S>, FileFrom<T>>
+    ensures { IsOk result.answer → AreHonest ⟦<FileFrom<S> as Disk>⟧ result.original → (image : Image)
+        → MayFollow ⟦<FileFrom<T> as Disk>⟧ result.copy image
+        → GoesOn file_names NoEvent (image_at S.Start) image }
+{
+    let mut files = match lock_at(rt, path, start) {
+        Ok(files) => files,
+        Err(fault) => {
+            return Copied {
+                answer: Err(CopyFault::Refused(refused(fault))),
+                original: None,
+                copy: Ended::Refused(None),
+            };
+        }
+    };
+    match copy_to(rt, &mut files, copy, seed, held) {
+        Ok(store) => {
+            let (opened, closed) = visit_and_close(rt.alloc(), store, Look);
+            Copied {
+                answer: opened.map_err(CopyFault::Refused),
+                original: Some(files),
+                copy: Ended::Closed(closed),
+            }
+        }
+        Err((fault, copies)) => Copied {
+            answer: Err(copy_fault(fault)),
+            original: Some(files),
+            copy: Ended::Refused(copies),
+        },
+    }
+}
+
+/// What it means that a copy was not looked through.
+fn copy_fault(fault: LookFault) -> CopyFault {
+    match fault {
+        LookFault::Pages => CopyFault::Pages,
+        LookFault::Open(fault) => CopyFault::Refused(refused(fault)),
+    }
+}

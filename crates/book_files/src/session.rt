@@ -1,0 +1,139 @@
+//! One session on the books in a file: it is opened, visited and closed; or new books are made in
+//! it, or continued.
+
+ghost use Rattle.std.specs.Prelude.{◌≡◌, [], false, true, ⊤, IfErr, IfOk, List};
+ghost use Rattle.sqlite_wal.specs.Files.{image_at};
+ghost use Rattle.sqlite_wal.specs.Recovery.{Image};
+ghost use Rattle.book_model.specs.Words.{Event};
+ghost use Rattle.book_core.specs.Transition.{NoEvent};
+ghost use Rattle.book_files.specs.Faults.{HasFaultCause, HasNoAnswerFor, resume_fault};
+ghost use Rattle.book_files.specs.NewBooks.{MakesBooks, MayBeMade};
+ghost use Rattle.book_files.specs.Sessions.{IsFileAlone, MayFollow};
+ghost use Rattle.book_restarts.specs.FileBooks.{GoesOn, HoldsHistory, done_by, file_names};
+ghost use Rattle.book_trees.specs.LedgerFiles.{HoldsBooks, HoldsEmptyBooks, HoldsNothing};
+ghost use Rattle.book_trees.specs.LedgerFiles.{trees_held};
+ghost use Rattle.book_trees.specs.Refusals.{AreFull, StopCreating};
+ghost use Rattle.tree_tables.specs.Holds.{has_book};
+
+use crate::books::{make_and_close, resume_and_close, visit_and_close};
+use crate::repository::refused;
+use book_trees::{Closed, LeftByLedger, OpenFault, create_at, open_at};
+use office::{RepositoryFault, Visit};
+use sqlite_disk::{Disk, Files, Start};
+use sqlite_std_file::FileFrom;
+
+/// What is in hand of the files after a session.
+#[derive(Drop)]
+pub enum Ended<D: Disk> {
+    /// They were open, and were closed.
+    Closed(Closed<D>),
+    /// They were not opened. Where there are none another program may have them.
+    Refused(Option<Files<D>>),
+}
+
+/// Opens the file at the path, visits its books, and closes it. `S` stands for what the files hold:
+/// each call has one of its own. Whatever may be found of them next, and wherever a stop comes
+/// within this, holds the books of the history before it, gone on with what the visit made.
+pub fn visit_at<S: LeftByLedger, V: Visit + Drop>(
+    rt: &HostRuntime,
+    path: &str,
+    seed: u64,
+    start: S,
+    visit: V,
+) -> (Result<V::Answer, RepositoryFault>, Ended<FileFrom<S>>)
+    ensures history { (image : Image) → MayFollow ⟦<FileFrom<S> as Disk>⟧ result.1 image
+        → GoesOn file_names (done_by V.Visit.work file_names visit result.0) (image_at S.Start)
+        image }
+
+    // Where the log is left short, the file alone, without any log, holds all of that.
+    ensures alone { (image : Image) → IsFileAlone ⟦<FileFrom<S> as Disk>⟧ result.1 image
+        → GoesOn file_names (done_by V.Visit.work file_names visit result.0) (image_at S.Start)
+        image }
+
+    // There are books exactly where their row is there: that there are none is answered only of files
+    // that hold none, or not their row, and without it none are visited.
+    ensures there { IfOk result.0 (λ answer. (image : Image)
+        → MayFollow ⟦<FileFrom<S> as Disk>⟧ result.1 image
+        → (held : HoldsBooks (image_at S.Start)) → has_book (trees_held held) ≡ true) }
+    ensures cause { IfErr result.0 (λ fault. HasNoAnswerFor ⟦<FileFrom<S> as Disk>⟧
+        (AreFull ⟦<FileFrom<S> as Disk>⟧) (HasFaultCause (¬ HoldsBooks (image_at S.Start)) ⊥)
+        (HasFaultCause ((held : HoldsBooks (image_at S.Start)) → has_book (trees_held held) ≡ false)
+        ⊥ ⊤) fault result.1) }
+{
+    match open_at(rt, path, seed, start) {
+        Ok(store) => {
+            let (answer, closed) = visit_and_close(rt.alloc(), store, visit);
+            (answer, Ended::Closed(closed))
+        }
+        Err((fault, files)) => (Err(refused(fault)), Ended::Refused(files)),
+    }
+}
+
+/// Makes new books in the file at the path, which holds nothing, and closes it. Whatever may be found
+/// of the files next, and wherever a stop comes within this, are the books of no history; or, where
+/// they were not made, what the next call goes on with.
+pub fn make_at<S: Start>(
+    rt: &HostRuntime,
+    path: &str,
+    seed: u64,
+    start: S,
+) -> (Result<(), RepositoryFault>, Ended<FileFrom<S>>)
+    ensures made { HoldsNothing (image_at S.Start) → (image : Image)
+        → MayBeMade ⟦<FileFrom<S> as Disk>⟧ result.1 image
+        → MakesBooks file_names result.0 image }
+    ensures cause { IfErr result.0 (λ fault. HasNoAnswerFor ⟦<FileFrom<S> as Disk>⟧
+        (StopCreating ⟦<FileFrom<S> as Disk>⟧) (HasFaultCause (¬ HoldsNothing (image_at S.Start)) ⊥)
+        (HasFaultCause ⊥ ⊥ ⊤) fault result.1) }
+{
+    match create_at(rt, path, seed, start) {
+        Ok(store) => {
+            let (made, closed) = make_and_close(rt.alloc(), store);
+            (made, Ended::Closed(closed))
+        }
+        Err((fault, files)) => (Err(refused(fault)), Ended::Refused(files)),
+    }
+}
+
+/// What it means that books were not continued. Any other file belongs to somebody.
+fn unresumed(fault: OpenFault) -> RepositoryFault
+    ensures { result ≡ resume_fault fault }
+{
+    match fault {
+        OpenFault::NotBooks => RepositoryFault::Exists,
+        fault => refused(fault),
+    }
+}
+
+/// Continues the books in the file at the path, where a stop left them while they were made, and
+/// closes it. Whatever may be found of the files next, and wherever a stop comes within this, holds
+/// the history that they held; that all went well is answered of no history alone. Tables that had
+/// no row yet are those of new books, as ever.
+pub fn resume_at<S: LeftByLedger>(
+    rt: &HostRuntime,
+    path: &str,
+    seed: u64,
+    start: S,
+) -> (Result<(), RepositoryFault>, Ended<FileFrom<S>>)
+    ensures history { (image : Image) → MayFollow ⟦<FileFrom<S> as Disk>⟧ result.1 image
+        → GoesOn file_names NoEvent (image_at S.Start) image }
+    ensures none { (image : Image) → MayFollow ⟦<FileFrom<S> as Disk>⟧ result.1 image
+        → (history : List Event) → HoldsHistory file_names history (image_at S.Start)
+        → IfOk result.0 (λ made. history ≡ []) }
+    ensures made { HoldsEmptyBooks (image_at S.Start) → (image : Image)
+        → MayBeMade ⟦<FileFrom<S> as Disk>⟧ result.1 image
+        → MakesBooks file_names result.0 image }
+
+    // That books are there is answered of files that hold none of ours, or have their row.
+    ensures cause { IfErr result.0 (λ fault. HasNoAnswerFor ⟦<FileFrom<S> as Disk>⟧
+        (AreFull ⟦<FileFrom<S> as Disk>⟧) (HasFaultCause ⊥ (¬ HoldsBooks (image_at S.Start)))
+        (HasFaultCause ⊥ ((held : HoldsBooks (image_at S.Start)) → has_book (trees_held held) ≡ true)
+        ⊤) fault result.1) }
+{
+    match open_at(rt, path, seed, start) {
+        Ok(store) => {
+            let (made, closed) = resume_and_close(rt.alloc(), store);
+            (made, Ended::Closed(closed))
+        }
+        Err((fault, files)) => (Err(unresumed(fault)), Ended::Refused(files)),
+    }
+}

@@ -1,0 +1,89 @@
+use Rattle.std.proofs.Common.{◌≡◌, sym, ap, ◌∙◌, subst}
+use Rattle.sqlite_store.specs.FileStore.{state}
+use Rattle.sqlite_store.specs.Unopened.{state_of, image, HasFile, HasSomeFile, IsFullFile}
+use Rattle.book_trees.proofs.LookCauses.{look_cause_of, look_since}
+use Rattle.book_trees.proofs.Opened.{committed_is, held_file, held_listed, opens_twice}
+use Rattle.book_trees.proofs.Opened.{shows_tables, some_file}
+use Rattle.book_trees.proofs.Refused.{cause_of}
+use Rattle.book_trees.proofs.Trees.{has_trees}
+use Rattle.book_trees.specs.LedgerFiles.{page_size, HoldsBooks}
+use Rattle.book_trees.specs.Listing.{lists_books}
+use Rattle.book_trees.specs.Looks.{HasLookCause}
+use Rattle.book_trees.specs.Refusals.{HasCause}
+use Rattle.book_trees.specs.declared.faults.OpenFault.{OpenFault}
+use Rattle.book_trees.specs.declared.integrity.LookFault.{LookFault}
+use Rattle.book_trees.proofs.integrity.look_through_all.Goals as goal
+
+pub returns-in-Err-clause-cause : goal.returns-in-Err-clause-cause
+returns-in-Err-clause-cause g c clean =
+    let old = c.args.files in
+    let mid = c.read_catalog.new.self in
+    subst (λ (fault : OpenFault). HasCause (state_of old).faults (state_of mid).faults
+    (IsFullFile mid) (HoldsBooks (image old)) fault) (sym c.fault_of.ensures)
+    (cause_of (state_of old).faults (state_of mid).faults (IsFullFile mid) (HasSomeFile old)
+    (HoldsBooks (image old)) (some_file old c.requires.size) c.in-Err.error
+    (c.in-Err.ensures.cause clean))
+
+pub returns-then-not-lists_books-clause-cause : goal.returns-then-not-lists_books-clause-cause
+returns-then-not-lists_books-clause-cause g c clean held =
+    let listed = held_listed c.args.files c.read_catalog.new.self c.in-Ok.listed.items
+    (c.in-Ok.ensures.ok clean) c.requires.size held in
+    let not_listed = c.if-not-lists_books.true in
+    let tested = c.lists_books.ensures in
+    let same : lists_books c.in-Ok.listed.items ≡ lists_books c.as_slice.result.now =
+    ap lists_books (sym c.as_slice.ensures.value) in
+    absurd (cc)
+
+pub returns-in-Ok-open-clause-trees : goal.returns-in-Ok-open-clause-trees
+returns-in-Ok-open-clause-trees g c =
+    let opened = c.in-Ok-open.ensures in
+    has_trees c.in-Ok-open.store
+    (opened.schema ∙ c.read_catalog.ensures.schema ∙ c.requires.schema) opened.ready.unaltered
+
+pub returns-clause-unharmed : goal.returns-clause-unharmed
+returns-clause-unharmed g c clean =
+    let then = c.in-Err-open.ensures.falls clean in
+    opens_twice c.args.files c.read_catalog.new.self c.in-Ok.listed.items
+    (c.in-Ok.ensures.ok then) c.requires.size (state_of c.in-Err-open.files)
+    (c.read_catalog.ensures.kept then) (c.in-Err-open.ensures.unharmed clean)
+
+pub returns-clause-cause : goal.returns-clause-cause
+returns-clause-cause g c clean =
+    let then = c.in-Err-open.ensures.falls clean in
+    let old = c.args.files in
+    let mid = c.read_catalog.new.self in
+    let end = c.in-Err-open.files in
+    let size = (c.read_catalog.ensures.kept then).size ∙ c.requires.size in
+    let schema = c.read_catalog.ensures.schema ∙ c.requires.schema in
+    let why = look_cause_of (state_of mid).faults (state_of end).faults (IsFullFile end)
+    (HasFile mid) (HoldsBooks (image old)) (λ held. held_file old mid c.in-Ok.listed.items
+    (c.in-Ok.ensures.ok then) c.requires.size held size schema) c.in-Err-open.error
+    (c.in-Err-open.ensures.cause clean) in
+    subst (λ (fault : LookFault). HasLookCause (state_of old).faults (state_of end).faults
+    (IsFullFile end) (HoldsBooks (image old)) fault) (sym c.look_fault.ensures)
+    (look_since (state_of old).faults (state_of mid).faults (state_of end).faults
+    (IsFullFile end) (HoldsBooks (image old)) (c.read_catalog.ensures.kept then).counts _ why)
+
+pub returns-in-Ok-open-clause-size : goal.returns-in-Ok-open-clause-size
+returns-in-Ok-open-clause-size g c clean =
+    let then = c.in-Ok-open.ensures.honest clean in
+    (c.in-Ok-open.ensures.kept clean).size ∙ (c.read_catalog.ensures.kept then).size
+    ∙ c.requires.size
+
+pub returns-in-Ok-open-clause-honest : goal.returns-in-Ok-open-clause-honest
+returns-in-Ok-open-clause-honest g c clean =
+    c.read_catalog.ensures.honest (c.in-Ok-open.ensures.honest clean)
+
+pub returns-in-Ok-open-clause-found : goal.returns-in-Ok-open-clause-found
+returns-in-Ok-open-clause-found g c clean held =
+    let opened = c.in-Ok-open.ensures in
+    let then = opened.honest clean in
+    let store = c.in-Ok-open.store in
+    let mid = c.read_catalog.new.self in
+    let size : (state_of mid).page_size ≡ page_size =
+    (c.read_catalog.ensures.kept then).size ∙ c.requires.size in
+    shows_tables store opened.ready
+    (opened.schema ∙ c.read_catalog.ensures.schema ∙ c.requires.schema)
+    ((opened.kept clean).size ∙ size) clean held.pages
+    (committed_is c.args.files mid c.in-Ok.listed.items (c.in-Ok.ensures.ok then)
+    c.requires.size held (state store).committed size (opened.found clean))

@@ -1,0 +1,61 @@
+-- What may be found of the two files after they were closed.
+use Rattle.std.specs.Prelude.{◌≡◌, ◌⊎◌, ◌<◌, ℕ, [], length, IsTrue, ⊤}
+use Rattle.sqlite_disk.specs.Disk.{MoreFaults}
+use Rattle.sqlite_disk.specs.declared.Disk.{Ghosts}
+use Rattle.sqlite_disk.specs.declared.files.Files.{Files}
+use Rattle.sqlite_store.specs.FileStore as store
+use Rattle.sqlite_store.specs.declared.store.FileStore.{FileStore}
+use Rattle.sqlite_trees.specs.declared.error.StoreError.{StoreError}
+use Rattle.sqlite_trees.specs.declared.error.StoreError.TheVariants.{OutOfMemory, Io, Corrupt}
+use Rattle.sqlite_trees.specs.declared.error.StoreError.TheVariants.{Full, Broken, Unstorable}
+use Rattle.sqlite_wal.specs.Reads.{AreClean}
+use Rattle.sqlite_wal.specs.Recovery.{Image}
+use Rattle.book_trees.specs.LedgerFiles.{shortest_log}
+use Rattle.book_trees.specs.Refusals.{MayLeave}
+use Rattle.book_trees.specs.declared.closing.Closed.{Closed}
+use Rattle.book_trees.specs.declared.closing.LogLeft.{LogLeft}
+use Rattle.book_trees.specs.declared.closing.LogLeft.TheVariants.{Short, Emptied, Kept}
+
+-- Why the pages of a log were not moved: memory ran out, about which a store says no more; or a call
+-- on the files failed meanwhile, or met a limit.
+abbrev pub IsStuckFor : ℕ → ℕ → StoreError → Type 0
+IsStuckFor old new OutOfMemory = ⊤
+IsStuckFor old new Io = MoreFaults old new
+IsStuckFor old new Corrupt = MoreFaults old new
+IsStuckFor old new Full = MoreFaults old new
+IsStuckFor old new Broken = MoreFaults old new
+IsStuckFor old new Unstorable = ⊥
+
+module _ {D : Type 0} (g : Ghosts D) where
+  -- the log, which was too short for anything, was deleted: the other file is as a crash may leave it
+  pub record IsWithoutLog (files : Files D) (image : Image) : Type 0 where
+    pub clean : AreClean g files.log files.db
+    pub short : length (g.seen files.log) < shortest_log
+    pub gone : image.log ≡ []
+    pub file : g.may_leave files.db image.db
+
+  -- as a crash may leave the two, or with the log deleted
+  abbrev pub MayBeFound : Files D → Image → Type 0
+  MayBeFound files image = MayLeave g files image ⊎ IsWithoutLog files image
+
+  -- the store that was closed last, whose log was then asked for its length
+  pub record IsClosed (end : FileStore D g) (files : Files D) : Type 0 where
+    pub log : D
+    pub back : (log, files.db) ≡ store.files end
+
+  -- What a close leaves of the log: it is too short to hold anything; or it holds no page; or its
+  -- pages could not be moved.
+  abbrev pub LeavesLog : FileStore D g → Files D → LogLeft → Type 0
+  LeavesLog old files Short =
+      AreClean g files.log files.db → length (g.seen files.log) < shortest_log
+  LeavesLog old files Emptied = IsTrue (store.view old).is_open
+      → ∥ ((end : FileStore D g) × IsClosed end files × (store.log_frames end ≡ 0)) ∥₁
+  LeavesLog old files (Kept error) = IsTrue (store.view old).is_open
+      → AreClean g files.log files.db
+      → ∥ ((end : FileStore D g) × IsClosed end files
+      × IsStuckFor (store.faults old) (store.faults end) error) ∥₁
+
+  -- closed files whose log is said to be short have a short log
+  abbrev pub IsShort : Closed D → Type 0
+  IsShort closed = closed.log ≡ Short → AreClean g closed.files.log closed.files.db
+      → length (g.seen closed.files.log) < shortest_log

@@ -1,0 +1,35 @@
+-- Why files are not looked through.
+use Rattle.std.specs.Prelude.{ℕ}
+use Rattle.sqlite_disk.specs.declared.Disk.{Ghosts}
+use Rattle.sqlite_disk.specs.declared.files.Files.{Files}
+use Rattle.sqlite_store.specs.declared.error.OpenError.{OpenError}
+use Rattle.sqlite_store.specs.declared.error.OpenError.TheVariants as store
+use Rattle.sqlite_wal.specs.Reads.{AreClean}
+use Rattle.book_trees.specs.Refusals.{fault_for, faults_in, HasCause, IsUnopened}
+use Rattle.book_trees.specs.declared.integrity.LookFault.{LookFault}
+use Rattle.book_trees.specs.declared.integrity.LookFault.TheVariants.{Pages, Open}
+
+-- the fault that an error of the store stands for, while the pages of files that list books are
+-- looked through
+abbrev pub look_fault_for : OpenError → LookFault
+look_fault_for store.Refused = Pages
+look_fault_for store.OutOfMemory = Open (fault_for store.OutOfMemory)
+look_fault_for store.Io = Open (fault_for store.Io)
+look_fault_for store.Full = Open (fault_for store.Full)
+
+-- A fault has its cause: pages are wrong only in files that do not hold what they have to; any other
+-- fault is that of an opening.
+abbrev pub HasLookCause : ℕ → ℕ → Type 0 → Type 0 → LookFault → Type 0
+HasLookCause old new AtLimit Held Pages = ¬ Held
+HasLookCause old new AtLimit Held (Open fault) = HasCause old new AtLimit Held fault
+
+-- the files at a path were not opened
+abbrev pub IsUnopenedLook : LookFault → Type 0
+IsUnopenedLook Pages = ⊥
+IsUnopenedLook (Open fault) = IsUnopened fault
+
+module _ {D : Type 0} (g : Ghosts D) where
+  -- files were there, and held this: why they were not looked through
+  abbrev pub IsLookRefusedFor : Type 0 → (Files D → Type 0) → LookFault → Files D → Type 0
+  IsLookRefusedFor Held AtLimit fault files =
+      AreClean g files.log files.db → HasLookCause 0 (faults_in g files) (AtLimit files) Held fault

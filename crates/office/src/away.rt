@@ -1,0 +1,53 @@
+//! Books that can't be opened now. A request over HTTP is answered without them: 503, where it asks
+//! for books.
+
+ghost use Rattle.office.specs.Away.{away};
+
+use book_core::{Accepted, ChargeRow, Dispute, Ledger, LedgerFault, Line, Ruled};
+
+/// Answers to each call that the books are to be opened again.
+#[derive(Drop)]
+pub struct AwayBooks;
+
+#[tactic(auto, using(crate::proofs::AwayLemmas::answers_reopen))]
+impl Ledger for AwayBooks {
+    ghost seen = { λ _. away };
+
+    fn tariff(&mut self, _text: &str) -> Result<Ruled, LedgerFault> {
+        Err(LedgerFault::Reopen)
+    }
+
+    fn close(&mut self, _period: u16, _through: i32) -> Result<Ruled, LedgerFault> {
+        Err(LedgerFault::Reopen)
+    }
+
+    fn choose(&mut self, _name: [u8; 32]) -> Result<Ruled, LedgerFault> {
+        Err(LedgerFault::Reopen)
+    }
+
+    fn adopt_identity(&mut self, _rule: u8) -> Result<Ruled, LedgerFault> {
+        Err(LedgerFault::Reopen)
+    }
+
+    fn accept(&mut self, _bytes: &[u8]) -> Result<Accepted, LedgerFault> {
+        Err(LedgerFault::Reopen)
+    }
+
+    fn charges(&mut self, _period: u16) -> Result<Vec<ChargeRow>, LedgerFault> {
+        Err(LedgerFault::Reopen)
+    }
+
+    fn adjustments(&mut self, _period: u16) -> Result<Vec<Line>, LedgerFault> {
+        Err(LedgerFault::Reopen)
+    }
+
+    fn disputes(&mut self) -> Result<Vec<Dispute>, LedgerFault> {
+        Err(LedgerFault::Reopen)
+    }
+
+    fn periods(&mut self) -> Result<Vec<i32>, LedgerFault> {
+        Err(LedgerFault::Reopen)
+    }
+
+    ghost settled = { λ _ honest _. absurd honest };
+}
