@@ -24,7 +24,7 @@ def named(ran):
     if ran.status < 0:
         return "ended by signal %d" % -ran.status
     if ran.status == 0:
-        return "status 0, and words on standard error" if ran.err else None
+        return None if ran.err in (b"", formats.LOG) else "status 0, and words on standard error"
     if ran.status == 2:
         return None if ran.err and not ran.out else "status 2, and other words than of usage"
     return None if formats.status_of(ran.err) == ran.status else "status %d" % ran.status

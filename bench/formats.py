@@ -303,7 +303,14 @@ ERROR = re.compile(
     rb"|frame [1-8]|tariff [1-6](?: [a-z_]+)?|ledger (?:[4-7]|9 [0-9]+|1[0-3]))\n")
 
 
-def status_of(line):
-    """The status that goes with a line on standard error; None where it is no such line."""
-    said = ERROR.fullmatch(line)
+# The last line of a command that leaves pages in the log of books, whatever it said before.
+LOG = b"chargectl: log\n"
+
+
+def status_of(lines):
+    """The status that goes with what is said on standard error; None where that is no such line. A
+    change that went well has status 4 where it left a log."""
+    if lines == LOG:
+        return 4
+    said = ERROR.fullmatch(lines.removesuffix(LOG))
     return said and (1 if said[1] else 4 if said[2] else 5 if said[3] else 3)
