@@ -2,7 +2,9 @@
 -- ledger hold, charge and dispute.
 pub mod RulingLemmas
 pub mod TransitionLemmas
+pub mod ThenLemmas
 pub mod NamedLemmas
+pub mod SubmissionLemmas
 pub mod FollowLemmas
 pub mod EntryLemmas
 pub mod HeldLemmas

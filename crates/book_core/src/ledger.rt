@@ -1,4 +1,4 @@
-ghost use Rattle.std.specs.Prelude.{All, IfOk, map};
+ghost use Rattle.std.specs.Prelude.{◌<◌, All, IfOk, length, map};
 ghost use Rattle.book_model.specs.Words.{IsDay, IsUsageRecord, AreRows, AreLines, AreDisputes};
 ghost use Rattle.book_model.specs.Words.{dispute_shown, accept_outcome, close_outcome};
 ghost use Rattle.book_model.specs.Words.{tariff_outcome, adjustments_outcome, charges_outcome};
@@ -6,6 +6,8 @@ ghost use Rattle.book_model.specs.Words.{choose_outcome, disputes_outcome, perio
 ghost use Rattle.book_model.specs.Words.{adopt_outcome};
 ghost use Rattle.book_core.specs.Ledgers.{StopIsHarmless, Seen};
 ghost use Rattle.book_core.specs.Calls.{IsCall};
+ghost use Rattle.book_core.specs.Submissions.{Takes, records_in};
+ghost use Rattle.book_core.specs.Transition.{IsTransition};
 
 use book_model::{Accepted, ChargeRow, Dispute, LedgerFault, Line, Ruled};
 
@@ -49,6 +51,17 @@ pub trait Ledger {
         requires { IsUsageRecord bytes.now }
         ensures { IsCall (λ accepted. accepted) (seen self.old) (seen self.new) result
             (accept_outcome (seen self.old).naming bytes.now) };
+
+    /// Submits records in order, as one change of the books: the first, and as many after it as
+    /// one change takes, up to the next that is refused. Answers those that it took, each as
+    /// `accept` would; or why the first is refused. After `Store` the next open finds some first
+    /// records of them, or none.
+    fn accept_many(&mut self, records: &[Vec<u8>]) -> Result<Vec<Accepted>, LedgerFault>
+        requires some { 0 < length records.now }
+        requires usage { All (λ one. IsUsageRecord one.items) records.now }
+        ensures takes { IsTransition (seen self.old) (seen self.new)
+            (Takes (seen self.old).naming (records_in records.now) result) }
+        ensures some { IfOk result (λ answers. 0 < length answers.items) };
 
     /// The charge rows of a period, by day, then centre, then shift.
     fn charges(&mut self, period: u16) -> Result<Vec<ChargeRow>, LedgerFault>

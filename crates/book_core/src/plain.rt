@@ -117,6 +117,14 @@ impl<N: Naming + Drop> Ledger for PlainLedger<N> {
         self.keep_record(bytes)
     }
 
+    fn accept_many(&mut self, records: &[Vec<u8>]) -> Result<Vec<Accepted>, LedgerFault> {
+        // One record is a change here: nothing waits for a commit.
+        let mut answers = Vec::with_capacity(self.alloc, 1)?;
+        let accepted = self.keep_record(&records[0])?;
+        answers.push(accepted)?;
+        Ok(answers)
+    }
+
     fn charges(&mut self, period: u16) -> Result<Vec<ChargeRow>, LedgerFault> {
         self.charge_rows(period)
     }

@@ -1,9 +1,12 @@
 -- Calls on books that are away.
-use Rattle.std.proofs.Common.{◌≡◌, Result, Err, refl}
+use Rattle.std.proofs.Common.{◌≡◌, ℕ, List, Result, Err, refl}
+use Rattle.book_model.specs.declared.answer.Accepted.{Accepted}
 use Rattle.book_model.specs.declared.fault.LedgerFault.{LedgerFault}
 use Rattle.book_model.specs.declared.fault.LedgerFault.TheVariants.{Reopen}
-use Rattle.book_model.specs.Words.{Book, Outcome}
+use Rattle.book_model.specs.Words.{Book, Outcome, accept_outcome}
 use Rattle.book_core.specs.Calls.{IsCall}
+use Rattle.book_core.specs.Submissions.{Takes, first_of}
+use Rattle.book_core.specs.Transition.{IsTransition}
 use Rattle.office.specs.Away.{away}
 
 -- each call may answer that the books are to be opened again
@@ -19,3 +22,10 @@ answers_reopen view outcome = record {
   };
   reopens = record { reopen = refl; store = refl };
 }
+
+-- and so may records that are submitted together
+pub takes_none : (records : List (List ℕ))
+    → IsTransition away away (Takes away.naming records (Err Reopen))
+takes_none records =
+    (answers_reopen (λ (accepted : Accepted). accepted)
+    (accept_outcome away.naming (first_of records))).work

@@ -9,7 +9,7 @@ use book_core::{Accepted, ChargeRow, Dispute, Ledger, LedgerFault, Line, Ruled};
 #[derive(Drop)]
 pub struct AwayBooks;
 
-#[tactic(auto, using(crate::proofs::AwayLemmas::answers_reopen))]
+#[tactic(auto, using(crate::proofs::AwayLemmas::answers_reopen, crate::proofs::AwayLemmas::takes_none))]
 impl Ledger for AwayBooks {
     ghost seen = { λ _. away };
 
@@ -30,6 +30,10 @@ impl Ledger for AwayBooks {
     }
 
     fn accept(&mut self, _bytes: &[u8]) -> Result<Accepted, LedgerFault> {
+        Err(LedgerFault::Reopen)
+    }
+
+    fn accept_many(&mut self, _records: &[Vec<u8>]) -> Result<Vec<Accepted>, LedgerFault> {
         Err(LedgerFault::Reopen)
     }
 

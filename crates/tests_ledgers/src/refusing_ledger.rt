@@ -1,6 +1,6 @@
 //! Books that refuse one call for lack of memory.
 
-ghost use Rattle.std.specs.Prelude.{List, ℤ, Err};
+ghost use Rattle.std.specs.Prelude.{◌≡◌, ◌<◌, length, take, List, ℤ, Err};
 ghost use Rattle.book_model.specs.Words.{periods_outcome};
 ghost use Rattle.book_core.specs.Calls.{IsCall};
 
@@ -57,6 +57,15 @@ fn refusal<L: Ledger>(ledger: &mut L) -> LedgerFault
     }
 }
 
+/// The first of some records. Each is a call of its own, so that memory can run out between any two.
+fn first_alone(records: &[Vec<u8>]) -> &[Vec<u8>]
+    requires { 0 < length records.now }
+    ensures first { result.now ≡ take 1 records.now }
+    ensures some { 0 < length result.now }
+{
+    &records[..1]
+}
+
 impl<L: Ledger> Ledger for RefusingLedger<'_, L> {
     ghost seen = { λ ledger. L.seen ledger.inner.now };
 
@@ -93,6 +102,14 @@ impl<L: Ledger> Ledger for RefusingLedger<'_, L> {
             return Err(refusal(&mut *self.inner));
         }
         self.inner.accept(bytes)
+    }
+
+    fn accept_many(&mut self, records: &[Vec<u8>]) -> Result<Vec<Accepted>, LedgerFault> {
+        if is_due(&mut self.calls_left) {
+            return Err(refusal(&mut *self.inner));
+        }
+        let first = first_alone(records);
+        self.inner.accept_many(first)
     }
 
     fn charges(&mut self, period: u16) -> Result<Vec<ChargeRow>, LedgerFault> {

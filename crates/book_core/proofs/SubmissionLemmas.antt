@@ -1,0 +1,162 @@
+-- Records that are submitted together.
+use Rattle.std.proofs.Common.{◌≡◌, ◌∙◌, ◌<◌, ℕ, Bool, true, false, List, [], ◌∷◌, ◌++◌, length, refl}
+use Rattle.std.proofs.Common.{sym, ap, subst, Result, Ok, Err, ◌⊎◌, inl, inr, Vec, Global, arith}
+use Rattle.std.proofs.Common.{drop, get_or, take, ◌||◌, true≢false}
+use Rattle.std.proofs.lemmas.List.{map-append, take-append-drop}
+use Rattle.book_model.specs.declared.answer.Accepted.{Accepted}
+use Rattle.book_model.specs.declared.fault.LedgerFault.{LedgerFault}
+use Rattle.book_model.specs.declared.fault.LedgerFault.TheVariants.{Store}
+use Rattle.book_model.specs.Words.{Book, Event, Naming, accept_outcome, accept_answer, accept_event}
+use Rattle.book_model.specs.Words.{after_all}
+use Rattle.book_core.specs.Calls.{Calls, listed}
+use Rattle.book_core.specs.Submissions.{Accepts, KeepsFirst, Takes, first_of, records_in}
+use Rattle.book_core.proofs.TransitionLemmas.{wanting, failed, to_reopen, refused, fails}
+
+-- ---- the first of them
+
+-- the bytes of the first
+pub first_is : (records : List (Vec ℕ Global)) (found : Vec ℕ Global) → 0 < length records
+    → found ≡ get_or records 0 found → first_of (records_in records) ≡ found.items
+first_is [] found some is = absurd (omega arith)
+first_is (one ∷ rest) found some is = sym (ap (λ (one : Vec ℕ Global). one.items) is)
+
+-- where there are records, there are bytes of records
+pub some_in : (records : List (Vec ℕ Global)) → 0 < length records
+    → 0 < length (records_in records)
+some_in [] some = absurd (omega arith)
+some_in (one ∷ rest) some = omega arith
+
+-- ---- a change that takes one record
+
+-- one record was accepted
+pub accepts_one : (naming : Naming) (records : List (List ℕ)) (answer : Accepted)
+    → 0 < length records → (was : Bool) (before : Book) (events : List Event) (is : Bool)
+    → Calls (λ (accepted : Accepted). accepted) (accept_outcome naming (first_of records))
+    (Ok answer) was before events is
+    → Accepts naming records (answer ∷ []) was before events is
+accepts_one naming [] answer some was before events is called = absurd (omega arith)
+accepts_one naming (bytes ∷ rest) answer some was before events is called = record {
+  between = is;
+  early = events;
+  late = [];
+  first = called;
+  next = record { none = refl; same = refl };
+  all = refl;
+}
+
+-- the store failed, and the event of the first record was made, if its answer makes one
+first_kept : (naming : Naming) (records : List (List ℕ)) (before : Book) (events : List Event)
+    (answer : Result Accepted LedgerFault) → 0 < length records
+    → accept_answer naming before (first_of records) ≡ answer
+    → events ≡ listed (accept_event (first_of records) (accept_answer naming before (first_of records)))
+    → KeepsFirst naming records false before events true
+first_kept naming records before events (Ok answer) some is made = record {
+  was_open = refl;
+  closed = refl;
+  answers = answer ∷ [];
+  kept = accepts_one naming records answer some false before events false (record {
+    makes = (is, made);
+    reopens = record { reopen = refl; store = refl };
+  });
+}
+first_kept naming records before events (Err fault) some is made = record {
+  was_open = refl;
+  closed = refl;
+  answers = [];
+  kept = record {
+    none = made ∙ ap (λ answer. listed (accept_event (first_of records) answer)) is;
+    same = refl;
+  };
+}
+
+-- the store of open books failed, before or after the event of the first record
+store_keeps : (naming : Naming) (records : List (List ℕ)) (was : Bool) (before : Book)
+    (events : List Event) (is : Bool) → 0 < length records → was ≡ false → is ≡ true
+    → (events ≡ []) ⊎ (events ≡ listed (accept_outcome naming (first_of records) before).event)
+    → KeepsFirst naming records was before events is
+store_keeps naming records was before events is some opened closed (inl none) = record {
+  was_open = opened;
+  closed = closed;
+  answers = [];
+  kept = record { none = none; same = refl };
+}
+store_keeps naming records was before events is some opened closed (inr made) =
+    let keeps = first_kept naming records before events
+    (accept_answer naming before (first_of records)) some refl made in
+    record { was_open = opened; closed = closed; answers = keeps.answers; kept = keeps.kept }
+
+-- the first record was refused in a call of its own
+pub refused_one : (naming : Naming) (records : List (List ℕ)) (fault : LedgerFault)
+    → 0 < length records → (was : Bool) (before : Book) (events : List Event) (is : Bool)
+    → Calls (λ (accepted : Accepted). accepted) (accept_outcome naming (first_of records))
+    (Err fault) was before events is
+    → Takes naming records (Err fault) was before events is
+refused_one naming records Store some was before events is called =
+    elim (fails (λ (accepted : Accepted). accepted) (accept_outcome naming (first_of records)) Store
+    was before events is called) [
+      | wanting memory none same ↦ absurd (cc)
+      | failed store opened closed either ↦
+          store_keeps naming records was before events is some opened closed either
+      | to_reopen reopen opened closed none ↦ absurd (cc)
+      | refused answer opened closed none ↦
+          absurd (true≢false (sym (called.reopens.store ∙ ap (λ b. b || true) opened) ∙ closed))
+    ]
+refused_one naming records fault some was before events is called = called
+
+-- ---- a change that is handed the first of some records
+
+-- what was accepted of the first records was accepted of all
+accepts_further : (naming : Naming) (early later : List (List ℕ)) (answers : List Accepted)
+    (was : Bool) (before : Book) (events : List Event) (is : Bool)
+    → Accepts naming early answers was before events is
+    → Accepts naming (early ++ later) answers was before events is
+accepts_further naming early later [] was before events is accepts = accepts
+accepts_further naming [] later (answer ∷ rest) was before events is accepts = absurd accepts
+accepts_further naming (bytes ∷ early) later (answer ∷ rest) was before events is accepts = record {
+  between = accepts.between;
+  early = accepts.early;
+  late = accepts.late;
+  first = accepts.first;
+  next = accepts_further naming early later rest accepts.between (after_all accepts.early before)
+      accepts.late is accepts.next;
+  all = accepts.all;
+}
+
+-- the first of them is the first of all
+first_further : (early later : List (List ℕ)) → 0 < length early
+    → first_of early ≡ first_of (early ++ later)
+first_further [] later some = absurd (omega arith)
+first_further (bytes ∷ rest) later some = refl
+
+-- what the change took of the first records it took of all
+takes_further : (naming : Naming) (early later : List (List ℕ))
+    (result : Result (Vec Accepted Global) LedgerFault) → 0 < length early → (was : Bool)
+    (before : Book) (events : List Event) (is : Bool)
+    → Takes naming early result was before events is
+    → Takes naming (early ++ later) result was before events is
+takes_further naming early later (Ok answers) some was before events is takes =
+    accepts_further naming early later answers.items was before events is takes
+takes_further naming early later (Err Store) some was before events is takes = record {
+  was_open = takes.was_open;
+  closed = takes.closed;
+  answers = takes.answers;
+  kept = accepts_further naming early later takes.answers false before events false takes.kept;
+}
+takes_further naming early later (Err fault) some was before events is takes =
+    subst (λ bytes. Calls (λ (accepted : Accepted). accepted) (accept_outcome naming bytes)
+    (Err fault) was before events is) (first_further early later some) takes
+
+-- So a change that is handed the first of some records takes some first of all.
+pub takes_part : (naming : Naming) (records : List (Vec ℕ Global)) (count : ℕ)
+    (part : List (Vec ℕ Global)) (result : Result (Vec Accepted Global) LedgerFault)
+    → part ≡ take count records → 0 < length part → (was : Bool) (before : Book)
+    (events : List Event) (is : Bool)
+    → Takes naming (records_in part) result was before events is
+    → Takes naming (records_in records) result was before events is
+takes_part naming records count part result is_part some was before events is takes =
+    subst (λ all. Takes naming all result was before events is)
+    (sym (map-append (λ (one : Vec ℕ Global). one.items) part (drop count records))
+    ∙ ap (λ part. records_in (part ++ drop count records)) is_part
+    ∙ ap records_in (take-append-drop count records))
+    (takes_further naming (records_in part) (records_in (drop count records)) result
+    (some_in part some) was before events is takes)
