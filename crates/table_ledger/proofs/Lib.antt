@@ -9,6 +9,10 @@ mod Remembered
 mod OneCall
 mod FinishLemmas
 mod StepLemmas
+mod StageLemmas
+mod CommitLemmas
+mod ManyLemmas
+mod ServedWork
 mod LastChoice
 mod RowsTaken
 mod CodeDays
@@ -29,7 +33,7 @@ mod RisingNames
 mod JoinLemmas
 mod OpenLemmas
 mod LoadLemmas
-mod OwnBooks
+pub mod OwnBooks
 mod RowTold
 mod BookRows
 mod BookLists

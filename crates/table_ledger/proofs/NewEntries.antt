@@ -1,6 +1,6 @@
 -- Writing a new record makes the tables that it is to make.
 use Rattle.std.proofs.Common.{◌≡◌, ◌∙◌, ℕ, ◌+◌, List, Bool, true, false, refl, sym, ap}
-use Rattle.std.proofs.Common.{subst, Result, Option, Some, None, cond, true≢false}
+use Rattle.std.proofs.Common.{Option, Some, None, cond, true≢false}
 use Rattle.std.specs.List.{last_or}
 use Rattle.std.specs.FinMap.{get, get-insert, insert}
 use Rattle.std.specs.Ordering.{eq_by_cmp, is_eq}
@@ -10,8 +10,6 @@ use Rattle.std.proofs.lemmas.Cmp.{nat_list_cmp_total}
 use Rattle.std.proofs.lemmas.Map.Lookups.{exact_bytes}
 use Rattle.book_model.specs.Words.{open_by}
 use Rattle.book_model.specs.Words.{by_bytes}
-use Rattle.tree_tables.specs.States.{State}
-use Rattle.sqlite_trees.specs.declared.error.StoreError.{StoreError}
 use Rattle.book_model.specs.Words.{data_of, identity_by, last_close}
 use Rattle.tariff_rules.specs.declared.priced.Priced.{Priced}
 use Rattle.book_core.specs.Effects.{effects_of}
@@ -21,15 +19,12 @@ use Rattle.table_model.specs.Tables.{RecordRow, RecordTable, Tables}
 use Rattle.table_model.specs.Views.{rows_with}
 use Rattle.table_laws.specs.AcceptRead.{view_with}
 use Rattle.table_model.specs.Steps.{put_record_row, set_sums}
-use Rattle.tree_tables.specs.Holds.{Holds}
-use Rattle.table_ledger.specs.Commits.{CommitsOne, IsDone}
 use Rattle.table_ledger.specs.DayWrites.{WritesDayRows}
 use Rattle.table_ledger.specs.RecordWrites.{AreRemembered, write_days, write_line, write_mark}
 use Rattle.table_ledger.specs.NewRecords.{with_new_record, with_record_effects}
 use Rattle.book_core.specs.OfficeRulings.{ruled_in}
 use Rattle.table_ledger.specs.declared.day_write.DayWrite.{DayWrite}
 use Rattle.table_ledger.specs.declared.summary.Summary.{Summary}
-use Rattle.table_ledger.proofs.SurvivalLemmas.{survives_so}
 
 -- a row is not none
 some_none : (row : RecordRow) → Some row ≡ None → ⊥
@@ -104,23 +99,6 @@ entry_kept summary name bytes identity behind priced period effects day tables o
     ∙ ap (λ closes. effects_of (view_with (last_or None closes) tables.choices
     (rows_with (identity_by (ruled_in summary.rulings) bytes) tables.records)) name priced)
     (sym remembered.closes))
-
--- a commit may be described in other words
-pub commit_so : {T : Type 0} {old new : State} {When Other : Tables → Type 0}
-    {change told : Tables → Tables} {result : Result T StoreError}
-    → CommitsOne result old new When change
-    → ((tables : Tables) → Other tables → When tables × (change tables ≡ told tables))
-    → CommitsOne result old new Other told
-commit_so {old = old} {new = new} {result = result} commit so = record {
-  survives = survives_so commit.survives
-      (λ clean trees made tables holds other.
-      let same = so tables other in
-      subst (λ after. Holds trees after) same.1 (made tables holds same.0));
-  done = λ clean rest tables holds other.
-      let same = so tables other in
-      subst (λ after. IsDone old.view new.view after result) same.1
-      (commit.done clean rest tables holds same.0);
-}
 
 -- a name that no record has is still that of none after a mark was taken
 pub new_still : (unmark : Option (List ℕ)) (records : RecordTable) (name : List ℕ)

@@ -6,7 +6,7 @@ use Rattle.sqlite_trees.specs.declared.error.StoreError.{StoreError}
 use Rattle.table_model.specs.Tables.{Tables}
 use Rattle.tree_tables.specs.States.{State, Survives}
 use Rattle.tree_tables.specs.Steps.{Does, Looks}
-use Rattle.table_ledger.specs.Commits.{Saw, CommitsOne}
+use Rattle.table_ledger.specs.Commits.{Saw}
 use Rattle.table_ledger.specs.NewBooks.{MakesNew}
 use Rattle.tree_rows.proofs.Calls.{kept_after_look}
 use Rattle.tree_tables.proofs.Looking.{kept_after}
@@ -38,14 +38,6 @@ looks_told {A} {old} {new} {Answers} None error result is saw =
 looks_told {A} {old} {new} {Answers} (Some value) error result is saw =
     subst (λ result. Looks result old new Answers) (sym is)
     (looks_known saw (λ tables known. known))
-
--- a commit that is refused
-pub commit_failed : {T U : Type 0} {old new : State} {When : Tables → Type 0}
-    {change : Tables → Tables} {error : StoreError} (result : Result U StoreError) → IsErr result
-    → CommitsOne {T = T} (Err error) old new When change → CommitsOne result old new When change
-commit_failed (Err other) failed commit =
-    record { survives = commit.survives; done = commit.done }
-commit_failed (Ok value) failed commit = absurd (true≢false (sym failed))
 
 -- a step that is refused
 pub does_failed : {T U : Type 0} {old new : State} {When Other : Tables → Type 0}

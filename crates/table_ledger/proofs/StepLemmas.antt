@@ -105,14 +105,14 @@ commit_unwritten (Err other) failed does = record {
 commit_unwritten (Ok value) failed does = absurd (true≢false (sym failed))
 
 -- the last commit stays after steps
-stands_only : (old new : View) → OnlyWrites old new → KeepsLastCommit old new
+pub stands_only : (old new : View) → OnlyWrites old new → KeepsLastCommit old new
 stands_only old new only = record {
   was_open = λ is_open. sym (ap (λ (v : View). v.is_open) only) ∙ is_open;
   committed = λ is_open. ap (λ (v : View). v.committed) only;
 }
 
 -- a store whose steps were committed is at rest
-rests : (first middle last : View) → IsAtRest first → OnlyWrites first middle → Commits middle last
+pub rests : (first middle last : View) → IsAtRest first → OnlyWrites first middle → Commits middle last
     → IsAtRest last
 rests first middle last rest only commits = record {
   is_open = ap (λ (v : View). v.is_open) commits.is ∙ ap (λ (v : View). v.is_open) only

@@ -13,10 +13,10 @@ use Rattle.table_model.specs.TablesOf.{tables_of}
 use Rattle.table_laws.specs.FromCalls.{IsFromCalls}
 use Rattle.tree_rows.specs.Rows.{IsUnchanged}
 use Rattle.tree_tables.specs.Holds.{Holds}
-use Rattle.tree_tables.specs.States.{State, HasCleanDisk, Survives}
+use Rattle.tree_tables.specs.States.{State, Survives}
 use Rattle.tree_tables.specs.Steps.{Looks}
 use Rattle.tree_rows.proofs.Calls.{kept_after_look, kept_same, unchanged_both}
-use Rattle.table_ledger.specs.Commits.{Saw, MayWrite, IsDone, CommitsOne}
+use Rattle.table_ledger.specs.Commits.{Saw, MayWrite, CommitsOne}
 use Rattle.table_ledger.specs.Ready.{IsReadyAt, IsStoredIn, Remembers}
 use Rattle.table_ledger.specs.Attempts.{MayKeep, LeavesOpen, AnsweredOrRefused, Attempts}
 use Rattle.table_ledger.specs.declared.summary.Summary.{Summary}
@@ -99,50 +99,6 @@ looks_refused saw looks = record {
   found = λ clean. tt;
   refused = λ clean.
       kept_after_look (saw.seen (clean_before looks.survives clean)).same (looks.refused clean);
-}
-
--- ---- commits after looks
-
--- what was done after a look was done before it
-done_since : {T : Type 0} (old middle new : View) (changed : Tables)
-    → IsUnchanged old middle → (result : Result T StoreError) → IsDone middle new changed result
-    → IsDone old new changed result
-done_since old middle new changed same (Ok value) done = done
-done_since old middle new changed same (Err error) done =
-    stands_then (stands_same old middle same) done
-
--- looks, and then a commit, which may rest on what was seen
-pub commit_seen : {T : Type 0} {old middle new : State} {Known When : Tables → Type 0}
-    {change : Tables → Tables} {result : Result T StoreError} → Saw old middle Known
-    → CommitsOne result middle new (λ tables. When tables × Known tables) change
-    → CommitsOne result old new When change
-commit_seen {T} {old} {middle} {new} {Known} {When} {change} {result} saw commit =
-    let before : HasCleanDisk new → HasCleanDisk middle = clean_before commit.survives in
-    record {
-      survives = survives_both saw.survives commit.survives (λ clean trees none. absurd none)
-          (λ clean trees made tables holds when.
-          let seen = saw.seen (before clean) in
-          made tables (holds_on old.view middle.view tables seen.same holds) (when, seen.known tables holds));
-      done = λ clean rest tables holds when.
-          let seen = saw.seen (before clean) in
-          done_since old.view middle.view new.view (change tables) seen.same result
-          (commit.done clean (rest_on old.view middle.view seen.same rest) tables
-          (holds_on old.view middle.view tables seen.same holds)
-          (when, seen.known tables holds));
-    }
-
--- looks, the last of which was refused: no commit was tried
-pub commit_refused : {A T : Type 0} {old middle new : State} {Known When : Tables → Type 0}
-    {Answers : Tables → A → Type 0} {change : Tables → Tables} {error : StoreError}
-    → Saw old middle Known → Looks {A = A} (Err error) middle new Answers
-    → CommitsOne {T = T} (Err error) old new When change
-commit_refused {old = old} {middle = middle} saw looks = record {
-  survives = survives_both saw.survives looks.survives (λ clean trees none. absurd none)
-      (λ clean trees none. absurd none);
-  done = λ clean rest tables holds when.
-      stands_then (stands_same old.view middle.view
-      (saw.seen (clean_before looks.survives clean)).same)
-      (stands_kept (looks.refused clean));
 }
 
 -- ---- calls

@@ -1,16 +1,19 @@
 //! Records that are submitted.
 
-ghost use Rattle.std.specs.Prelude.{◌≡◌, Ok, Err, false, if◌then◌else◌};
+ghost use Rattle.std.specs.Prelude.{◌≡◌, ◌<◌, Ok, Err, [], false, if◌then◌else◌, All, IfOk, length};
+ghost use Rattle.std.specs.Prelude.{None};
 ghost use Rattle.tree_tables.specs.States.{state};
 ghost use Rattle.book_model.specs.Words.{data_of, IsPriced, accept_outcome, IsUsageRecord};
 ghost use Rattle.book_model.specs.Words.{same_bytes};
 ghost use Rattle.book_core.specs.Identities.{identity_in};
-ghost use Rattle.table_ledger.specs.Commits.{CommitsOne};
+ghost use Rattle.book_core.specs.Submissions.{records_in};
+ghost use Rattle.tree_tables.specs.Steps.{Does};
 ghost use Rattle.table_ledger.specs.RecordWrites.{AreRemembered, IsNew};
 ghost use Rattle.table_ledger.specs.NewRecords.{with_new_record};
-ghost use Rattle.table_ledger.specs.Attempts.{Attempts};
+ghost use Rattle.table_ledger.specs.Stages.{AttemptsMany, AttemptsOne, KeepsRulings, Stages};
+ghost use Rattle.table_ledger.specs.Stages.{StagesMany, WritesMany, WritesOne};
 
-use crate::commits::{Entry, commit_written, write_entry};
+use crate::commits::{Entry, write_entry};
 use crate::day_write::look_for_day;
 use crate::disputes::IDENTITY_LENGTH;
 use crate::effects::look_for_effects;
@@ -48,8 +51,8 @@ fn identity_in_force(adopted: Option<u16>, second: &[u8; 32]) -> &[u8]
     }
 }
 
-/// Keeps a new record at a price, with its effects.
-fn keep_new<S: Store>(
+/// Writes a new record at a price, with its effects, inside the transaction.
+fn write_new<S: Store>(
     tables: &mut TreeTables<S>,
     alloc: Global,
     summary: &Summary,
@@ -61,7 +64,7 @@ fn keep_new<S: Store>(
     requires same { usage.now ≡ bytes.now }
     requires usage { IsUsageRecord bytes.now }
     requires priced { IsPriced priced.now }
-    ensures commits { CommitsOne result (state S.Store tables.old.store) (state S.Store tables.new.store)
+    ensures does { Does result (state S.Store tables.old.store) (state S.Store tables.new.store)
         (λ tables. AreRemembered summary.now tables × IsNew name tables) (with_new_record summary.now name bytes.now priced.now) }
 {
     let second = usage.identity2();
@@ -88,13 +91,12 @@ fn keep_new<S: Store>(
         effects,
         day,
     };
-    let written = write_entry(tables, &entry);
-    commit_written(tables, written)
+    write_entry(tables, &entry)
 }
 
-/// Answers a record, and keeps it if it is new, a tariff is in force on its day, and there is
-/// room for it.
-pub(crate) fn try_accept<S: Store, N: Naming>(
+/// Answers a record, and writes it inside the transaction if it is new, a tariff is in force on
+/// its day, and there is room for it.
+fn stage_record<S: Store, N: Naming>(
     tables: &mut TreeTables<S>,
     alloc: Global,
     naming: &N,
@@ -102,9 +104,10 @@ pub(crate) fn try_accept<S: Store, N: Naming>(
     bytes: &[u8],
 ) -> Result<Result<Accepted, LedgerFault>, StoreError>
     requires usage { IsUsageRecord bytes.now }
-    ensures tries { Attempts (λ accepted. accepted) (N.name_of naming.now) summary.old summary.new
+    ensures stages { Stages (λ accepted. accepted) (N.name_of naming.now) summary.old summary.new
         (state S.Store tables.old.store) (state S.Store tables.new.store)
         (accept_outcome (N.name_of naming.now) bytes.now) result }
+    ensures ruled { KeepsRulings summary.old summary.new }
 {
     let name = name_of(naming, bytes);
     if let Some(stored) = tables.find_record(alloc, &name)? {
@@ -117,8 +120,138 @@ pub(crate) fn try_accept<S: Store, N: Naming>(
     if is_full(summary.held, summary.total, priced.amount) {
         return Ok(Err(LedgerFault::Full));
     }
-    keep_new(tables, alloc, summary, name, bytes, &usage, &priced)?;
+    write_new(tables, alloc, summary, name, bytes, &usage, &priced)?;
     summary.held += 1;
     summary.total += priced.amount;
     Ok(Ok(Accepted::Kept))
+}
+
+/// Answers records inside the transaction, in order, up to the first that is refused, and says why
+/// that one is.
+fn stage_records<S: Store, N: Naming>(
+    tables: &mut TreeTables<S>,
+    alloc: Global,
+    naming: &N,
+    summary: &mut Summary,
+    records: &[Vec<u8>],
+    answers: &mut Vec<Accepted>,
+) -> Result<Option<LedgerFault>, StoreError>
+    requires usage { All (λ one. IsUsageRecord one.items) records.now }
+    requires none { answers.old.items ≡ [] }
+    ensures stages { StagesMany (N.name_of naming.now) (records_in records.now)
+        summary.old summary.new (state S.Store tables.old.store) (state S.Store tables.new.store)
+        answers.new.items result }
+    ensures ruled { KeepsRulings summary.old summary.new }
+    ensures all { IfOk result (λ refusal. refusal ≡ None
+        → length answers.new.items ≡ length records.now) }
+{
+    for one in records {
+        match stage_record(tables, alloc, naming, summary, one)? {
+            Err(fault) => return Ok(Some(fault)),
+            Ok(accepted) => answers.push(accepted)?,
+        }
+    }
+    Ok(None)
+}
+
+/// Answers records, in order, up to the first that is refused, and commits what was written of
+/// those before it.
+fn commit_records<S: Store, N: Naming>(
+    tables: &mut TreeTables<S>,
+    alloc: Global,
+    naming: &N,
+    summary: &mut Summary,
+    records: &[Vec<u8>],
+) -> Result<Result<Vec<Accepted>, LedgerFault>, StoreError>
+    requires some { 0 < length records.now }
+    requires usage { All (λ one. IsUsageRecord one.items) records.now }
+    ensures writes { WritesMany (N.name_of naming.now) (records_in records.now)
+        summary.old summary.new (state S.Store tables.old.store) (state S.Store tables.new.store)
+        result }
+    ensures ruled { KeepsRulings summary.old summary.new }
+    ensures some { IfOk result (λ answer. IfOk answer (λ answers. 0 < length answers.items)) }
+{
+    let mut answers = Vec::with_capacity(alloc, records.len())?;
+    let refusal = stage_records(tables, alloc, naming, summary, records, &mut answers)?;
+    tables.commit()?;
+    let Some(fault) = refusal else {
+        return Ok(Ok(answers));
+    };
+    if answers.is_empty() {
+        return Ok(Err(fault));
+    }
+    Ok(Ok(answers))
+}
+
+/// Submits records, in order, as one commit, up to the first that is refused.
+pub(crate) fn try_accept_many<S: Store, N: Naming>(
+    tables: &mut TreeTables<S>,
+    alloc: Global,
+    naming: &N,
+    summary: &mut Summary,
+    records: &[Vec<u8>],
+) -> Result<Result<Vec<Accepted>, LedgerFault>, StoreError>
+    requires some { 0 < length records.now }
+    requires usage { All (λ one. IsUsageRecord one.items) records.now }
+    ensures tries { AttemptsMany (N.name_of naming.now) (records_in records.now)
+        summary.old summary.new (state S.Store tables.old.store) (state S.Store tables.new.store)
+        result }
+    ensures some { IfOk result (λ answer. IfOk answer (λ answers. 0 < length answers.items)) }
+{
+    let held = summary.held;
+    let total = summary.total;
+    match commit_records(tables, alloc, naming, summary, records) {
+        Ok(answer) => Ok(answer),
+        Err(error) => {
+            // What was written is rolled back.
+            summary.held = held;
+            summary.total = total;
+            Err(error)
+        }
+    }
+}
+
+/// Answers a record, and commits what was written of it.
+fn commit_record<S: Store, N: Naming>(
+    tables: &mut TreeTables<S>,
+    alloc: Global,
+    naming: &N,
+    summary: &mut Summary,
+    bytes: &[u8],
+) -> Result<Result<Accepted, LedgerFault>, StoreError>
+    requires usage { IsUsageRecord bytes.now }
+    ensures writes { WritesOne (λ accepted. accepted) (N.name_of naming.now) summary.old summary.new
+        (state S.Store tables.old.store) (state S.Store tables.new.store)
+        (accept_outcome (N.name_of naming.now) bytes.now) result }
+    ensures ruled { KeepsRulings summary.old summary.new }
+{
+    let answer = stage_record(tables, alloc, naming, summary, bytes)?;
+    tables.commit()?;
+    Ok(answer)
+}
+
+/// Submits a record as one commit.
+pub(crate) fn try_accept<S: Store, N: Naming>(
+    tables: &mut TreeTables<S>,
+    alloc: Global,
+    naming: &N,
+    summary: &mut Summary,
+    bytes: &[u8],
+) -> Result<Result<Accepted, LedgerFault>, StoreError>
+    requires usage { IsUsageRecord bytes.now }
+    ensures tries { AttemptsOne (λ accepted. accepted) (N.name_of naming.now) summary.old summary.new
+        (state S.Store tables.old.store) (state S.Store tables.new.store)
+        (accept_outcome (N.name_of naming.now) bytes.now) result }
+{
+    let held = summary.held;
+    let total = summary.total;
+    match commit_record(tables, alloc, naming, summary, bytes) {
+        Ok(answer) => Ok(answer),
+        Err(error) => {
+            // What was written is rolled back.
+            summary.held = held;
+            summary.total = total;
+            Err(error)
+        }
+    }
 }

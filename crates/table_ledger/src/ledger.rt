@@ -1,9 +1,12 @@
 //! The ledger: each call is tried on the store, and then settled.
 
+ghost use Rattle.std.specs.Prelude.{◌≡◌, ◌<◌, length, take};
+ghost use Rattle.table_ledger.specs.Stages.{most_in_commit};
+
 mod creating;
 mod opening;
 
-use crate::accept::try_accept;
+use crate::accept::{try_accept, try_accept_many};
 use crate::adjustments::try_adjustments;
 use crate::adoption::try_adopt;
 use crate::charges::try_charges;
@@ -19,6 +22,9 @@ use sqlite_trees::store::Store;
 use std::alloc::Global;
 use tree_tables::{Close, TreeTables};
 
+/// The most records that one commit takes.
+const MOST_IN_COMMIT: usize = 1_000;
+
 /// Books that are stored in the trees of a store.
 #[derive(Drop)]
 pub struct TableLedger<S: Store, N: Naming + Drop> {
@@ -30,12 +36,26 @@ pub struct TableLedger<S: Store, N: Naming + Drop> {
     alloc: Global,
 }
 
+/// The records that one commit takes: the first of them.
+fn first_records(records: &[Vec<u8>]) -> &[Vec<u8>]
+    ensures first { result.now ≡ take most_in_commit records.now }
+    ensures some { 0 < length records.now → 0 < length result.now }
+{
+    if records.len() > MOST_IN_COMMIT {
+        &records[..MOST_IN_COMMIT]
+    } else {
+        records
+    }
+}
+
 impl<S: Store, N: Naming + Drop> Ledger for TableLedger<S, N> {
     ghost use Rattle.std.specs.Prelude.{All, IfOk, map};
     ghost use Rattle.book_model.specs.Words.{AreDisputes, AreLines, AreRows, IsDay};
     ghost use Rattle.book_model.specs.Words.{adjustments_outcome, charges_outcome, dispute_shown};
-    ghost use Rattle.book_model.specs.Words.{disputes_outcome, periods_outcome};
+    ghost use Rattle.book_model.specs.Words.{disputes_outcome, periods_outcome, IsUsageRecord};
     ghost use Rattle.book_core.specs.Calls.{IsCall};
+    ghost use Rattle.book_core.specs.Submissions.{Takes, records_in};
+    ghost use Rattle.book_core.specs.Transition.{IsTransition};
     ghost use Rattle.table_ledger.specs.Loaded.{FailsAsItsOwn};
     ghost use Rattle.table_ledger.specs.LedgerState.{seen_in, ledger_state};
     ghost use Rattle.table_ledger.specs.ReadyBooks.{settled_on};
@@ -88,6 +108,33 @@ impl<S: Store, N: Naming + Drop> Ledger for TableLedger<S, N> {
             &self.naming,
             &mut self.summary,
             bytes,
+        );
+        finish(&mut self.tables, &mut self.must_reopen, tried)
+    }
+
+    fn accept_many(&mut self, records: &[Vec<u8>]) -> Result<Vec<Accepted>, LedgerFault>
+        requires some { 0 < length records.now }
+        requires usage { All (λ one. IsUsageRecord one.items) records.now }
+        ensures takes { IsTransition (seen_in S.Store N.name_of self.old)
+            (seen_in S.Store N.name_of self.new)
+            (Takes (N.name_of self.old.naming) (records_in records.now) result) }
+        ensures some { IfOk result (λ answers. 0 < length answers.items) }
+
+        // It is one commit, which takes no more records than this, also where a stop comes within.
+        ensures few { IsTransition (seen_in S.Store N.name_of self.old)
+            (seen_in S.Store N.name_of self.new) (Takes (N.name_of self.old.naming)
+            (records_in (take most_in_commit records.now)) result) }
+    {
+        if self.must_reopen {
+            return Err(LedgerFault::Reopen);
+        }
+        let first = first_records(records);
+        let tried = try_accept_many(
+            &mut self.tables,
+            self.alloc,
+            &self.naming,
+            &mut self.summary,
+            first,
         );
         finish(&mut self.tables, &mut self.must_reopen, tried)
     }

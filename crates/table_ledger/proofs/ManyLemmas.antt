@@ -1,0 +1,294 @@
+-- Records that are staged one after another.
+use Rattle.std.proofs.Common.{◌≡◌, ◌∙◌, ◌<◌, ◌+◌, ℕ, List, [], ◌∷◌, ◌++◌, Result, Ok, Err, Option, Some}
+use Rattle.std.proofs.Common.{refl, sym, ap, subst, false, true, true≢false, Vec, Global, drop}
+use Rattle.std.proofs.Common.{get_or, length, append-nil, append_assoc, arith, add-one, drop-cons}
+use Rattle.std.proofs.lemmas.Bool.{eqb-true}
+use Rattle.std.specs.Prelude.{◌==◌, IsErr}
+use Rattle.sqlite_trees.specs.View.{View, OnlyWrites}
+use Rattle.sqlite_trees.specs.declared.error.StoreError.{StoreError}
+use Rattle.book_model.specs.declared.answer.Accepted.{Accepted}
+use Rattle.book_model.specs.declared.fault.LedgerFault.{LedgerFault}
+use Rattle.book_model.specs.declared.fault.LedgerFault.TheVariants.{Memory, Store, Reopen}
+use Rattle.book_model.specs.Words.{Book, Event, after_all, Naming, Outcome, accept_outcome}
+use Rattle.book_core.specs.Calls.{Calls, Makes}
+use Rattle.book_core.specs.Submissions.{Accepts, Takes, first_of, records_in}
+use Rattle.book_core.specs.Transition.{NoEvent}
+use Rattle.book_core.proofs.SubmissionLemmas.{refused_one}
+use Rattle.book_core.proofs.TransitionLemmas.{after_all-append}
+use Rattle.tree_tables.specs.States.{State, HasCleanDisk, Survives}
+use Rattle.tree_tables.proofs.Looking.{only_both}
+use Rattle.table_ledger.specs.Attempts.{LeavesOpen}
+use Rattle.table_ledger.specs.Ready.{IsReadyAt}
+use Rattle.table_ledger.specs.Stages.{IsAt, IsStaged, Stages, StagesMany, AreStaged, RefusesNext}
+use Rattle.table_ledger.specs.Stages.{TakesOf, LeavesFirst}
+use Rattle.table_ledger.specs.declared.summary.Summary.{Summary}
+use Rattle.table_ledger.proofs.CommitLemmas.{IsWritten, at_ready}
+use Rattle.table_ledger.proofs.StepLemmas.{stands_only}
+use Rattle.table_ledger.proofs.SurvivalLemmas.{clean_before, survives_then}
+use Rattle.table_ledger.proofs.UnchangedStores.{stands_then}
+
+-- a refusal that leaves the books open makes no event
+refused_none : {V A : Type 0} (view : V → A) (outcome : Outcome A) (fault : LedgerFault)
+    (events : List Event) → LeavesOpen {V = V} (Err fault) → Makes view outcome (Err fault) events
+    → events ≡ []
+refused_none view outcome Memory events plain makes = makes
+refused_none view outcome Store events plain makes = absurd (true≢false plain.stored)
+refused_none view outcome Reopen events plain makes = makes
+refused_none view outcome fault events plain makes = makes.1
+
+-- the records so far were taken: whatever is taken of the rest, all of it is
+pub record AreTaken (naming : Naming) (records rest : List (List ℕ)) (is : Summary)
+    (old new : View) (book : Book) (answers : List Accepted) : Type 0 where
+  pub events : List Event
+  pub leads : (later : List Accepted) (late : List Event)
+      → Accepts naming rest later false (after_all events book) late false
+      → Accepts naming records (answers ++ later) false book (late ++ events) false
+  pub only : OnlyWrites old new
+  pub at : IsAt naming is new (after_all events book)
+
+-- no record was taken yet
+pub none_taken : {naming : Naming} {records : List (List ℕ)} {is : Summary} {view : View}
+    {book : Book} → IsAt naming is view book → AreTaken naming records records is view view book []
+none_taken {naming} {records} {book = book} at = record {
+  events = [];
+  leads = λ later late accepts.
+      subst (λ events. Accepts naming records later false book events false)
+      (sym (append-nil late)) accepts;
+  only = refl;
+  at = at;
+}
+
+-- one more record was answered and written
+pub more_taken : {naming : Naming} {records rest : List (List ℕ)} {bytes : List ℕ}
+    {was is : Summary} {old middle new : View} {book : Book} {answers : List Accepted}
+    {answer : Accepted} (taken : AreTaken naming records (bytes ∷ rest) was old middle book answers)
+    → IsStaged (λ (accepted : Accepted). accepted) naming is middle new
+    (accept_outcome naming bytes (after_all taken.events book)) (after_all taken.events book)
+    (Ok answer)
+    → AreTaken naming records rest is old new book (answers ++ answer ∷ [])
+more_taken {naming} {records} {rest} {bytes} {was} {is} {old} {middle} {new} {book} {answers} {answer} taken staged = record {
+  events = staged.events ++ taken.events;
+  leads = λ later late accepts.
+      subst (λ all. Accepts naming records all false book (late ++ (staged.events ++ taken.events)) false)
+      (sym (append_assoc answers (answer ∷ []) later))
+      (subst (λ events. Accepts naming records (answers ++ answer ∷ later) false book events false)
+      (append_assoc late staged.events taken.events)
+      (taken.leads (answer ∷ later) (late ++ staged.events) (record {
+        between = false;
+        early = staged.events;
+        late = late;
+        first = record {
+          makes = staged.makes;
+          reopens = record { reopen = refl; store = refl };
+        };
+        next = subst (λ book. Accepts naming rest later false book late false)
+            (after_all-append staged.events taken.events book) accepts;
+        all = refl;
+      })));
+  only = only_both old taken.only staged.only;
+  at = subst (IsAt naming is new) (sym (after_all-append staged.events taken.events book)) staged.at;
+}
+
+-- the records that were taken are staged, and nothing more is
+pub all_taken : {naming : Naming} {records rest : List (List ℕ)} {is : Summary} {old new : View}
+    {book : Book} {answers : List Accepted} {refusal : Option LedgerFault}
+    (taken : AreTaken naming records rest is old new book answers)
+    → (answers ≡ [] → RefusesNext naming records book refusal)
+    → AreStaged naming records is old new book answers refusal
+all_taken {naming} {records} {book = book} {answers = answers} taken none = record {
+  events = taken.events;
+  accepts = subst (λ all. Accepts naming records all false book taken.events false)
+      (append-nil answers) (taken.leads [] [] (record { none = refl; same = refl }));
+  none = none;
+  only = taken.only;
+  at = taken.at;
+}
+
+-- the next record was refused, and those before it are staged
+pub refused_next : {naming : Naming} {records rest : List (List ℕ)} {bytes : List ℕ}
+    {was is : Summary} {old middle new : View} {book : Book} {answers : List Accepted}
+    (fault : LedgerFault)
+    (taken : AreTaken naming records (bytes ∷ rest) was old middle book answers)
+    → LeavesOpen {V = Accepted} (Err fault)
+    → IsStaged (λ (accepted : Accepted). accepted) naming is middle new
+    (accept_outcome naming bytes (after_all taken.events book)) (after_all taken.events book)
+    (Err fault)
+    → (answers ≡ [] → records ≡ bytes ∷ rest)
+    → AreStaged naming records is old new book answers (Some fault)
+refused_next {naming} {records} {rest} {bytes} {was} {is} {old} {middle} {new} {book} {answers} fault taken plain staged all =
+    let outcome = accept_outcome naming bytes (after_all taken.events book) in
+    let none : staged.events ≡ [] = refused_none (λ (accepted : Accepted). accepted) outcome fault
+    staged.events plain staged.makes in
+    let accepts : Accepts naming records answers false book taken.events false =
+    subst (λ all. Accepts naming records all false book taken.events false)
+    (append-nil answers) (taken.leads [] [] (record { none = refl; same = refl })) in
+    record {
+      events = taken.events;
+      accepts = accepts;
+      none = λ empty.
+          let nothing : NoEvent false book taken.events false =
+          subst (λ answers. Accepts naming records answers false book taken.events false) empty accepts in
+          subst (λ records. Calls (λ (accepted : Accepted). accepted)
+          (accept_outcome naming (first_of records)) (Err fault) false book [] false)
+          (sym (all empty)) (record {
+            makes = subst (λ events. Makes (λ (accepted : Accepted). accepted)
+                (accept_outcome naming bytes (after_all events book)) (Err fault) [])
+                nothing.none
+                (subst (λ events. Makes (λ (accepted : Accepted). accepted) outcome (Err fault) events)
+                none staged.makes);
+            reopens = record { reopen = plain.served; store = sym plain.stored };
+          });
+      only = only_both old taken.only staged.only;
+      at = subst (λ events. IsAt naming is new (after_all events (after_all taken.events book))) none
+          staged.at;
+    }
+
+-- whether an error leaves the books open does not depend on what the call would return
+pub open_as : {V W : Type 0} (fault : LedgerFault) → LeavesOpen {V = V} (Err fault)
+    → LeavesOpen {V = W} (Err fault)
+open_as Store plain = absurd (true≢false plain.stored)
+open_as Reopen plain = absurd (true≢false plain.served)
+open_as fault plain = record { stored = refl; served = refl }
+
+-- the next record, and those after it
+rest_is : (records : List (Vec ℕ Global)) (i : ℕ) (found : Vec ℕ Global) (bytes : List ℕ)
+    → i < length records → found ≡ get_or records i found → bytes ≡ found.items
+    → records_in (drop i records) ≡ bytes ∷ records_in (drop (i + 1) records)
+rest_is records i found bytes within is same =
+    ap records_in (drop-cons records i found within)
+    ∙ (λ j. (sym is j).items ∷ records_in (drop (sym (add-one i) j) records))
+    ∙ ap (λ one. one ∷ records_in (drop (i + 1) records)) (sym same)
+
+module _ {naming : Naming} (records : List (Vec ℕ Global)) {was is : Summary}
+    {old middle : State} {answers : List Accepted} (i : ℕ) (found : Vec ℕ Global) {bytes : List ℕ}
+    (within : i < length records) (here : found ≡ get_or records i found)
+    (same : bytes ≡ found.items)
+    (early : Survives old middle (λ trees. ⊥))
+    (taken : HasCleanDisk middle → (book : Book) → IsAt naming was old.view book
+    → AreTaken naming (records_in records) (records_in (drop i records)) is old.view middle.view book
+    answers) (new : State) where
+  -- what was taken before the record
+  before_it : HasCleanDisk middle → (book : Book) → IsAt naming was old.view book
+      → AreTaken naming (records_in records) (bytes ∷ records_in (drop (i + 1) records)) is old.view
+      middle.view book answers
+  before_it clean book at =
+      subst (λ rest. AreTaken naming (records_in records) rest is old.view middle.view book answers)
+      (rest_is records i found bytes within here same) (taken clean book at)
+
+  -- the record was answered, and written where it is new
+  pub step_taken : {next : Summary} {given : Result Accepted LedgerFault} {answer : Accepted}
+      → given ≡ Ok answer
+      → Stages (λ (accepted : Accepted). accepted) naming is next middle new
+      (accept_outcome naming bytes) (Ok given)
+      → HasCleanDisk new → (book : Book) → IsAt naming was old.view book
+      → AreTaken naming (records_in records) (records_in (drop (i + 1) records)) next old.view new.view
+      book (answers ++ answer ∷ [])
+  step_taken {next = next} {given = given} {answer = answer} given_is stages clean book at =
+      let before = before_it (clean_before stages.survives clean) book at in
+      more_taken before
+      (subst (λ given. IsStaged (λ (accepted : Accepted). accepted) naming next middle.view new.view
+      (accept_outcome naming bytes (after_all before.events book)) (after_all before.events book)
+      given) given_is (stages.found clean (after_all before.events book) before.at))
+
+  -- the books refused it
+  pub step_refused : {next : Summary} {given : Result Accepted LedgerFault} (fault : LedgerFault)
+      → given ≡ Err fault → length answers ≡ i
+      → Stages (λ (accepted : Accepted). accepted) naming is next middle new
+      (accept_outcome naming bytes) (Ok given)
+      → StagesMany naming (records_in records) was next old new answers (Ok (Some fault))
+  step_refused {next = next} {given = given} fault given_is count stages =
+      let plain : LeavesOpen {V = Accepted} (Err fault) =
+      subst (λ (given : Result Accepted LedgerFault). LeavesOpen given) given_is stages.plain in
+      record {
+        plain = open_as {V = Accepted} {W = Vec Accepted Global} fault plain;
+        survives = survives_then early stages.survives;
+        found = λ clean book at.
+            let before = before_it (clean_before stages.survives clean) book at in
+            refused_next fault before plain
+            (subst (λ given. IsStaged (λ (accepted : Accepted). accepted) naming next middle.view
+            new.view (accept_outcome naming bytes (after_all before.events book))
+            (after_all before.events book) given) given_is
+            (stages.found clean (after_all before.events book) before.at))
+            (λ empty. ap (λ n. records_in (drop n records)) (sym (sym count ∙ ap length empty))
+            ∙ rest_is records i found bytes within here same);
+      }
+
+  -- the store refused it
+  pub step_failed : {next : Summary} {error : StoreError} (late : List Accepted)
+      (tried : Result (Option LedgerFault) StoreError) → IsErr tried
+      → Stages (λ (accepted : Accepted). accepted) naming is next middle new
+      (accept_outcome naming bytes) (Err error)
+      → StagesMany naming (records_in records) was next old new late tried
+  step_failed late (Err other) failed stages = record {
+    plain = tt;
+    survives = survives_then early stages.survives;
+    found = λ clean book at.
+        let before = before_it (clean_before stages.survives clean) book at in
+        stands_then (stands_only old.view middle.view before.only)
+        (stages.found clean (after_all before.events book) before.at);
+  }
+  step_failed late (Ok other) failed stages = absurd (true≢false (sym failed))
+
+  -- it was answered, and there is no memory for the answer
+  pub step_untold : {next : Summary} {given : Result Accepted LedgerFault} {answer : Accepted}
+      (late : List Accepted) (tried : Result (Option LedgerFault) StoreError) → IsErr tried
+      → given ≡ Ok answer
+      → Stages (λ (accepted : Accepted). accepted) naming is next middle new
+      (accept_outcome naming bytes) (Ok given)
+      → StagesMany naming (records_in records) was next old new late tried
+  step_untold late (Err other) failed given_is stages = record {
+    plain = tt;
+    survives = survives_then early stages.survives;
+    found = λ clean book at.
+        stands_only old.view new.view (step_taken given_is stages clean book at).only;
+  }
+  step_untold late (Ok other) failed given_is stages = absurd (true≢false (sym failed))
+
+-- records that were staged were written: those that were taken,
+pub many_written : {naming : Naming} {records : List (List ℕ)} {was is : Summary}
+    {old new : State} {refusal : Option LedgerFault} (answers : Vec Accepted Global)
+    → StagesMany naming records was is old new answers.items (Ok refusal)
+    → HasCleanDisk new → (book : Book) → IsReadyAt naming was old.view book
+    → IsWritten (TakesOf naming records) (LeavesFirst naming records) naming is old.view new.view
+    book (Ok answers)
+many_written answers stages clean book ready =
+    let staged = stages.found clean book (at_ready ready) in
+    record {
+      events = staged.events;
+      made = staged.accepts;
+      leaves = record { answers = answers.items; accepts = staged.accepts };
+      only = staged.only;
+      at = staged.at;
+    }
+
+-- or none, where the first was refused
+pub none_written : {naming : Naming} {records : List (List ℕ)} {was is : Summary}
+    {old new : State} (fault : LedgerFault) {answers : List Accepted} → answers ≡ []
+    → 0 < length records
+    → StagesMany naming records was is old new answers (Ok (Some fault))
+    → HasCleanDisk new → (book : Book) → IsReadyAt naming was old.view book
+    → IsWritten (TakesOf naming records) (LeavesFirst naming records) naming is old.view new.view
+    book (Err fault)
+none_written {naming} {records} fault {answers} empty some stages clean book ready =
+    let staged = stages.found clean book (at_ready ready) in
+    let nothing : NoEvent false book staged.events false =
+    subst (λ answers. Accepts naming records answers false book staged.events false) empty
+    staged.accepts in
+    record {
+      events = staged.events;
+      made = subst (λ events. Takes naming records (Err fault) false book events false)
+          (sym nothing.none)
+          (refused_one naming records fault some false book [] false (staged.none empty));
+      leaves = record { answers = []; accepts = nothing };
+      only = staged.only;
+      at = staged.at;
+    }
+
+-- a list of length 0 has no element
+pub none_left : (answers : List Accepted) (n : ℕ) → n ≡ length answers → (n == 0) ≡ true
+    → answers ≡ []
+none_left answers n long is = empty answers (sym long ∙ eqb-true n 0 is)
+  where
+    empty : (answers : List Accepted) → length answers ≡ 0 → answers ≡ []
+    empty [] none = refl
+    empty (answer ∷ rest) none = absurd (omega (arith, none))

@@ -1,0 +1,309 @@
+-- Work that is served is work of a ledger, whatever events it makes.
+use Rattle.std.proofs.Common.{◌≡◌, ◌∙◌, ◌⊎◌, inl, inr, Bool, true, false, true≢false, List, []}
+use Rattle.std.proofs.Common.{Result, Ok, Err, refl, sym, ap, subst, ◌||◌, ℕ}
+use Rattle.sqlite_trees.specs.Tree.{Trees}
+use Rattle.sqlite_trees.specs.View.{IsClean}
+use Rattle.sqlite_trees.specs.declared.error.StoreError.{StoreError}
+use Rattle.sqlite_trees.specs.declared.store.Store.{Ghosts}
+use Rattle.tree_tables.specs.States.{HasCleanDisk, Survives, state}
+use Rattle.book_model.specs.declared.fault.LedgerFault.{LedgerFault}
+use Rattle.book_model.specs.declared.answer.Accepted.{Accepted}
+use Rattle.book_model.specs.declared.fault.LedgerFault.TheVariants.{Memory, Store, Reopen}
+use Rattle.book_model.specs.Words.{Book, Event, after_all, Naming, Outcome, accept_outcome}
+use Rattle.book_core.specs.Calls.{Calls, Reopens, is_store, is_reopen}
+use Rattle.book_core.specs.Submissions.{Takes, first_of}
+use Rattle.book_core.specs.Ledgers.{MayHave, may_have}
+use Rattle.book_core.specs.Transition.{Transition, ComesFrom, IsTransition}
+use Rattle.table_ledger.specs.Attempts.{Ends, Finishes, IsRolledBack}
+use Rattle.table_ledger.specs.Ready.{IsReadyAt, IsReady, StoreSomeBook}
+use Rattle.table_ledger.specs.LedgerState.{LedgerState, book_of_trees, MayFind, AreBooks, seen_on}
+use Rattle.table_ledger.specs.LedgerState.{state_on}
+use Rattle.table_ledger.specs.ReadyBooks.{book_of_stored, book_of_ready, book_of_left, LeavesTheLast}
+use Rattle.table_ledger.specs.Stages.{IsMade, AttemptsBy, ServesBy}
+use Rattle.table_ledger.specs.Stages.{TakesOf, LeavesFirst, MakesOf, LeavesOne}
+use Rattle.table_ledger.specs.declared.summary.Summary.{Summary}
+use Rattle.table_ledger.proofs.FinishLemmas.{ready_back}
+use Rattle.table_ledger.proofs.OneCall.{call_reopen}
+use Rattle.table_ledger.proofs.SurvivalLemmas.{clean_before, survives_then}
+
+-- what the work comes to, as work on a ledger
+pub record ComesTo {V : Type 0} (Made : Result V LedgerFault → Book → List Event → Type 0)
+    (Leaves : Book → List Event → Type 0) (Work : Result V LedgerFault → Transition) : Type 0 where
+  -- it was served,
+  pub served : (result : Result V LedgerFault) (book : Book) (events : List Event)
+      → is_store result ≡ false → is_reopen result ≡ false → Made result book events
+      → Work result false book events false
+  -- or memory ran out,
+  pub wanting : (book : Book) → Made (Err Memory) book []
+  -- or the store failed, before the commit or in it
+  pub before : (book : Book) → Work (Err Store) false book [] true
+  pub within : (book : Book) (events : List Event) → Leaves book events
+      → Work (Err Store) false book events true
+
+-- a result that is a fault of the store
+is_the_store : {V : Type 0} (result : Result V LedgerFault) → is_store result ≡ true → result ≡ Err Store
+is_the_store (Ok value) is = absurd (true≢false (sym is))
+is_the_store (Err Store) is = refl
+is_the_store (Err fault) is = absurd (true≢false (sym is))
+
+module _ {V : Type 0} {Made : Result V LedgerFault → Book → List Event → Type 0}
+    {Leaves : Book → List Event → Type 0} {Work : Result V LedgerFault → Transition}
+    (comes : ComesTo Made Leaves Work) (old new : LedgerState) (result : Result V LedgerFault)
+    (is_open : old.must_reopen ≡ false)
+    (last : LeavesTheLast old.state.view old.state.may_leave)
+    (serves : ServesBy Made Leaves old new result) where
+  -- the books of a shelf
+  abbrev AreBooksOn : LedgerState → Type 0
+  AreBooksOn shelf =
+      AreBooks shelf.naming shelf.state.view shelf.state.may_leave shelf.must_reopen shelf.summary
+
+  was_clean : HasCleanDisk new.state → HasCleanDisk old.state
+  was_clean clean = clean_before serves.survives clean
+
+  -- whatever a stop may leave after the work are books that calls made
+  books_left : HasCleanDisk new.state → AreBooksOn old → (trees : Trees) → new.state.may_leave trees
+      → StoreSomeBook new.naming trees
+  books_left clean books trees left =
+      let ready = books.ready is_open (was_clean clean) in
+      subst (λ naming. StoreSomeBook naming trees) (sym serves.naming)
+      (elim (serves.survives.crash clean trees left) [
+        | inl earlier ↦ books.left (was_clean clean) trees earlier
+        | inr later ↦
+            let keeps = later ready.book ready.ready in
+            record { book = after_all keeps.events ready.book; kept = keeps.stored }
+      ])
+
+  -- the ledger is ready again, if no store failed,
+  ready_again : HasCleanDisk new.state → AreBooksOn old → new.must_reopen ≡ false
+      → IsReady new.naming new.summary new.state.view
+  ready_again clean books open_now =
+      let ready = books.ready is_open (was_clean clean) in
+      let answered = serves.answered (sym serves.reopen ∙ open_now) clean ready.book ready.ready in
+      record {
+        book = after_all answered.events ready.book;
+        ready = subst (λ naming. IsReadyAt naming new.summary new.state.view
+            (after_all answered.events ready.book)) (sym serves.naming) answered.ready;
+      }
+
+  -- so there are books again
+  books_again : HasCleanDisk new.state → AreBooksOn old → AreBooksOn new
+  books_again clean books = record {
+    left = λ clean_now. books_left clean books;
+    ready = λ open_now clean_now. ready_again clean books open_now;
+  }
+
+  -- it was at the book with which it was ready
+  stood : (ready : IsReady old.naming old.summary old.state.view) → MayHave (seen_on old) ready.book
+  stood ready = subst (λ flag. may_have flag (seen_on old) ready.book) (sym is_open)
+      (sym (book_of_ready ready.ready))
+
+  -- the work of a result, between these flags
+  made_with : (flag : Bool) (answer : Result V LedgerFault) (book : Book) (events : List Event)
+      → result ≡ answer → new.must_reopen ≡ flag → Work answer false book events flag
+      → Work result old.must_reopen book events new.must_reopen
+  made_with flag answer book events is now work =
+      subst (λ was. Work result was book events new.must_reopen) (sym is_open)
+      (subst (λ flag. Work result false book events flag) (sym now)
+      (subst (λ answer. Work answer false book events flag) (sym is) work))
+
+  -- if the store failed, the next open finds the book before the work, or one that a commit left
+  moves_failed : (ready : IsReady old.naming old.summary old.state.view) → is_store result ≡ true
+      → (book : Book) → (book ≡ ready.book) ⊎ ((events : List Event) × Leaves ready.book events
+      × (book ≡ after_all events ready.book))
+      → ComesFrom (seen_on old) (seen_on new) (Work result) book
+  moves_failed ready failed book (inl same) = record {
+    before = ready.book;
+    events = [];
+    stood = stood ready;
+    made = made_with true (Err Store) ready.book [] (is_the_store result failed)
+        (serves.reopen ∙ failed) (comes.before ready.book);
+    leads = same;
+  }
+  moves_failed ready failed book (inr made) = record {
+    before = ready.book;
+    events = made.0;
+    stood = stood ready;
+    made = made_with true (Err Store) ready.book made.0 (is_the_store result failed)
+        (serves.reopen ∙ failed) (comes.within ready.book made.0 made.1);
+    leads = made.2;
+  }
+
+  -- a crash in the work leaves the book as it was, or one that a commit left
+  left_by : HasCleanDisk new.state → (ready : IsReady old.naming old.summary old.state.view)
+      → (found : Book) → MayFind new.state.may_leave found
+      → (found ≡ ready.book) ⊎ ((events : List Event) × Leaves ready.book events
+      × (found ≡ after_all events ready.book))
+  left_by clean ready found left =
+      elim (serves.survives.crash clean left.0 left.1) [
+        | inl earlier ↦ inl (left.2
+            ∙ book_of_left old.state.view old.state.may_leave last ready.ready left.0 earlier)
+        | inr later ↦
+            let keeps = later ready.book ready.ready in
+            inr (keeps.events, keeps.leaves, left.2 ∙ book_of_stored keeps.stored)
+      ]
+
+  -- if it did not, the book is the one that the work made
+  moves_served : (ready : IsReady old.naming old.summary old.state.view) → is_store result ≡ false
+      → HasCleanDisk new.state → (book : Book) → book ≡ book_of_trees new.state.view.trees
+      → ComesFrom (seen_on old) (seen_on new) (Work result) book
+  moves_served ready open_now clean book is =
+      let answered = serves.answered open_now clean ready.book ready.ready in
+      record {
+        before = ready.book;
+        events = answered.events;
+        stood = stood ready;
+        made = made_with false result ready.book answered.events refl (serves.reopen ∙ open_now)
+            (comes.served result ready.book answered.events open_now serves.served answered.made);
+        leads = is ∙ book_of_ready answered.ready;
+      }
+
+  -- both
+  moves_by : (failed : Bool) → is_store result ≡ failed → HasCleanDisk new.state
+      → (ready : IsReady old.naming old.summary old.state.view) → (book : Book)
+      → may_have failed (seen_on new) book
+      → ComesFrom (seen_on old) (seen_on new) (Work result) book
+  moves_by true failed clean ready book left =
+      moves_failed ready failed book (left_by clean ready book left)
+  moves_by false served clean ready book stands = moves_served ready served clean book stands
+
+  -- Work that is served is work of the ledger.
+  work_served : IsTransition (seen_on old) (seen_on new) (Work result)
+  work_served = record {
+    naming = serves.naming;
+    honest = was_clean;
+    books = books_again;
+    moves = λ clean books book stands. moves_by (is_store result) refl clean
+        (books.ready is_open (was_clean clean)) book
+        (subst (λ flag. may_have flag (seen_on new) book) serves.reopen stands);
+    alone = λ closed. absurd (true≢false (sym closed ∙ is_open));
+  }
+
+module _ {S V : Type 0} {Made : Result V LedgerFault → Book → List Event → Type 0}
+    {Leaves : Book → List Event → Type 0} (ghosts : Ghosts S) (naming : Naming) (was is : Summary)
+    (first middle last : S) where
+  -- by what was found and how it ended
+  serves_by : (flag : Bool) (tried : Result (Result V LedgerFault) StoreError)
+      (result : Result V LedgerFault)
+      → AttemptsBy Made Leaves naming was is (state ghosts first) (state ghosts middle) tried
+      → Survives (state ghosts middle) (state ghosts last) (λ trees. ⊥)
+      → Ends result false flag (last ≡ middle)
+      (IsClean (ghosts.view last) → IsRolledBack (ghosts.view middle) (ghosts.view last)) tried
+      → ((book : Book) → Made (Err Memory) book [])
+      → ServesBy Made Leaves (state_on ghosts naming first false was)
+      (state_on ghosts naming last flag is) result
+  serves_by flag (Ok answer) result tries survives ends wants = record {
+    naming = refl;
+    served = ap is_reopen ends.0 ∙ tries.plain.served;
+    reopen = ends.1 ∙ sym tries.plain.stored ∙ ap is_store (sym ends.0);
+    survives = survives_then tries.survives survives;
+    answered = λ open_now clean book ready.
+        let before : HasCleanDisk (state ghosts middle) = clean_before survives clean in
+        subst (λ (store : S). IsMade (Made result) naming is (ghosts.view store) book)
+        (sym ends.2)
+        (subst (λ answer. IsMade (Made answer) naming is (ghosts.view middle) book) (sym ends.0)
+        (tries.found before book ready));
+  }
+  serves_by flag (Err error) result tries survives (inl wanting) wants = record {
+    naming = refl;
+    served = ap is_reopen wanting.0;
+    reopen = wanting.1 ∙ sym (ap is_store wanting.0);
+    survives = survives_then tries.survives survives;
+    answered = λ open_now clean book ready.
+        let before : HasCleanDisk (state ghosts middle) = clean_before survives clean in
+        subst (λ answer. IsMade (Made answer) naming is (ghosts.view last) book) (sym wanting.0)
+        (record {
+          events = [];
+          made = wants book;
+          ready = ready_back (ghosts.view first) (ghosts.view middle) (ghosts.view last) ready
+              (tries.found before book ready) (wanting.2 clean);
+        });
+  }
+  serves_by flag (Err error) result tries survives (inr failed) wants = record {
+    naming = refl;
+    served = ap is_reopen failed.0;
+    reopen = failed.1 ∙ sym (ap is_store failed.0);
+    survives = survives_then tries.survives survives;
+    answered = λ open_now clean book ready.
+        absurd (true≢false (sym (ap is_store failed.0) ∙ open_now));
+  }
+
+-- Work that was tried and settled is work of the ledger.
+pub work_settled : {S V : Type 0} {Made : Result V LedgerFault → Book → List Event → Type 0}
+    {Leaves : Book → List Event → Type 0} {Work : Result V LedgerFault → Transition}
+    {naming : Naming} {was is : Summary} {middle last : S} {before flag : Bool}
+    {tried : Result (Result V LedgerFault) StoreError} {result : Result V LedgerFault}
+    → ComesTo Made Leaves Work → (ghosts : Ghosts S) (first : S) → before ≡ false
+    → ((store : S) → LeavesTheLast (ghosts.view store) (ghosts.recovers store))
+    → Finishes ghosts middle last before flag tried result
+    → AttemptsBy Made Leaves naming was is (state ghosts first) (state ghosts middle) tried
+    → IsTransition (seen_on (state_on ghosts naming first before was))
+    (seen_on (state_on ghosts naming last flag is)) (Work result)
+work_settled {S = S} {Made = Made} {Leaves = Leaves} {Work = Work} {naming = naming} {was = was} {is = is} {middle = middle} {last = last} {flag = flag} {tried = tried} {result = result} comes ghosts first is_open leaves settles tries =
+    let old = state_on ghosts naming first in
+    let new = state_on ghosts naming last flag is in
+    subst (λ before. Finishes ghosts middle last before flag tried result
+    → IsTransition (seen_on (old before was)) (seen_on new) (Work result)) (sym is_open)
+    (λ finishes. work_served comes (old false was) new result refl (leaves first)
+    (serves_by ghosts naming was is first middle last flag tried result tries finishes.survives
+    finishes.ends comes.wanting)) settles
+
+-- The flags of such a call.
+pub reopens_settled : {S V : Type 0} {Made : Result V LedgerFault → Book → List Event → Type 0}
+    {Leaves : Book → List Event → Type 0} {naming : Naming} {was is : Summary} {middle last : S}
+    {before flag : Bool} {tried : Result (Result V LedgerFault) StoreError}
+    {result : Result V LedgerFault} → ((book : Book) → Made (Err Memory) book [])
+    → (ghosts : Ghosts S) (first : S) → before ≡ false
+    → Finishes ghosts middle last before flag tried result
+    → AttemptsBy Made Leaves naming was is (state ghosts first) (state ghosts middle) tried
+    → Reopens result before flag
+reopens_settled {Made = Made} {Leaves = Leaves} {naming = naming} {was = was} {is = is} {middle = middle} {last = last} {before = before} {flag = flag} {tried = tried} {result = result} wants ghosts first is_open settles tries =
+    let finishes : Finishes ghosts middle last false flag tried result =
+    subst (λ before. Finishes ghosts middle last before flag tried result) is_open settles in
+    let serves = serves_by ghosts naming was is first middle last flag tried result tries
+    finishes.survives finishes.ends wants in
+    record {
+      reopen = serves.served ∙ sym is_open;
+      store = serves.reopen ∙ ap (λ was. was || is_store result) (sym is_open);
+    }
+
+-- Records that are submitted together come to such work,
+pub many_come : (naming : Naming) (records : List (List ℕ))
+    → ComesTo (TakesOf naming records) (LeavesFirst naming records) (Takes naming records)
+many_come naming records = record {
+  served = λ result book events open_now served made. made;
+  wanting = λ book. record { makes = refl; reopens = record { reopen = refl; store = refl } };
+  before = λ book. record {
+    was_open = refl;
+    closed = refl;
+    answers = [];
+    kept = record { none = refl; same = refl };
+  };
+  within = λ book events leaves. record {
+    was_open = refl;
+    closed = refl;
+    answers = leaves.answers;
+    kept = leaves.accepts;
+  };
+}
+
+-- and so does a single call
+pub one_comes : {V A : Type 0} (view : V → A) (outcome : Book → Outcome A)
+    → ComesTo (MakesOf view outcome) (LeavesOne outcome) (Calls view outcome)
+one_comes view outcome = record {
+  served = λ result book events open_now served made. record {
+    makes = made;
+    reopens = record { reopen = served; store = sym open_now };
+  };
+  wanting = λ book. refl;
+  before = λ book. record { makes = inl refl; reopens = record { reopen = refl; store = refl } };
+  within = λ book events leaves.
+      record { makes = leaves; reopens = record { reopen = refl; store = refl } };
+}
+
+-- A ledger that is to be reopened takes no record.
+pub many_reopen : (shelf : LedgerState) (naming : Naming) (records : List (List ℕ))
+    → shelf.must_reopen ≡ true
+    → IsTransition (seen_on shelf) (seen_on shelf) (Takes naming records (Err Reopen))
+many_reopen shelf naming records closed =
+    (call_reopen {V = Accepted} {view = λ (accepted : Accepted). accepted}
+    {outcome = accept_outcome naming (first_of records)} shelf closed).work

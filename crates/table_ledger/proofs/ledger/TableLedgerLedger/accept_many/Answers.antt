@@ -1,0 +1,54 @@
+use Rattle.std.proofs.Common.{sym, subst, take, Vec, Global, ℕ}
+use Rattle.std.specs.Prelude.{All}
+use Rattle.std.proofs.lemmas.List.Elements.{All-take}
+use Rattle.book_model.specs.Words.{IsUsageRecord}
+use Rattle.book_core.specs.Submissions.{Takes, records_in}
+use Rattle.book_core.proofs.SubmissionLemmas.{takes_part}
+use Rattle.book_core.proofs.TransitionLemmas.{work_as}
+use Rattle.table_ledger.specs.LedgerState.{ledger_state}
+use Rattle.table_ledger.specs.Stages.{most_in_commit}
+use Rattle.table_ledger.proofs.ServedWork.{many_come, many_reopen, work_settled}
+use Rattle.table_ledger.proofs.ledger.TableLedgerLedger.accept_many.Goals as goal
+
+pub returns-then-self-clause-takes : goal.returns-then-self-clause-takes
+returns-then-self-clause-takes g c =
+    many_reopen (ledger_state g.S.Store g.N.Naming.name_of c.args.self.now)
+    (g.N.Naming.name_of c.args.self.now.naming) (records_in c.args.records.now) c.if-self.true
+
+pub returns-then-self-clause-few : goal.returns-then-self-clause-few
+returns-then-self-clause-few g c =
+    many_reopen (ledger_state g.S.Store g.N.Naming.name_of c.args.self.now)
+    (g.N.Naming.name_of c.args.self.now.naming)
+    (records_in (take most_in_commit c.args.records.now)) c.if-self.true
+
+pub try_accept_many-tried-requires-clause-usage : goal.try_accept_many-tried-requires-clause-usage
+try_accept_many-tried-requires-clause-usage g c =
+    subst (λ records. All (λ (one : Vec ℕ Global). IsUsageRecord one.items) records)
+    (sym c.first_records-first.ensures.first)
+    (All-take (λ (one : Vec ℕ Global). IsUsageRecord one.items) most_in_commit c.args.records.now
+    c.requires.usage)
+
+pub returns-clause-takes : goal.returns-clause-takes
+returns-clause-takes g c =
+    let names = g.N.Naming.name_of c.args.self.now.naming in
+    let part = c.first_records-first.result.now in
+    let result = c.finish.result in
+    work_as _ _ (Takes names (records_in part) result)
+    (Takes names (records_in c.args.records.now) result)
+    (λ was before events is takes. takes_part names c.args.records.now most_in_commit part result
+    c.first_records-first.ensures.first (c.first_records-first.ensures.some c.requires.some) was before
+    events is takes)
+    (work_settled (many_come names (records_in part)) g.S.Store c.args.self.now.tables.store
+    c.if-self.false g.met.S.Store.settled c.finish.ensures.settles c.try_accept_many-tried.ensures.tries)
+
+pub returns-clause-few : goal.returns-clause-few
+returns-clause-few g c =
+    let names = g.N.Naming.name_of c.args.self.now.naming in
+    let part = c.first_records-first.result.now in
+    let result = c.finish.result in
+    work_as _ _ (Takes names (records_in part) result)
+    (Takes names (records_in (take most_in_commit c.args.records.now)) result)
+    (λ was before events is takes. subst (λ part. Takes names (records_in part) result was before events is)
+    c.first_records-first.ensures.first takes)
+    (work_settled (many_come names (records_in part)) g.S.Store c.args.self.now.tables.store
+    c.if-self.false g.met.S.Store.settled c.finish.ensures.settles c.try_accept_many-tried.ensures.tries)

@@ -1,0 +1,212 @@
+-- Calls that are staged inside a transaction, and work that one commit makes of them.
+use Rattle.std.specs.Prelude.{◌≡◌, false, List, [], Option, Some, None, Result, Ok, Err}
+use Rattle.std.specs.Prelude.{◌⊎◌, ℕ, IfOk, Vec}
+use Rattle.std.specs.Global.{Global}
+use Rattle.sqlite_trees.specs.Tree.{Trees}
+use Rattle.sqlite_trees.specs.View.{View, OnlyWrites}
+use Rattle.sqlite_trees.specs.declared.error.StoreError.{StoreError}
+use Rattle.book_model.specs.declared.answer.Accepted.{Accepted}
+use Rattle.book_model.specs.declared.fault.LedgerFault.{LedgerFault}
+use Rattle.book_model.specs.Words.{Book, Event, after_all, accept_outcome, Outcome, Naming}
+use Rattle.book_core.specs.Calls.{Calls, Makes, is_store, is_reopen, listed}
+use Rattle.book_core.specs.OfficeRulings.{ruled_in}
+use Rattle.book_core.specs.Submissions.{Accepts, Takes, first_of}
+use Rattle.tree_tables.specs.States.{State, HasCleanDisk, Survives}
+use Rattle.tree_tables.specs.Steps.{KeepsLastCommit}
+use Rattle.table_ledger.specs.Ready.{IsReadyAt, IsStoredIn, Remembers}
+use Rattle.table_ledger.specs.LedgerState.{LedgerState}
+use Rattle.table_ledger.specs.Attempts.{IsRefused, LeavesOpen}
+use Rattle.table_ledger.specs.declared.summary.Summary.{Summary}
+
+-- ---- inside a transaction
+
+-- The trees hold the book, which calls made, as the transaction sees them; and the summary is that
+-- of the book.
+pub record IsAt (naming : Naming) (summary : Summary) (view : View) (book : Book) : Type 0 where
+  pub kept : IsStoredIn naming book view.trees
+  pub remembers : Remembers summary book
+
+-- the rulings that are remembered stay
+pub record KeepsRulings (was is : Summary) : Type 0 where
+  pub rulings : ruled_in is.rulings ≡ ruled_in was.rulings
+  pub choices : is.choices ≡ was.choices
+
+-- the call answered what the outcome says, and its event was written, with no commit
+pub record IsStaged {V A : Type 0} (view : V → A) (naming : Naming) (is : Summary) (old new : View)
+    (outcome : Outcome A) (book : Book) (answer : Result V LedgerFault) : Type 0 where
+  pub events : List Event
+  pub makes : Makes view outcome answer events
+  pub only : OnlyWrites old new
+  pub at : IsAt naming is new (after_all events book)
+
+-- a call is staged, or the store refused it, and its last commit stays
+abbrev pub StagedOrRefused : {V A : Type 0} → (V → A) → Naming → Summary → View → View
+    → Outcome A → Book → Result (Result V LedgerFault) StoreError → Type 0
+StagedOrRefused view naming is old new outcome book (Ok answer) =
+    IsStaged view naming is old new outcome book answer
+StagedOrRefused view naming is old new outcome book (Err error) = KeepsLastCommit old new
+
+-- A call is tried inside a transaction of a ledger.
+pub record Stages {V A : Type 0} (view : V → A) (naming : Naming) (was is : Summary)
+    (old new : State) (outcome : Book → Outcome A)
+    (tried : Result (Result V LedgerFault) StoreError) : Type 0 where
+  pub plain : IfOk tried LeavesOpen
+  pub survives : Survives old new (λ trees. ⊥)
+  pub found : HasCleanDisk new → (book : Book) → IsAt naming was old.view book
+      → StagedOrRefused view naming is old.view new.view (outcome book) book tried
+
+-- ---- records, one after another
+
+-- the first of these records was refused with this fault, if any was
+abbrev pub RefusesNext : Naming → List (List ℕ) → Book → Option LedgerFault → Type 0
+RefusesNext naming rest book None = Unit {0}
+RefusesNext naming rest book (Some fault) =
+    Calls (λ (accepted : Accepted). accepted) (accept_outcome naming (first_of rest)) (Err fault)
+    false book [] false
+
+-- a refusal leaves the books open
+abbrev pub RefusesOpen : Option LedgerFault → Type 0
+RefusesOpen None = Unit {0}
+RefusesOpen (Some fault) = LeavesOpen {V = Vec Accepted Global} (Err fault)
+
+-- the first of the records were answered and written, with no commit; and if none was, this is why
+pub record AreStaged (naming : Naming) (records : List (List ℕ)) (is : Summary) (old new : View)
+    (book : Book) (answers : List Accepted) (refusal : Option LedgerFault) : Type 0 where
+  pub events : List Event
+  pub accepts : Accepts naming records answers false book events false
+  pub none : answers ≡ [] → RefusesNext naming records book refusal
+  pub only : OnlyWrites old new
+  pub at : IsAt naming is new (after_all events book)
+
+-- they were answered and written, or the store refused, and its last commit stays
+abbrev pub AreStagedOrRefused : Naming → List (List ℕ) → Summary → View → View → Book
+    → List Accepted → Result (Option LedgerFault) StoreError → Type 0
+AreStagedOrRefused naming records is old new book answers (Ok refusal) =
+    AreStaged naming records is old new book answers refusal
+AreStagedOrRefused naming records is old new book answers (Err error) = KeepsLastCommit old new
+
+-- Records are tried inside a transaction, up to the first refusal.
+pub record StagesMany (naming : Naming) (records : List (List ℕ)) (was is : Summary)
+    (old new : State) (answers : List Accepted) (tried : Result (Option LedgerFault) StoreError)
+    : Type 0 where
+  pub plain : IfOk tried RefusesOpen
+  pub survives : Survives old new (λ trees. ⊥)
+  pub found : HasCleanDisk new → (book : Book) → IsAt naming was old.view book
+      → AreStagedOrRefused naming records is old.view new.view book answers tried
+
+-- ---- work that is one commit, whatever events it makes
+
+-- what a commit may leave on the disk: the book with such events
+pub record KeepsBy (Leaves : Book → List Event → Type 0) (naming : Naming) (book : Book)
+    (trees : Trees) : Type 0 where
+  pub events : List Event
+  pub leaves : Leaves book events
+  pub stored : IsStoredIn naming (after_all events book) trees
+
+-- it may leave that of each book with which the ledger was ready
+abbrev pub MayKeepBy : Naming → Summary → View → (Book → List Event → Type 0) → Trees → Type 0
+MayKeepBy naming summary old Leaves trees =
+    (book : Book) → IsReadyAt naming summary old book → KeepsBy Leaves naming book trees
+
+-- the work made such events, and the ledger is ready with the book that they leave
+pub record IsMade (Made : Book → List Event → Type 0) (naming : Naming) (summary : Summary)
+    (new : View) (book : Book) : Type 0 where
+  pub events : List Event
+  pub made : Made book events
+  pub ready : IsReadyAt naming summary new (after_all events book)
+
+-- the work was made, or the store refused, and its last commit stays
+abbrev pub MadeOrStands : {V : Type 0} → (Result V LedgerFault → Book → List Event → Type 0)
+    → Naming → Summary → View → View → Book → Result (Result V LedgerFault) StoreError → Type 0
+MadeOrStands Made naming is old new book (Ok answer) = IsMade (Made answer) naming is new book
+MadeOrStands Made naming is old new book (Err error) = KeepsLastCommit old new
+
+-- the work was made, or the store refused, and the ledger remembers the same book
+abbrev pub MadeOrRefused : {V : Type 0} → (Result V LedgerFault → Book → List Event → Type 0)
+    → Naming → Summary → View → View → Book → Result (Result V LedgerFault) StoreError → Type 0
+MadeOrRefused Made naming is old new book (Ok answer) = IsMade (Made answer) naming is new book
+MadeOrRefused Made naming is old new book (Err error) = IsRefused is old new book
+
+-- Work is written and committed, on the store of a ledger that is ready; where the store refuses,
+-- nothing is said of what the summary remembers.
+pub record WritesBy {V : Type 0} (Made : Result V LedgerFault → Book → List Event → Type 0)
+    (Leaves : Book → List Event → Type 0) (naming : Naming) (was is : Summary) (old new : State)
+    (tried : Result (Result V LedgerFault) StoreError) : Type 0 where
+  pub plain : IfOk tried LeavesOpen
+  pub survives : Survives old new (MayKeepBy naming was old.view Leaves)
+  pub found : HasCleanDisk new → (book : Book) → IsReadyAt naming was old.view book
+      → MadeOrStands Made naming is old.view new.view book tried
+
+-- Work is tried on the store of a ledger that is ready.
+pub record AttemptsBy {V : Type 0} (Made : Result V LedgerFault → Book → List Event → Type 0)
+    (Leaves : Book → List Event → Type 0) (naming : Naming) (was is : Summary) (old new : State)
+    (tried : Result (Result V LedgerFault) StoreError) : Type 0 where
+  pub plain : IfOk tried LeavesOpen
+  pub survives : Survives old new (MayKeepBy naming was old.view Leaves)
+  pub found : HasCleanDisk new → (book : Book) → IsReadyAt naming was old.view book
+      → MadeOrRefused Made naming is old.view new.view book tried
+
+-- Work of an open ledger is served.
+pub record ServesBy {V : Type 0} (Made : Result V LedgerFault → Book → List Event → Type 0)
+    (Leaves : Book → List Event → Type 0) (old new : LedgerState) (result : Result V LedgerFault)
+    : Type 0 where
+  pub naming : new.naming ≡ old.naming
+  pub served : is_reopen result ≡ false
+  pub reopen : new.must_reopen ≡ is_store result
+  pub survives : Survives old.state new.state
+      (MayKeepBy old.naming old.summary old.state.view Leaves)
+  pub answered : is_store result ≡ false → HasCleanDisk new.state → (book : Book)
+      → IsReadyAt old.naming old.summary old.state.view book
+      → IsMade (Made result) old.naming new.summary new.state.view book
+
+-- ---- records that are submitted together
+
+-- the most records that one commit takes
+abbrev pub most_in_commit : ℕ
+most_in_commit = 1000
+
+-- what their commit may leave: the first of them, some or none
+pub record LeavesFirst (naming : Naming) (records : List (List ℕ)) (book : Book)
+    (events : List Event) : Type 0 where
+  pub answers : List Accepted
+  pub accepts : Accepts naming records answers false book events false
+
+-- what they make of a book, by what is answered
+abbrev pub TakesOf : Naming → List (List ℕ) → Result (Vec Accepted Global) LedgerFault → Book
+    → List Event → Type 0
+TakesOf naming records answer book events = Takes naming records answer false book events false
+
+-- they are written and committed
+abbrev pub WritesMany : Naming → List (List ℕ) → Summary → Summary → State → State
+    → Result (Result (Vec Accepted Global) LedgerFault) StoreError → Type 0
+WritesMany naming records was is old new tried =
+    WritesBy (TakesOf naming records) (LeavesFirst naming records) naming was is old new tried
+
+-- they are tried
+abbrev pub AttemptsMany : Naming → List (List ℕ) → Summary → Summary → State → State
+    → Result (Result (Vec Accepted Global) LedgerFault) StoreError → Type 0
+AttemptsMany naming records was is old new tried =
+    AttemptsBy (TakesOf naming records) (LeavesFirst naming records) naming was is old new tried
+
+-- ---- a single call
+
+-- what its commit may leave: no event, or the outcome's
+abbrev pub LeavesOne : {A : Type 0} → (Book → Outcome A) → Book → List Event → Type 0
+LeavesOne outcome book events = (events ≡ []) ⊎ (events ≡ listed (outcome book).event)
+
+-- what it makes
+abbrev pub MakesOf : {V A : Type 0} → (V → A) → (Book → Outcome A) → Result V LedgerFault → Book
+    → List Event → Type 0
+MakesOf view outcome answer book events = Makes view (outcome book) answer events
+
+-- it is written and committed
+abbrev pub WritesOne : {V A : Type 0} → (V → A) → Naming → Summary → Summary → State → State
+    → (Book → Outcome A) → Result (Result V LedgerFault) StoreError → Type 0
+WritesOne view naming was is old new outcome tried =
+    WritesBy (MakesOf view outcome) (LeavesOne outcome) naming was is old new tried
+
+-- it is tried
+abbrev pub AttemptsOne : {V A : Type 0} → (V → A) → Naming → Summary → Summary → State → State
+    → (Book → Outcome A) → Result (Result V LedgerFault) StoreError → Type 0
+AttemptsOne view naming was is old new outcome tried =
+    AttemptsBy (MakesOf view outcome) (LeavesOne outcome) naming was is old new tried
