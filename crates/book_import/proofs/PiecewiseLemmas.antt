@@ -1,6 +1,7 @@
 -- What an import has done with the records of a dump that it reads in pieces.
 use Rattle.std.proofs.Common.{◌≡◌, ◌∙◌, ℕ, List, [], ◌++◌, sym, ap, subst, Option, Some, None}
-use Rattle.std.proofs.Common.{append-nil}
+use Rattle.std.proofs.Common.{append-nil, append_assoc, take, drop}
+use Rattle.std.proofs.lemmas.List.{take-append-drop}
 use Rattle.std.specs.Prelude.{unwrap_or}
 use Rattle.smf_frames.specs.declared.dump.Layout.{Layout}
 use Rattle.book_model.specs.Words.{Front, front, Joining, HasTaken, nothing_joined}
@@ -22,6 +23,14 @@ use Rattle.book_import.proofs.PieceLemmas.{ends_behind, behind_done}
 -- the records were handled, leading to this receipt
 abbrev pub LeadsFrom : Seen → Seen → Receipt → List (List ℕ) → Type 0
 LeadsFrom begins now receipt records = IsTransition begins now (LeadsTo begins.naming records receipt)
+
+-- a dump, seen up to the end of the next piece
+pub pieces_go_on : (passed rest piece later bytes : List ℕ) (count : ℕ)
+    → passed ++ rest ≡ bytes → piece ≡ take count rest → later ≡ drop count rest
+    → (passed ++ piece) ++ later ≡ bytes
+pieces_go_on passed rest piece later bytes count parts piece_is later_is =
+    append_assoc passed piece later ∙ (λ i. passed ++ (piece_is i ++ later_is i))
+    ∙ ap (λ those. passed ++ those) (take-append-drop count rest) ∙ parts
 
 -- none yet
 pub joins_nothing : (begins : Seen) (layout : Layout) (joiner : Joining) (receipt : Receipt)
@@ -67,21 +76,30 @@ module _ (begins now : Seen) (receipt : Receipt) {layout : Layout} {bytes : List
       (with_piece next (λ naming l text. LeadsTo naming (front l (text ++ piece)).records later)
       handled)
 
-  -- the import was stopped in a piece
+  -- the import was stopped in a piece, whatever bytes follow it
+  pub joins_stopped_before : (next : Seen) (piece : List ℕ) (later told : Receipt) (stop : Stop)
+      → ((text : List ℕ) → HasTaken text joiner → IsTransition now next
+      (HandlesPiece now.naming joiner.layout text piece receipt later (Some stop)))
+      → told ≡ record later { stop = stop } → (more : List ℕ) (cut : Option Stop)
+      → IsTransition begins next (Imports begins.naming layout cut ((bytes ++ piece) ++ more) told)
+  joins_stopped_before next piece later told stop handled so more cut =
+      let text = (bytes ++ piece) ++ more in
+      let here = record later { stop = stop } in
+      subst (λ told. IsTransition begins next (Imports begins.naming layout cut text told)) (sym so)
+      (work_as begins next _ (Imports begins.naming layout cut text here)
+      (λ was before events is stops. stops more cut)
+      (with_piece next (λ naming l text. StopsAt naming l (text ++ piece) here) handled))
+
+  -- the import was stopped in the last piece
   pub joins_stopped : (next : Seen) (piece : List ℕ) (later told : Receipt) (stop : Stop)
       → ((text : List ℕ) → HasTaken text joiner → IsTransition now next
       (HandlesPiece now.naming joiner.layout text piece receipt later (Some stop)))
       → told ≡ record later { stop = stop } → (cut : Option Stop)
       → IsTransition begins next (Imports begins.naming layout cut (bytes ++ piece) told)
   joins_stopped next piece later told stop handled so cut =
-      let text = bytes ++ piece in
-      let here = record later { stop = stop } in
-      subst (λ told. IsTransition begins next (Imports begins.naming layout cut text told)) (sym so)
-      (work_as begins next _ (Imports begins.naming layout cut text here)
-      (λ was before events is stops.
-      subst (λ b. Imports begins.naming layout cut b here was before events is)
-      (append-nil text) (stops [] cut))
-      (with_piece next (λ naming l text. StopsAt naming l (text ++ piece) here) handled))
+      subst (λ all. IsTransition begins next (Imports begins.naming layout cut all told))
+      (append-nil (bytes ++ piece))
+      (joins_stopped_before next piece later told stop handled so [] cut)
 
   -- no more pieces come
   pub joins_ended : (told : Receipt) (stop : Stop) (cut : Option Stop)

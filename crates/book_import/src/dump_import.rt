@@ -1,11 +1,11 @@
-ghost use Rattle.std.specs.Prelude.{◌≡◌, ◌+◌, ◌≤◌, ◌^◌, ℕ, List, None, false};
+ghost use Rattle.std.specs.Prelude.{◌≡◌, ◌+◌, ◌≤◌, ◌^◌, ℕ, List, None, drop, false, take};
 ghost use Rattle.streams.specs.Sources.{reader_of, reads_of, has_failed, has_ended};
 ghost use Rattle.streams.specs.AnswerFlags.{NothingUnread};
 ghost use Rattle.streams.specs.InputOutput.{input};
 ghost use Rattle.book_core.specs.Transition.{IsTransition};
 ghost use Rattle.book_import.specs.Imports.{Imports};
 ghost use Rattle.book_import.specs.Reach.{IsReadFor};
-ghost use Rattle.book_import.specs.ReadLimits.{cut_of, most_reads};
+ghost use Rattle.book_import.specs.ReadLimits.{cut_of, most_reads, piece_length};
 
 use crate::pieces::import_piece;
 use crate::receipt::{Receipt, Stop};
@@ -17,8 +17,8 @@ use std::alloc::Global;
 use std::io::Read;
 
 /// Reads a dump to its end, in at most so many reads, and submits its records to the books in
-/// order. If it stops before the end, nothing more is read. At most a piece and a record of the
-/// dump are held at a time.
+/// order: those that one read completed together, before the next read. If it stops before the end,
+/// nothing more is read. At most two pieces and two records of the dump are held at a time.
 pub fn import<R: Read + Drop, L: Ledger>(
     alloc: Global,
     source: &mut Source<R>,
@@ -50,14 +50,30 @@ pub fn import<R: Read + Drop, L: Ledger>(
         let Some(count) = read_piece(source, &mut piece) else {
             return receipt.stopped_by(reading_end(source, &joiner));
         };
-        if let Some(stop) = import_piece(ledger, &mut joiner, &mut receipt, &piece[..count]) {
+        if let Some(stop) = import_piece(
+            alloc,
+            ledger,
+            &mut joiner,
+            &mut receipt,
+            &piece[..count],
+        ) {
             return receipt.stopped_by(stop);
         }
     }
     receipt.stopped_by(reading_end(source, &joiner))
 }
 
-/// Submits the records of a dump to the books, in order. These bytes are the whole dump.
+/// The next piece of a dump, and what comes after it.
+#[tactic(auto, using(std::proofs::lemmas::List::take_min, std::proofs::lemmas::List::drop_min))]
+fn next_piece(rest: &[u8]) -> (&[u8], &[u8])
+    ensures piece { result.0.now ≡ take piece_length rest.now }
+    ensures later { result.1.now ≡ drop piece_length rest.now }
+{
+    rest.split_at(PIECE.min(rest.len()))
+}
+
+/// Submits the records of a dump to the books, in order, piece by piece. These bytes are the whole
+/// dump.
 pub fn import_bytes<L: Ledger>(
     alloc: Global,
     ledger: &mut L,
@@ -71,8 +87,13 @@ pub fn import_bytes<L: Ledger>(
         return Receipt::stopped(Stop::Ledger(LedgerFault::Memory));
     };
     let mut receipt = Receipt::stopped(Stop::End);
-    match import_piece(ledger, &mut joiner, &mut receipt, bytes) {
-        Some(stop) => receipt.stopped_by(stop),
-        None => receipt.stopped_by(dump_end(&joiner)),
+    let mut rest = bytes;
+    while !rest.is_empty() {
+        let (piece, later) = next_piece(rest);
+        match import_piece(alloc, ledger, &mut joiner, &mut receipt, piece) {
+            Some(stop) => return receipt.stopped_by(stop),
+            None => rest = later,
+        }
     }
+    receipt.stopped_by(dump_end(&joiner))
 }

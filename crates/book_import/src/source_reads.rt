@@ -1,11 +1,13 @@
 ghost use Rattle.std.specs.Prelude.{◌≡◌, IfSome, ◌+◌, ◌<◌, ◌≤◌, ◌^◌, false, true};
-ghost use Rattle.std.specs.Prelude.{length, take, unwrap_or, None};
+ghost use Rattle.std.specs.Prelude.{length, take, unwrap_or, None, Result, ℕ};
 ghost use Rattle.std.specs.Io.KnownBytes.{Consumes};
+ghost use Rattle.std.specs.declared.io.Error.{Error};
 ghost use Rattle.streams.specs.Sources.{reader_of, reads_of, has_failed, has_ended};
 ghost use Rattle.streams.specs.AnswerFlags.{NothingUnread};
+ghost use Rattle.book_import.specs.ReadLimits.{piece_length};
 
 use book_core::Source;
-use std::io::Read;
+use streams::Reader;
 
 /// The most reads that one import may make: the office's number, as a law says.
 pub const MAX_READS: u64 = 1_000_000_000;
@@ -15,8 +17,8 @@ pub const PIECE: usize = 65_536;
 
 /// Asks a source once for the next piece of its bytes. Returns how many came, one or more; or none
 /// if the reader failed or has come to its end, which the source shows.
-pub fn read_piece<R: Read + Drop>(source: &mut Source<R>, piece: &mut [u8]) -> Option<usize>
-    requires room { 0 < length piece.old }
+pub fn read_piece<R: Reader + Drop>(source: &mut Source<R>, piece: &mut [u8]) -> Option<usize>
+    requires room { length piece.old ≡ piece_length }
     requires asked { reads_of source.old < 2 ^ 63 }
     requires failed { has_failed source.old ≡ false }
     requires ended { has_ended source.old ≡ false }
@@ -25,6 +27,10 @@ pub fn read_piece<R: Read + Drop>(source: &mut Source<R>, piece: &mut [u8]) -> O
     ensures taken { Consumes (R.remaining (reader_of source.old))
         (R.remaining (reader_of source.new)) (take (unwrap_or result 0) piece.new) }
     ensures came { IfSome result (λ count. (0 < count) × (count ≤ length piece.new)) }
+
+    // There was one read, and it asked for the whole piece.
+    ensures whole { (answer : Result ℕ Error) × R.may_answer
+        (reader_of source.old) piece.old answer (reader_of source.new) piece.new }
 
     // If some came, the reader may be asked again.
     ensures failed { IfSome result (λ _. has_failed source.new ≡ false) }

@@ -1,11 +1,33 @@
-use Rattle.std.proofs.Common.{None, refl}
-use Rattle.book_model.specs.Words.{front}
+use Rattle.std.proofs.Common.{◌≡◌, ◌≤◌, ◌<◌, ◌+◌, ◌-◌, ◌++◌, ◌∙◌, ◌∷◌, List, ℕ, zero, suc, length, min, arith}
+use Rattle.std.proofs.Common.{lit≤, subst, sym, ap, None, [], append-nil, length-append, length-drop, refl}
+use Rattle.std.proofs.Common.{true, false, true≢false}
+use Rattle.std.specs.Prelude.{◌==◌}
+use Rattle.std.proofs.lemmas.Bool.{eqb-true}
+use Rattle.std.proofs.lemmas.List.{length-take}
+use Rattle.book_core.specs.Transition.{IsTransition}
 use Rattle.book_core.proofs.TransitionLemmas.{no_work, work_as}
+use Rattle.book_model.specs.Words.{front}
+use Rattle.book_import.specs.declared.receipt.Receipt.{Receipt}
 use Rattle.book_import.specs.Dumps.{stop_after}
 use Rattle.book_import.specs.Imports.{Imports}
+use Rattle.book_import.specs.ReadLimits.{piece_length}
+use Rattle.book_import.specs.Receipts.{counted}
 use Rattle.book_import.proofs.ImportLemmas.{none_handled}
-use Rattle.book_import.proofs.PiecewiseLemmas.{joins_nothing, joins_more, joins_stopped, joins_ended}
+use Rattle.book_import.proofs.PiecewiseLemmas.{joins_nothing, joins_more, joins_stopped_before}
+use Rattle.book_import.proofs.PiecewiseLemmas.{joins_ended, pieces_go_on}
 use Rattle.book_import.proofs.dump_import.import_bytes.Goals as goal
+
+-- there is something left
+some_left : (left : ℕ) → (left == 0) ≡ false → 0 < left
+some_left zero is = absurd (true≢false is)
+some_left (suc less) is = omega arith
+
+-- there is nothing left of the bytes
+all_passed : (passed rest bytes : List ℕ) → passed ++ rest ≡ bytes → (length rest == 0) ≡ true
+    → passed ≡ bytes
+all_passed passed [] bytes parts none = sym (append-nil passed) ∙ parts
+all_passed passed (byte ∷ rest) bytes parts none =
+    absurd (omega (arith, eqb-true (length (byte ∷ rest)) 0 none))
 
 pub returns-in_default : goal.returns-in_default
 returns-in_default g c =
@@ -17,26 +39,79 @@ returns-in_default g c =
     c.stopped.ensures)
     (no_work seen)
 
+pub loop-rest-init : goal.loop-rest-init
+loop-rest-init g c = (
+  [],
+  refl,
+  subst (λ (receipt : Receipt). counted receipt ≤ 0) (sym c.stopped-receipt.ensures) (lit≤ tt),
+  joins_nothing (g.L.Ledger.seen c.args.ledger.now) c.args.layout c.in-Ok.joiner
+      c.stopped-receipt.result c.in-Ok.ensures.value c.in-Ok.ensures.stands c.in-Ok.ensures.found
+      c.stopped-receipt.ensures,
+)
+
+pub import_piece-requires-clause-stands : goal.import_piece-requires-clause-stands
+import_piece-requires-clause-stands g c =
+    let joins = c.loop-rest.invariant in (joins.0, joins.3.stands)
+
+pub import_piece-requires-clause-none : goal.import_piece-requires-clause-none
+import_piece-requires-clause-none g c = c.loop-rest.invariant.3.none
+
+pub import_piece-requires-clause-few : goal.import_piece-requires-clause-few
+import_piece-requires-clause-few g c =
+    let joins = c.loop-rest.invariant in
+    let rest = c.loop-rest.rest.now in
+    let piece : length c.next_piece.result.0.now ≡ min piece_length (length rest) =
+    ap length c.next_piece.ensures.piece ∙ length-take piece_length rest in
+    let all : length joins.0 + length rest ≡ length c.args.bytes.now =
+    sym (length-append joins.0 rest) ∙ ap length joins.1 in
+    omega (arith, joins.2, piece, all)
+
 pub returns-in-Some : goal.returns-in-Some
 returns-in-Some g c =
     let seen = g.L.Ledger.seen c.args.ledger.now in
-    let bytes = c.args.bytes.now in
+    let now = g.L.Ledger.seen c.import_piece.new.ledger in
+    let joins = c.loop-rest.invariant in
+    let piece = c.next_piece.result.0.now in
+    let later = c.next_piece.result.1.now in
     let told = c.stopped_by.result in
-    let receipt = c.stopped-receipt.result in
-    let none = joins_nothing seen c.args.layout c.in-Ok.joiner receipt c.in-Ok.ensures.value
-    c.in-Ok.ensures.stands c.in-Ok.ensures.found c.stopped-receipt.ensures in
-    joins_stopped seen seen receipt none (g.L.Ledger.seen c.import_piece.new.ledger) bytes
-    c.import_piece.new.receipt told c.in-Some.stop c.in-Some.ensures.handled c.stopped_by.ensures
-    None
+    subst (λ all. IsTransition seen now (Imports seen.naming c.args.layout None all told))
+    (pieces_go_on joins.0 c.loop-rest.rest.now piece later c.args.bytes.now piece_length joins.1
+    c.next_piece.ensures.piece c.next_piece.ensures.later)
+    (joins_stopped_before seen (g.L.Ledger.seen c.loop-rest.ledger) c.loop-rest.receipt joins.3 now
+    piece c.import_piece.new.receipt told c.in-Some.stop c.in-Some.ensures.handled c.stopped_by.ensures
+    later None)
+
+pub loop-rest-smaller : goal.loop-rest-smaller
+loop-rest-smaller g c =
+    let rest = c.loop-rest.rest.now in
+    let some : 0 < length rest = some_left (length rest)
+    (sym c.is_empty.ensures ∙ c.loop-rest-test.true) in
+    let later : length c.next_piece.result.1.now ≡ length rest - piece_length =
+    ap length c.next_piece.ensures.later ∙ length-drop piece_length rest in
+    omega (arith, some, later)
+
+pub loop-rest-preserved : goal.loop-rest-preserved
+loop-rest-preserved g c =
+    let joins = c.loop-rest.invariant in
+    let piece = c.next_piece.result.0.now in
+    let later = c.next_piece.result.1.now in (
+      joins.0 ++ piece,
+      pieces_go_on joins.0 c.loop-rest.rest.now piece later c.args.bytes.now piece_length joins.1
+          c.next_piece.ensures.piece c.next_piece.ensures.later,
+      omega (arith, joins.2, c.in-None.ensures.counted, length-append joins.0 piece),
+      joins_more (g.L.Ledger.seen c.args.ledger.now) (g.L.Ledger.seen c.loop-rest.ledger)
+          c.loop-rest.receipt joins.3 (g.L.Ledger.seen c.import_piece.new.ledger)
+          c.import_piece.new.receipt (c.in-None.ensures.taken refl) c.in-None.ensures.handled,
+    )
 
 pub returns : goal.returns
 returns g c =
     let seen = g.L.Ledger.seen c.args.ledger.now in
-    let new = g.L.Ledger.seen c.import_piece.new.ledger in
-    let receipt = c.stopped-receipt.result in
-    let none = joins_nothing seen c.args.layout c.in-Ok.joiner receipt c.in-Ok.ensures.value
-    c.in-Ok.ensures.stands c.in-Ok.ensures.found c.stopped-receipt.ensures in
-    let joins = joins_more seen seen receipt none new c.import_piece.new.receipt
-    (c.in-None.ensures.taken refl) c.in-None.ensures.handled in
-    joins_ended seen new c.import_piece.new.receipt joins c.stopped_by-in-None.result
-    c.dump_end.result None c.dump_end.ensures.stop c.stopped_by-in-None.ensures
+    let now = g.L.Ledger.seen c.loop-rest.ledger in
+    let joins = c.loop-rest.invariant in
+    let told = c.stopped_by-2.result in
+    subst (λ all. IsTransition seen now (Imports seen.naming c.args.layout None all told))
+    (all_passed joins.0 c.loop-rest.rest.now c.args.bytes.now joins.1
+    (sym c.is_empty.ensures ∙ c.loop-rest-test.false))
+    (joins_ended seen now c.loop-rest.receipt joins.3 told c.dump_end.result None
+    c.dump_end.ensures.stop c.stopped_by-2.ensures)

@@ -1,0 +1,8 @@
+use Rattle.book_core.specs.Submissions.{records_in}
+use Rattle.book_import.proofs.GroupWork.{next_left}
+use Rattle.book_import.proofs.submitting.next_answer.Goals as goal
+
+pub returns-in-Some : goal.returns-in-Some
+returns-in-Some g c = record {
+  asks = next_left (g.L.Ledger.seen c.args.ledger.now) (records_in c.args.waiting.now) c.in-Some.ensures;
+}
