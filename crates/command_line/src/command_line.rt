@@ -1,5 +1,13 @@
 //! The words of the command line, as `clap` reads them.
 
+ghost use Rattle.std.specs.Prelude.{◌≡◌, IfOk, map, string_bytes};
+ghost use Rattle.clap.specs.Values.{kind_of};
+ghost use Rattle.clap.specs.Walk.{rule_of};
+ghost use Rattle.clap.specs.Simple.{app_of, shape_of};
+ghost use Rattle.command_line.specs.Known.{AreReadAs, IsFaultOf};
+ghost use Rattle.command_line.specs.Shapes as spec;
+ghost use Rattle.command_line.specs.Shapes.{AreFor, AreCommandsOf, HasNoGlobals, IsOwn};
+
 use crate::fault::ArgumentFault;
 use crate::known_commands::{Argument, KNOWN_COMMANDS, KnownCommand, ValueKind, ValuedArgument};
 use crate::matched_request::matched_request;
@@ -13,7 +21,9 @@ use std::alloc::{AllocError, Global};
 const VERSION: &str = "0.1.0";
 
 /// What a value has to be, where no rate is above the highest.
-fn parser_of<'a>(kind: ValueKind, highest: u32) -> ValueParser<'a> {
+fn parser_of<'a>(kind: ValueKind, highest: u32) -> ValueParser<'a>
+    ensures { result ≡ spec.parser_of highest kind }
+{
     match kind {
         ValueKind::Text => ValueParser::String,
         ValueKind::OneOf(texts) => ValueParser::Names(texts),
@@ -23,7 +33,10 @@ fn parser_of<'a>(kind: ValueKind, highest: u32) -> ValueParser<'a> {
     }
 }
 
-fn value_arg<'a>(alloc: Global, valued: ValuedArgument, highest: u32) -> Arg<'a> {
+fn value_arg<'a>(alloc: Global, valued: ValuedArgument, highest: u32) -> Arg<'a>
+    ensures rule { rule_of result ≡ spec.value_rule highest valued }
+    ensures own { IsOwn result }
+{
     Arg::new(alloc, valued.name)
         .value_name(valued.shown)
         .help(valued.help)
@@ -31,7 +44,10 @@ fn value_arg<'a>(alloc: Global, valued: ValuedArgument, highest: u32) -> Arg<'a>
         .value_parser(parser_of(valued.kind, highest))
 }
 
-fn clap_arg<'a>(alloc: Global, word: Argument, highest: u32) -> Arg<'a> {
+fn clap_arg<'a>(alloc: Global, word: Argument, highest: u32) -> Arg<'a>
+    ensures rule { rule_of result ≡ spec.rule_for highest word }
+    ensures own { IsOwn result }
+{
     match word {
         Argument::Flag { name, help } => Arg::new(alloc, name)
             .long(name)
@@ -52,7 +68,9 @@ fn clap_args<'a>(
     alloc: Global,
     words: &[Argument],
     highest: u32,
-) -> Result<Vec<Arg<'a>>, AllocError> {
+) -> Result<Vec<Arg<'a>>, AllocError>
+    ensures { IfOk result (λ args. AreFor highest words.now args.items) }
+{
     let mut args = Vec::new(alloc);
     for word in words {
         args.push(clap_arg(alloc, *word, highest))?;
@@ -64,7 +82,10 @@ fn known_command<'a>(
     alloc: Global,
     known: &KnownCommand,
     highest: u32,
-) -> Result<Command<'a>, AllocError> {
+) -> Result<Command<'a>, AllocError>
+    ensures shape { IfOk result (λ command. shape_of command ≡ spec.shape_for highest known.now) }
+    ensures own { IfOk result HasNoGlobals }
+{
     let args = clap_args(alloc, known.words, highest)?;
     Command::new(alloc, known.name)
         .about(known.about)
@@ -75,7 +96,9 @@ fn commands_of<'a>(
     alloc: Global,
     table: &[KnownCommand],
     highest: u32,
-) -> Result<Vec<Command<'a>>, AllocError> {
+) -> Result<Vec<Command<'a>>, AllocError>
+    ensures { IfOk result (λ commands. AreCommandsOf highest table.now commands.items) }
+{
     let mut commands = Vec::new(alloc);
     for known in table {
         commands.push(known_command(alloc, known, highest)?)?;
@@ -86,9 +109,12 @@ fn commands_of<'a>(
 fn command_line<'a>(
     alloc: Global,
     program: &'a str,
+    table: &[KnownCommand],
     highest: u32,
-) -> Result<Command<'a>, AllocError> {
-    let commands = commands_of(alloc, KNOWN_COMMANDS.as_slice(), highest)?;
+) -> Result<Command<'a>, AllocError>
+    ensures { IfOk result (λ line. app_of line ≡ spec.app_for program.entry.now highest table.now) }
+{
+    let commands = commands_of(alloc, table, highest)?;
     Command::new(alloc, program)
         .about("The books of a chargeback office, read from SMF type 30 records")
         .version(VERSION)
@@ -97,7 +123,10 @@ fn command_line<'a>(
 }
 
 /// What `clap` says about words that it refuses.
-fn fault_in(alloc: Global, error: &Error) -> ArgumentFault {
+fn fault_in(alloc: Global, error: &Error) -> ArgumentFault
+    ensures said { IsFaultOf (kind_of error.now) result }
+    ensures memory { kind_of error.now ≡ ErrorKind.OutOfMemory → result ≡ ArgumentFault.Memory }
+{
     if error.kind() == ErrorKind::OutOfMemory {
         return ArgumentFault::Memory;
     }
@@ -109,15 +138,17 @@ fn fault_in(alloc: Global, error: &Error) -> ArgumentFault {
 }
 
 /// The command that the words ask for, the first of which is the program's name, where no rate is
-/// above `highest`; help and faults call the program by the name that is given. Wrong without a
-/// text would be a subcommand or a missing word that `command_line` does not let pass.
+/// above `highest`; help and faults call the program by the name that is given. None are wrong
+/// without a text: what `command_line` lets pass is a request.
 pub fn requested_by<'a>(
     alloc: Global,
     program: &'a str,
     words: &'a [String],
     highest: u32,
-) -> Result<Request<'a>, ArgumentFault> {
-    let Ok(line) = command_line(alloc, program, highest) else {
+) -> Result<Request<'a>, ArgumentFault>
+    ensures { AreReadAs program.entry.now highest (map string_bytes words.entry.now) result }
+{
+    let Ok(line) = command_line(alloc, program, KNOWN_COMMANDS.as_slice(), highest) else {
         return Err(ArgumentFault::Memory);
     };
     match line.try_get_matches_from(words) {

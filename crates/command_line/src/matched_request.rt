@@ -1,138 +1,275 @@
 //! The command that `clap` found in the words.
 
+ghost use Rattle.std.specs.Prelude.{[], ◌∷◌, IfSome, IsSome, IsSomeAnd, codes, pos};
+ghost use Rattle.clap.specs.Simple.{subcommand_rows_of};
+ghost use Rattle.clap.specs.Walk.{first_of};
+ghost use Rattle.command_line.specs.Given.{HasNumber, HasRate, HasWord, HasWords, HasWordsOf};
+ghost use Rattle.command_line.specs.Given.{NoneIs};
+ghost use Rattle.command_line.specs.Known as known;
+ghost use Rattle.command_line.specs.Requests.{IsDump, IsFlag, IsKind, IsLayout, IsNumber};
+ghost use Rattle.command_line.specs.Requests.{IsOfBooks, IsRequest, IsText, rows_in};
+
 use crate::request::{BookRequest, DumpFile, NumberKind, Request};
 use book_reports::Report;
 use clap::ArgMatches;
 use smf_frames::Layout;
 
-/// The command with its words. None would be a subcommand or a missing word that the command line
-/// does not let pass.
-pub(crate) fn matched_request<'a>(matches: &ArgMatches<'a>) -> Option<Request<'a>> {
+/// The command with its words. None would be a word without its value, which the command line does
+/// not let pass.
+pub(crate) fn matched_request<'a>(matches: &ArgMatches<'a>) -> Option<Request<'a>>
+    ensures request { IfSome result (λ request. IsSomeAnd (subcommand_rows_of matches.now)
+        (λ met. IsRequest met.0 met.1 request)) }
+    ensures some { IsSomeAnd (subcommand_rows_of matches.now) (λ met. HasWordsOf met.0 met.1)
+        → IsSome result }
+{
     let (name, found) = matches.subcommand()?;
+    request_in(name, found)
+}
+
+fn request_in<'a>(name: &str, found: &ArgMatches<'a>) -> Option<Request<'a>>
+    ensures request { IfSome result (IsRequest name.now (rows_in found.now)) }
+    ensures some { HasWordsOf name.now (rows_in found.now) → IsSome result }
+{
     match name {
-        "trial" => Some(trial_in(found)),
-        "check" => Some(Request::Check(dump_in(found)?)),
+        "trial" => trial_in(found),
+        "check" => check_in(found),
         "explain" => explain_in(found),
-        _ => of_books_in(name, found),
+        _ => change_in(name, found),
     }
 }
 
-fn layout_in(found: &ArgMatches<'_>) -> Layout {
-    match found.get_str("layout") {
-        Some("bdw") => Layout::Bdw,
-        _ => Layout::Rdw,
-    }
-}
-
-fn rate_in(found: &ArgMatches<'_>, name: &str) -> u64 {
-    found.get_one::<u64>(name).unwrap_or(0)
-}
-
-fn trial_in<'a>(found: &ArgMatches<'_>) -> Request<'a> {
-    Request::Trial {
-        layout: layout_in(found),
-        cpu: rate_in(found, "cpu"),
-        excp: rate_in(found, "excp"),
-        record: rate_in(found, "record"),
-    }
-}
-
-fn dump_in<'a>(found: &ArgMatches<'a>) -> Option<DumpFile<'a>> {
-    Some(DumpFile {
-        file: found.get_str("file")?,
-        layout: layout_in(found),
-        quiet: found.get_flag("quiet"),
-    })
-}
-
-fn of_books_in<'a>(name: &str, found: &ArgMatches<'a>) -> Option<Request<'a>> {
-    let book = found.get_str("book")?;
-    let asked = asked_in(name, found)?;
-    Some(Request::OfBooks { book, asked })
-}
-
-fn asked_in<'a>(name: &str, found: &ArgMatches<'a>) -> Option<BookRequest<'a>> {
+/// New books, an import or a ruling.
+fn change_in<'a>(name: &str, found: &ArgMatches<'a>) -> Option<Request<'a>>
+    ensures request { IfSome result (IsRequest name.now (rows_in found.now)) }
+    ensures some { HasWordsOf name.now (rows_in found.now)
+        → NoneIs (codes "trial" ∷ codes "check" ∷ codes "explain" ∷ []) name.now → IsSome result }
+{
     match name {
-        "init" => Some(BookRequest::Init),
-        "tariff" => tariff_in(found),
-        "import" => Some(BookRequest::Import(dump_in(found)?)),
-        "close" => close_in(found),
-        "choose" => choice_in(found),
-        "adopt" => Some(BookRequest::Adopt),
-        "audit" => Some(audit_in(found)),
-        "backup" => back_up_in(found),
-        "serve" => serve_in(found),
-        _ => Some(BookRequest::Print(report_in(name, found)?)),
+        "init" => of_books_in(found, Some(BookRequest::Init)),
+        "tariff" => of_books_in(found, tariff_in(found)),
+        "import" => of_books_in(found, import_in(found)),
+        "close" => of_books_in(found, close_in(found)),
+        "choose" => of_books_in(found, choice_in(found)),
+        "adopt" => of_books_in(found, Some(BookRequest::Adopt)),
+        _ => service_in(name, found),
     }
 }
 
-fn tariff_in<'a>(found: &ArgMatches<'a>) -> Option<BookRequest<'a>> {
-    let file = found.get_str("file")?;
-    Some(BookRequest::Tariff { file })
-}
-
-fn period_in(found: &ArgMatches<'_>) -> Option<u16> {
-    found.get_one::<u16>("period")
-}
-
-fn close_in<'a>(found: &ArgMatches<'a>) -> Option<BookRequest<'a>> {
-    let period = period_in(found)?;
-    let date = found.get_str("date")?;
-    Some(BookRequest::Close { period, date })
-}
-
-fn choice_in<'a>(found: &ArgMatches<'a>) -> Option<BookRequest<'a>> {
-    let name = found.get_str("sha256")?;
-    Some(BookRequest::Choose { name })
-}
-
-fn report_in(name: &str, found: &ArgMatches<'_>) -> Option<Report> {
+/// A report, an audit, a backup or a service.
+fn service_in<'a>(name: &str, found: &ArgMatches<'a>) -> Option<Request<'a>>
+    ensures request { IfSome result (IsRequest name.now (rows_in found.now)) }
+    ensures some { HasWordsOf name.now (rows_in found.now)
+        → NoneIs (codes "trial" ∷ codes "check" ∷ codes "explain" ∷ codes "init"
+        ∷ codes "tariff" ∷ codes "import" ∷ codes "close" ∷ codes "choose" ∷ codes "adopt" ∷ [])
+        name.now → IsSome result }
+{
     match name {
-        "disputes" => Some(Report::DisputeList),
-        "adjustments" => Some(Report::AdjustmentList(period_in(found)?)),
-        "statement" => statement_in(found),
+        "statement" => of_books_in(found, statement_in(found)),
+        "adjustments" => of_books_in(found, adjustments_in(found)),
+        "disputes" => of_books_in(found, Some(BookRequest::Print(Report::DisputeList))),
+        "audit" => of_books_in(found, audit_in(found)),
+        "backup" => of_books_in(found, back_up_in(found)),
+        "serve" => of_books_in(found, serve_in(found)),
         _ => None,
     }
 }
 
-fn statement_in(found: &ArgMatches<'_>) -> Option<Report> {
-    let period = period_in(found)?;
-    if found.get_flag("csv") {
-        Some(Report::StatementTable(period))
-    } else {
-        Some(Report::Statement(period))
+/// The request to books, where there is something asked of them.
+fn of_books_in<'a>(found: &ArgMatches<'a>, asked: Option<BookRequest<'a>>) -> Option<Request<'a>>
+    ensures request { (name : _) → IfSome asked.entry (IsOfBooks name (rows_in found.now))
+        → IfSome result (IsRequest name (rows_in found.now)) }
+    ensures some { HasWord (rows_in found.now) known.book → IsSome asked.entry → IsSome result }
+{
+    let book = text_in(found, "book")?;
+    let asked = asked?;
+    Some(Request::OfBooks { book, asked })
+}
+
+fn text_in<'a>(found: &ArgMatches<'a>, name: &str) -> Option<&'a str>
+    ensures text { IfSome result (IsText (rows_in found.now) name.now) }
+    ensures some { IsSome (first_of name.now (rows_in found.now)) → IsSome result }
+{
+    found.get_str(name)
+}
+
+fn number_in(found: &ArgMatches<'_>, name: &str) -> Option<u16>
+    ensures number { IfSome result (IsNumber (rows_in found.now) name.now) }
+    ensures some { HasNumber (rows_in found.now) name.now (pos 65535) → IsSome result }
+{
+    found.get_one(name)
+}
+
+fn rate_in(found: &ArgMatches<'_>, name: &str) -> Option<u64>
+    ensures rate { IfSome result (IsNumber (rows_in found.now) name.now) }
+    ensures some { HasRate (rows_in found.now) name.now → IsSome result }
+{
+    found.get_one(name)
+}
+
+fn flag_in(found: &ArgMatches<'_>, name: &str) -> Option<bool>
+    ensures flag { IfSome result (IsFlag (rows_in found.now) name.now) }
+    ensures some { HasWord (rows_in found.now) (known.flag name.now) → IsSome result }
+{
+    found.get_one(name)
+}
+
+fn layout_in(found: &ArgMatches<'_>) -> Option<Layout>
+    ensures layout { IfSome result (IsLayout (rows_in found.now)) }
+    ensures some { HasWord (rows_in found.now) known.layouts → IsSome result }
+{
+    match text_in(found, "layout")? {
+        "rdw" => Some(Layout::Rdw),
+        "bdw" => Some(Layout::Bdw),
+        _ => None,
     }
 }
 
-fn audit_in<'a>(found: &ArgMatches<'_>) -> BookRequest<'a> {
-    let quiet = found.get_flag("quiet");
-    BookRequest::Audit { quiet }
+fn trial_in<'a>(found: &ArgMatches<'_>) -> Option<Request<'a>>
+    ensures request { IfSome result (IsRequest (codes "trial") (rows_in found.now)) }
+    ensures some { HasWords (rows_in found.now) (known.layouts ∷ known.rate_of (codes "cpu")
+        ∷ known.rate_of (codes "excp") ∷ known.rate_of (codes "record") ∷ []) → IsSome result }
+{
+    Some(Request::Trial {
+        layout: layout_in(found)?,
+        cpu: rate_in(found, "cpu")?,
+        excp: rate_in(found, "excp")?,
+        record: rate_in(found, "record")?,
+    })
 }
 
-fn back_up_in<'a>(found: &ArgMatches<'a>) -> Option<BookRequest<'a>> {
-    let copy = found.get_str("file")?;
-    let quiet = found.get_flag("quiet");
+fn dump_in<'a>(found: &ArgMatches<'a>) -> Option<DumpFile<'a>>
+    ensures dump { IfSome result (IsDump (rows_in found.now)) }
+    ensures some { HasWord (rows_in found.now) known.file
+        → HasWord (rows_in found.now) known.layouts → HasWord (rows_in found.now) known.quiet
+        → IsSome result }
+{
+    Some(DumpFile {
+        file: text_in(found, "file")?,
+        layout: layout_in(found)?,
+        quiet: flag_in(found, "quiet")?,
+    })
+}
+
+fn check_in<'a>(found: &ArgMatches<'a>) -> Option<Request<'a>>
+    ensures request { IfSome result (IsRequest (codes "check") (rows_in found.now)) }
+    ensures some { HasWord (rows_in found.now) known.file
+        → HasWord (rows_in found.now) known.layouts → HasWord (rows_in found.now) known.quiet
+        → IsSome result }
+{
+    Some(Request::Check(dump_in(found)?))
+}
+
+fn import_in<'a>(found: &ArgMatches<'a>) -> Option<BookRequest<'a>>
+    ensures asked { IfSome result (IsOfBooks (codes "import") (rows_in found.now)) }
+    ensures some { HasWord (rows_in found.now) known.file
+        → HasWord (rows_in found.now) known.layouts → HasWord (rows_in found.now) known.quiet
+        → IsSome result }
+{
+    Some(BookRequest::Import(dump_in(found)?))
+}
+
+fn tariff_in<'a>(found: &ArgMatches<'a>) -> Option<BookRequest<'a>>
+    ensures asked { IfSome result (IsOfBooks (codes "tariff") (rows_in found.now)) }
+    ensures some { HasWord (rows_in found.now) known.file → IsSome result }
+{
+    let file = text_in(found, "file")?;
+    Some(BookRequest::Tariff { file })
+}
+
+fn close_in<'a>(found: &ArgMatches<'a>) -> Option<BookRequest<'a>>
+    ensures asked { IfSome result (IsOfBooks (codes "close") (rows_in found.now)) }
+    ensures some { HasWord (rows_in found.now) known.period
+        → HasWord (rows_in found.now) known.date → IsSome result }
+{
+    let period = number_in(found, "period")?;
+    let date = text_in(found, "date")?;
+    Some(BookRequest::Close { period, date })
+}
+
+fn choice_in<'a>(found: &ArgMatches<'a>) -> Option<BookRequest<'a>>
+    ensures asked { IfSome result (IsOfBooks (codes "choose") (rows_in found.now)) }
+    ensures some { HasWord (rows_in found.now) known.digest → IsSome result }
+{
+    let name = text_in(found, "sha256")?;
+    Some(BookRequest::Choose { name })
+}
+
+fn adjustments_in<'a>(found: &ArgMatches<'_>) -> Option<BookRequest<'a>>
+    ensures asked { IfSome result (IsOfBooks (codes "adjustments") (rows_in found.now)) }
+    ensures some { HasWord (rows_in found.now) known.period → IsSome result }
+{
+    let period = number_in(found, "period")?;
+    Some(BookRequest::Print(Report::AdjustmentList(period)))
+}
+
+fn statement_in<'a>(found: &ArgMatches<'_>) -> Option<BookRequest<'a>>
+    ensures asked { IfSome result (IsOfBooks (codes "statement") (rows_in found.now)) }
+    ensures some { HasWord (rows_in found.now) known.period
+        → HasWord (rows_in found.now) known.csv → IsSome result }
+{
+    let period = number_in(found, "period")?;
+    if flag_in(found, "csv")? {
+        Some(BookRequest::Print(Report::StatementTable(period)))
+    } else {
+        Some(BookRequest::Print(Report::Statement(period)))
+    }
+}
+
+fn audit_in<'a>(found: &ArgMatches<'_>) -> Option<BookRequest<'a>>
+    ensures asked { IfSome result (IsOfBooks (codes "audit") (rows_in found.now)) }
+    ensures some { HasWord (rows_in found.now) known.quiet → IsSome result }
+{
+    let quiet = flag_in(found, "quiet")?;
+    Some(BookRequest::Audit { quiet })
+}
+
+fn back_up_in<'a>(found: &ArgMatches<'a>) -> Option<BookRequest<'a>>
+    ensures asked { IfSome result (IsOfBooks (codes "backup") (rows_in found.now)) }
+    ensures some { HasWord (rows_in found.now) known.file → HasWord (rows_in found.now) known.quiet
+        → IsSome result }
+{
+    let copy = text_in(found, "file")?;
+    let quiet = flag_in(found, "quiet")?;
     Some(BookRequest::BackUp { copy, quiet })
 }
 
-fn serve_in<'a>(found: &ArgMatches<'_>) -> Option<BookRequest<'a>> {
-    let port = u16::try_from(found.get_one::<u32>("port")?).ok()?;
-    let requests = found.get_one::<u32>("requests")?;
+fn requests_in(found: &ArgMatches<'_>) -> Option<u32>
+    ensures number { IfSome result (IsNumber (rows_in found.now) (codes "requests")) }
+    ensures some { HasWord (rows_in found.now) known.requests → IsSome result }
+{
+    found.get_one("requests")
+}
+
+fn serve_in<'a>(found: &ArgMatches<'_>) -> Option<BookRequest<'a>>
+    ensures asked { IfSome result (IsOfBooks (codes "serve") (rows_in found.now)) }
+    ensures some { HasWord (rows_in found.now) known.port
+        → HasWord (rows_in found.now) known.requests → IsSome result }
+{
+    let port = number_in(found, "port")?;
+    let requests = requests_in(found)?;
     Some(BookRequest::Serve { port, requests })
 }
 
-fn explain_in<'a>(found: &ArgMatches<'_>) -> Option<Request<'a>> {
-    let number = found.get_one::<u16>("number")?;
-    let kind = number_kind(found.get_str("kind")?);
+fn explain_in<'a>(found: &ArgMatches<'_>) -> Option<Request<'a>>
+    ensures request { IfSome result (IsRequest (codes "explain") (rows_in found.now)) }
+    ensures some { HasWord (rows_in found.now) known.number_kind
+        → HasWord (rows_in found.now) known.kind_number → IsSome result }
+{
+    let kind = kind_in(found)?;
+    let number = number_in(found, "number")?;
     Some(Request::Explain { kind, number })
 }
 
-fn number_kind(word: &str) -> NumberKind {
-    match word {
-        "frame" => NumberKind::Frame,
-        "ledger" => NumberKind::Ledger,
-        "tariff" => NumberKind::Tariff,
-        "log" => NumberKind::Log,
-        _ => NumberKind::Damaged,
+fn kind_in(found: &ArgMatches<'_>) -> Option<NumberKind>
+    ensures kind { IfSome result (IsKind (rows_in found.now)) }
+    ensures some { HasWord (rows_in found.now) known.number_kind → IsSome result }
+{
+    match text_in(found, "kind")? {
+        "frame" => Some(NumberKind::Frame),
+        "ledger" => Some(NumberKind::Ledger),
+        "tariff" => Some(NumberKind::Tariff),
+        "damaged" => Some(NumberKind::Damaged),
+        "log" => Some(NumberKind::Log),
+        _ => None,
     }
 }

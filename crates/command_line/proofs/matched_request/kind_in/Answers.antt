@@ -1,0 +1,13 @@
+use Rattle.std.proofs.Common.{[], ◌∷◌, codes}
+use Rattle.clap.specs.Walk.{first_of}
+use Rattle.command_line.specs.Requests.{rows_in}
+use Rattle.command_line.proofs.ReaderLemmas.{not_given}
+use Rattle.command_line.proofs.matched_request.kind_in.Goals as goal
+
+pub returns-in_default-clause-some : goal.returns-in_default-clause-some
+returns-in_default-clause-some c =
+    let at = c.in_default in
+    λ has. absurd (not_given (codes "frame" ∷ codes "ledger" ∷ codes "tariff" ∷ codes "damaged"
+    ∷ codes "log" ∷ []) (first_of (codes "kind") (rows_in c.args.found.now)) _
+    c.in_ok-text_in.ensures.text
+    (at.not-frame, (at.not-ledger, (at.not-tariff, (at.not-damaged, (at.not-log, tt))))) has)

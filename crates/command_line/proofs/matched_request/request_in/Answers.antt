@@ -1,0 +1,31 @@
+use Rattle.std.proofs.Common.{subst}
+use Rattle.command_line.specs.Given.{HasWordsOf}
+use Rattle.command_line.specs.Known.{known_table}
+use Rattle.command_line.specs.Requests.{rows_in}
+use Rattle.command_line.proofs.matched_request.request_in.Goals as goal
+
+pub returns-in-trial-clause-some : goal.returns-in-trial-clause-some
+unfolding known_table
+returns-in-trial-clause-some c =
+    λ has.
+    let words = subst (λ n. HasWordsOf n (rows_in c.args.found.now)) c.in-trial.is has in
+    c.trial_in.ensures.some words
+
+pub returns-in-check-clause-some : goal.returns-in-check-clause-some
+unfolding known_table
+returns-in-check-clause-some c =
+    λ has.
+    let words = subst (λ n. HasWordsOf n (rows_in c.args.found.now)) c.in-check.is has in
+    c.check_in.ensures.some words.1.1.0 words.0 words.1.0
+
+pub returns-in-explain-clause-some : goal.returns-in-explain-clause-some
+unfolding known_table
+returns-in-explain-clause-some c =
+    λ has.
+    let words = subst (λ n. HasWordsOf n (rows_in c.args.found.now)) c.in-explain.is has in
+    c.explain_in.ensures.some words.0 words.1.0
+
+pub returns-in_default-clause-some : goal.returns-in_default-clause-some
+returns-in_default-clause-some c =
+    λ has. c.change_in.ensures.some has
+    (c.in_default.not-trial, (c.in_default.not-check, (c.in_default.not-explain, tt)))

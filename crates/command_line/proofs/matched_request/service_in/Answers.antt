@@ -1,0 +1,124 @@
+use Rattle.std.proofs.Common.{subst, sym, refl}
+use Rattle.std.specs.Prelude.{IfSome}
+use Rattle.command_line.specs.Given.{HasWords, HasWordsOf}
+use Rattle.command_line.specs.Known.{known_table}
+use Rattle.command_line.specs.Requests.{IsOfBooks, rows_in}
+use Rattle.command_line.proofs.ReaderLemmas.{not_named}
+use Rattle.command_line.proofs.matched_request.service_in.Goals as goal
+
+pub returns-in-statement-clause-request : goal.returns-in-statement-clause-request
+returns-in-statement-clause-request c =
+    c.of_books_in.ensures.request c.args.name.now
+    (subst (λ n. IfSome c.statement_in.result (IsOfBooks n (rows_in c.args.found.now)))
+    (sym c.in-statement.is) c.statement_in.ensures.asked)
+
+pub returns-in-statement-clause-some : goal.returns-in-statement-clause-some
+unfolding known_table
+returns-in-statement-clause-some c =
+    λ has others.
+    let words = subst (λ n. HasWordsOf n (rows_in c.args.found.now)) c.in-statement.is has in
+    c.of_books_in.ensures.some words.0 (c.statement_in.ensures.some words.1.0 words.1.1.0)
+
+pub returns-in-adjustments-clause-request : goal.returns-in-adjustments-clause-request
+returns-in-adjustments-clause-request c =
+    c.of_books_in-in-adjustments.ensures.request c.args.name.now
+    (subst (λ n. IfSome c.adjustments_in.result (IsOfBooks n (rows_in c.args.found.now)))
+    (sym c.in-adjustments.is) c.adjustments_in.ensures.asked)
+
+pub returns-in-adjustments-clause-some : goal.returns-in-adjustments-clause-some
+unfolding known_table
+returns-in-adjustments-clause-some c =
+    λ has others.
+    let words = subst (λ n. HasWordsOf n (rows_in c.args.found.now)) c.in-adjustments.is has in
+    c.of_books_in-in-adjustments.ensures.some words.0 (c.adjustments_in.ensures.some words.1.0)
+
+pub returns-in-disputes-clause-some : goal.returns-in-disputes-clause-some
+unfolding known_table
+returns-in-disputes-clause-some c =
+    λ has others.
+    let words = subst (λ n. HasWordsOf n (rows_in c.args.found.now)) c.in-disputes.is has in
+    c.of_books_in-in-disputes.ensures.some words.0 refl
+
+pub returns-in-audit-clause-request : goal.returns-in-audit-clause-request
+returns-in-audit-clause-request c =
+    c.of_books_in-in-audit.ensures.request c.args.name.now
+    (subst (λ n. IfSome c.audit_in.result (IsOfBooks n (rows_in c.args.found.now)))
+    (sym c.in-audit.is) c.audit_in.ensures.asked)
+
+pub returns-in-audit-clause-some : goal.returns-in-audit-clause-some
+unfolding known_table
+returns-in-audit-clause-some c =
+    λ has others.
+    let words = subst (λ n. HasWordsOf n (rows_in c.args.found.now)) c.in-audit.is has in
+    c.of_books_in-in-audit.ensures.some words.0 (c.audit_in.ensures.some words.1.0)
+
+pub returns-in-backup-clause-request : goal.returns-in-backup-clause-request
+returns-in-backup-clause-request c =
+    c.of_books_in-in-backup.ensures.request c.args.name.now
+    (subst (λ n. IfSome c.back_up_in.result (IsOfBooks n (rows_in c.args.found.now)))
+    (sym c.in-backup.is) c.back_up_in.ensures.asked)
+
+pub returns-in-backup-clause-some : goal.returns-in-backup-clause-some
+unfolding known_table
+returns-in-backup-clause-some c =
+    λ has others.
+    let words = subst (λ n. HasWordsOf n (rows_in c.args.found.now)) c.in-backup.is has in
+    c.of_books_in-in-backup.ensures.some words.0 (c.back_up_in.ensures.some words.1.0 words.1.1.0)
+
+pub returns-in-serve-clause-request : goal.returns-in-serve-clause-request
+returns-in-serve-clause-request c =
+    c.of_books_in-in-serve.ensures.request c.args.name.now
+    (subst (λ n. IfSome c.serve_in.result (IsOfBooks n (rows_in c.args.found.now)))
+    (sym c.in-serve.is) c.serve_in.ensures.asked)
+
+pub returns-in-serve-clause-some : goal.returns-in-serve-clause-some
+unfolding known_table
+returns-in-serve-clause-some c =
+    λ has others.
+    let words = subst (λ n. HasWordsOf n (rows_in c.args.found.now)) c.in-serve.is has in
+    c.of_books_in-in-serve.ensures.some words.0 (c.serve_in.ensures.some words.1.0 words.1.1.0)
+
+pub returns-in_default-clause-some : goal.returns-in_default-clause-some
+unfolding known_table
+returns-in_default-clause-some c =
+    let at = c.in_default in
+    λ has others.
+    let later = others.1.1.1 in
+    absurd (not_named (λ command. HasWords (rows_in c.args.found.now) command.1) known_table
+    c.args.name.now (
+      others.0,
+      (
+        others.1.0,
+        (
+          later.0,
+          (
+            later.1.0,
+            (
+              later.1.1.0,
+              (
+                later.1.1.1.0,
+                (
+                  later.1.1.1.1.0,
+                  (
+                    later.1.1.1.1.1.0,
+                    (
+                      at.not-statement,
+                      (
+                        at.not-adjustments,
+                        (
+                          at.not-disputes,
+                          (
+                            at.not-audit,
+                            (at.not-backup, (at.not-serve, (others.1.1.0, tt))),
+                          ),
+                        ),
+                      ),
+                    ),
+                  ),
+                ),
+              ),
+            ),
+          ),
+        ),
+      ),
+    ) has)

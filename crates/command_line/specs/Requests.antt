@@ -1,0 +1,108 @@
+-- Which request clap's matches are: the name of a command, and what was found for its arguments.
+use Rattle.std.specs.Prelude.{◌≡◌, ℕ, Bool, true, false, List, codes, Some, IsSomeAnd}
+use Rattle.std.specs.Borrow.{Bor}
+use Rattle.std.specs.Str.Parse.{IsNumeral, digits_value, without_leading_plus}
+use Rattle.clap.specs.Matches.{found_of}
+use Rattle.clap.specs.Values.{bool_text}
+use Rattle.clap.specs.Walk.{Row, Text, first_of, one_of, rows_of}
+use Rattle.clap.specs.declared.parser.matches.ArgMatches.{ArgMatches}
+use Rattle.smf_frames.specs.declared.dump.Layout.{Layout}
+use Rattle.smf_frames.specs.declared.dump.Layout.TheVariants.{Rdw, Bdw}
+use Rattle.book_reports.specs.declared.report.Report.{Report}
+use Rattle.book_reports.specs.declared.report.Report.TheVariants as report
+use Rattle.command_line.specs.declared.request.BookRequest.{BookRequest}
+use Rattle.command_line.specs.declared.request.BookRequest.TheVariants as book
+use Rattle.command_line.specs.declared.request.DumpFile.{DumpFile}
+use Rattle.command_line.specs.declared.request.NumberKind.{NumberKind}
+use Rattle.command_line.specs.declared.request.NumberKind.TheVariants as number
+use Rattle.command_line.specs.declared.request.Request.{Request}
+use Rattle.command_line.specs.declared.request.Request.TheVariants as request
+
+-- what was found for a command's arguments
+abbrev pub rows_in : ArgMatches → List Row
+rows_in matches = rows_of (found_of matches)
+
+-- decimal digits write the number, after a plus or none
+abbrev pub Writes : Text → ℕ → Type 0
+Writes text value =
+    IsNumeral 10 (without_leading_plus text)
+    × (value ≡ digits_value 10 (without_leading_plus text))
+
+-- the text, the number or the flag that was given for an argument, or is its default
+abbrev pub IsText : List Row → Text → Bor Text → Type 0
+IsText rows name text = first_of name rows ≡ Some text.now
+
+abbrev pub IsNumber : List Row → Text → ℕ → Type 0
+IsNumber rows name value = IsSomeAnd (one_of name rows) (λ text. Writes text value)
+
+abbrev pub IsFlag : List Row → Text → Bool → Type 0
+IsFlag rows name flag = one_of name rows ≡ Some (bool_text flag)
+
+-- the words for layouts and for kinds of numbers
+abbrev pub layout_text : Layout → Text
+layout_text Rdw = codes "rdw"
+layout_text Bdw = codes "bdw"
+
+abbrev pub kind_text : NumberKind → Text
+kind_text number.Frame = codes "frame"
+kind_text number.Ledger = codes "ledger"
+kind_text number.Tariff = codes "tariff"
+kind_text number.Damaged = codes "damaged"
+kind_text number.Log = codes "log"
+
+abbrev pub IsLayout : List Row → Layout → Type 0
+IsLayout rows value = first_of (codes "layout") rows ≡ Some (layout_text value)
+
+abbrev pub IsKind : List Row → NumberKind → Type 0
+IsKind rows value = first_of (codes "kind") rows ≡ Some (kind_text value)
+
+-- a dump in a file
+pub record IsDump (rows : List Row) (dump : DumpFile) : Type 0 where
+  pub file : IsText rows (codes "file") dump.file
+  pub layout : IsLayout rows dump.layout
+  pub quiet : IsFlag rows (codes "quiet") dump.quiet
+
+-- which report is printed
+abbrev pub IsReport : Text → List Row → Report → Type 0
+IsReport name rows (report.Statement period) =
+    (name ≡ codes "statement") × IsNumber rows (codes "period") period
+    × IsFlag rows (codes "csv") false
+IsReport name rows (report.StatementTable period) =
+    (name ≡ codes "statement") × IsNumber rows (codes "period") period
+    × IsFlag rows (codes "csv") true
+IsReport name rows (report.AdjustmentList period) =
+    (name ≡ codes "adjustments") × IsNumber rows (codes "period") period
+IsReport name rows report.DisputeList = name ≡ codes "disputes"
+IsReport name rows report.PeriodList = ⊥
+
+-- what is asked of books
+abbrev pub IsOfBooks : Text → List Row → BookRequest → Type 0
+IsOfBooks name rows book.Init = name ≡ codes "init"
+IsOfBooks name rows (book.Tariff file) =
+    (name ≡ codes "tariff") × IsText rows (codes "file") file
+IsOfBooks name rows (book.Import dump) = (name ≡ codes "import") × IsDump rows dump
+IsOfBooks name rows (book.Close period date) =
+    (name ≡ codes "close") × IsNumber rows (codes "period") period
+    × IsText rows (codes "date") date
+IsOfBooks name rows (book.Choose digest) =
+    (name ≡ codes "choose") × IsText rows (codes "sha256") digest
+IsOfBooks name rows book.Adopt = name ≡ codes "adopt"
+IsOfBooks name rows (book.Print asked) = IsReport name rows asked
+IsOfBooks name rows (book.Audit quiet) =
+    (name ≡ codes "audit") × IsFlag rows (codes "quiet") quiet
+IsOfBooks name rows (book.BackUp copy quiet) =
+    (name ≡ codes "backup") × IsText rows (codes "file") copy × IsFlag rows (codes "quiet") quiet
+IsOfBooks name rows (book.Serve port requests) =
+    (name ≡ codes "serve") × IsNumber rows (codes "port") port
+    × IsNumber rows (codes "requests") requests
+
+-- what is asked of the program
+abbrev pub IsRequest : Text → List Row → Request → Type 0
+IsRequest name rows (request.Trial layout cpu excp price) =
+    (name ≡ codes "trial") × IsLayout rows layout × IsNumber rows (codes "cpu") cpu
+    × IsNumber rows (codes "excp") excp × IsNumber rows (codes "record") price
+IsRequest name rows (request.Check dump) = (name ≡ codes "check") × IsDump rows dump
+IsRequest name rows (request.Explain kind value) =
+    (name ≡ codes "explain") × IsKind rows kind × IsNumber rows (codes "number") value
+IsRequest name rows (request.OfBooks path asked) =
+    IsText rows (codes "book") path × IsOfBooks name rows asked
