@@ -2,6 +2,7 @@
 
 ghost use Rattle.std.specs.Prelude.{◌≡◌};
 ghost use Rattle.sqlite_trees.specs.View.{IsClean};
+ghost use Rattle.tree_rows.specs.Calls.{CommitsNothing};
 ghost use Rattle.tree_tables.specs.Holds.{HasShapes};
 
 use crate::audited::{Audited, Counts};
@@ -21,7 +22,9 @@ fn read_trees<S: Store, W: Watch>(
     alloc: Global,
     trees: &mut Trees<S>,
     watch: &mut W,
-) -> Result<Counts, Stop> {
+) -> Result<Counts, Stop>
+    ensures quiet { CommitsNothing S.Store trees.old.store trees.new.store }
+{
     let rulings = read_rulings(alloc, trees, watch)?;
     let mut places = Places::new(alloc);
     let records = check_records(alloc, trees, &rulings, &mut places, watch)?;
@@ -45,6 +48,7 @@ pub fn audit_trees<S: Store, W: Watch>(
     watch: &mut W,
 ) -> (Result<Audited, LedgerFault>, S)
     requires { IsClean (S.Store.view store) → HasShapes (S.Store.view store) }
+    ensures quiet { CommitsNothing S.Store store result.1 }
 {
     let mut trees = Trees::over(alloc, store);
     let audited = match read_trees(alloc, &mut trees, watch) {

@@ -1,6 +1,7 @@
 //! The choices: which record was chosen last of each identity.
 
 ghost use Rattle.std.specs.Prelude.{◌≡◌, ◌≤◌, ◌+◌, None};
+ghost use Rattle.tree_rows.specs.Calls.{CommitsNothing};
 
 use crate::entry_counts::check_entries;
 use crate::finding::{Place, Tree, Wrong};
@@ -112,7 +113,9 @@ fn chosen_identity<S: Store>(
     trees: &mut Trees<S>,
     rule: IdentityRule,
     choice: &Choice,
-) -> Result<Vec<u8>, Stop> {
+) -> Result<Vec<u8>, Stop>
+    ensures quiet { CommitsNothing S.Store trees.old.store trees.new.store }
+{
     let place = Place::Choice(choice.number);
     let identity = trees
         .identity_of(alloc, &choice.name)
@@ -140,7 +143,9 @@ fn check_choice<S: Store>(
     open_period: u16,
     chosen: &mut Chosen,
     choice: &Choice,
-) -> Result<(), Stop> {
+) -> Result<(), Stop>
+    ensures quiet { CommitsNothing S.Store trees.old.store trees.new.store }
+{
     let place = Place::Choice(choice.number);
     if let Some(wrong) = chosen.wrong_with(choice, open_period) {
         return Err(unsound(place, wrong));
@@ -165,11 +170,13 @@ pub(crate) fn read_choices<S: Store, W: Watch>(
     rule: IdentityRule,
     open_period: u16,
     watch: &mut W,
-) -> Result<Chosen, Stop> {
+) -> Result<Chosen, Stop>
+    ensures quiet { CommitsNothing S.Store trees.old.store trees.new.store }
+{
     let tree = Tree::Choices;
     let mut walk = Walk::over(alloc, tree);
     let mut chosen = Chosen::new(alloc);
-    for count in 0..=MAX_CHOICES {
+    'choices: for count in 0..=MAX_CHOICES {
         watch.read(tree, count);
         if !walk.next(trees)? {
             check_entries(alloc, trees, Tree::ChoiceNames, count, watch)?;

@@ -1,6 +1,7 @@
 //! The sums of records by their places, against the charge rows.
 
 ghost use Rattle.std.specs.Prelude.{◌≡◌};
+ghost use Rattle.tree_rows.specs.Calls.{CommitsNothing};
 ghost use Rattle.book_model.specs.Rows.{key_of};
 
 use crate::finding::{Place, Tree, Wrong};
@@ -171,9 +172,11 @@ pub(crate) fn check_rows<S: Store, W: Watch>(
     rulings: &Rulings,
     places: &mut Places,
     watch: &mut W,
-) -> Result<u64, Stop> {
+) -> Result<u64, Stop>
+    ensures quiet { CommitsNothing S.Store trees.old.store trees.new.store }
+{
     let mut walk = Walk::over(alloc, Tree::Days);
-    for count in 0..MOST_ROWS {
+    'rows: for count in 0..MOST_ROWS {
         watch.read(Tree::Days, count);
         if !walk.next(trees)? {
             check_left(rulings, places)?;

@@ -1,5 +1,7 @@
 //! How many entries a tree has.
 
+ghost use Rattle.tree_rows.specs.Calls.{CommitsNothing};
+
 use crate::finding::{Place, Tree, Wrong};
 use crate::stop::{Stop, unsound};
 use crate::trees::Trees;
@@ -14,9 +16,11 @@ fn count_rows<S: Store, W: Watch>(
     trees: &mut Trees<S>,
     tree: Tree,
     watch: &mut W,
-) -> Result<u64, Stop> {
+) -> Result<u64, Stop>
+    ensures quiet { CommitsNothing S.Store trees.old.store trees.new.store }
+{
     let mut walk = Walk::over(alloc, tree);
-    for count in 0..MOST_ROWS {
+    'entries: for count in 0..MOST_ROWS {
         watch.read(tree, count);
         if !walk.next(trees)? {
             return Ok(count);
@@ -32,7 +36,9 @@ pub(crate) fn check_entries<S: Store, W: Watch>(
     tree: Tree,
     rows: u64,
     watch: &mut W,
-) -> Result<(), Stop> {
+) -> Result<(), Stop>
+    ensures quiet { CommitsNothing S.Store trees.old.store trees.new.store }
+{
     let entries = count_rows(alloc, trees, tree, watch)?;
     if entries == rows {
         Ok(())

@@ -1,5 +1,7 @@
 //! The adjustment lines.
 
+ghost use Rattle.tree_rows.specs.Calls.{CommitsNothing};
+
 use crate::day_sums::Places;
 use crate::finding::{Place, Tree, Wrong};
 use crate::rulings::Rulings;
@@ -40,7 +42,9 @@ fn check_line<S: Store>(
     rulings: &Rulings,
     places: &mut Places,
     line: &Line,
-) -> Result<(), Stop> {
+) -> Result<(), Stop>
+    ensures quiet { CommitsNothing S.Store trees.old.store trees.new.store }
+{
     let place = Place::Line(line.period, line.name);
     let record = trees
         .record_of(alloc, &line.name)
@@ -66,9 +70,11 @@ pub(crate) fn check_lines<S: Store, W: Watch>(
     rulings: &Rulings,
     places: &mut Places,
     watch: &mut W,
-) -> Result<u64, Stop> {
+) -> Result<u64, Stop>
+    ensures quiet { CommitsNothing S.Store trees.old.store trees.new.store }
+{
     let mut walk = Walk::over(alloc, Tree::Lines);
-    for count in 0..MOST_ROWS {
+    'lines: for count in 0..MOST_ROWS {
         watch.read(Tree::Lines, count);
         if !walk.next(trees)? {
             return Ok(count);

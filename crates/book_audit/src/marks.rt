@@ -1,6 +1,7 @@
 //! The marks of a record, and the trees that find it.
 
 ghost use Rattle.std.specs.Prelude.{◌≡◌};
+ghost use Rattle.tree_rows.specs.Calls.{CommitsNothing};
 ghost use Rattle.book_audit.specs.Marks as spec;
 
 use crate::choices::Chosen;
@@ -39,7 +40,9 @@ fn wrong_by_trees<S: Store>(
     trees: &mut Trees<S>,
     chosen: &Chosen,
     record: &StoredRecord,
-) -> Result<Option<Wrong>, Stop> {
+) -> Result<Option<Wrong>, Stop>
+    ensures quiet { CommitsNothing S.Store trees.old.store trees.new.store }
+{
     if !trees
         .has_identity(record)
         .map_err(|error| met(Tree::Identities, error))?
@@ -67,7 +70,9 @@ fn is_posted_right<S: Store>(
     trees: &mut Trees<S>,
     rulings: &Rulings,
     record: &StoredRecord,
-) -> Result<bool, Stop> {
+) -> Result<bool, Stop>
+    ensures quiet { CommitsNothing S.Store trees.old.store trees.new.store }
+{
     let line = trees
         .line_of(rulings.open_period(), &record.name)
         .map_err(|error| met(Tree::Lines, error))?;
@@ -81,7 +86,9 @@ pub(crate) fn check_marks<S: Store>(
     trees: &mut Trees<S>,
     rulings: &Rulings,
     record: &StoredRecord,
-) -> Result<(), Stop> {
+) -> Result<(), Stop>
+    ensures quiet { CommitsNothing S.Store trees.old.store trees.new.store }
+{
     if let Some(wrong) = wrong_by_trees(trees, &rulings.chosen, record)? {
         return Err(unsound(Place::Record(record.name), wrong));
     }

@@ -1,5 +1,7 @@
 //! The records.
 
+ghost use Rattle.tree_rows.specs.Calls.{CommitsNothing};
+
 use crate::day_sums::Places;
 use crate::entry_counts::check_entries;
 use crate::finding::{Place, Tree, Wrong};
@@ -29,7 +31,9 @@ fn check_record<S: Store>(
     rulings: &Rulings,
     places: &mut Places,
     record: &StoredRecord,
-) -> Result<(), Stop> {
+) -> Result<(), Stop>
+    ensures quiet { CommitsNothing S.Store trees.old.store trees.new.store }
+{
     check_data(alloc, rulings, record)?;
     check_marks(trees, rulings, record)?;
     if record.charged {
@@ -45,11 +49,13 @@ fn read_records<S: Store, W: Watch>(
     rulings: &Rulings,
     places: &mut Places,
     watch: &mut W,
-) -> Result<Held, Stop> {
+) -> Result<Held, Stop>
+    ensures quiet { CommitsNothing S.Store trees.old.store trees.new.store }
+{
     let tree = Tree::Records;
     let mut walk = Walk::over(alloc, tree);
     let mut amount = 0u64;
-    for records in 0..MOST_ROWS {
+    'records: for records in 0..MOST_ROWS {
         watch.read(tree, records);
         if !walk.next(trees)? {
             return Ok(Held { records, amount });
@@ -70,7 +76,9 @@ pub(crate) fn check_records<S: Store, W: Watch>(
     rulings: &Rulings,
     places: &mut Places,
     watch: &mut W,
-) -> Result<u64, Stop> {
+) -> Result<u64, Stop>
+    ensures quiet { CommitsNothing S.Store trees.old.store trees.new.store }
+{
     let held = read_records(alloc, trees, rulings, places, watch)?;
     check_entries(alloc, trees, Tree::Identities, held.records, watch)?;
     check_entries(alloc, trees, Tree::Marks, held.records, watch)?;

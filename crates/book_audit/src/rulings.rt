@@ -1,6 +1,7 @@
 //! The row of the book, the tariffs, the closes and the choices.
 
 ghost use Rattle.std.specs.Prelude.{◌<◌, length};
+ghost use Rattle.tree_rows.specs.Calls.{CommitsNothing};
 
 use crate::choices::{Chosen, read_choices};
 use crate::finding::{Place, Tree, Wrong};
@@ -60,7 +61,9 @@ fn book_in(row: &Row) -> Result<Option<BookRow>, StoreError> {
 }
 
 /// Reads the one row of the book. Trees without it hold no books.
-fn read_book<S: Store>(alloc: Global, trees: &mut Trees<S>) -> Result<BookRow, Stop> {
+fn read_book<S: Store>(alloc: Global, trees: &mut Trees<S>) -> Result<BookRow, Stop>
+    ensures quiet { CommitsNothing S.Store trees.old.store trees.new.store }
+{
     let tree = Tree::Book;
     let mut walk = Walk::over(alloc, tree);
     if !walk.next(trees)? {
@@ -93,11 +96,13 @@ fn parsed(alloc: Global, stored: &StoredTariff) -> Result<Tariff, Stop> {
 }
 
 /// Reads the tariffs, which have their first days as keys.
-fn read_tariffs<S: Store>(alloc: Global, trees: &mut Trees<S>) -> Result<Vec<Tariff>, Stop> {
+fn read_tariffs<S: Store>(alloc: Global, trees: &mut Trees<S>) -> Result<Vec<Tariff>, Stop>
+    ensures quiet { CommitsNothing S.Store trees.old.store trees.new.store }
+{
     let tree = Tree::Tariffs;
     let mut walk = Walk::over(alloc, tree);
     let mut tariffs = Vec::new(alloc);
-    for _ in 0..MOST_ROWS {
+    'tariffs: for _ in 0..MOST_ROWS {
         if !walk.next(trees)? {
             return Ok(tariffs);
         }
@@ -125,11 +130,13 @@ fn is_next(days: &[i32], close: &Close) -> bool {
 }
 
 /// Reads the days of the closes.
-fn read_closes<S: Store>(alloc: Global, trees: &mut Trees<S>) -> Result<Vec<i32>, Stop> {
+fn read_closes<S: Store>(alloc: Global, trees: &mut Trees<S>) -> Result<Vec<i32>, Stop>
+    ensures quiet { CommitsNothing S.Store trees.old.store trees.new.store }
+{
     let tree = Tree::Closes;
     let mut walk = Walk::over(alloc, tree);
     let mut days = Vec::new(alloc);
-    for _ in 0..MOST_ROWS {
+    'closes: for _ in 0..MOST_ROWS {
         if !walk.next(trees)? {
             return Ok(days);
         }
@@ -147,7 +154,9 @@ pub(crate) fn read_rulings<S: Store, W: Watch>(
     alloc: Global,
     trees: &mut Trees<S>,
     watch: &mut W,
-) -> Result<Rulings, Stop> {
+) -> Result<Rulings, Stop>
+    ensures quiet { CommitsNothing S.Store trees.old.store trees.new.store }
+{
     let book = read_book(alloc, trees)?;
     let tariffs = read_tariffs(alloc, trees)?;
     let closes = read_closes(alloc, trees)?;

@@ -31,7 +31,7 @@ impl<S: Store> Trees<S> {
     ghost use Rattle.sqlite_trees.specs.View.{IsClean};
     ghost use Rattle.sqlite_value.specs.Order.{column};
     ghost use Rattle.sqlite_value.specs.declared.value.Value.TheVariants.{Blob, Int};
-    ghost use Rattle.tree_rows.specs.Calls.{OnlyLooks};
+    ghost use Rattle.tree_rows.specs.Calls.{CommitsNothing, OnlyLooks};
     ghost use Rattle.tree_rows.specs.Rows.{Finds, IsFirst};
     ghost use Rattle.tree_tables.specs.Columns.{flag};
     ghost use Rattle.tree_tables.specs.Holds.{HasShapes};
@@ -69,6 +69,7 @@ impl<S: Store> Trees<S> {
             → IsFirst (rows_past key.now ((S.Store.view self.old.store).trees (tree_number tree)))
             row.new there) }
         ensures same { OnOk result (OnlyLooks S.Store self.old.store self.new.store) }
+        ensures quiet { CommitsNothing S.Store self.old.store self.new.store }
     {
         let number = tree.number();
         if key.is_empty() {
@@ -83,6 +84,7 @@ impl<S: Store> Trees<S> {
             → Finds self.old.key ((S.Store.view self.old.store).trees (tree_number tree))
             self.new.found hit) }
         ensures same { OnOk result (OnlyLooks S.Store self.old.store self.new.store) }
+        ensures quiet { CommitsNothing S.Store self.old.store self.new.store }
     {
         find_row(&mut self.store, tree.number(), &self.key, &mut self.found)
     }
@@ -93,6 +95,7 @@ impl<S: Store> Trees<S> {
             → Finds (Blob stored.now.identity.items ∷ Blob stored.now.name ∷ [])
             ((S.Store.view self.old.store).trees 6) self.new.found hit) }
         ensures same { OnOk result (OnlyLooks S.Store self.old.store self.new.store) }
+        ensures quiet { CommitsNothing S.Store self.old.store self.new.store }
     {
         identity_key(&mut self.key, stored)?;
         self.finds(Tree::Identities)
@@ -105,6 +108,7 @@ impl<S: Store> Trees<S> {
             ∷ Blob stored.now.name ∷ []) ((S.Store.view self.old.store).trees 7)
             self.new.found hit) }
         ensures same { OnOk result (OnlyLooks S.Store self.old.store self.new.store) }
+        ensures quiet { CommitsNothing S.Store self.old.store self.new.store }
     {
         mark_key(&mut self.key, stored)?;
         self.finds(Tree::Marks)
@@ -120,6 +124,7 @@ impl<S: Store> Trees<S> {
             → Finds (Blob name.now ∷ Int (pos number) ∷ [])
             ((S.Store.view self.old.store).trees 9) self.new.found hit) }
         ensures same { OnOk result (OnlyLooks S.Store self.old.store self.new.store) }
+        ensures quiet { CommitsNothing S.Store self.old.store self.new.store }
     {
         choice_name_key(&mut self.key, name, number)?;
         self.finds(Tree::ChoiceNames)
@@ -132,6 +137,7 @@ impl<S: Store> Trees<S> {
             → FindsTwo (Blob identity.now ∷ []) ((S.Store.view self.old.store).trees 6)
             self.new.found shared) }
         ensures same { OnOk result (OnlyLooks S.Store self.old.store self.new.store) }
+        ensures quiet { CommitsNothing S.Store self.old.store self.new.store }
     {
         bytes_key(&mut self.key, identity)?;
         let there = first_after(&mut self.store, IDENTITIES, &self.key, &mut self.found)?;
@@ -145,6 +151,7 @@ impl<S: Store> Trees<S> {
         name: &[u8; 32],
     ) -> Result<Option<bool>, StoreError>
         ensures same { OnOk result (OnlyLooks S.Store self.old.store self.new.store) }
+        ensures quiet { CommitsNothing S.Store self.old.store self.new.store }
     {
         line_key(&mut self.key, period, name)?;
         if !self.finds(Tree::Lines)? {
@@ -165,6 +172,7 @@ impl<S: Store> Trees<S> {
         ensures read { IfOk result (λ identity. IfSome identity (λ bytes.
             column self.new.found 1 ≡ Blob bytes.items)) }
         ensures same { OnOk result (OnlyLooks S.Store self.old.store self.new.store) }
+        ensures quiet { CommitsNothing S.Store self.old.store self.new.store }
     {
         bytes_key(&mut self.key, name)?;
         if !self.finds(Tree::Records)? {
@@ -180,6 +188,7 @@ impl<S: Store> Trees<S> {
         name: &[u8; 32],
     ) -> Result<Option<StoredRecord>, StoreError>
         ensures same { OnOk result (OnlyLooks S.Store self.old.store self.new.store) }
+        ensures quiet { CommitsNothing S.Store self.old.store self.new.store }
     {
         bytes_key(&mut self.key, name)?;
         if !self.finds(Tree::Records)? {

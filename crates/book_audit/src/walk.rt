@@ -31,7 +31,7 @@ pub(crate) struct Walk {
 impl Walk {
     ghost use Rattle.std.specs.Prelude.{◌≡◌, IfOk, OnOk};
     ghost use Rattle.sqlite_trees.specs.View.{IsClean};
-    ghost use Rattle.tree_rows.specs.Calls.{OnlyLooks};
+    ghost use Rattle.tree_rows.specs.Calls.{CommitsNothing, OnlyLooks};
     ghost use Rattle.tree_rows.specs.Rows.{IsFirst};
     ghost use Rattle.tree_tables.specs.Walks.{rows_past};
     ghost use Rattle.book_audit.specs.Trees.{tree_number};
@@ -59,6 +59,7 @@ impl Walk {
             → IsFirst (rows_past self.old.key
             ((S.Store.view trees.old.store).trees (tree_number self.old.tree))) self.new.row there) }
         ensures same { OnOk result (OnlyLooks S.Store trees.old.store trees.new.store) }
+        ensures quiet { CommitsNothing S.Store trees.old.store trees.new.store }
     {
         let tree = self.tree;
         let there = trees

@@ -1,21 +1,46 @@
 -- Why a session has no answer.
-use Rattle.std.proofs.Common.{◌≡◌, Result, Ok, Err, Option, None, Some, inl, inr, refl, subst, sym}
-use Rattle.std.specs.Prelude.{IfErr, IfOk, MatchOption, ⊤}
+use Rattle.std.proofs.Common.{◌≡◌, ◌∙◌, ℕ, Bool, Result, Ok, Err, Option, None, Some, inl, inr, refl}
+use Rattle.std.proofs.Common.{arith, false, subst, sym, IsTrue}
+use Rattle.std.proofs.Math.Logic.{∥∥₁_elim, ∥∥₁_map, ∥∥₁_prop}
+use Rattle.std.specs.Prelude.{IfErr, IfOk, IsErrAnd, MatchOption, MatchResult, ⊤}
+use Rattle.sqlite_disk.specs.Disk.{MoreFaults}
 use Rattle.sqlite_disk.specs.declared.Disk.{Ghosts}
 use Rattle.sqlite_disk.specs.declared.files.Files.{Files}
+use Rattle.sqlite_store.specs.FileStore.{state, view, IsReady}
+use Rattle.sqlite_store.specs.declared.store.FileStore.{FileStore}
+use Rattle.sqlite_trees.proofs.Doubt.{clean_of}
+use Rattle.sqlite_trees.specs.Tree.{Trees}
+use Rattle.sqlite_trees.specs.View.{IsClean}
 use Rattle.sqlite_trees.specs.declared.error.StoreError.{StoreError}
 use Rattle.sqlite_trees.specs.declared.error.StoreError.TheVariants.{OutOfMemory}
+use Rattle.sqlite_wal.specs.Recovery.{Image}
+use Rattle.book_model.specs.Words.{Book, Naming, book_after}
 use Rattle.book_model.specs.declared.fault.LedgerFault.{LedgerFault}
 use Rattle.book_model.specs.declared.fault.LedgerFault.TheVariants as ledger
+use Rattle.book_trees.specs.Copies.{IsCopyRefusedFor}
+use Rattle.book_trees.specs.LedgerFiles.{image_of, HoldsBooks, trees_held}
+use Rattle.book_trees.specs.Looks.{IsLookRefusedFor, IsUnopenedLook}
 use Rattle.book_trees.specs.Refusals.{IsRefusedFor, IsUnopened}
 use Rattle.book_trees.specs.declared.faults.OpenFault.{OpenFault}
 use Rattle.book_trees.specs.declared.faults.OpenFault.TheVariants as opening
-use Rattle.book_files.specs.Faults.{HasFaultCause, HasNoAnswerFor, IsWithoutFiles, open_fault}
-use Rattle.book_files.specs.Faults.{resume_fault, store_fault}
+use Rattle.book_trees.specs.declared.integrity.LookFault.{LookFault}
+use Rattle.book_trees.specs.declared.integrity.LookFault.TheVariants.{Pages, Open}
+use Rattle.book_files.specs.Faults.{HasFaultCause, HasNoAnswerFor, HasNoCopyFor, HoldsOurBooks}
+use Rattle.book_files.specs.Faults.{HoldsOurs, IsWithoutFiles, ShowsOurBooks, ShowsOurs}
+use Rattle.book_files.specs.Faults.{look_answer, not_copied, open_fault, resume_fault, store_fault}
 use Rattle.book_files.specs.declared.session.Ended.TheVariants.{Refused}
+use Rattle.book_files.proofs.NewParts.{opened_empty}
+use Rattle.book_files.proofs.SessionParts.{opened_stands}
 use Rattle.office.specs.declared.repository.RepositoryFault.{RepositoryFault}
 use Rattle.office.specs.declared.repository.RepositoryFault.TheVariants.{Io, Exists, Busy, Ledger}
-use Rattle.table_ledger.specs.Loaded.{IsOpenFault, IsStoreFault}
+use Rattle.table_laws.specs.FromCalls.{IsFromCalls}
+use Rattle.table_ledger.specs.Commits.{Stores}
+use Rattle.table_ledger.specs.Loaded.{HasTexts, IsOpenCause, IsOpenFault, IsStoreFault}
+use Rattle.table_ledger.specs.Loaded.{IsToldBy}
+use Rattle.table_model.specs.TablesOf.{tables_of}
+use Rattle.tree_tables.proofs.TheBook.{book_absent}
+use Rattle.tree_tables.specs.Holds.{has_book}
+use Rattle.tree_tables.specs.States.{State}
 
 -- what is said of an error may be said in other words
 pub err_so : {A E : Type 0} {One Other : E → Type 0} (result : Result A E) → IfErr result One
@@ -28,6 +53,26 @@ pub ok_so : {A E : Type 0} {One Other : A → Type 0} (result : Result A E) → 
     → ((answer : A) → One answer → Other answer) → IfOk result Other
 ok_so (Ok answer) one so = so answer one
 ok_so (Err fault) one so = tt
+
+-- what holds of each error holds of the one that there may be
+pub err_each : {A E : Type 0} {Says : E → Type 0} (result : Result A E)
+    → ((fault : E) → Says fault) → IfErr result Says
+err_each (Ok answer) each = tt
+err_each (Err fault) each = each fault
+
+-- and so may what is said of an error that is taken for another
+pub mapped_err : {A E F : Type 0} {One : E → Type 0} (Other : F → Type 0) (to : E → F)
+    (result : Result A E) (mapped : Result A F)
+    → MatchResult result (λ answer. mapped ≡ Ok answer)
+    (λ fault. IsErrAnd mapped (λ other. other ≡ to fault))
+    → IfErr result One → ((fault : E) → One fault → Other (to fault)) → IfErr mapped Other
+mapped_err Other to result (Ok answer) is one so = tt
+mapped_err Other to (Ok answer) (Err other) is one so = absurd (cc)
+mapped_err Other to (Err fault) (Err other) is one so = subst Other (sym is) (so fault one)
+
+-- a count that rose is not 0
+pub since_none : (old new : ℕ) → MoreFaults old new → MoreFaults 0 new
+since_none old new more = omega arith
 
 -- a cause, where what it says is said in other words
 pub cause_so : (Absent Absent' There There' Failed Failed' : Type 0) → (Absent → Absent')
@@ -51,20 +96,90 @@ store_cause Absent There fault (inr store) =
     subst (λ fault. HasFaultCause Absent There ⊤ (Ledger fault)) (sym store) tt
 
 -- and so has the fault of books that were not opened
-pub opened_cause : (Absent There : Type 0) (fault : LedgerFault) → (fault ≡ ledger.NotBooks → Absent)
-    → IsOpenFault fault → HasFaultCause Absent There ⊤ (Ledger fault)
-opened_cause Absent There fault none (inl is) =
-    subst (λ fault. HasFaultCause Absent There ⊤ (Ledger fault)) (sym is) (none is)
-opened_cause Absent There fault none (inr store) = store_cause Absent There fault store
+pub opened_cause : (Absent There Failed : Type 0) (fault : LedgerFault)
+    → (fault ≡ ledger.NotBooks → Absent) → (fault ≡ ledger.Store → Failed) → IsOpenFault fault
+    → HasFaultCause Absent There Failed (Ledger fault)
+opened_cause Absent There Failed fault none failed (inl is) =
+    subst (λ fault. HasFaultCause Absent There Failed (Ledger fault)) (sym is) (none is)
+opened_cause Absent There Failed fault none failed (inr (inl memory)) =
+    subst (λ fault. HasFaultCause Absent There Failed (Ledger fault)) (sym memory) tt
+opened_cause Absent There Failed fault none failed (inr (inr store)) =
+    subst (λ fault. HasFaultCause Absent There Failed (Ledger fault)) (sym store) (failed store)
 
--- and so has an error of a store
+-- a fault of the store that has a cause is that its disk failed
+store_failed : (old new : State) (fault : LedgerFault) → fault ≡ ledger.Store
+    → IsOpenCause old new fault → MoreFaults old.faults new.faults
+store_failed old new fault is (inl memory) = absurd (let both = sym is ∙ memory in cc)
+store_failed old new fault is (inr failed) = failed.1
+
+-- it has one where books are opened that a ledger left
+pub ours_failed : (names : Naming) (old new : State) (fault : LedgerFault) → fault ≡ ledger.Store
+    → IsToldBy (has_book old.view.trees) old new fault
+    → ((book : Book) → IsFromCalls names book → HasTexts book
+    → Stores old.view (tables_of names book) → IsOpenCause old new fault)
+    → ShowsOurs names old.view → MoreFaults old.faults new.faults
+ours_failed names old new fault is told own (inl ours) =
+    store_failed old new fault is (own ours.book ours.at.kept.calls ours.texts
+    (record { holds = ours.at.kept.holds; rest = ours.at.rest }))
+ours_failed names old new fault is told own (inr empty) =
+    elim (told.absent (book_absent old.view.trees empty.none) empty.rest) [
+      | inl none ↦ absurd (let both = sym is ∙ none in cc)
+      | inr cause ↦ store_failed old new fault is cause
+    ]
+
+-- an error of a store has a cause
 pub error_cause : (Absent There : Type 0) (error : StoreError)
     → HasFaultCause Absent There ⊤ (store_fault error)
 error_cause Absent There OutOfMemory = tt
 error_cause Absent There other = tt
 
+-- A store that was opened on files is at rest with what a ledger left of them.
+module _ {D : Type 0} {g : Ghosts D} (names : Naming) (first : Image) (store : FileStore D g)
+    (ready : IsReady store)
+    (found : IsTrue (state store).is_clean → (held : HoldsBooks first)
+    → (view store).trees ≡ trees_held held)
+    (clean : IsClean (view store))
+  where
+    shows_ours : HoldsOurBooks names first → ∥ ShowsOurBooks names (view store) ∥₁
+    shows_ours ours =
+        ∥∥₁_map ours.held.held λ kept. record {
+          book = book_after ours.history;
+          at = opened_stands names (book_after ours.history) first store ready found kept.0 kept.1
+              clean;
+          texts = ours.texts;
+        }
+
+    books_failed : (Failed : Type 0) → (ShowsOurBooks names (view store) → ∥ Failed ∥₁)
+        → HoldsOurBooks names first → ∥ Failed ∥₁
+    books_failed Failed failed ours =
+        ∥∥₁_elim (shows_ours ours) ∥∥₁_prop λ shown. failed shown
+
+    left_failed : (Failed : Type 0) → (ShowsOurs names (view store) → ∥ Failed ∥₁)
+        → HoldsOurs names first → ∥ Failed ∥₁
+    left_failed Failed failed (inl ours) =
+        books_failed Failed (λ shown. failed (inl shown)) ours
+    left_failed Failed failed (inr begun) =
+        failed (inr (opened_empty first store ready found begun clean))
+
+    told_by_row : (there : Bool) → has_book (view store).trees ≡ there → (held : HoldsBooks first)
+        → has_book (trees_held held) ≡ there
+    told_by_row there told held =
+        subst (λ (trees : Trees). has_book trees ≡ there) (found (clean_of _ clean) held) told
+
+    -- so what is said of a visit of the store is said of the files
+    pub visited_cause : (Failed : Type 0) (fault : RepositoryFault)
+        → HasFaultCause (has_book (view store).trees ≡ false) ⊥
+        (ShowsOurs names (view store) → ∥ Failed ∥₁) fault
+        → HasFaultCause ((held : HoldsBooks first) → has_book (trees_held held) ≡ false) ⊥
+        (HoldsOurs names first → ∥ Failed ∥₁) fault
+    visited_cause Failed fault cause =
+        cause_so (has_book (view store).trees ≡ false)
+        ((held : HoldsBooks first) → has_book (trees_held held) ≡ false) ⊥ ⊥
+        (ShowsOurs names (view store) → ∥ Failed ∥₁) (HoldsOurs names first → ∥ Failed ∥₁)
+        (told_by_row false) (λ never. never) (left_failed Failed) fault cause
+
 -- no files are in hand where none were opened
-without_files : (meaning : OpenFault → RepositoryFault) → meaning opening.Memory ≡ Ledger ledger.Memory
+pub without_files : (meaning : OpenFault → RepositoryFault) → meaning opening.Memory ≡ Ledger ledger.Memory
     → meaning opening.Busy ≡ Busy → meaning opening.Path ≡ Io → (fault : OpenFault)
     → IsUnopened fault → IsWithoutFiles (meaning fault)
 without_files meaning memory busy path fault (inl is) =
@@ -75,7 +190,7 @@ without_files meaning memory busy path fault (inr (inr is)) =
     inr (inr (subst (λ fault. meaning fault ≡ Io) (sym is) path))
 
 module _ {D : Type 0} (g : Ghosts D) (Held : Type 0) (AtLimit : Files D → Type 0)
-    (Opened : RepositoryFault → Type 0) where
+    (Opened : Type 0 → RepositoryFault → Type 0) where
   -- files that were refused have the cause of the opening
   pub refused_cause : (fault : OpenFault) (files : Option (Files D))
       → MatchOption files (IsUnopened fault) (IsRefusedFor g Held AtLimit fault)
@@ -86,6 +201,14 @@ module _ {D : Type 0} (g : Ghosts D) (Held : Type 0) (AtLimit : Files D → Type
   refused_cause opening.Store (Some files) cause = cause
   refused_cause opening.Busy (Some files) cause = cause
   refused_cause opening.Path (Some files) cause = cause
+
+  -- and so have those that were not looked through
+  pub look_cause : (fault : LookFault) (files : Option (Files D))
+      → MatchOption files (IsUnopenedLook fault) (IsLookRefusedFor g Held AtLimit fault)
+      → IfErr (look_answer fault) (λ fault.
+      HasNoAnswerFor g AtLimit (HasFaultCause (¬ Held) ⊥) Opened fault (Refused files))
+  look_cause Pages files cause = tt
+  look_cause (Open fault) files cause = refused_cause fault files cause
 
   -- and so have those that were to be continued
   pub unresumed_cause : (fault : OpenFault) (files : Option (Files D))
@@ -98,3 +221,28 @@ module _ {D : Type 0} (g : Ghosts D) (Held : Type 0) (AtLimit : Files D → Type
   unresumed_cause opening.Store (Some files) cause = cause
   unresumed_cause opening.Busy (Some files) cause = cause
   unresumed_cause opening.Path (Some files) cause = cause
+
+-- files of which there is no copy have the cause of the copying
+pub uncopied_cause : {A B : Type 0} (one : Ghosts A) (two : Ghosts B) (found : Image)
+    (first original : Files A) → image_of one first ≡ found → (fault : LookFault)
+    (copy : Option (Files B))
+    → MatchOption copy (IsUnopenedLook fault) (IsCopyRefusedFor one two first original fault)
+    → HasNoCopyFor one two found (not_copied fault) (Some original) (Refused copy)
+uncopied_cause one two found first original same Pages None cause = cause
+uncopied_cause one two found first original same (Open fault) None cause =
+    without_files open_fault refl refl refl fault cause
+uncopied_cause one two found first original same Pages (Some copy) cause = λ honest clean held.
+    cause honest clean (subst HoldsBooks (sym same) held)
+uncopied_cause one two found first original same (Open opening.NotBooks) (Some copy) cause =
+    λ honest clean held. cause honest clean (subst HoldsBooks (sym same) held)
+uncopied_cause one two found first original same (Open opening.Memory) (Some copy) cause =
+    λ honest clean. tt
+uncopied_cause one two found first original same (Open opening.Store) (Some copy) cause =
+    λ honest clean. elim (cause honest clean) [
+      | inl more ↦ inl (since_none _ _ more)
+      | inr full ↦ inr full
+    ]
+uncopied_cause one two found first original same (Open opening.Busy) (Some copy) cause =
+    λ honest clean. cause honest clean
+uncopied_cause one two found first original same (Open opening.Path) (Some copy) cause =
+    λ honest clean. cause honest clean

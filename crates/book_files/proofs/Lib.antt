@@ -1,6 +1,6 @@
 -- The lemmas: what a session leaves of files; what is left where new books are made; where they are
 -- continued; that books to which nothing was submitted are those of no history; why a session has no
--- answer.
+-- answer, and why there is no copy.
 pub mod SessionParts
 pub mod NewParts
 pub mod ResumeParts

@@ -132,7 +132,7 @@ module _ {D : Type 0} {g : Ghosts D} (first : Image) (store : FileStore D g) (re
         ap (λ (trees : Trees). trees tree) (found (clean_of _ clean) begun.held)
         ∙ begun.empty tree low
 
-    opened_empty : IsClean (view store) → IsEmpty (view store)
+    pub opened_empty : IsClean (view store) → IsEmpty (view store)
     opened_empty clean = record {
       rest = record {
         is_open = ready.is_open clean;

@@ -2,29 +2,31 @@
 //! open books is written for any store, so that it is proved once.
 
 ghost use Rattle.std.specs.Prelude.{◌≡◌, true, false, is_some, ⊤, IfErr, IfOk, IsTrue};
+ghost use Rattle.sqlite_disk.specs.Disk.{MoreFaults};
 ghost use Rattle.sqlite_store.specs.FileStore.{view};
 ghost use Rattle.sqlite_trees.specs.Tree.{Trees};
 ghost use Rattle.sqlite_trees.specs.View.{IsClean};
 ghost use Rattle.sqlite_wal.specs.Reads.{AreClean};
 ghost use Rattle.sqlite_wal.specs.Recovery.{Image};
 ghost use Rattle.book_model.specs.Words.{Book};
-ghost use Rattle.book_trees.specs.Closing.{IsShort, MayBeFound};
-ghost use Rattle.book_files.specs.Faults.{HasFaultCause, IsResumed, store_fault};
+ghost use Rattle.book_trees.specs.Closing.{HaveFailed, IsShort, MayBeFound};
+ghost use Rattle.book_files.specs.Faults.{HasFaultCause, IsResumed, ShowsOurs, store_fault};
 ghost use Rattle.book_files.specs.NewBooks.{IsEmpty, LeavesNew, LeavesNewBooks};
 ghost use Rattle.book_files.specs.Unused.{SaysUnused, are_unused, unused_by};
 ghost use Rattle.book_restarts.specs.FileBooks.{HoldsBook, LeavesBook, LeavesTrees, StandsAt};
 ghost use Rattle.book_restarts.specs.FileBooks.{done_by, file_names};
+ghost use Rattle.table_ledger.specs.Loaded.{CanBeListed};
 ghost use Rattle.table_ledger.specs.Ready.{IsStoredIn};
 ghost use Rattle.table_model.specs.TablesOf.{tables_of};
 ghost use Rattle.tree_tables.specs.Holds.{HasShapes, has_book};
 ghost use Rattle.tree_tables.specs.States.{HasCleanDisk, state};
-ghost use Rattle.tree_tables.specs.Steps.{Looks};
+ghost use Rattle.tree_tables.specs.Steps.{FailsByStore, Looks};
 
 use book_audit::{Audited, Watch, audit_trees};
 use book_core::{LedgerFault, ShaNames};
-use book_trees::{Closed, close_books};
+use book_trees::{Closed, close_books, close_unchanged};
 use office::{RepositoryFault, Visit};
-use sqlite_disk::{Disk, Files};
+use sqlite_disk::Disk;
 use sqlite_store::FileStore;
 use sqlite_trees::error::StoreError;
 use sqlite_trees::store::Store;
@@ -34,7 +36,7 @@ use tree_tables::{StoredBook, TreeTables};
 
 /// Visits the books in a store. They name records by SHA-256. The store is given back: whatever a
 /// stop may leave of it holds what the visit made of its book.
-fn visit_in<S: Store, V: Visit + Drop>(
+pub fn visit_in<S: Store, V: Visit + Drop>(
     alloc: Global,
     store: S,
     visit: V,
@@ -46,8 +48,12 @@ fn visit_in<S: Store, V: Visit + Drop>(
     ensures clean { IsClean (S.Store.view result.1) → IsClean (S.Store.view store) }
     ensures there { IfOk result.0 (λ answer. IsClean (S.Store.view result.1)
         → has_book (S.Store.view store).trees ≡ true) }
+
+    // Books that a ledger left are not visited only because of memory and the store.
     ensures cause { IfErr result.0 (λ fault. IsClean (S.Store.view result.1)
-        → HasFaultCause (has_book (S.Store.view store).trees ≡ false) ⊥ ⊤ fault) }
+        → HasFaultCause (has_book (S.Store.view store).trees ≡ false) ⊥
+        (ShowsOurs file_names (S.Store.view store)
+        → MoreFaults (S.Store.faults store) (S.Store.faults result.1)) fault) }
 {
     match TableLedger::open(alloc, store, ShaNames) {
         Ok(mut books) => {
@@ -89,6 +95,8 @@ fn are_new<S: Store>(alloc: Global, tables: &mut TreeTables<S>) -> Result<Option
         SaysUnused }
     ensures row { IfOk result (λ found. HasCleanDisk (state S.Store tables.new.store)
         → is_some found ≡ has_book (S.Store.view tables.old.store).trees) }
+    ensures cause { FailsByStore result (state S.Store tables.old.store)
+        (state S.Store tables.new.store) CanBeListed }
 {
     let Some(book) = tables.find_book()? else {
         return Ok(None);
@@ -104,6 +112,7 @@ fn look_for_new<S: Store>(alloc: Global, store: S) -> (Result<Option<bool>, Stor
     ensures looks { Looks result.0 (state S.Store store) (state S.Store result.1) SaysUnused }
     ensures row { IfOk result.0 (λ found. HasCleanDisk (state S.Store result.1)
         → is_some found ≡ has_book (S.Store.view store).trees) }
+    ensures cause { FailsByStore result.0 (state S.Store store) (state S.Store result.1) CanBeListed }
     ensures shaped { IsClean (S.Store.view result.1) → HasShapes (S.Store.view result.1) }
 {
     let mut tables = TreeTables::over(alloc, store);
@@ -171,7 +180,8 @@ pub(crate) fn visit_and_close<D: Disk, V: Visit + Drop>(
         → has_book (view store).trees ≡ true) }
     ensures cause { IfErr result.0 (λ fault.
         AreClean D.Disk result.1.files.log result.1.files.db
-        → HasFaultCause (has_book (view store).trees ≡ false) ⊥ ⊤ fault) }
+        → HasFaultCause (has_book (view store).trees ≡ false) ⊥
+        (ShowsOurs file_names (view store) → HaveFailed D.Disk result.1.files) fault) }
 {
     let (answer, store) = visit_in(alloc, store, visit);
     (answer, close_books(store))
@@ -220,15 +230,34 @@ pub(crate) fn resume_and_close<D: Disk>(
     (made, close_books(store))
 }
 
-/// Audits the books in a file that was opened, and drops it. Nothing was written, and what its log
-/// holds is left there.
+/// Audits the books in a store, which is given back. Nothing is written to them.
+fn audit_in<S: Store, W: Watch>(
+    alloc: Global,
+    store: S,
+    watch: &mut W,
+) -> (Result<Audited, RepositoryFault>, S)
+    requires { IsClean (S.Store.view store) → HasShapes (S.Store.view store) }
+    ensures held { (book : Book) → StandsAt file_names book (S.Store.view store)
+        → IsClean (S.Store.view result.1) → (trees : Trees) → S.Store.recovers result.1 trees
+        → IsStoredIn file_names book trees }
+{
+    let (audited, store) = audit_trees(alloc, store, watch);
+    (audited.map_err(RepositoryFault::Ledger), store)
+}
+
+/// Audits the books in a file that was looked through, and closes it. Nothing is written, and what
+/// its log holds is left there: whatever may be found of the file then, and wherever a stop comes
+/// within this, holds the books as they were.
 pub(crate) fn audit_and_close<D: Disk, W: Watch>(
     alloc: Global,
     store: FileStore<D>,
     watch: &mut W,
-) -> (Result<Audited, RepositoryFault>, Files<D>)
+) -> (Result<Audited, RepositoryFault>, Closed<D>)
     requires { HasShapes (view store) }
+    ensures held { IsTrue result.1.is_kept → (book : Book) → StandsAt file_names book (view store)
+        → (image : Image) → MayBeFound D.Disk result.1.files image
+        → HoldsBook file_names book image }
 {
-    let (audited, store) = audit_trees(alloc, store, watch);
-    (audited.map_err(RepositoryFault::Ledger), store.close())
+    let (audited, store) = audit_in(alloc, store, watch);
+    (audited, close_unchanged(store))
 }

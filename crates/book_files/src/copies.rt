@@ -1,9 +1,10 @@
 //! A copy of the books in a file, made while nobody else has them.
 
-ghost use Rattle.std.specs.Prelude.{IsOk};
+ghost use Rattle.std.specs.Prelude.{◌≡◌, IfErr, IsOk};
 ghost use Rattle.sqlite_wal.specs.Files.{image_at};
 ghost use Rattle.sqlite_wal.specs.Recovery.{Image};
 ghost use Rattle.book_core.specs.Transition.{NoEvent};
+ghost use Rattle.book_files.specs.Faults.{HasNoCopyFor, not_copied};
 ghost use Rattle.book_files.specs.Sessions.{AreHonest, MayFollow};
 ghost use Rattle.book_restarts.specs.FileBooks.{GoesOn, file_names};
 
@@ -63,9 +64,14 @@ pub fn copy_at<S: Start, T: Start>(
     held: T,
     seed: u64,
 ) -> Copied<FileFrom<S>, FileFrom<T>>
-    ensures { IsOk result.answer → AreHonest ⟦<FileFrom<S> as Disk>⟧ result.original → (image : Image)
-        → MayFollow ⟦<FileFrom<T> as Disk>⟧ result.copy image
+    ensures history { IsOk result.answer → AreHonest ⟦<FileFrom<S> as Disk>⟧ result.original
+        → (image : Image) → MayFollow ⟦<FileFrom<T> as Disk>⟧ result.copy image
         → GoesOn file_names NoEvent (image_at S.Start) image }
+
+    // Of books that a ledger left there is no copy only because of memory, a call on either pair of
+    // files that failed, and the limits of the format.
+    ensures cause { IfErr result.answer (λ fault. HasNoCopyFor ⟦<FileFrom<S> as Disk>⟧
+        ⟦<FileFrom<T> as Disk>⟧ (image_at S.Start) fault result.original result.copy) }
 {
     let mut files = match lock_at(rt, path, start) {
         Ok(files) => files,
@@ -95,7 +101,9 @@ pub fn copy_at<S: Start, T: Start>(
 }
 
 /// What it means that a copy was not looked through.
-fn copy_fault(fault: LookFault) -> CopyFault {
+fn copy_fault(fault: LookFault) -> CopyFault
+    ensures { result ≡ not_copied fault }
+{
     match fault {
         LookFault::Pages => CopyFault::Pages,
         LookFault::Open(fault) => CopyFault::Refused(refused(fault)),

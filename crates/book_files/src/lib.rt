@@ -9,6 +9,7 @@ mod new_books;
 mod repository;
 mod session;
 
+pub use books::visit_in;
 pub use copies::{Copied, CopyFault, copy_at};
 pub use repository::Files;
-pub use session::{Ended, make_at, resume_at, visit_at};
+pub use session::{Ended, audit_at, make_at, resume_at, visit_at};

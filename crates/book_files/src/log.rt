@@ -45,8 +45,11 @@ impl<'a> Log<'a> {
     }
 
     /// Drops the files of books that were closed, with their log where it holds nothing, and says
-    /// whether it holds a part of the books.
+    /// whether it holds a part of the books. A log that was not to be moved is left as it was.
     pub(crate) fn release<D: Disk + Drop>(&self, closed: Closed<D>) -> bool {
+        if closed.log == LogLeft::Unmoved {
+            return self.leave(Some(closed.files));
+        }
         let has_log = closed.log != LogLeft::Short;
         if !has_log {
             self.remove_if_empty();

@@ -4,12 +4,11 @@ ghost use Rattle.std.specs.Prelude.{◌≡◌};
 ghost use Rattle.std.specs.IoError.{error_kind};
 ghost use Rattle.book_files.specs.Faults.{file_fault, look_answer, open_fault};
 
-use crate::books::audit_and_close;
 use crate::log::Log;
-use crate::session::{Ended, visit_at};
+use crate::session::{Ended, audit_at, visit_at};
 use book_audit::{Audited, AuditedRepository, Finding, Place, Watch, Wrong};
 use book_core::LedgerFault;
-use book_trees::{LookFault, OpenFault, look_through_at};
+use book_trees::{LookFault, OpenFault};
 use office::{Opened, Repository, RepositoryFault, Visit};
 use sqlite_disk::{Disk, Unknown};
 use std::hash::{BuildHasher, RandomState};
@@ -144,19 +143,13 @@ impl AuditedRepository for Files<'_> {
     /// Audits the whole file: all of its pages, and then each row of its trees. The files are left
     /// as they were.
     fn audit<W: Watch>(&self, book: &str, watch: &mut W) -> Opened<Audited> {
-        let (log, seed) = match self.begin_with(book) {
-            Ok(begun) => begun,
-            Err(fault) => return without_log(Err(fault)),
-        };
-        let (answer, files) = match look_through_at(self.rt, book, seed, Unknown) {
-            Ok(store) => {
-                let (audited, files) = audit_and_close(self.rt.alloc(), store, watch);
-                (audited, Some(files))
+        match self.begin_with(book) {
+            Ok((log, seed)) => {
+                let (answer, ended) = audit_at(self.rt, book, seed, Unknown, watch);
+                released(&log, answer, ended)
             }
-            Err((fault, files)) => (not_looked_through(fault), files),
-        };
-        let has_log = log.leave(files);
-        Opened { answer, has_log }
+            Err(fault) => without_log(Err(fault)),
+        }
     }
 
     /// Copies the books of a file, and whatever their log holds of them, into one file. They are

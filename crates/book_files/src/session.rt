@@ -1,12 +1,12 @@
-//! One session on the books in a file: it is opened, visited and closed; or new books are made in
-//! it, or continued.
+//! One session on the books in a file: it is opened, visited and closed; or looked through; or new
+//! books are made in it, or continued.
 
 ghost use Rattle.std.specs.Prelude.{◌≡◌, [], false, true, ⊤, IfErr, IfOk, List};
 ghost use Rattle.sqlite_wal.specs.Files.{image_at};
 ghost use Rattle.sqlite_wal.specs.Recovery.{Image};
 ghost use Rattle.book_model.specs.Words.{Event};
 ghost use Rattle.book_core.specs.Transition.{NoEvent};
-ghost use Rattle.book_files.specs.Faults.{HasFaultCause, HasNoAnswerFor, resume_fault};
+ghost use Rattle.book_files.specs.Faults.{HasFaultCause, HasNoAnswerFor, HoldsOurs, resume_fault};
 ghost use Rattle.book_files.specs.NewBooks.{MakesBooks, MayBeMade};
 ghost use Rattle.book_files.specs.Sessions.{IsFileAlone, MayFollow};
 ghost use Rattle.book_restarts.specs.FileBooks.{GoesOn, HoldsHistory, done_by, file_names};
@@ -15,9 +15,10 @@ ghost use Rattle.book_trees.specs.LedgerFiles.{trees_held};
 ghost use Rattle.book_trees.specs.Refusals.{AreFull, StopCreating};
 ghost use Rattle.tree_tables.specs.Holds.{has_book};
 
-use crate::books::{make_and_close, resume_and_close, visit_and_close};
-use crate::repository::refused;
-use book_trees::{Closed, LeftByLedger, OpenFault, create_at, open_at};
+use crate::books::{audit_and_close, make_and_close, resume_and_close, visit_and_close};
+use crate::repository::{not_looked_through, refused};
+use book_audit::{Audited, Watch};
+use book_trees::{Closed, LeftByLedger, OpenFault, create_at, look_through_at, open_at};
 use office::{RepositoryFault, Visit};
 use sqlite_disk::{Disk, Files, Start};
 use sqlite_std_file::FileFrom;
@@ -51,14 +52,16 @@ pub fn visit_at<S: LeftByLedger, V: Visit + Drop>(
         image }
 
     // There are books exactly where their row is there: that there are none is answered only of files
-    // that hold none, or not their row, and without it none are visited.
+    // that hold none, or not their row, and without it none are visited. A fault of the store is told
+    // of what a ledger left only where a call on the files failed, or met a limit.
     ensures there { IfOk result.0 (λ answer. (image : Image)
         → MayFollow ⟦<FileFrom<S> as Disk>⟧ result.1 image
         → (held : HoldsBooks (image_at S.Start)) → has_book (trees_held held) ≡ true) }
     ensures cause { IfErr result.0 (λ fault. HasNoAnswerFor ⟦<FileFrom<S> as Disk>⟧
         (AreFull ⟦<FileFrom<S> as Disk>⟧) (HasFaultCause (¬ HoldsBooks (image_at S.Start)) ⊥)
-        (HasFaultCause ((held : HoldsBooks (image_at S.Start)) → has_book (trees_held held) ≡ false)
-        ⊥ ⊤) fault result.1) }
+        (λ Failed. HasFaultCause
+        ((held : HoldsBooks (image_at S.Start)) → has_book (trees_held held) ≡ false) ⊥
+        (HoldsOurs file_names (image_at S.Start) → Failed)) fault result.1) }
 {
     match open_at(rt, path, seed, start) {
         Ok(store) => {
@@ -83,7 +86,7 @@ pub fn make_at<S: Start>(
         → MakesBooks file_names result.0 image }
     ensures cause { IfErr result.0 (λ fault. HasNoAnswerFor ⟦<FileFrom<S> as Disk>⟧
         (StopCreating ⟦<FileFrom<S> as Disk>⟧) (HasFaultCause (¬ HoldsNothing (image_at S.Start)) ⊥)
-        (HasFaultCause ⊥ ⊥ ⊤) fault result.1) }
+        (λ Failed. HasFaultCause ⊥ ⊥ ⊤) fault result.1) }
 {
     match create_at(rt, path, seed, start) {
         Ok(store) => {
@@ -126,8 +129,9 @@ pub fn resume_at<S: LeftByLedger>(
     // That books are there is answered of files that hold none of ours, or have their row.
     ensures cause { IfErr result.0 (λ fault. HasNoAnswerFor ⟦<FileFrom<S> as Disk>⟧
         (AreFull ⟦<FileFrom<S> as Disk>⟧) (HasFaultCause ⊥ (¬ HoldsBooks (image_at S.Start)))
-        (HasFaultCause ⊥ ((held : HoldsBooks (image_at S.Start)) → has_book (trees_held held) ≡ true)
-        ⊤) fault result.1) }
+        (λ Failed. HasFaultCause ⊥
+        ((held : HoldsBooks (image_at S.Start)) → has_book (trees_held held) ≡ true) ⊤)
+        fault result.1) }
 {
     match open_at(rt, path, seed, start) {
         Ok(store) => {
@@ -135,5 +139,32 @@ pub fn resume_at<S: LeftByLedger>(
             (made, Ended::Closed(closed))
         }
         Err((fault, files)) => (Err(unresumed(fault)), Ended::Refused(files)),
+    }
+}
+
+/// Looks through the file at the path, whatever it holds, audits the books in it, and closes it.
+/// Whatever may be found of the files next, and wherever a stop comes within this, holds the history
+/// that they held.
+pub fn audit_at<S: Start, W: Watch>(
+    rt: &HostRuntime,
+    path: &str,
+    seed: u64,
+    start: S,
+    watch: &mut W,
+) -> (Result<Audited, RepositoryFault>, Ended<FileFrom<S>>)
+    ensures history { (image : Image) → MayFollow ⟦<FileFrom<S> as Disk>⟧ result.1 image
+        → GoesOn file_names NoEvent (image_at S.Start) image }
+
+    // Of files that were looked through this says nothing.
+    ensures cause { IfErr result.0 (λ fault. HasNoAnswerFor ⟦<FileFrom<S> as Disk>⟧
+        (AreFull ⟦<FileFrom<S> as Disk>⟧) (HasFaultCause (¬ HoldsBooks (image_at S.Start)) ⊥)
+        (λ _ _. ⊤) fault result.1) }
+{
+    match look_through_at(rt, path, seed, start) {
+        Ok(store) => {
+            let (audited, closed) = audit_and_close(rt.alloc(), store, watch);
+            (audited, Ended::Closed(closed))
+        }
+        Err((fault, files)) => (not_looked_through(fault), Ended::Refused(files)),
     }
 }

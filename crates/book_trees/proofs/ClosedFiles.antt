@@ -1,13 +1,15 @@
 -- What may be found of the files of books that were closed.
-use Rattle.std.proofs.Common.{◌≡◌, ◌≤◌, ◌<◌, Bool, true, false, IsTrue, List, None, ℕ, length}
-use Rattle.std.proofs.Common.{Result, Ok, Err, true≢false}
+use Rattle.std.proofs.Common.{◌≡◌, ◌≢◌, ◌≤◌, ◌<◌, ◌+◌, Bool, true, false, IsTrue, List, ℕ}
+use Rattle.std.proofs.Common.{Result, Ok, Err, length, true≢false}
 use Rattle.std.proofs.Common.{refl, sym, ap, subst, ◌∙◌, inl, inr, arith}
 use Rattle.std.proofs.Math.Logic.{∥∥₁_map}
+use Rattle.std.proofs.lemmas.Bool.{cases_lt}
 use Rattle.std.specs.Prelude.{◌&&◌, IfErr, IsOk, OnOk}
+use Rattle.sqlite_disk.specs.Disk.{MoreFaults}
 use Rattle.sqlite_disk.specs.declared.Disk.{Ghosts}
 use Rattle.sqlite_disk.specs.declared.files.Files.{Files}
-use Rattle.sqlite_store.specs.FileStore.{faults, state, view, files, log_frames, schema_of}
-use Rattle.sqlite_store.specs.FileStore.{recovers}
+use Rattle.sqlite_store.specs.FileStore.{faults, state, view, files, log_frames, recovers}
+use Rattle.sqlite_store.specs.Limits.{times_met}
 use Rattle.sqlite_store.specs.declared.store.FileStore.{FileStore}
 use Rattle.sqlite_trees.specs.Tree.{Trees}
 use Rattle.sqlite_trees.specs.View.{doubt, IsClean}
@@ -17,15 +19,15 @@ use Rattle.sqlite_wal.specs.Reads.{AreClean, are_clean}
 use Rattle.sqlite_wal.specs.Reads.{IsClean as IsCleanFile}
 use Rattle.sqlite_wal.specs.Recovery.{Image}
 use Rattle.book_trees.proofs.EachLeft.{left_by}
-use Rattle.book_trees.proofs.FileParts.{clean_is, left_by_files, named}
+use Rattle.book_trees.proofs.FileParts.{clean_is, faults_are, left_by_files, named}
 use Rattle.book_trees.proofs.ShortLogs.{holds_alone}
-use Rattle.book_trees.specs.Closing.{IsStuckFor, IsWithoutLog, LeavesLog, MayBeFound}
+use Rattle.book_trees.specs.Closing.{HasBooksSchema, HaveFailed, IsStuckFor, IsWithoutLog}
+use Rattle.book_trees.specs.Closing.{LeavesLog, MayBeFound}
 use Rattle.book_trees.specs.declared.closing.LogLeft.{LogLeft}
-use Rattle.book_trees.specs.declared.closing.LogLeft.TheVariants.{Short, Emptied, Kept}
-use Rattle.book_trees.specs.LedgerFiles.{page_size, HoldsBooks, shortest_log, trees_held}
+use Rattle.book_trees.specs.declared.closing.LogLeft.TheVariants.{Short, Emptied, Kept, Unmoved}
+use Rattle.book_trees.specs.LedgerFiles.{HoldsBooks, shortest_log, trees_held}
 use Rattle.book_trees.specs.LedgerFiles.{without_log}
-use Rattle.book_trees.specs.Refusals.{MayLeave}
-use Rattle.book_trees.specs.Schema.{books_schema}
+use Rattle.book_trees.specs.Refusals.{faults_in, MayLeave}
 
 -- both are true
 both_true : (a b : Bool) → IsTrue a → IsTrue b → IsTrue (a && b)
@@ -47,6 +49,25 @@ second_true false false both = both
 on_ok : {T E : Type 0} (result : Result T E) (P : Type 0) → OnOk result P → IsOk result → P
 on_ok (Ok value) P holds good = holds
 on_ok (Err error) P holds good = absurd (true≢false (sym good))
+
+-- where no limit was met, a count that is not 0 is that of the disks
+still_more : (was disks met last : ℕ) → MoreFaults 0 was → was ≤ disks + met → disks ≤ last
+    → met ≤ 0 → MoreFaults 0 last
+still_more was disks met last more later less none = omega arith
+
+-- what failed before a store was closed is counted in its files, or it had met a limit
+pub files_failed : {D : Type 0} {g : Ghosts D} (store end : FileStore D g) (given : Files D) (log : D)
+    → (given.log, given.db) ≡ files end → faults store ≤ faults end
+    → g.faults given.log ≤ g.faults log → MoreFaults 0 (faults store)
+    → HaveFailed g (record { log = log; db = given.db })
+files_failed {D = D} {g = g} store end given log back counts less more =
+    let same : (state end).faults ≡ faults_in g given =
+    faults_are end.pool ∙ ap (λ (p : D × D). faults_in g (named p)) (sym back) in
+    elim (cases_lt 0 (times_met end.limits)) [
+      | inl met ↦ ∣ inr (end, record { log = given.log; back = back }, met) ∣₁
+      | inr none ↦ ∣ inl (still_more (faults store) (state end).faults (times_met end.limits)
+          (g.faults log + g.faults given.db) more counts (omega (arith, same, less)) none) ∣₁
+    ]
 
 -- A store was closed, and the length of its log was asked.
 module _ {D : Type 0} {g : Ghosts D} (store end : FileStore D g) (given : Files D) (log : D)
@@ -82,12 +103,12 @@ module _ {D : Type 0} {g : Ghosts D} (store end : FileStore D g) (given : Files 
           (log_crash image.log may.1.0, may.1.1),
         ))
 
-    module _ (schema : schema_of end ≡ books_schema) (size : (state end).page_size ≡ page_size)
-        (unaltered : end.saved ≡ None) where
+    module _ (books : HasBooksSchema end) where
       left_whole : (image : Image) → MayLeave g last image
           → ∥ ((held : HoldsBooks image) × recovers store (trees_held held)) ∥₁
       left_whole image may =
-          ∥∥₁_map (left_by end schema (λ _. size) unaltered image (left_by_last image may))
+          ∥∥₁_map (left_by end books.schema (λ _. books.size) books.unaltered image
+          (left_by_last image may))
           λ found. (found.0, outcomes (trees_held found.0) found.1)
 
       left_alone : (image : Image) → IsWithoutLog g last image
@@ -115,17 +136,17 @@ module _ {D : Type 0} {g : Ghosts D} (store end : FileStore D g) (given : Files 
         → (left : LogLeft)
         → (left ≡ Short → IsCleanFile g log → length (g.seen log) < shortest_log)
         → (left ≡ Emptied → IsOk moved)
-        → ((error : StoreError) → left ≡ Kept error → moved ≡ Err error)
+        → ((error : StoreError) → left ≡ Kept error → moved ≡ Err error) → left ≢ Unmoved
         → LeavesLog g store last left
-    log_leaves moved emptied cause Short short was stuck =
+    log_leaves moved emptied cause Short short was stuck tried =
         λ honest. short refl (first_true _ _ honest)
-    log_leaves moved emptied cause Emptied short was stuck =
+    log_leaves moved emptied cause Emptied short was stuck tried =
         λ is_open. ∣ (
           end,
           record { log = given.log; back = back },
           on_ok moved _ emptied (was refl) is_open,
         ) ∣₁
-    log_leaves moved emptied cause (Kept error) short was stuck =
+    log_leaves moved emptied cause (Kept error) short was stuck tried =
         λ is_open honest. ∣ (
           end,
           record { log = given.log; back = back },
@@ -133,3 +154,4 @@ module _ {D : Type 0} {g : Ghosts D} (store end : FileStore D g) (given : Files 
               IfErr moved (IsStuckFor (faults store) (faults end)))
               (stuck error refl) (cause (no_doubt _ (end_clean honest)) is_open),
         ) ∣₁
+    log_leaves moved emptied cause Unmoved short was stuck tried = tried refl

@@ -1,5 +1,5 @@
 -- A store was rolled back, and the pages of its log were moved into the file, or not.
-use Rattle.std.proofs.Common.{◌≡◌, ◌≤◌, Bool, true, false, IsTrue, ℕ, Result, Ok, Err, arith, sym}
+use Rattle.std.proofs.Common.{◌≤◌, IsTrue, ℕ, Result, Ok, Err, arith, sym}
 use Rattle.std.proofs.Common.{◌∙◌, true≢false}
 use Rattle.std.specs.Prelude.{◌⊎◌, IfErr, OnOk}
 use Rattle.std.proofs.Common.{inl, inr}
@@ -7,11 +7,10 @@ use Rattle.sqlite_disk.specs.Disk.{MoreFaults}
 use Rattle.sqlite_disk.specs.declared.Disk.{Ghosts}
 use Rattle.sqlite_store.specs.FileStore.{faults, view, is_shielded, recovers}
 use Rattle.sqlite_store.specs.declared.store.FileStore.{FileStore}
-use Rattle.sqlite_trees.specs.View.{doubt, HasCause, IsClean, IsQuiet, IsRolledBack}
+use Rattle.sqlite_trees.specs.View.{HasCause, IsClean, IsQuiet, IsRolledBack}
 use Rattle.sqlite_trees.specs.declared.error.StoreError.{StoreError}
 use Rattle.sqlite_trees.specs.declared.error.StoreError.TheVariants.{OutOfMemory, Io, Corrupt}
 use Rattle.sqlite_trees.specs.declared.error.StoreError.TheVariants.{Full, Broken, Unstorable}
-use Rattle.sqlite_trees.proofs.Doubt.{clean_of, no_doubt}
 use Rattle.book_trees.specs.Closing.{IsStuckFor}
 
 -- what is so unless pages spilled is so where none did
@@ -21,10 +20,10 @@ moved_if_open P Q R (Ok value) moved logged = λ is_open. moved (logged is_open)
 moved_if_open P Q R (Err error) moved logged = moved
 
 -- the count rose during the later of two calls, or during the earlier
-more_late : (old mid new : ℕ) → old ≤ mid → MoreFaults mid new → MoreFaults old new
+pub more_late : (old mid new : ℕ) → old ≤ mid → MoreFaults mid new → MoreFaults old new
 more_late old mid new first more = omega arith
 
-more_early : (old mid new : ℕ) → MoreFaults old mid → mid ≤ new → MoreFaults old new
+pub more_early : (old mid new : ℕ) → MoreFaults old mid → mid ≤ new → MoreFaults old new
 more_early old mid new more later = omega arith
 
 -- A store was rolled back, and then the pages of its log were to be moved.

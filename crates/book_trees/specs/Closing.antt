@@ -1,20 +1,23 @@
 -- What may be found of the two files after they were closed.
-use Rattle.std.specs.Prelude.{◌≡◌, ◌⊎◌, ◌<◌, ℕ, [], length, IsTrue, ⊤}
+use Rattle.std.specs.Prelude.{◌≡◌, ◌⊎◌, ◌<◌, ℕ, [], None, length, IsTrue, ⊤}
 use Rattle.sqlite_disk.specs.Disk.{MoreFaults}
 use Rattle.sqlite_disk.specs.declared.Disk.{Ghosts}
 use Rattle.sqlite_disk.specs.declared.files.Files.{Files}
 use Rattle.sqlite_store.specs.FileStore as store
+use Rattle.sqlite_store.specs.Limits.{times_met}
 use Rattle.sqlite_store.specs.declared.store.FileStore.{FileStore}
 use Rattle.sqlite_trees.specs.declared.error.StoreError.{StoreError}
 use Rattle.sqlite_trees.specs.declared.error.StoreError.TheVariants.{OutOfMemory, Io, Corrupt}
 use Rattle.sqlite_trees.specs.declared.error.StoreError.TheVariants.{Full, Broken, Unstorable}
 use Rattle.sqlite_wal.specs.Reads.{AreClean}
 use Rattle.sqlite_wal.specs.Recovery.{Image}
-use Rattle.book_trees.specs.LedgerFiles.{shortest_log}
-use Rattle.book_trees.specs.Refusals.{MayLeave}
+use Rattle.book_trees.specs.LedgerFiles.{page_size, shortest_log}
+use Rattle.book_trees.specs.Refusals.{faults_in, MayLeave}
+use Rattle.book_trees.specs.Schema.{books_schema}
 use Rattle.book_trees.specs.declared.closing.Closed.{Closed}
 use Rattle.book_trees.specs.declared.closing.LogLeft.{LogLeft}
 use Rattle.book_trees.specs.declared.closing.LogLeft.TheVariants.{Short, Emptied, Kept}
+use Rattle.book_trees.specs.declared.closing.LogLeft.TheVariants.{Unmoved}
 
 -- Why the pages of a log were not moved: memory ran out, about which a store says no more; or a call
 -- on the files failed meanwhile, or met a limit.
@@ -25,6 +28,12 @@ IsStuckFor old new Corrupt = MoreFaults old new
 IsStuckFor old new Full = MoreFaults old new
 IsStuckFor old new Broken = MoreFaults old new
 IsStuckFor old new Unstorable = ⊥
+
+-- a store has the pages and the tables of books, neither of which was changed in its transaction
+pub record HasBooksSchema {D : Type 0} {g : Ghosts D} (it : FileStore D g) : Type 0 where
+  pub size : (store.state it).page_size ≡ page_size
+  pub schema : store.schema_of it ≡ books_schema
+  pub unaltered : it.saved ≡ None
 
 module _ {D : Type 0} (g : Ghosts D) where
   -- the log, which was too short for anything, was deleted: the other file is as a crash may leave it
@@ -43,8 +52,15 @@ module _ {D : Type 0} (g : Ghosts D) where
     pub log : D
     pub back : (log, files.db) ≡ store.files end
 
+  -- Why a store failed: a call on the two files has failed since they were opened, or the store that
+  -- was closed last had met a limit of the format.
+  abbrev pub HaveFailed : Files D → Type 0
+  HaveFailed files =
+      ∥ MoreFaults 0 (faults_in g files)
+      ⊎ ((end : FileStore D g) × IsClosed end files × (0 < times_met end.limits)) ∥₁
+
   -- What a close leaves of the log: it is too short to hold anything; or it holds no page; or its
-  -- pages could not be moved.
+  -- pages could not be moved, which was tried.
   abbrev pub LeavesLog : FileStore D g → Files D → LogLeft → Type 0
   LeavesLog old files Short =
       AreClean g files.log files.db → length (g.seen files.log) < shortest_log
@@ -54,6 +70,7 @@ module _ {D : Type 0} (g : Ghosts D) where
       → AreClean g files.log files.db
       → ∥ ((end : FileStore D g) × IsClosed end files
       × IsStuckFor (store.faults old) (store.faults end) error) ∥₁
+  LeavesLog old files Unmoved = ⊥
 
   -- closed files whose log is said to be short have a short log
   abbrev pub IsShort : Closed D → Type 0

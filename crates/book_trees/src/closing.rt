@@ -1,12 +1,16 @@
 //! The log of books is moved into their file, as is done before they are closed.
 
-ghost use Rattle.std.specs.Prelude.{◌≡◌, ◌≤◌, ◌<◌, ◌↔◌, ℕ, List, length, IfErr, IsOk, IsTrue, OnOk};
-ghost use Rattle.sqlite_store.specs.FileStore.{faults, log_frames, recovers, state, view};
+ghost use Rattle.std.specs.Prelude.{◌≡◌, ◌≢◌, ◌≤◌, ◌<◌, ◌↔◌, ℕ, List, length};
+ghost use Rattle.std.specs.Prelude.{IfErr, IsOk, IsTrue, OnOk};
+ghost use Rattle.sqlite_disk.specs.Disk.{MoreFaults};
+ghost use Rattle.sqlite_store.specs.FileStore.{faults, files as files_of, log_frames};
+ghost use Rattle.sqlite_store.specs.FileStore.{recovers, state, view};
 ghost use Rattle.sqlite_trees.specs.Tree.{Trees};
 ghost use Rattle.sqlite_trees.specs.View.{doubt, IsClean};
 ghost use Rattle.sqlite_wal.specs.Reads.{AreClean, IsClean as IsCleanFile};
 ghost use Rattle.sqlite_wal.specs.Recovery.{Image};
-ghost use Rattle.book_trees.specs.Closing.{IsStuckFor, LeavesLog, MayBeFound};
+ghost use Rattle.book_trees.specs.Closing.{HasBooksSchema, HaveFailed, IsStuckFor, LeavesLog};
+ghost use Rattle.book_trees.specs.Closing.{MayBeFound};
 ghost use Rattle.book_trees.specs.LedgerFiles.{shortest_log, without_log, HoldsBooks, trees_held};
 
 use crate::reopening::keeps_books;
@@ -22,6 +26,7 @@ pub fn checkpoint_log<D: Disk>(store: &mut FileStore<D>) -> Result<(), StoreErro
     ensures moved { OnOk result (IsTrue (view store.old).is_open → log_frames store.new ≡ 0) }
     ensures cause { IsClean (view store.new) → IsTrue (view store.old).is_open
         → IfErr result (IsStuckFor (faults store.old) (faults store.new)) }
+    ensures counts { faults store.old ≤ faults store.new }
     ensures outcomes { (trees : Trees) → recovers store.new trees → recovers store.old trees }
     ensures clean { doubt (view store.old).is_clean ≤ doubt (view store.new).is_clean }
 {
@@ -38,6 +43,8 @@ pub enum LogLeft {
     Emptied,
     /// It may hold pages, which this kept from being moved into the file.
     Kept(StoreError),
+    /// It may hold pages, which were not to be moved.
+    Unmoved,
 }
 
 /// The files of books that were closed.
@@ -53,6 +60,7 @@ pub struct Closed<D: Disk> {
 pub fn is_short<D: Disk>(log: &mut D) -> bool
     ensures short { IsTrue result → IsCleanFile D.Disk log.new
         → length (D.Disk.seen log.new) < shortest_log }
+    ensures counts { D.Disk.faults log.old ≤ D.Disk.faults log.new }
     ensures clean { IsCleanFile D.Disk log.new → IsCleanFile D.Disk log.old }
     ensures crash { (c : List ℕ) → D.Disk.may_leave log.new c → D.Disk.may_leave log.old c }
 {
@@ -77,19 +85,42 @@ pub fn close_books<D: Disk>(store: FileStore<D>) -> Closed<D>
         → ∥ ((held : HoldsBooks image) × recovers store (trees_held held)) ∥₁ }
     // A log that is not short holds no page, or a call failed as its pages were moved.
     ensures log { LeavesLog D.Disk store result.files result.log }
+    // No fault of the store is forgotten.
+    ensures counts { MoreFaults 0 (faults store) → HaveFailed D.Disk result.files }
 {
     let mut store = store;
     let moved = checkpoint_log(&mut store);
-    let is_kept = match keeps_books(&store) {
+    let mut closed = close_unchanged(store);
+    closed.log = log_left(&mut closed.files.log, moved);
+    closed
+}
+
+/// Whether a store is seen to be one of books. To see it takes memory.
+fn is_seen<D: Disk>(store: &FileStore<D>) -> bool
+    ensures { IsTrue result → HasBooksSchema store.now }
+{
+    match keeps_books(store) {
         Ok(is_kept) => is_kept,
         Err(_refused) => false,
-    };
-    let mut files = store.close();
-    let log = log_left(&mut files.log, moved);
+    }
+}
+
+/// Closes books to which nothing is to be written: what their log holds is left there. Whatever may
+/// be found of the files then holds tables that an open might have found before.
+pub fn close_unchanged<D: Disk>(store: FileStore<D>) -> Closed<D>
+    ensures files { (result.files.log, result.files.db) ≡ files_of store }
+    ensures kept { IsTrue result.is_kept → HasBooksSchema store }
+    ensures honest { AreClean D.Disk result.files.log result.files.db
+        → IsTrue (state store).is_clean }
+    ensures left { IsTrue result.is_kept → (image : Image) → MayBeFound D.Disk result.files image
+        → ∥ ((held : HoldsBooks image) × recovers store (trees_held held)) ∥₁ }
+{
+    let is_kept = is_seen(&store);
+    let files = store.close();
     Closed {
         files,
         is_kept,
-        log,
+        log: LogLeft::Unmoved,
     }
 }
 
@@ -99,6 +130,8 @@ fn log_left<D: Disk>(log: &mut D, moved: Result<(), StoreError>) -> LogLeft
         → length (D.Disk.seen log.new) < shortest_log }
     ensures emptied { result ≡ LogLeft.Emptied → IsOk moved }
     ensures kept { (error : StoreError) → result ≡ LogLeft.Kept error → moved ≡ Err error }
+    ensures tried { result ≢ LogLeft.Unmoved }
+    ensures counts { D.Disk.faults log.old ≤ D.Disk.faults log.new }
     ensures clean { IsCleanFile D.Disk log.new → IsCleanFile D.Disk log.old }
     ensures crash { (c : List ℕ) → D.Disk.may_leave log.new c → D.Disk.may_leave log.old c }
 {

@@ -123,6 +123,8 @@ pub fn look_through_at<S: Start>(
     ensures ready { IfOk result IsReady }
     ensures schema { IfOk result (λ store. schema_of store ≡ books_schema) }
     ensures trees { IfOk result (λ store. HasShapes (view store)) }
+    ensures found { IfOk result (λ store. IsTrue (state store).is_clean
+        → (held : HoldsBooks (image_at S.Start)) → (view store).trees ≡ trees_held held) }
 
     // What a stop leaves of files that were not looked through is what they held, or stands for the
     // same.

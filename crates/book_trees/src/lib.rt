@@ -15,7 +15,9 @@ mod reopening;
 mod schema;
 mod unopened;
 
-pub use closing::{Closed, LogLeft, checkpoint_log, close_books, is_short, needs_no_log};
+pub use closing::{
+    Closed, LogLeft, checkpoint_log, close_books, close_unchanged, is_short, needs_no_log,
+};
 pub use copying::{copy_files, copy_to, lock_at};
 pub use faults::OpenFault;
 pub use integrity::{LookFault, look_through, look_through_at};

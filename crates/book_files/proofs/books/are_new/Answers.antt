@@ -1,6 +1,8 @@
 use Rattle.std.proofs.Common.{◌≡◌, ◌∙◌, ap, is_some, length, sym}
 use Rattle.table_model.specs.Tables.{Tables}
-use Rattle.tree_tables.proofs.Looking.{looks_after_look, looks_so, was_clean}
+use Rattle.table_ledger.specs.Loaded.{CanBeListed}
+use Rattle.tree_tables.proofs.Looking.{err_on, fails_after_look, looks_after_look, looks_so}
+use Rattle.tree_tables.proofs.Looking.{survives_both, was_clean}
 use Rattle.book_files.specs.Unused.{unused_by}
 use Rattle.book_files.proofs.ResumeParts.{looks_failed, looks_unused, never_absent, says_unused}
 use Rattle.book_files.proofs.books.are_new.Goals as goal
@@ -51,3 +53,25 @@ returns-clause-row g c = λ clean.
     sym (ap is_some c.in-Some.is) ∙ c.in_ok-book.ensures.row
     (was_clean c.in_ok-tariffs.ensures.looks.survives
     (was_clean c.in_ok-closes.ensures.looks.survives clean))
+
+pub returns-in_err-book-clause-cause : goal.returns-in_err-book-clause-cause
+returns-in_err-book-clause-cause g c =
+    err_on _ c.from_residual.result c.from_residual.ensures.1 (λ clean tables holds listed.
+    c.in_err-book.ensures.cause clean tables holds tt)
+
+pub returns-in_err-tariffs-clause-cause : goal.returns-in_err-tariffs-clause-cause
+returns-in_err-tariffs-clause-cause g c =
+    err_on _ c.from_residual-in_err-tariffs.result c.from_residual-in_err-tariffs.ensures.1
+    (fails_after_look {When = CanBeListed} _ c.in_ok-book.ensures.looks
+    c.in_err-tariffs.ensures.looks.survives (λ clean tables holds found listed.
+    c.in_err-tariffs.ensures.cause clean tables holds listed.tariffs))
+
+pub returns-in_err-closes-clause-cause : goal.returns-in_err-closes-clause-cause
+returns-in_err-closes-clause-cause g c =
+    err_on _ c.from_residual-in_err-closes.result c.from_residual-in_err-closes.ensures.1
+    (fails_after_look {When = CanBeListed} _ c.in_ok-book.ensures.looks
+    (survives_both c.in_ok-tariffs.ensures.looks.survives c.in_err-closes.ensures.looks.survives)
+    (λ clean tables holds found listed. fails_after_look {When = CanBeListed} _
+    c.in_ok-tariffs.ensures.looks c.in_err-closes.ensures.looks.survives
+    (λ clean tables holds lists listed. c.in_err-closes.ensures.cause clean tables holds listed.closes)
+    clean tables holds listed))

@@ -1,4 +1,5 @@
 use Rattle.std.proofs.Common.{◌≡◌, ◌∙◌, false, inl, inr, subst, sym}
+use Rattle.sqlite_disk.specs.Disk.{MoreFaults}
 use Rattle.sqlite_trees.specs.Tree.{Trees}
 use Rattle.sqlite_trees.specs.View.{IsClean}
 use Rattle.book_restarts.proofs.OpenStores.{clean_before}
@@ -6,7 +7,9 @@ use Rattle.book_restarts.proofs.SessionLemmas.{none_leaves, visit_leaves}
 use Rattle.book_restarts.specs.FileBooks.{file_names}
 use Rattle.table_ledger.specs.Ready.{IsStoredIn}
 use Rattle.tree_tables.specs.Holds.{has_book}
-use Rattle.book_files.proofs.Causes.{opened_cause}
+use Rattle.tree_tables.specs.States.{state}
+use Rattle.book_files.specs.Faults.{ShowsOurs}
+use Rattle.book_files.proofs.Causes.{opened_cause, ours_failed}
 use Rattle.book_files.proofs.books.visit_in.Goals as goal
 
 pub returns-in-Ok-clause-left : goal.returns-in-Ok-clause-left
@@ -54,5 +57,11 @@ returns-in-Err-clause-clean g c = λ clean.
 
 pub returns-in-Err-clause-cause : goal.returns-in-Err-clause-cause
 returns-in-Err-clause-cause g c = λ clean.
-    opened_cause (has_book (g.S.Store.view c.args.store).trees ≡ false) ⊥ c.in-Err.fault (λ none. (c.in-Err.ensures.told clean).none none)
+    let old = state g.S.Store c.args.store in
+    let new = state g.S.Store c.in-Err.store in
+    let told = c.in-Err.ensures.told clean in
+    opened_cause (has_book old.view.trees ≡ false) ⊥
+    (ShowsOurs file_names old.view → MoreFaults old.faults new.faults) c.in-Err.fault
+    (λ none. told.none none)
+    (λ is ours. ours_failed file_names old new c.in-Err.fault is told (c.in-Err.ensures.own clean) ours)
     c.in-Err.ensures.refused

@@ -34,7 +34,7 @@ returns-in-Err-clause-cause g c =
     let disk = modelled.ghosts the_row g.row.S host.ghosts host.dict g.S.Start g.S.Start-dict
     g.S.Destruct-dict in
     subst (λ fault. HasNoAnswerFor disk (StopCreating disk)
-    (HasFaultCause (¬ HoldsNothing (image_at g.S.Start)) ⊥) (HasFaultCause ⊥ ⊥ ⊤) fault
+    (HasFaultCause (¬ HoldsNothing (image_at g.S.Start)) ⊥) (λ Failed. HasFaultCause ⊥ ⊥ ⊤) fault
     (Refused c.in-Err.files)) (sym c.refused.ensures)
     (refused_cause disk (HoldsNothing (image_at g.S.Start)) (StopCreating disk)
-    (HasFaultCause ⊥ ⊥ ⊤) c.in-Err.fault c.in-Err.files c.in-Err.ensures.cause)
+    (λ Failed. HasFaultCause ⊥ ⊥ ⊤) c.in-Err.fault c.in-Err.files c.in-Err.ensures.cause)

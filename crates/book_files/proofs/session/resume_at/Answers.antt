@@ -74,8 +74,8 @@ returns-in-Err-clause-cause g c =
     g.S.Destruct-dict in
     subst (λ fault. HasNoAnswerFor disk (AreFull disk)
     (HasFaultCause ⊥ (¬ HoldsBooks (image_at g.S.Start)))
-    (HasFaultCause ⊥ ((held : HoldsBooks (image_at g.S.Start)) → has_book (trees_held held) ≡ true)
-    ⊤) fault (Refused c.in-Err.files)) (sym c.unresumed.ensures)
+    (λ Failed. HasFaultCause ⊥
+    ((held : HoldsBooks (image_at g.S.Start)) → has_book (trees_held held) ≡ true) ⊤) fault (Refused c.in-Err.files)) (sym c.unresumed.ensures)
     (unresumed_cause disk (HoldsBooks (image_at g.S.Start)) (AreFull disk)
-    (HasFaultCause ⊥ ((held : HoldsBooks (image_at g.S.Start)) → has_book (trees_held held) ≡ true)
-    ⊤) c.in-Err.fault c.in-Err.files c.in-Err.ensures.cause)
+    (λ Failed. HasFaultCause ⊥
+    ((held : HoldsBooks (image_at g.S.Start)) → has_book (trees_held held) ≡ true) ⊤) c.in-Err.fault c.in-Err.files c.in-Err.ensures.cause)

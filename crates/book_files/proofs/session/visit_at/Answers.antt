@@ -1,18 +1,16 @@
 use Rattle.std.proofs.Common.{◌≡◌, false, inl, refl, subst, sym, true}
-use Rattle.std.specs.Prelude.{⊤}
 use Rattle.sqlite_disk.specs.contracts.modelled.ModelledDisk.TheImpl as modelled
 use Rattle.sqlite_std_file.specs.contracts.host.Host.{the_row}
 use Rattle.sqlite_std_file.specs.contracts.host.HostCalls.TheImpl as host
-use Rattle.sqlite_store.specs.FileStore.{view}
 use Rattle.sqlite_trees.proofs.Doubt.{clean_of}
 use Rattle.sqlite_wal.specs.Files.{image_at}
 use Rattle.book_restarts.specs.FileBooks.{file_names}
 use Rattle.book_trees.specs.LedgerFiles.{HoldsBooks, trees_held}
 use Rattle.book_trees.specs.Refusals.{AreFull}
 use Rattle.tree_tables.specs.Holds.{has_book}
-use Rattle.book_files.specs.Faults.{HasFaultCause, HasNoAnswerFor}
+use Rattle.book_files.specs.Faults.{HasFaultCause, HasNoAnswerFor, HoldsOurs}
 use Rattle.book_files.specs.declared.session.Ended.TheVariants.{Refused}
-use Rattle.book_files.proofs.Causes.{cause_so, err_so, ok_so, refused_cause}
+use Rattle.book_files.proofs.Causes.{err_so, ok_so, refused_cause, visited_cause}
 use Rattle.book_files.proofs.SessionParts.{alone_follows, done_answered, found_clean}
 use Rattle.book_files.proofs.SessionParts.{refused_goes_on}
 use Rattle.book_files.proofs.SessionParts.{session_goes_on}
@@ -40,10 +38,8 @@ pub returns-in-Ok-clause-cause : goal.returns-in-Ok-clause-cause
 returns-in-Ok-clause-cause g c =
     let visited = c.visit_and_close-answer in
     err_so visited.result.0 visited.ensures.cause (λ fault cause clean.
-    cause_so (has_book (view c.in-Ok.store).trees ≡ false) ((held : HoldsBooks (image_at g.S.Start)) → has_book (trees_held held) ≡ false) ⊥ ⊥ ⊤ ⊤
-    (λ absent held. subst (λ trees. has_book trees ≡ false)
-    (c.in-Ok.ensures.found (clean_of _ (visited.ensures.clean clean)) held) absent)
-    (λ never. never) (λ failed. failed) fault (cause clean))
+    visited_cause file_names (image_at g.S.Start) c.in-Ok.store c.in-Ok.ensures.ready
+    c.in-Ok.ensures.found (visited.ensures.clean clean) _ fault (cause clean))
 
 pub returns-in-Err-clause-history : goal.returns-in-Err-clause-history
 returns-in-Err-clause-history g c = λ image may.
@@ -68,8 +64,12 @@ returns-in-Err-clause-cause g c =
     g.S.Destruct-dict in
     subst (λ fault. HasNoAnswerFor disk (AreFull disk)
     (HasFaultCause (¬ HoldsBooks (image_at g.S.Start)) ⊥)
-    (HasFaultCause ((held : HoldsBooks (image_at g.S.Start)) → has_book (trees_held held) ≡ false)
-    ⊥ ⊤) fault (Refused c.in-Err.files)) (sym c.refused.ensures)
+    (λ Failed. HasFaultCause
+    ((held : HoldsBooks (image_at g.S.Start)) → has_book (trees_held held) ≡ false) ⊥
+    (HoldsOurs file_names (image_at g.S.Start) → Failed)) fault (Refused c.in-Err.files))
+    (sym c.refused.ensures)
     (refused_cause disk (HoldsBooks (image_at g.S.Start)) (AreFull disk)
-    (HasFaultCause ((held : HoldsBooks (image_at g.S.Start)) → has_book (trees_held held) ≡ false)
-    ⊥ ⊤) c.in-Err.fault c.in-Err.files c.in-Err.ensures.cause)
+    (λ Failed. HasFaultCause
+    ((held : HoldsBooks (image_at g.S.Start)) → has_book (trees_held held) ≡ false) ⊥
+    (HoldsOurs file_names (image_at g.S.Start) → Failed)) c.in-Err.fault c.in-Err.files
+    c.in-Err.ensures.cause)

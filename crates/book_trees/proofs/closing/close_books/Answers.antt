@@ -1,34 +1,34 @@
-use Rattle.std.proofs.Common.{IsTrue, ◌∙◌, subst, sym, true≢false}
-use Rattle.book_trees.proofs.ClosedFiles.{found_whole, log_leaves, store_clean}
-use Rattle.book_trees.proofs.closing.close_books.Goals.{in-Ok, in-Err}
+use Rattle.book_trees.proofs.ClosedFiles.{files_failed, found_whole, log_leaves, store_clean}
 use Rattle.book_trees.proofs.closing.close_books.Goals as goal
 
 pub returns-clause-honest : goal.returns-clause-honest
 returns-clause-honest g c =
-    store_clean c.args.store c.checkpoint_log-moved.new.store c.close-files.result
-    c.log_left-log.new.log g.met.D.Disk.seen_may_stay c.checkpoint_log-moved.ensures.outcomes
-    c.checkpoint_log-moved.ensures.clean c.close-files.ensures c.log_left-log.ensures.clean
-    c.log_left-log.ensures.crash
+    store_clean c.args.store c.checkpoint_log-moved.new.store
+    c.close_unchanged-closed.result.files c.log_left-closed.new.log g.met.D.Disk.seen_may_stay
+    c.checkpoint_log-moved.ensures.outcomes c.checkpoint_log-moved.ensures.clean
+    c.close_unchanged-closed.ensures.files c.log_left-closed.ensures.clean c.log_left-closed.ensures.crash
 
 pub returns-clause-log : goal.returns-clause-log
 returns-clause-log g c =
-    log_leaves c.args.store c.checkpoint_log-moved.new.store c.close-files.result
-    c.log_left-log.new.log g.met.D.Disk.seen_may_stay c.checkpoint_log-moved.ensures.outcomes
-    c.checkpoint_log-moved.ensures.clean c.close-files.ensures c.log_left-log.ensures.clean
-    c.log_left-log.ensures.crash c.checkpoint_log-moved.result
-    c.checkpoint_log-moved.ensures.moved c.checkpoint_log-moved.ensures.cause
-    c.log_left-log.result c.log_left-log.ensures.short c.log_left-log.ensures.emptied
-    c.log_left-log.ensures.kept
+    log_leaves c.args.store c.checkpoint_log-moved.new.store
+    c.close_unchanged-closed.result.files c.log_left-closed.new.log g.met.D.Disk.seen_may_stay
+    c.checkpoint_log-moved.ensures.outcomes c.checkpoint_log-moved.ensures.clean
+    c.close_unchanged-closed.ensures.files c.log_left-closed.ensures.clean c.log_left-closed.ensures.crash
+    c.checkpoint_log-moved.result c.checkpoint_log-moved.ensures.moved
+    c.checkpoint_log-moved.ensures.cause c.log_left-closed.result c.log_left-closed.ensures.short
+    c.log_left-closed.ensures.emptied c.log_left-closed.ensures.kept c.log_left-closed.ensures.tried
 
 pub returns-clause-left : goal.returns-clause-left
 returns-clause-left g c kept =
-    elim c.match-keeps_books.branch [
-      | in-Ok w ↦
-          let keeps = w.in-Ok.ensures.0 (subst IsTrue w.is_kept-is kept) in
-          found_whole c.args.store c.checkpoint_log-moved.new.store c.close-files.result
-          c.log_left-log.new.log g.met.D.Disk.seen_may_stay
-          c.checkpoint_log-moved.ensures.outcomes c.checkpoint_log-moved.ensures.clean
-          c.close-files.ensures c.log_left-log.ensures.clean c.log_left-log.ensures.crash keeps.1
-          keeps.0 keeps.2
-      | in-Err w ↦ absurd (true≢false (sym kept ∙ w.is_kept-is))
-    ]
+    found_whole c.args.store c.checkpoint_log-moved.new.store
+    c.close_unchanged-closed.result.files c.log_left-closed.new.log g.met.D.Disk.seen_may_stay
+    c.checkpoint_log-moved.ensures.outcomes c.checkpoint_log-moved.ensures.clean
+    c.close_unchanged-closed.ensures.files c.log_left-closed.ensures.clean c.log_left-closed.ensures.crash
+    (c.close_unchanged-closed.ensures.kept kept)
+
+pub returns-clause-counts : goal.returns-clause-counts
+returns-clause-counts g c =
+    files_failed c.args.store c.checkpoint_log-moved.new.store
+    c.close_unchanged-closed.result.files c.log_left-closed.new.log
+    c.close_unchanged-closed.ensures.files c.checkpoint_log-moved.ensures.counts
+    c.log_left-closed.ensures.counts

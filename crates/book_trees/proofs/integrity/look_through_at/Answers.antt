@@ -1,14 +1,22 @@
-use Rattle.std.proofs.Common.{ℕ, inl, inr, subst}
+use Rattle.std.proofs.Common.{◌≡◌, ℕ, inl, inr, subst}
 use Rattle.sqlite_disk.specs.contracts.modelled.ModelledDisk.TheImpl as modelled
 use Rattle.sqlite_pool.specs.Stored.{RecoversAs}
+use Rattle.sqlite_store.specs.FileStore.{view}
 use Rattle.sqlite_std_file.specs.contracts.host.Host.{the_row}
 use Rattle.sqlite_std_file.specs.contracts.host.HostCalls.TheImpl as host
 use Rattle.sqlite_wal.specs.Recovery.{Image}
 use Rattle.book_trees.proofs.FreshFiles.{fresh_faults, fresh_image, fresh_images}
-use Rattle.book_trees.specs.LedgerFiles.{image_of, page_size, HoldsBooks}
+use Rattle.book_trees.specs.LedgerFiles.{image_of, page_size, HoldsBooks, trees_held}
 use Rattle.book_trees.specs.Looks.{HasLookCause}
 use Rattle.book_trees.specs.Refusals.{faults_in, AreFull}
 use Rattle.book_trees.proofs.integrity.look_through_at.Goals as goal
+
+pub returns-in-Ok-look_through-clause-found : goal.returns-in-Ok-look_through-clause-found
+returns-in-Ok-look_through-clause-found g c clean =
+    let fresh = c.in-Ok.ensures.fresh in
+    subst (λ (i : Image). (held : HoldsBooks i) → (view c.in-Ok-look_through.store).trees
+    ≡ trees_held held) (fresh_image g.S.Start.log g.S.Start.db fresh.0 fresh.1)
+    (c.in-Ok-look_through.ensures.found clean)
 
 pub returns-in-Err-look_through-clause-kept : goal.returns-in-Err-look_through-clause-kept
 returns-in-Err-look_through-clause-kept g c left may =
