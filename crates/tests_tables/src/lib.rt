@@ -24,7 +24,7 @@
 //! | `stops log`, `stops database` | what was found when the disk stopped at each call of that file, and lost what was not synced |
 //! | `stops FILE written` | the same, where what was written was not lost |
 //! | `stops FILE torn` | the same, where the first half of the write in progress got there |
-//! | `stops FILE twice`, `stops FILE twice written` | the same, where the disk stopped again at each call on the way back into the books |
+//! | `stops FILE twice`, also with `written` or `torn` after it | the same, where the disk stopped again at each call on the way back into the books |
 //! | `stops FILE all-again` | the same, where the books then got all commands once more, and not from the one in hand on |
 //! | `refuses memory` | what was found when the store answered each of its calls in turn that memory ran out |
 //! | `refuses memory files` | the same, where the books were in two files |

@@ -1,10 +1,11 @@
 //! Stores whose files outlive them, on disks that can be made to fail.
 
 ghost use Rattle.std.specs.Prelude.{IfOk};
+ghost use Rattle.sqlite_store.specs.FileStore.{view};
 ghost use Rattle.sqlite_trees.specs.View.{IsClean};
 ghost use Rattle.tree_tables.specs.Holds.{HasShapes};
 
-use book_trees::{checkpoint_log, create_files, keeps_books};
+use book_trees::{OpenFault, checkpoint_log, create_files, keeps_books, look_through};
 use sqlite_disk::{Crash, Files};
 use sqlite_pager::Options;
 use sqlite_store::FileStore;
@@ -17,8 +18,8 @@ pub trait Restart: Reopen + Drop {
     /// Its files.
     type Disks: Drop;
 
-    /// New trees of books, in files that hold nothing. Where the disk fails, the files as they are
-    /// found after a crash.
+    /// New trees of books, in files that hold nothing, or that a stop left while such trees were made
+    /// in them. Where the disk fails, the files as they are found after a crash.
     fn made(alloc: Global, files: Self::Disks) -> Result<Self, Self::Disks>
         ensures shaped { IfOk result (λ store. IsClean (Self.Store.view store)
             → HasShapes (Self.Store.view store)) };
@@ -42,6 +43,28 @@ fn crashed<D: Crash + Drop>(files: Files<D>) -> Files<D> {
     files
 }
 
+/// Moves the log into the database file after a few pages, so that runs are stopped there too.
+fn options() -> Options {
+    Options {
+        checkpoint_frames: 8,
+        ..Options::new(7)
+    }
+}
+
+/// The trees in files that hold something: those that a stop left while they were made. The program
+/// trusts what its own file of that name holds; here all pages are looked through.
+fn continued<D: Crash + Drop>(alloc: Global, files: Files<D>) -> Result<FileStore<D>, Files<D>>
+    ensures shaped { IfOk result (λ store. IsClean (view store) → HasShapes (view store)) }
+{
+    if !files.may_be_used() {
+        return Err(crashed(files));
+    }
+    match look_through(alloc, files, options()) {
+        Ok(store) => Ok(store),
+        Err((_fault, left)) => Err(crashed(left)),
+    }
+}
+
 impl<D: Crash + Drop> Restart for FileStore<D> {
     type Disks = Files<D>;
 
@@ -49,12 +72,9 @@ impl<D: Crash + Drop> Restart for FileStore<D> {
         if !files.may_be_used() {
             return Err(crashed(files));
         }
-        let options = Options {
-            checkpoint_frames: 8,
-            ..Options::new(7)
-        };
-        match create_files(alloc, files, options) {
+        match create_files(alloc, files, options()) {
             Ok(store) => Ok(store),
+            Err((OpenFault::NotBooks, begun)) => continued(alloc, begun),
             Err((_fault, left)) => Err(crashed(left)),
         }
     }

@@ -51,6 +51,8 @@ impl Snapshot {
 #[derive(Drop)]
 pub(crate) struct Uninterrupted {
     snapshots: Vec<Snapshot>,
+    /// How many changes there are after each command.
+    ends: Vec<usize>,
 }
 
 impl Uninterrupted {
@@ -59,12 +61,17 @@ impl Uninterrupted {
         self.snapshots.len().saturating_sub(1)
     }
 
-    /// These are the books after the last change that was reported to a run, or after the one in
-    /// progress where it was stopped.
+    /// These are the books after the last change that was reported to a run, or after the command in
+    /// hand where it was stopped: an import in a script is one read, and so one commit.
     pub(crate) fn is_reached(&self, progress: Progress, found: &Snapshot) -> bool {
-        let in_hand = if progress.stopped { 2 } else { 1 };
-        let mut reached = self.snapshots.iter().skip(progress.changes).take(in_hand);
-        reached.any(|snapshot| snapshot == found)
+        if self.is_after(progress.changes, found) {
+            return true;
+        }
+        let in_hand = self.ends.iter().find(|end| **end > progress.changes);
+        match in_hand {
+            Some(end) => progress.stopped && self.is_after(*end, found),
+            None => false,
+        }
     }
 
     /// These are the books after a given number of changes.
@@ -173,10 +180,12 @@ pub(crate) fn run_uninterrupted<S: Store + Drop>(
 ) -> Result<(Uninterrupted, Trees<S>), AllocError> {
     let alloc = run.named.alloc();
     let mut snapshots = Vec::new(alloc);
+    let mut ends = Vec::new(alloc);
     let mut trees = add_snapshot(run, trees, &mut snapshots)?;
     for line in run.body.lines() {
         let words: Vec<&str> = line.split_whitespace().collect(alloc)?;
         trees = take_line(run, trees, &words, &mut snapshots)?;
+        ends.push(snapshots.len().saturating_sub(1))?;
     }
-    Ok((Uninterrupted { snapshots }, trees))
+    Ok((Uninterrupted { snapshots, ends }, trees))
 }
