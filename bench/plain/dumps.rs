@@ -32,10 +32,23 @@ pub enum FrameFault {
 /// How many bytes a read asks for.
 const PIECE: usize = 65_536;
 
+/// Counts the reads of a reader.
+struct Counted<R> {
+    inner: R,
+    reads: u64,
+}
+
+impl<R: Read> Read for Counted<R> {
+    fn read(&mut self, bytes: &mut [u8]) -> io::Result<usize> {
+        self.reads += 1;
+        self.inner.read(bytes)
+    }
+}
+
 /// Reads a dump record by record, and holds one at a time.
 pub struct Dump<R> {
     layout: Layout,
-    input: BufReader<R>,
+    input: BufReader<Counted<R>>,
     /// What is left of the block: None where a block's descriptor is due, and always without blocks.
     left: Option<usize>,
     /// Segments of the record are still to come.
@@ -46,7 +59,7 @@ pub struct Dump<R> {
 
 impl<R: Read> Dump<R> {
     pub fn new(layout: Layout, input: R) -> Dump<R> {
-        let input = BufReader::with_capacity(PIECE, input);
+        let input = BufReader::with_capacity(PIECE, Counted { inner: input, reads: 0 });
         Dump { layout, input, left: None, is_begun: false, record: Vec::with_capacity(LONGEST_RECORD) }
     }
 
@@ -57,6 +70,12 @@ impl<R: Read> Dump<R> {
             Ok(false) => Ok(None),
             Err(fault) => Err(fault),
         })
+    }
+
+    /// How often the dump was read.
+    #[cfg(books)]
+    pub fn reads(&self) -> u64 {
+        self.input.get_ref().reads
     }
 
     /// Joins the next record; false at the end of the dump.

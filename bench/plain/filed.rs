@@ -1,5 +1,5 @@
-//! Books in a file, by SQLite's own library: the tables of docs/FORMATS.md, one commit a record, a log that is written
-//! ahead and synced at each commit. The tariff is one price for all records.
+//! Books in a file, by SQLite's own library: the tables of docs/FORMATS.md, one commit for the records that one read of
+//! the dump completes, a log that is written ahead and synced at each commit. The tariff is one price for all records.
 
 use crate::books::{Rates, Receipt, Sums, Usage};
 use crate::dumps::{Dump, Stop};
@@ -38,6 +38,8 @@ pub struct Filed {
     set_day: Statement,
     held: i64,
     total: i64,
+    /// Records are held that no commit has.
+    is_begun: bool,
 }
 
 /// Makes the tables where the file is new, and syncs each commit.
@@ -73,6 +75,7 @@ impl Filed {
             ),
             held: sums[0].0,
             total: sums[0].1,
+            is_begun: false,
         }
     }
 
@@ -92,7 +95,23 @@ impl Filed {
         }
     }
 
-    /// Holds a record in one transaction; false where it is held already.
+    /// Begins a transaction, where none is begun.
+    fn begin(&mut self) {
+        if !self.is_begun {
+            self.begin.execute(&[]);
+            self.is_begun = true;
+        }
+    }
+
+    /// Commits what was written since the last commit.
+    fn commit(&mut self) {
+        if self.is_begun {
+            self.commit.execute(&[]);
+            self.is_begun = false;
+        }
+    }
+
+    /// Holds a record, and commits nothing; false where it is held already.
     fn hold(&mut self, usage: &Usage) -> bool {
         let name = sha256_bytes(usage.data());
         if !self.find.query(&[Value::Blob(&name)], |row| row.bytes(0)).is_empty() {
@@ -104,7 +123,7 @@ impl Filed {
         });
         let Sums { cpu, blocks, amount, .. } = usage.sums;
         let (day, cpu, blocks, amount) = (usage.day.number(), cpu as i64, blocks as i64, amount as i64);
-        self.begin.execute(&[]);
+        self.begin();
         self.insert.execute(&[
             Value::Blob(&name),
             Value::Blob(&usage.identity),
@@ -128,17 +147,22 @@ impl Filed {
         self.held += 1;
         self.total += amount;
         self.set_book.execute(&[Value::Int(self.held), Value::Int(self.total)]);
-        self.commit.execute(&[]);
         true
     }
 
     pub fn import<R: Read>(&mut self, dump: &mut Dump<R>, rates: &Rates) -> io::Result<(Receipt, Stop)> {
         let mut receipt = Receipt::default();
-        loop {
-            let record = match dump.next()? {
-                Ok(Some(record)) => record,
-                Ok(None) => return Ok((receipt, Stop::End)),
-                Err(fault) => return Ok((receipt, Stop::Frame(fault))),
+        let mut reads = dump.reads();
+        let stop = loop {
+            let next = dump.next()?.map(|record| record.map(<[u8]>::to_vec));
+            if dump.reads() != reads {
+                self.commit();
+                reads = dump.reads();
+            }
+            let record = match &next {
+                Ok(Some(record)) => &record[..],
+                Ok(None) => break Stop::End,
+                Err(fault) => break Stop::Frame(*fault),
             };
             match class(record) {
                 Class::DumpHeader => receipt.headers += 1,
@@ -150,6 +174,8 @@ impl Filed {
                 Class::Usage if self.hold(&Usage::read(record, rates)) => receipt.kept += 1,
                 Class::Usage => receipt.known += 1,
             }
-        }
+        };
+        self.commit();
+        Ok((receipt, stop))
     }
 }
