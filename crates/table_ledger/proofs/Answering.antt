@@ -1,11 +1,29 @@
 -- Answers that make no event.
-use Rattle.std.proofs.Common.{◌≡◌, ◌≢◌, inl, Ok, Err, Result, [], None, refl, sym, ap}
+use Rattle.std.proofs.Common.{◌≡◌, ◌≢◌, ◌∙◌, inl, Bool, true, false, Ok, Err, Result, [], None, refl}
+use Rattle.std.proofs.Common.{sym, ap, subst}
+use Rattle.std.specs.Prelude.{if◌then◌else◌}
 use Rattle.book_model.specs.declared.answer.Ruled.{Ruled}
 use Rattle.book_model.specs.declared.answer.Ruled.TheVariants.{Done, Already}
 use Rattle.book_model.specs.declared.fault.LedgerFault.{LedgerFault}
 use Rattle.book_model.specs.declared.fault.LedgerFault.TheVariants.{Memory, Store, Reopen}
-use Rattle.book_model.specs.Words.{Outcome}
-use Rattle.book_core.specs.Calls.{Makes, listed}
+use Rattle.book_model.specs.Words.{Book, Naming, Outcome}
+use Rattle.book_core.specs.Calls.{Makes, is_reopen, is_store, listed}
+use Rattle.tree_tables.specs.States.{State}
+use Rattle.table_ledger.specs.Attempts.{LeavesOpen}
+use Rattle.table_ledger.specs.Stages.{AttemptsOne, IsAt}
+use Rattle.table_ledger.specs.declared.summary.Summary.{Summary}
+use Rattle.table_ledger.proofs.TryLemmas.{saw_none, try_answered}
+
+-- an answer that leaves the books open
+pub opens : {V : Type 0} {answer : Result V LedgerFault} → is_store answer ≡ false
+    → is_reopen answer ≡ false → LeavesOpen answer
+opens stored served = record { stored = stored; served = served }
+
+-- one of two such answers, by a test
+pub opens_if : {V : Type 0} {one other : Result V LedgerFault} (test : Bool) → LeavesOpen one
+    → LeavesOpen other → LeavesOpen (if test then one else other)
+opens_if true first second = first
+opens_if false first second = second
 
 -- a refusal is answered, and makes no event
 pub makes_refused : {V A : Type 0} (view : V → A) (outcome : Outcome A) (fault : LedgerFault)
@@ -29,3 +47,15 @@ ruled_makes outcome (Ok Already) is other none =
     makes_answer (λ (ruled : Ruled). ruled) outcome Already is (none refl)
 ruled_makes outcome (Err fault) is other none =
     makes_refused (λ (ruled : Ruled). ruled) outcome fault is
+
+-- A ruling that is not Done is answered without a look.
+pub ruled_other : {naming : Naming} {was : Summary} (outcome : Book → Outcome Ruled) {state : State}
+    {answer given : Result Ruled LedgerFault} → answer ≡ given → LeavesOpen given
+    → answer ≢ Ok Done
+    → ((book : Book) → IsAt naming was state.view book → (outcome book).answer ≡ given)
+    → ((book : Book) → (outcome book).answer ≡ Ok Already → (outcome book).event ≡ None)
+    → AttemptsOne (λ (ruled : Ruled). ruled) naming was was state state outcome (Ok answer)
+ruled_other outcome {answer = answer} is plain other says none =
+    try_answered outcome saw_none (subst LeavesOpen (sym is) plain) (λ book at known.
+    let said = says book at ∙ sym is in
+    ruled_makes (outcome book) answer said other (λ already. none book (said ∙ already)))

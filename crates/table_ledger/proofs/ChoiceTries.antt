@@ -4,7 +4,7 @@ use Rattle.std.proofs.Common.{sym, ap, subst, Bool, true, false, Result, Ok, Err
 use Rattle.std.proofs.Common.{take, arith, true≢false, slice_get, cond, suc}
 use Rattle.std.specs.Ordering.{is_eq, nat_cmp}
 use Rattle.std.specs.Global.{Global}
-use Rattle.std.specs.Prelude.{Vec, filter, nat_le, if◌then◌else◌, ◌==◌}
+use Rattle.std.specs.Prelude.{Vec, ℤ, filter, nat_le, if◌then◌else◌, ◌==◌}
 use Rattle.std.specs.Cmp.{nat_cmp_total}
 use Rattle.std.specs.FinMap.{entries, find, get, get-entries, get-from_entries, values}
 use Rattle.std.specs.List.{AllByRecursion, last_or}
@@ -19,7 +19,7 @@ use Rattle.book_core.specs.Effects.{choice_effects}
 use Rattle.book_core.specs.declared.effects.ChoiceEffects.{ChoiceEffects}
 use Rattle.book_model.specs.Words.{last_close}
 use Rattle.book_model.specs.Words.{open_by}
-use Rattle.book_model.specs.Words.{Book, Naming, RecordChosen, by_bytes, same_bytes, choose}
+use Rattle.book_model.specs.Words.{Book, Naming, RecordChosen, by_bytes, same_bytes}
 use Rattle.book_model.specs.Words.{Choice, choose_answer, choose_event, name_of}
 use Rattle.book_model.specs.Words.{choose_outcome, chosen_answer, most_choices, record_named}
 use Rattle.book_model.specs.declared.answer.Ruled.{Ruled}
@@ -45,14 +45,15 @@ use Rattle.tree_tables.specs.Steps.{Looks}
 use Rattle.table_ledger.specs.RecordWrites.{IsNext}
 use Rattle.tree_tables.specs.Stored.{stored_entry}
 use Rattle.tree_tables.specs.declared.stored_record.StoredRecord.{StoredRecord}
-use Rattle.table_ledger.specs.Ready.{IsReadyAt, Remembers}
+use Rattle.table_ledger.specs.Stages.{IsAt}
 use Rattle.book_core.specs.OfficeRulings.{ruled_in}
-use Rattle.table_ledger.proofs.Remembered.{closes_are}
+use Rattle.table_ledger.proofs.Remembered.{Says, closes_are}
 use Rattle.table_ledger.specs.declared.summary.Summary.{Summary}
 use Rattle.table_ledger.specs.Commits.{Saw}
-use Rattle.table_ledger.proofs.AcceptTries.{saw_as}
+use Rattle.table_ledger.proofs.AcceptTries.{none_found, saw_as}
 use Rattle.table_ledger.proofs.Answering.{ruled_makes}
-use Rattle.table_ledger.proofs.TryLemmas.{IsEvent, saw_found, saw_so, saw_then}
+use Rattle.table_ledger.proofs.StageLemmas.{IsEvent}
+use Rattle.table_ledger.proofs.TryLemmas.{saw_found, saw_so, saw_then}
 
 -- a record that was found is that of its row
 pub found_row : (name : List ℕ) (stored : StoredRecord) (found : Option RecordRow)
@@ -64,13 +65,6 @@ found_row name stored (Some row) is =
       ap (λ (entry : List ℕ × RecordRow). Some entry.1) (sym both),
       ap (λ (entry : List ℕ × RecordRow). entry.0) (sym both),
     )
-
--- none was found
-pub none_row : (name : List ℕ) (found : Option RecordRow)
-    → option_map stored_entry None ≡ option_map (λ (row : RecordRow). (name, row)) found
-    → found ≡ None
-none_row name None is = refl
-none_row name (Some row) is = cc
 
 -- a record was found, and the first two of its identity
 pub saw_shared : {first middle last : State} {found : Option StoredRecord}
@@ -169,7 +163,7 @@ choose_makes answer naming name book is other =
 -- ---- the answer
 
 module _ (naming : Naming) (was : Summary) (name : List ℕ) (view : View) (book : Book)
-    (ready : IsReadyAt naming was view book) where
+    (ready : IsAt naming was view book) where
   abbrev pub tables : Tables
   tables = tables_of naming book
 
@@ -185,7 +179,7 @@ module _ (naming : Naming) (was : Summary) (name : List ℕ) (view : View) (book
   -- there is no record of the name
   pub choose_none : FindsRecord name tables None
       → choose_answer naming book name ≡ Err NoSuchRecord
-  choose_none known = told None (none_row name (get tables.records name) known)
+  choose_none known = told None (none_found name (get tables.records name) known)
 
   module _ (stored : StoredRecord) (known : FindsRecord name tables (Some stored)) where
     abbrev pub row : RecordRow
@@ -255,45 +249,41 @@ module _ (naming : Naming) (was : Summary) (name : List ℕ) (view : View) (book
             not_most a b less = grind (arith, nat_tests)
 
         -- A choice that is answered Done is an event.
-        abbrev pub choose_is_event : stored.charged ≡ false → was.choices < most_choices
-            → (number period : ℕ) (effects : ChoiceEffects)
-            → number ≡ was.choices + 1 → period ≡ open_by (ruled_in was.rulings)
-            → effects ≡ choice_effects (last_close (ruled_in was.rulings))
+        pub choose_is_event : stored.charged ≡ false → was.choices < most_choices
+            → (period : ℕ) (through : Option ℤ) (effects : ChoiceEffects)
+            → period ≡ open_by (ruled_in was.rulings) → through ≡ last_close (ruled_in was.rulings)
+            → effects ≡ choice_effects through
             (option_map member_at (slice_get (charged_with row.identity tables.records) 0))
             (member_at (stored_entry stored))
-            → IsEvent (λ (ruled : Ruled). ruled) naming was (choose_outcome naming name)
-            (IsNext number) (put_choice number period name effects) book
-        choose_is_event charged room number period effects number_is period_is effects_are =
+            → IsEvent (λ (ruled : Ruled). ruled) naming (choose_outcome naming name) Done
+            (Says (ruled_in was.rulings) (was.choices + 1) was.held was.total)
+            (IsNext (was.choices + 1)) (put_choice (was.choices + 1) period name effects) book
+        choose_is_event charged room period through effects period_is through_is effects_are =
             let done = choose_done charged room in
             let one = chosen_one naming book name done in
             let closes : values tables.closes ≡ (ruled_in was.rulings).closes =
             closes_back book.rulings.closes ∙ sym (closes_are ready.remembers) in
             let current = choices_follow.current naming book row.identity readable in
             let own = (found_row name stored (get tables.records name) known).1 in
+            let count : was.choices + 1 ≡ length book.rulings.choices + 1 =
+            ap (λ n. n + 1) ready.remembers.choices in
             record {
               event = RecordChosen one.0;
               is = ap (choose_event (record_named naming book.held name)) done
                   ∙ ap (λ found. choose_event found (Ok Done)) one.1;
-              when = next_is_new naming book number
-                  (number_is ∙ ap (λ n. n + 1) ready.remembers.choices);
+              answer = done;
+              when = next_is_new naming book (was.choices + 1) count;
               calls = calls_stay.choose naming book name one.0 ready.kept.calls done one.1;
               tables =
-                  (λ i. put_choice (number_is i) (period_is i) name (effects_are i) tables)
+                  (λ i. put_choice (was.choices + 1) (period_is i) name (effects_are i) tables)
                   ∙ (λ i. put_choice (sym made i + 1) (length (sym closes i) + 1) name
-                  (choice_effects (last_or None (sym closes i)) (current i)
+                  (choice_effects ((through_is ∙ ap (last_or None) (sym closes)) i) (current i)
                   (member_at (sym own i, row))) tables)
                   ∙ sym (choices_follow.done naming book name one.0 row readable done one.1 there);
+              remembers = λ summary says. record {
+                rulings = says.rulings ∙ ready.remembers.rulings;
+                choices = says.choices ∙ count ∙ sym (length-append book.rulings.choices _);
+                held = says.held ∙ ready.remembers.held;
+                total = says.total ∙ ready.remembers.total;
+              };
             }
-
-        -- and one more choice is remembered
-        pub choose_remembers : (is : Summary) (bytes : List ℕ)
-            → ruled_in is.rulings ≡ ruled_in was.rulings → is.choices ≡ was.choices + 1 → is.held ≡ was.held
-            → is.total ≡ was.total
-            → Remembers is (choose bytes book)
-        choose_remembers is bytes rulings choices held total = record {
-          rulings = rulings ∙ ready.remembers.rulings;
-          choices = choices ∙ ap (λ n. n + 1) ready.remembers.choices
-              ∙ sym (length-append book.rulings.choices _);
-          held = held ∙ ready.remembers.held;
-          total = total ∙ ready.remembers.total;
-        }

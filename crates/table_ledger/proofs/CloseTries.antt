@@ -1,23 +1,19 @@
 -- A close that is tried: what it answers, and what it writes.
-use Rattle.std.proofs.Common.{◌≡◌, ◌≢◌, ◌∙◌, ℕ, suc, ◌+◌, ◌≤◌, List, [], ◌∷◌, length, refl, sym, ap}
-use Rattle.std.proofs.Common.{Bool, true, false, not, ◌&&◌, ◌||◌, Result, Ok, Err, None, arith}
-use Rattle.std.proofs.Common.{cond, is_some, map, ◌<◌, true≢false}
-use Rattle.std.proofs.lemmas.Bool.{ltb-true, ltb-false}
-use Rattle.std.specs.Prelude.{nat_lt, ℤ, int_lt, if◌then◌else◌, ◌==◌}
+use Rattle.std.proofs.Common.{◌≡◌, ◌∙◌, ℕ, suc, ◌+◌, ◌≤◌, List, [], ◌∷◌, length, refl, sym, ap}
+use Rattle.std.proofs.Common.{Bool, true, false, not, ◌&&◌, ◌||◌, Ok, None, arith}
+use Rattle.std.proofs.Common.{cond, is_some, map}
+use Rattle.std.specs.Prelude.{ℤ, int_lt, if◌then◌else◌, ◌==◌}
 use Rattle.std.specs.FinMap.{find, get-from_entries}
 use Rattle.std.specs.declared.cmp.Ordering.{Ordering}
 use Rattle.std.proofs.lemmas.List.{length-append, length-map}
 use Rattle.book_model.specs.Words.{IsDay, Book, all_periods, open_number, open_period, PeriodClosed}
 use Rattle.book_model.specs.Words.{close, last_period, close_outcome, close_event, Naming, by_key, open_by}
 use Rattle.book_model.specs.RulingAnswers.{close_ruled}
-use Rattle.book_model.specs.Words.{close_answer, is_closed, is_early, IsSound, Rulings, new_book}
+use Rattle.book_model.specs.Words.{close_answer, is_closed, is_early, IsSound, Rulings, with_close}
 use Rattle.book_model.specs.declared.answer.Ruled.{Ruled}
-use Rattle.book_model.specs.declared.answer.Ruled.TheVariants.{Done, Already}
-use Rattle.book_model.specs.declared.fault.LedgerFault.{LedgerFault}
-use Rattle.book_model.specs.declared.fault.LedgerFault.TheVariants.{Full, NotLater, WrongPeriod}
+use Rattle.book_model.specs.declared.answer.Ruled.TheVariants.{Done}
 use Rattle.book_model.proofs.MapLemmas.{else_find, find-both}
 use Rattle.book_model.proofs.RowLemmas.{by_key_total}
-use Rattle.book_core.specs.Calls.{Makes}
 use Rattle.table_model.specs.MapChanges.{updated}
 use Rattle.table_model.specs.PeriodRows.{by_period, under, numbered}
 use Rattle.table_model.specs.TableChanges.{close_tables}
@@ -35,38 +31,25 @@ use Rattle.table_model.specs.Steps.{post_by}
 use Rattle.tree_tables.specs.Days.{NoneNext}
 use Rattle.sqlite_trees.specs.View.{View}
 use Rattle.table_model.specs.Steps.{close_by_steps}
-use Rattle.table_ledger.specs.Ready.{IsReadyAt, Remembers}
+use Rattle.table_ledger.specs.Ready.{Remembers}
+use Rattle.table_ledger.specs.Stages.{IsAt}
 use Rattle.book_core.specs.OfficeRulings.{ruled_in}
 use Rattle.table_ledger.specs.Attempts.{LeavesOpen}
 use Rattle.table_ledger.specs.declared.summary.Summary.{Summary}
-use Rattle.table_ledger.proofs.Answering.{ruled_makes}
-use Rattle.table_ledger.proofs.TryLemmas.{IsEvent}
+use Rattle.table_ledger.proofs.Answering.{opens, opens_if}
+use Rattle.table_ledger.proofs.Remembered.{Says}
+use Rattle.table_ledger.proofs.StageLemmas.{IsEvent}
 
 -- ---- the answer
 
--- the answer by what the tests give
-abbrev by_tests : ℕ → Bool → Bool → Bool → Bool → Result Ruled LedgerFault
-by_tests open_one closed is_open early full =
-    if closed then Ok Already
-    else if not is_open then Err (WrongPeriod open_one)
-    else if early then Err NotLater
-    else if full then Err Full
-    else Ok Done
-
 -- it leaves the books open
-plain_by : (open_one : ℕ) (closed is_open early full : Bool)
-    → LeavesOpen (by_tests open_one closed is_open early full)
-plain_by open_one true is_open early full = record { stored = refl; served = refl }
-plain_by open_one false false early full = record { stored = refl; served = refl }
-plain_by open_one false true true full = record { stored = refl; served = refl }
-plain_by open_one false true false true = record { stored = refl; served = refl }
-plain_by open_one false true false false = record { stored = refl; served = refl }
-
 pub close_plain : (rulings : Rulings) (number : ℕ) (day : ℤ)
     → LeavesOpen (close_ruled rulings number day)
 close_plain rulings number day =
-    plain_by (open_by rulings) (is_closed number day rulings) (number == open_by rulings)
-    (is_early day rulings) (number == last_period)
+    opens_if (is_closed number day rulings) (opens refl refl)
+    (opens_if (not (number == open_by rulings)) (opens refl refl)
+    (opens_if (is_early day rulings) (opens refl refl)
+    (opens_if (number == last_period) (opens refl refl) (opens refl refl))))
 
 -- the answer depends only on the rulings, which are remembered
 pub close_remembered : (summary : Summary) (book : Book) (number : ℕ) (day : ℤ)
@@ -74,47 +57,6 @@ pub close_remembered : (summary : Summary) (book : Book) (number : ℕ) (day : �
     → close_ruled (ruled_in summary.rulings) number day ≡ close_answer book number day
 close_remembered summary book number day remembers =
     ap (λ rulings. close_ruled rulings number day) remembers.rulings
-
--- an answer that is not Done makes no event
-pub close_makes : (answer : Result Ruled LedgerFault) (number : ℕ) (day : ℤ)
-    (book : Book) → close_answer book number day ≡ answer → answer ≢ Ok Done
-    → Makes (λ (ruled : Ruled). ruled) (close_outcome number day book) answer []
-close_makes answer number day book is other =
-    ruled_makes (close_outcome number day book) answer is other
-    (λ already. ap (close_event day) (is ∙ already))
-
--- an answer that is Done is not that of the last period
-not_full : (open_one : ℕ) (closed is_open early full : Bool)
-    → by_tests open_one closed is_open early full ≡ Ok Done → full ≡ false
-not_full open_one true is_open early full done = cc
-not_full open_one false false early full done = cc
-not_full open_one false true true full done = cc
-not_full open_one false true false true done = cc
-not_full open_one false true false false done = refl
-
--- so there is room for one more close
-pub close_room : (summary : Summary) (number : ℕ) (day : ℤ)
-    → close_ruled (ruled_in summary.rulings) number day ≡ Ok Done
-    → open_by (ruled_in summary.rulings) < last_period
-close_room summary number day done =
-    let rulings = ruled_in summary.rulings in
-    let open_one = closed_open (record new_book { rulings = rulings }) number day done in
-    let other = not_full (open_by rulings) (is_closed number day rulings)
-    (number == open_by rulings) (is_early day rulings) (number == last_period) done in
-    let few = summary.rulings.few in
-    let differs : number ≡ last_period → ⊥ =
-    λ same. absurd (true≢false (sym (ap (λ n. n == last_period) same) ∙ other)) in
-    room number (length (ruled_in summary.rulings).closes) open_one few differs
-  where
-    room : (n closes : ℕ) → n ≡ closes + 1 → closes < last_period → (n ≡ last_period → ⊥)
-        → closes + 1 < last_period
-    room n closes is few differs =
-        elim (nat_lt n last_period) as (λ b. nat_lt n last_period ≡ b → closes + 1 < last_period) [
-          | true ↦ λ e. (let below = ltb-true n last_period e in omega (arith, is, below))
-          | false ↦ λ e.
-              let least = ltb-false n last_period e in
-              absurd (differs (omega (arith, is, few, least)))
-        ] refl
 
 -- ---- what is written
 
@@ -175,18 +117,26 @@ written_after naming book number day calls done =
     ∙ sym (closing_follows.done naming book number day whole done)
 
 -- A close that is answered Done is an event.
-abbrev pub close_is_event : (naming : Naming) (was : Summary) (view : View) (number : ℕ) (day : ℤ)
+pub close_is_event : {naming : Naming} (was : Summary) {view : View} (number : ℕ) (day : ℤ)
     → IsDay day → close_ruled (ruled_in was.rulings) number day ≡ Ok Done → (book : Book)
-    → IsReadyAt naming was view book
-    → IsEvent (λ (ruled : Ruled). ruled) naming was (close_outcome number day) (NoneNext number)
+    → IsAt naming was view book
+    → IsEvent (λ (ruled : Ruled). ruled) naming (close_outcome number day) Done
+    (Says (with_close day (ruled_in was.rulings)) was.choices was.held was.total) (NoneNext number)
     (close_by_steps number day) book
-close_is_event naming was view number day is_day answer book ready =
-    let done = sym (close_remembered was book number day ready.remembers) ∙ answer in
-    let whole = calls_read naming book ready.kept.calls in
+close_is_event {naming = naming} was number day is_day answer book at =
+    let done = sym (close_remembered was book number day at.remembers) ∙ answer in
+    let whole = calls_read naming book at.kept.calls in
     record {
       event = PeriodClosed day;
       is = ap (close_event day) done;
+      answer = done;
       when = none_next naming book number whole.sound (closed_open book number day done);
-      calls = calls_stay.close naming book number day ready.kept.calls is_day done;
-      tables = written_after naming book number day ready.kept.calls done;
+      calls = calls_stay.close naming book number day at.kept.calls is_day done;
+      tables = written_after naming book number day at.kept.calls done;
+      remembers = λ summary says. record {
+        rulings = says.rulings ∙ ap (with_close day) at.remembers.rulings;
+        choices = says.choices ∙ at.remembers.choices;
+        held = says.held ∙ at.remembers.held;
+        total = says.total ∙ at.remembers.total;
+      };
     }

@@ -1,6 +1,6 @@
 -- Records that are charged under the second rule: what is due, and a step that charges it.
 use Rattle.std.proofs.Common.{◌≡◌, ◌∙◌, ℕ, List, Bool, true, false, cond, not, ◌&&◌, ◌||◌, Option}
-use Rattle.std.proofs.Common.{Some, None, refl, sym, ap, length, map, ◌++◌, ◌∷◌, [], Result, Ok, Err}
+use Rattle.std.proofs.Common.{Some, None, refl, sym, ap, length, map, ◌++◌, ◌∷◌, []}
 use Rattle.std.specs.Prelude.{ℤ, ◌==◌, filter, if◌then◌else◌}
 use Rattle.std.specs.FinMap.{entries, get}
 use Rattle.std.specs.List.{last_or}
@@ -14,49 +14,17 @@ use Rattle.table_model.specs.Tables.{ChoiceRow, RecordRow, RecordTable, Tables}
 use Rattle.table_model.specs.Views.{name_has_identity, is_due_at, is_due_in, member_at}
 use Rattle.table_model.specs.Views.{rows_with}
 use Rattle.table_model.proofs.DueStays.{due_stays, last_pushed, last_stays}
-use Rattle.sqlite_trees.specs.declared.error.StoreError.{StoreError}
 use Rattle.book_model.proofs.SetChanges.{is_back}
 use Rattle.table_laws.proofs.ChoiceLemmas.{choices_follow}
 use Rattle.table_laws.proofs.Texts.{same_is}
 use Rattle.tree_tables.specs.Answers.{FindsRecord, FindsSharing}
-use Rattle.tree_tables.specs.States.{State}
-use Rattle.tree_tables.specs.Steps.{Does}
 use Rattle.tree_tables.specs.Stored.{IsAsRead, choice_entry, stored_entry}
 use Rattle.tree_tables.specs.declared.choice_rows.StoredChoice.{StoredChoice}
 use Rattle.tree_tables.specs.declared.stored_record.StoredRecord.{StoredRecord}
-use Rattle.tree_rows.proofs.Calls.{kept_after_look}
-use Rattle.tree_tables.proofs.Looking.{only_both, only_looks}
 use Rattle.table_ledger.specs.Adoptions.{IsLast, IsLastOf, is_last, last_chosen}
-use Rattle.table_ledger.specs.Commits.{Saw}
 use Rattle.table_ledger.specs.declared.chosen.Chosen.{Chosen}
-use Rattle.table_ledger.proofs.ChoiceTries.{found_row, none_row}
-use Rattle.table_ledger.proofs.UnchangedStores.{holds_on}
-use Rattle.table_ledger.proofs.SurvivalLemmas.{clean_before, survives_then}
-
--- a step after looks may rest on what was seen
-pub does_seen : {T : Type 0} {old middle new : State} {Known When : Tables → Type 0}
-    {change : Tables → Tables} (result : Result T StoreError) → Saw old middle Known
-    → Does result middle new (λ tables. When tables × Known tables) change
-    → Does result old new When change
-does_seen {old = old} {middle = middle} {new = new} (Ok value) saw does = record {
-  survives = survives_then saw.survives does.survives;
-  done = λ clean.
-      let seen = saw.seen (clean_before does.survives clean) in
-      let steps = does.done clean in
-      record {
-        only = only_both old.view (only_looks old.view seen.same) steps.only;
-        made = λ tables holds when.
-            steps.made tables (holds_on old.view middle.view tables seen.same holds)
-            (when, seen.known tables holds);
-      };
-  refused = λ clean. tt;
-}
-does_seen {old = old} {middle = middle} {new = new} (Err error) saw does = record {
-  survives = survives_then saw.survives does.survives;
-  done = λ clean. tt;
-  refused = λ clean.
-      kept_after_look (saw.seen (clean_before does.survives clean)).same (does.refused clean);
-}
+use Rattle.table_ledger.proofs.AcceptTries.{none_found}
+use Rattle.table_ledger.proofs.ChoiceTries.{found_row}
 
 -- ---- the records that were chosen last
 
@@ -89,7 +57,7 @@ pub joins_none : (chosen : Chosen) (name : List ℕ) (tables : Tables)
     ≡ (if name_has_identity tables.records identity name then Some name else last_chosen chosen identity)
 joins_none chosen name tables found identity =
     ap (λ (is : Bool). if is then Some name else last_chosen chosen identity)
-    (sym (ap (has_row identity) (none_row name (get tables.records name) found)))
+    (sym (ap (has_row identity) (none_found name (get tables.records name) found)))
 
 -- one more choice
 pub last_more : (names : List (List ℕ)) (name : List ℕ) (records : RecordTable)

@@ -1,17 +1,18 @@
 -- Lists that were tried and settled: what fails is the store's own.
-use Rattle.std.proofs.Common.{◌≡◌, ◌∙◌, Bool, false, inl, inr, Result, Ok, Err, refl, sym, subst}
+use Rattle.std.proofs.Common.{◌≡◌, ◌∙◌, Bool, false, inl, inr, List, Result, Ok, Err, refl, sym, subst}
 use Rattle.std.specs.Prelude.{IfErr, IsErrOf, IsTrue}
 use Rattle.sqlite_trees.specs.View.{IsClean}
 use Rattle.sqlite_trees.specs.declared.error.StoreError.{StoreError}
 use Rattle.sqlite_trees.specs.declared.error.StoreError.TheVariants.{OutOfMemory}
 use Rattle.sqlite_trees.specs.declared.store.Store.{Ghosts}
-use Rattle.book_model.specs.Words.{Book, Naming, Outcome}
+use Rattle.book_model.specs.Words.{Book, Event, Naming}
 use Rattle.book_model.specs.declared.fault.LedgerFault.{LedgerFault}
 use Rattle.book_model.specs.declared.fault.LedgerFault.TheVariants.{Memory, NoSuchPeriod, Store}
 use Rattle.tree_tables.specs.States.{HasCleanDisk, state}
 use Rattle.table_ledger.specs.Loaded.{FailsAsItsOwn}
 use Rattle.table_ledger.specs.LedgerState.{LedgerState, state_on}
-use Rattle.table_ledger.specs.Attempts.{Finishes, Attempts, TriesItsOwn}
+use Rattle.table_ledger.specs.Attempts.{Finishes, TriesItsOwn}
+use Rattle.table_ledger.specs.Stages.{AttemptsBy}
 use Rattle.table_ledger.specs.declared.summary.Summary.{Summary}
 use Rattle.table_ledger.proofs.OwnBooks.{cause_told}
 use Rattle.table_ledger.proofs.SurvivalLemmas.{clean_before}
@@ -29,11 +30,11 @@ by_answer old new (Ok value) own = tt
 by_answer old new (Err fault) own = λ other clean books open_now. absurd (other own)
 
 -- a list that was tried fails as stated
-pub own_settled : {S V A : Type 0} {view : V → A} {naming : Naming} {summary : Summary}
-    {middle last : S} {outcome : Book → Outcome A} {before flag : Bool}
-    {tried : Result (Result V LedgerFault) StoreError} {result : Result V LedgerFault}
+pub own_settled : {S V : Type 0} {Made : Result V LedgerFault → Book → List Event → Type 0}
+    {Leaves : Book → List Event → Type 0} {naming : Naming} {summary : Summary} {middle last : S}
+    {before flag : Bool} {tried : Result (Result V LedgerFault) StoreError} {result : Result V LedgerFault}
     (ghosts : Ghosts S) (first : S) → Finishes ghosts middle last before flag tried result
-    → Attempts view naming summary summary (state ghosts first) (state ghosts middle) outcome tried
+    → AttemptsBy Made Leaves naming summary summary (state ghosts first) (state ghosts middle) tried
     → TriesItsOwn naming summary (state ghosts first) (state ghosts middle) tried
     → IfErr tried (λ error. IsClean (ghosts.view last) → error ≡ OutOfMemory
     → (ghosts.view last).is_broken ≡ false → IsErrOf result Memory)

@@ -6,13 +6,12 @@ mod TryLemmas
 mod Answering
 mod Refusals
 mod Remembered
-mod OneCall
-mod FinishLemmas
 mod StepLemmas
 mod StageLemmas
 mod CommitLemmas
 mod ManyLemmas
 mod ServedWork
+mod OneCall
 mod LastChoice
 mod RowsTaken
 mod CodeDays
@@ -33,7 +32,7 @@ mod RisingNames
 mod JoinLemmas
 mod OpenLemmas
 mod LoadLemmas
-pub mod OwnBooks
+mod OwnBooks
 mod RowTold
 mod BookRows
 mod BookLists

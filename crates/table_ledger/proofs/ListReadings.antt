@@ -1,8 +1,7 @@
 -- A list that is read is answered with no event, and the ledger stays ready.
 use Rattle.std.proofs.Common.{◌≡◌, ◌∙◌, Bool, true, false, ℕ, [], Result, Ok, Err, refl, sym, ap}
-use Rattle.std.specs.Prelude.{IsErr, if◌then◌else◌}
+use Rattle.std.specs.Prelude.{if◌then◌else◌}
 use Rattle.tree_tables.specs.States.{State}
-use Rattle.sqlite_trees.specs.declared.error.StoreError.{StoreError}
 use Rattle.book_model.specs.declared.fault.LedgerFault.{LedgerFault}
 use Rattle.book_model.specs.declared.fault.LedgerFault.TheVariants.{NoSuchPeriod}
 use Rattle.book_model.specs.Words.{Book, Outcome, no_event, Naming, Rulings}
@@ -12,37 +11,14 @@ use Rattle.table_model.specs.TablesOf.{tables_of}
 use Rattle.table_laws.specs.ListsRead.{is_period, of_period}
 use Rattle.table_laws.specs.Readable.{IsReadable}
 use Rattle.table_laws.proofs.ReadableLemmas.{calls_read}
-use Rattle.tree_tables.specs.Steps.{Looks}
 use Rattle.table_ledger.specs.Commits.{Saw}
 use Rattle.table_ledger.specs.Ready.{Remembers}
 use Rattle.book_core.specs.OfficeRulings.{ruled_in}
-use Rattle.table_ledger.specs.Attempts.{Attempts}
+use Rattle.table_ledger.specs.Stages.{AttemptsOne}
 use Rattle.table_ledger.specs.declared.summary.Summary.{Summary}
-use Rattle.table_ledger.proofs.Refusals.{looks_failed}
 use Rattle.table_ledger.proofs.Remembered.{rulings_are}
-use Rattle.table_ledger.proofs.TryLemmas.{saw_none, tries_err, try_answered, try_refused}
+use Rattle.table_ledger.proofs.TryLemmas.{saw_none, try_answered}
 
--- A look after others is refused: the call answers an error.
-pub later_refused : {V A B : Type 0} {view : V → A} {naming : Naming} {summary : Summary}
-    {outcome : Book → Outcome A} {old middle new : State} {Known : Tables → Type 0}
-    {Answers : Tables → B → Type 0} {error : StoreError}
-    (tried : Result (Result V LedgerFault) StoreError) → IsErr tried → Saw old middle Known
-    → Looks {A = B} (Err error) middle new Answers
-    → Attempts view naming summary summary old new outcome tried
-later_refused {B = B} {view = view} {naming = naming} {summary = summary} {outcome = outcome} {Answers = Answers} tried failed saw looks =
-    tries_err view naming summary outcome tried failed (λ error.
-    try_refused view naming summary outcome {B = B} {Answers = Answers} saw
-    (looks_failed {Answers = Answers} (Err error) refl looks))
-
--- The first look is refused: the call answers an error.
-pub first_refused : {V A B : Type 0} {view : V → A} {naming : Naming} {summary : Summary}
-    {outcome : Book → Outcome A} {old new : State} {Answers : Tables → B → Type 0}
-    {error : StoreError} (tried : Result (Result V LedgerFault) StoreError) → IsErr tried
-    → Looks {A = B} (Err error) old new Answers
-    → Attempts view naming summary summary old new outcome tried
-first_refused tried failed looks = later_refused tried failed saw_none looks
-
--- a list that was read makes no event
 -- a list that was read makes no event
 read_makes : {V A : Type 0} (view : V → A) (outcome : Outcome A) (said : Result A LedgerFault)
     (value : V) → outcome ≡ no_event said → said ≡ Ok (view value) → Makes view outcome (Ok value) []
@@ -59,9 +35,9 @@ pub list_read : {V A : Type 0} {view : V → A} {naming : Naming} {summary : Sum
     → (value : V) → Saw old new Known
     → ((book : Book) → IsReadable naming book → Known (tables_of naming book)
     → read (tables_of naming book) ≡ view value)
-    → Attempts view naming summary summary old new outcome (Ok (Ok value))
-list_read {view = view} {naming = naming} {summary = summary} {outcome = outcome} read law value saw says =
-    try_answered view naming summary outcome saw (record { stored = refl; served = refl }) (λ book ready known.
+    → AttemptsOne view naming summary summary old new outcome (Ok (Ok value))
+list_read {view = view} {naming = naming} {outcome = outcome} read law value saw says =
+    try_answered outcome saw (record { stored = refl; served = refl }) (λ book ready known.
     let whole = calls_read naming book ready.kept.calls in
     read_makes view (outcome book) _ value (law book whole) (ap Ok (says book whole known)))
 
@@ -80,8 +56,8 @@ module _ {V A : Type 0} {view : V → A} {naming : Naming} {summary : Summary}
     → outcome book ≡ no_event (of_period number book.rulings (read (tables_of naming book)))) where
   -- A period that does not exist is answered so.
   pub no_period : {state : State} → is_period number (ruled_in summary.rulings) ≡ false
-      → Attempts view naming summary summary state state outcome (Ok (Err NoSuchPeriod))
-  no_period absent = try_answered view naming summary outcome saw_none (record { stored = refl; served = refl })
+      → AttemptsOne view naming summary summary state state outcome (Ok (Err NoSuchPeriod))
+  no_period absent = try_answered outcome saw_none (record { stored = refl; served = refl })
       (λ book ready known. (
         ap (λ (of : Outcome A). of.answer) (law book (calls_read naming book ready.kept.calls))
             ∙ answer_is number (read (tables_of naming book)) false book absent
@@ -93,9 +69,9 @@ module _ {V A : Type 0} {view : V → A} {naming : Naming} {summary : Summary}
   pub period_read : {old new : State} {Known : Tables → Type 0} (value : V)
       → is_period number (ruled_in summary.rulings) ≡ true → Saw old new Known
       → ((tables : Tables) → Known tables → read tables ≡ view value)
-      → Attempts view naming summary summary old new outcome (Ok (Ok value))
+      → AttemptsOne view naming summary summary old new outcome (Ok (Ok value))
   period_read value there saw says =
-      try_answered view naming summary outcome saw (record { stored = refl; served = refl }) (λ book ready known.
+      try_answered outcome saw (record { stored = refl; served = refl }) (λ book ready known.
       let whole = calls_read naming book ready.kept.calls in
       read_makes view (outcome book) _ value (law book whole)
       (answer_is number (read (tables_of naming book)) true book there whole ready.remembers

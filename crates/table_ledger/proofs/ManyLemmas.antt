@@ -18,11 +18,10 @@ use Rattle.book_core.proofs.TransitionLemmas.{after_all-append}
 use Rattle.tree_tables.specs.States.{State, HasCleanDisk, Survives}
 use Rattle.tree_tables.proofs.Looking.{only_both}
 use Rattle.table_ledger.specs.Attempts.{LeavesOpen}
-use Rattle.table_ledger.specs.Ready.{IsReadyAt}
-use Rattle.table_ledger.specs.Stages.{IsAt, IsStaged, Stages, StagesMany, AreStaged, RefusesNext}
-use Rattle.table_ledger.specs.Stages.{TakesOf, LeavesFirst}
+use Rattle.table_ledger.specs.Stages.{IsAt, IsStaged, Stages, StagesFirst, StagesMany, AreStaged}
+use Rattle.table_ledger.specs.Stages.{LeavesOne, MakesOf, RefusesNext}
 use Rattle.table_ledger.specs.declared.summary.Summary.{Summary}
-use Rattle.table_ledger.proofs.CommitLemmas.{IsWritten, at_ready}
+use Rattle.table_ledger.proofs.Remembered.{remembers_as}
 use Rattle.table_ledger.proofs.StepLemmas.{stands_only}
 use Rattle.table_ledger.proofs.SurvivalLemmas.{clean_before, survives_then}
 use Rattle.table_ledger.proofs.UnchangedStores.{stands_then}
@@ -35,6 +34,14 @@ refused_none view outcome Memory events plain makes = makes
 refused_none view outcome Store events plain makes = absurd (true≢false plain.stored)
 refused_none view outcome Reopen events plain makes = makes
 refused_none view outcome fault events plain makes = makes.1
+
+-- a record is staged, with this answer
+abbrev pub IsAnswered : Naming → List ℕ → Result Accepted LedgerFault → Summary → View → View → Book
+    → Type 0
+IsAnswered naming bytes answer is old new book =
+    let outcome = accept_outcome naming bytes in
+    IsStaged (MakesOf (λ (accepted : Accepted). accepted) outcome answer) (LeavesOne outcome) naming
+    (λ summary. summary ≡ is) old new book
 
 -- the records so far were taken: whatever is taken of the rest, all of it is
 pub record AreTaken (naming : Naming) (records rest : List (List ℕ)) (is : Summary)
@@ -62,9 +69,7 @@ none_taken {naming} {records} {book = book} at = record {
 pub more_taken : {naming : Naming} {records rest : List (List ℕ)} {bytes : List ℕ}
     {was is : Summary} {old middle new : View} {book : Book} {answers : List Accepted}
     {answer : Accepted} (taken : AreTaken naming records (bytes ∷ rest) was old middle book answers)
-    → IsStaged (λ (accepted : Accepted). accepted) naming is middle new
-    (accept_outcome naming bytes (after_all taken.events book)) (after_all taken.events book)
-    (Ok answer)
+    → IsAnswered naming bytes (Ok answer) is middle new (after_all taken.events book)
     → AreTaken naming records rest is old new book (answers ++ answer ∷ [])
 more_taken {naming} {records} {rest} {bytes} {was} {is} {old} {middle} {new} {book} {answers} {answer} taken staged = record {
   events = staged.events ++ taken.events;
@@ -78,7 +83,7 @@ more_taken {naming} {records} {rest} {bytes} {was} {is} {old} {middle} {new} {bo
         early = staged.events;
         late = late;
         first = record {
-          makes = staged.makes;
+          makes = staged.made;
           reopens = record { reopen = refl; store = refl };
         };
         next = subst (λ book. Accepts naming rest later false book late false)
@@ -86,7 +91,8 @@ more_taken {naming} {records} {rest} {bytes} {was} {is} {old} {middle} {new} {bo
         all = refl;
       })));
   only = only_both old taken.only staged.only;
-  at = subst (IsAt naming is new) (sym (after_all-append staged.events taken.events book)) staged.at;
+  at = subst (IsAt naming is new) (sym (after_all-append staged.events taken.events book))
+      (record { kept = staged.kept; remembers = staged.remembers is refl });
 }
 
 -- the records that were taken are staged, and nothing more is
@@ -110,15 +116,13 @@ pub refused_next : {naming : Naming} {records rest : List (List ℕ)} {bytes : L
     (fault : LedgerFault)
     (taken : AreTaken naming records (bytes ∷ rest) was old middle book answers)
     → LeavesOpen {V = Accepted} (Err fault)
-    → IsStaged (λ (accepted : Accepted). accepted) naming is middle new
-    (accept_outcome naming bytes (after_all taken.events book)) (after_all taken.events book)
-    (Err fault)
+    → IsAnswered naming bytes (Err fault) is middle new (after_all taken.events book)
     → (answers ≡ [] → records ≡ bytes ∷ rest)
     → AreStaged naming records is old new book answers (Some fault)
 refused_next {naming} {records} {rest} {bytes} {was} {is} {old} {middle} {new} {book} {answers} fault taken plain staged all =
     let outcome = accept_outcome naming bytes (after_all taken.events book) in
     let none : staged.events ≡ [] = refused_none (λ (accepted : Accepted). accepted) outcome fault
-    staged.events plain staged.makes in
+    staged.events plain staged.made in
     let accepts : Accepts naming records answers false book taken.events false =
     subst (λ all. Accepts naming records all false book taken.events false)
     (append-nil answers) (taken.leads [] [] (record { none = refl; same = refl })) in
@@ -135,12 +139,12 @@ refused_next {naming} {records} {rest} {bytes} {was} {is} {old} {middle} {new} {
                 (accept_outcome naming bytes (after_all events book)) (Err fault) [])
                 nothing.none
                 (subst (λ events. Makes (λ (accepted : Accepted). accepted) outcome (Err fault) events)
-                none staged.makes);
+                none staged.made);
             reopens = record { reopen = plain.served; store = sym plain.stored };
           });
       only = only_both old taken.only staged.only;
       at = subst (λ events. IsAt naming is new (after_all events (after_all taken.events book))) none
-          staged.at;
+          (record { kept = staged.kept; remembers = staged.remembers is refl });
     }
 
 -- whether an error leaves the books open does not depend on what the call would return
@@ -186,9 +190,9 @@ module _ {naming : Naming} (records : List (Vec ℕ Global)) {was is : Summary}
   step_taken {next = next} {given = given} {answer = answer} given_is stages clean book at =
       let before = before_it (clean_before stages.survives clean) book at in
       more_taken before
-      (subst (λ given. IsStaged (λ (accepted : Accepted). accepted) naming next middle.view new.view
-      (accept_outcome naming bytes (after_all before.events book)) (after_all before.events book)
-      given) given_is (stages.found clean (after_all before.events book) before.at))
+      (subst (λ given. IsAnswered naming bytes given next middle.view new.view
+      (after_all before.events book)) given_is
+      (stages.found clean (after_all before.events book) before.at))
 
   -- the books refused it
   pub step_refused : {next : Summary} {given : Result Accepted LedgerFault} (fault : LedgerFault)
@@ -205,9 +209,8 @@ module _ {naming : Naming} (records : List (Vec ℕ Global)) {was is : Summary}
         found = λ clean book at.
             let before = before_it (clean_before stages.survives clean) book at in
             refused_next fault before plain
-            (subst (λ given. IsStaged (λ (accepted : Accepted). accepted) naming next middle.view
-            new.view (accept_outcome naming bytes (after_all before.events book))
-            (after_all before.events book) given) given_is
+            (subst (λ given. IsAnswered naming bytes given next middle.view new.view
+            (after_all before.events book)) given_is
             (stages.found clean (after_all before.events book) before.at))
             (λ empty. ap (λ n. records_in (drop n records)) (sym (sym count ∙ ap length empty))
             ∙ rest_is records i found bytes within here same);
@@ -230,59 +233,66 @@ module _ {naming : Naming} (records : List (Vec ℕ Global)) {was is : Summary}
   step_failed late (Ok other) failed stages = absurd (true≢false (sym failed))
 
   -- it was answered, and there is no memory for the answer
-  pub step_untold : {next : Summary} {given : Result Accepted LedgerFault} {answer : Accepted}
-      (late : List Accepted) (tried : Result (Option LedgerFault) StoreError) → IsErr tried
-      → given ≡ Ok answer
+  pub step_untold : {next : Summary} {given : Result Accepted LedgerFault} (late : List Accepted)
+      (tried : Result (Option LedgerFault) StoreError) → IsErr tried
       → Stages (λ (accepted : Accepted). accepted) naming is next middle new
       (accept_outcome naming bytes) (Ok given)
       → StagesMany naming (records_in records) was next old new late tried
-  step_untold late (Err other) failed given_is stages = record {
+  step_untold late (Err other) failed stages = record {
     plain = tt;
     survives = survives_then early stages.survives;
     found = λ clean book at.
-        stands_only old.view new.view (step_taken given_is stages clean book at).only;
+        let before = before_it (clean_before stages.survives clean) book at in
+        stands_only old.view new.view (only_both old.view before.only
+        (stages.found clean (after_all before.events book) before.at).only);
   }
-  step_untold late (Ok other) failed given_is stages = absurd (true≢false (sym failed))
+  step_untold late (Ok other) failed stages = absurd (true≢false (sym failed))
 
--- records that were staged were written: those that were taken,
-pub many_written : {naming : Naming} {records : List (List ℕ)} {was is : Summary}
+-- Records that were staged one after another are staged as one: those that were taken,
+pub many_staged : {naming : Naming} {records : List (List ℕ)} {was is : Summary}
     {old new : State} {refusal : Option LedgerFault} (answers : Vec Accepted Global)
     → StagesMany naming records was is old new answers.items (Ok refusal)
-    → HasCleanDisk new → (book : Book) → IsReadyAt naming was old.view book
-    → IsWritten (TakesOf naming records) (LeavesFirst naming records) naming is old.view new.view
-    book (Ok answers)
-many_written answers stages clean book ready =
-    let staged = stages.found clean book (at_ready ready) in
-    record {
-      events = staged.events;
-      made = staged.accepts;
-      leaves = record { answers = answers.items; accepts = staged.accepts };
-      only = staged.only;
-      at = staged.at;
-    }
+    → StagesFirst naming records was is old new (Ok (Ok answers))
+many_staged answers stages = record {
+  plain = record { stored = refl; served = refl };
+  survives = stages.survives;
+  found = λ clean book at.
+      let staged = stages.found clean book at in
+      record {
+        events = staged.events;
+        made = staged.accepts;
+        leaves = record { answers = answers.items; accepts = staged.accepts };
+        only = staged.only;
+        kept = staged.at.kept;
+        remembers = λ summary same. remembers_as staged.at.remembers same;
+      };
+}
 
--- or none, where the first was refused
-pub none_written : {naming : Naming} {records : List (List ℕ)} {was is : Summary}
+-- or none, where the first was refused.
+pub none_staged : {naming : Naming} {records : List (List ℕ)} {was is : Summary}
     {old new : State} (fault : LedgerFault) {answers : List Accepted} → answers ≡ []
     → 0 < length records
     → StagesMany naming records was is old new answers (Ok (Some fault))
-    → HasCleanDisk new → (book : Book) → IsReadyAt naming was old.view book
-    → IsWritten (TakesOf naming records) (LeavesFirst naming records) naming is old.view new.view
-    book (Err fault)
-none_written {naming} {records} fault {answers} empty some stages clean book ready =
-    let staged = stages.found clean book (at_ready ready) in
-    let nothing : NoEvent false book staged.events false =
-    subst (λ answers. Accepts naming records answers false book staged.events false) empty
-    staged.accepts in
-    record {
-      events = staged.events;
-      made = subst (λ events. Takes naming records (Err fault) false book events false)
-          (sym nothing.none)
-          (refused_one naming records fault some false book [] false (staged.none empty));
-      leaves = record { answers = []; accepts = nothing };
-      only = staged.only;
-      at = staged.at;
-    }
+    → StagesFirst naming records was is old new (Ok (Err fault))
+none_staged {naming} {records} fault {answers} empty some stages = record {
+  plain = stages.plain;
+  survives = stages.survives;
+  found = λ clean book at.
+      let staged = stages.found clean book at in
+      let nothing : NoEvent false book staged.events false =
+      subst (λ answers. Accepts naming records answers false book staged.events false) empty
+      staged.accepts in
+      record {
+        events = staged.events;
+        made = subst (λ events. Takes naming records (Err fault) false book events false)
+            (sym nothing.none)
+            (refused_one naming records fault some false book [] false (staged.none empty));
+        leaves = record { answers = []; accepts = nothing };
+        only = staged.only;
+        kept = staged.at.kept;
+        remembers = λ summary same. remembers_as staged.at.remembers same;
+      };
+}
 
 -- a list of length 0 has no element
 pub none_left : (answers : List Accepted) (n : ℕ) → n ≡ length answers → (n == 0) ≡ true

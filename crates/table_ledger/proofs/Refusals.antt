@@ -65,14 +65,18 @@ does_failed_next (Err other) failed early late = record {
 }
 does_failed_next (Ok value) failed early late = absurd (true≢false (sym failed))
 
--- a look that is refused, before a step
-pub does_unseen : {A U : Type 0} {old new : State} {When : Tables → Type 0}
+-- a look that is refused after others, before a step
+pub does_unseen : {A U : Type 0} {old middle new : State} {Known When : Tables → Type 0}
     {Others : Tables → A → Type 0} {change : Tables → Tables} {error : StoreError}
-    (result : Result U StoreError) → IsErr result
-    → Looks {A = A} (Err error) old new Others → Does result old new When change
-does_unseen (Err other) failed looks =
-    record { survives = looks.survives; done = λ clean. tt; refused = looks.refused }
-does_unseen (Ok value) failed looks = absurd (true≢false (sym failed))
+    (result : Result U StoreError) → IsErr result → Saw old middle Known
+    → Looks {A = A} (Err error) middle new Others → Does result old new When change
+does_unseen (Err other) failed saw looks = record {
+  survives = survives_then saw.survives looks.survives;
+  done = λ clean. tt;
+  refused = λ clean.
+      kept_after_look (saw.seen (clean_before looks.survives clean)).same (looks.refused clean);
+}
+does_unseen (Ok value) failed saw looks = absurd (true≢false (sym failed))
 
 -- a look that is refused after others
 pub looks_failed_next : {A B : Type 0} {old middle new : State} {Known : Tables → Type 0}

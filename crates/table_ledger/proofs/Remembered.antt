@@ -1,5 +1,5 @@
 -- What a ledger remembers of the rulings of its book: everything but which records were chosen.
-use Rattle.std.proofs.Common.{◌≡◌, ◌∙◌, sym, ap}
+use Rattle.std.proofs.Common.{◌≡◌, ◌∙◌, ℕ, sym, ap, subst}
 use Rattle.book_model.specs.Words.{Book, Rulings}
 use Rattle.book_core.specs.OfficeRulings.{ruled_in}
 use Rattle.table_ledger.specs.Ready.{Remembers}
@@ -29,3 +29,16 @@ remembers_same rulings choices held total book remembers = record {
   held = held ∙ remembers.held;
   total = total ∙ remembers.total;
 }
+
+-- and so does that summary itself
+pub remembers_as : {is summary : Summary} {book : Book} → Remembers is book → summary ≡ is
+    → Remembers summary book
+remembers_as {book = book} remembers same =
+    subst (λ told. Remembers told book) (sym same) remembers
+
+-- a summary says this: the rulings, how many choices and records there are, and what they cost
+pub record Says (ruled : Rulings) (made count cost : ℕ) (is : Summary) : Type 0 where
+  pub rulings : ruled_in is.rulings ≡ ruled
+  pub choices : is.choices ≡ made
+  pub held : is.held ≡ count
+  pub total : is.total ≡ cost

@@ -1,29 +1,24 @@
 -- Work that is served is work of a ledger, whatever events it makes.
-use Rattle.std.proofs.Common.{◌≡◌, ◌∙◌, ◌⊎◌, inl, inr, Bool, true, false, true≢false, List, []}
-use Rattle.std.proofs.Common.{Result, Ok, Err, refl, sym, ap, subst, ◌||◌, ℕ}
+use Rattle.std.proofs.Common.{◌≡◌, ◌∙◌, inl, inr, Bool, true, false, true≢false, List, []}
+use Rattle.std.proofs.Common.{Result, Ok, Err, refl, sym, ap, subst}
 use Rattle.sqlite_trees.specs.Tree.{Trees}
-use Rattle.sqlite_trees.specs.View.{IsClean}
+use Rattle.sqlite_trees.specs.View.{View, IsClean}
 use Rattle.sqlite_trees.specs.declared.error.StoreError.{StoreError}
 use Rattle.sqlite_trees.specs.declared.store.Store.{Ghosts}
 use Rattle.tree_tables.specs.States.{HasCleanDisk, Survives, state}
 use Rattle.book_model.specs.declared.fault.LedgerFault.{LedgerFault}
-use Rattle.book_model.specs.declared.answer.Accepted.{Accepted}
-use Rattle.book_model.specs.declared.fault.LedgerFault.TheVariants.{Memory, Store, Reopen}
-use Rattle.book_model.specs.Words.{Book, Event, after_all, Naming, Outcome, accept_outcome}
-use Rattle.book_core.specs.Calls.{Calls, Reopens, is_store, is_reopen}
-use Rattle.book_core.specs.Submissions.{Takes, first_of}
+use Rattle.book_model.specs.declared.fault.LedgerFault.TheVariants.{Memory, Store}
+use Rattle.book_model.specs.Words.{Book, Event, after_all, Naming}
+use Rattle.book_core.specs.Calls.{Reopens, is_store, is_reopen}
 use Rattle.book_core.specs.Ledgers.{MayHave, may_have}
 use Rattle.book_core.specs.Transition.{Transition, ComesFrom, IsTransition}
-use Rattle.table_ledger.specs.Attempts.{Ends, Finishes, IsRolledBack}
-use Rattle.table_ledger.specs.Ready.{IsReadyAt, IsReady, StoreSomeBook}
+use Rattle.table_ledger.specs.Attempts.{Ends, Finishes, IsRefused, IsRolledBack}
+use Rattle.table_ledger.specs.Ready.{IsReadyAt, IsReady, IsStoredIn, StoreSomeBook}
 use Rattle.table_ledger.specs.LedgerState.{LedgerState, book_of_trees, MayFind, AreBooks, seen_on}
 use Rattle.table_ledger.specs.LedgerState.{state_on}
 use Rattle.table_ledger.specs.ReadyBooks.{book_of_stored, book_of_ready, book_of_left, LeavesTheLast}
 use Rattle.table_ledger.specs.Stages.{IsMade, AttemptsBy, ServesBy}
-use Rattle.table_ledger.specs.Stages.{TakesOf, LeavesFirst, MakesOf, LeavesOne}
 use Rattle.table_ledger.specs.declared.summary.Summary.{Summary}
-use Rattle.table_ledger.proofs.FinishLemmas.{ready_back}
-use Rattle.table_ledger.proofs.OneCall.{call_reopen}
 use Rattle.table_ledger.proofs.SurvivalLemmas.{clean_before, survives_then}
 
 -- what the work comes to, as work on a ledger
@@ -35,8 +30,8 @@ pub record ComesTo {V : Type 0} (Made : Result V LedgerFault → Book → List E
       → Work result false book events false
   -- or memory ran out,
   pub wanting : (book : Book) → Made (Err Memory) book []
-  -- or the store failed, before the commit or in it
-  pub before : (book : Book) → Work (Err Store) false book [] true
+  -- or the store failed, and what the commit may have left, if it came to one, is made
+  pub none : (book : Book) → Leaves book []
   pub within : (book : Book) (events : List Event) → Leaves book events
       → Work (Err Store) false book events true
 
@@ -106,41 +101,39 @@ module _ {V : Type 0} {Made : Result V LedgerFault → Book → List Event → T
       (subst (λ flag. Work result false book events flag) (sym now)
       (subst (λ answer. Work answer false book events flag) (sym is) work))
 
-  -- if the store failed, the next open finds the book before the work, or one that a commit left
-  moves_failed : (ready : IsReady old.naming old.summary old.state.view) → is_store result ≡ true
-      → (book : Book) → (book ≡ ready.book) ⊎ ((events : List Event) × Leaves ready.book events
-      × (book ≡ after_all events ready.book))
-      → ComesFrom (seen_on old) (seen_on new) (Work result) book
-  moves_failed ready failed book (inl same) = record {
-    before = ready.book;
-    events = [];
-    stood = stood ready;
-    made = made_with true (Err Store) ready.book [] (is_the_store result failed)
-        (serves.reopen ∙ failed) (comes.before ready.book);
-    leads = same;
-  }
-  moves_failed ready failed book (inr made) = record {
-    before = ready.book;
-    events = made.0;
-    stood = stood ready;
-    made = made_with true (Err Store) ready.book made.0 (is_the_store result failed)
-        (serves.reopen ∙ failed) (comes.within ready.book made.0 made.1);
-    leads = made.2;
-  }
+  -- what a commit may have made of the book, or no event
+  abbrev LeftOf : Book → Book → Type 0
+  LeftOf book found =
+      (events : List Event) × Leaves book events × (found ≡ after_all events book)
 
-  -- a crash in the work leaves the book as it was, or one that a commit left
+  -- a crash in the work leaves such a book,
   left_by : HasCleanDisk new.state → (ready : IsReady old.naming old.summary old.state.view)
-      → (found : Book) → MayFind new.state.may_leave found
-      → (found ≡ ready.book) ⊎ ((events : List Event) × Leaves ready.book events
-      × (found ≡ after_all events ready.book))
+      → (found : Book) → MayFind new.state.may_leave found → LeftOf ready.book found
   left_by clean ready found left =
       elim (serves.survives.crash clean left.0 left.1) [
-        | inl earlier ↦ inl (left.2
-            ∙ book_of_left old.state.view old.state.may_leave last ready.ready left.0 earlier)
+        | inl earlier ↦ (
+          [],
+          comes.none ready.book,
+          left.2
+              ∙ book_of_left old.state.view old.state.may_leave last ready.ready left.0 earlier,
+        )
         | inr later ↦
             let keeps = later ready.book ready.ready in
-            inr (keeps.events, keeps.leaves, left.2 ∙ book_of_stored keeps.stored)
+            (keeps.events, keeps.leaves, left.2 ∙ book_of_stored keeps.stored)
       ]
+
+  -- so if the store failed, the next open finds one
+  moves_failed : (ready : IsReady old.naming old.summary old.state.view) → is_store result ≡ true
+      → (book : Book) → LeftOf ready.book book
+      → ComesFrom (seen_on old) (seen_on new) (Work result) book
+  moves_failed ready failed book left = record {
+    before = ready.book;
+    events = left.0;
+    stood = stood ready;
+    made = made_with true (Err Store) ready.book left.0 (is_the_store result failed)
+        (serves.reopen ∙ failed) (comes.within ready.book left.0 left.1);
+    leads = left.2;
+  }
 
   -- if it did not, the book is the one that the work made
   moves_served : (ready : IsReady old.naming old.summary old.state.view) → is_store result ≡ false
@@ -177,6 +170,18 @@ module _ {V : Type 0} {Made : Result V LedgerFault → Book → List Event → T
         (subst (λ flag. may_have flag (seen_on new) book) serves.reopen stands);
     alone = λ closed. absurd (true≢false (sym closed ∙ is_open));
   }
+
+-- a ledger is ready again if the store went back to its last commit
+ready_back : {naming : Naming} {was is : Summary} {book : Book} (old middle new : View)
+    → IsReadyAt naming was old book → IsRefused is old middle book → IsRolledBack middle new
+    → IsReadyAt naming is new book
+ready_back {naming} {was} {is} {book} old middle new ready refused back = record {
+  rest = back.rest;
+  kept = subst (IsStoredIn naming book)
+      (ready.rest.settled ∙ sym (refused.stands.committed back.was_open) ∙ sym back.committed
+      ∙ sym back.rest.settled) ready.kept;
+  remembers = refused.remembers;
+}
 
 module _ {S V : Type 0} {Made : Result V LedgerFault → Book → List Event → Type 0}
     {Leaves : Book → List Event → Type 0} (ghosts : Ghosts S) (naming : Naming) (was is : Summary)
@@ -227,7 +232,7 @@ module _ {S V : Type 0} {Made : Result V LedgerFault → Book → List Event →
         absurd (true≢false (sym (ap is_store failed.0) ∙ open_now));
   }
 
--- Work that was tried and settled is work of the ledger.
+-- Work that was tried and settled is work of the ledger, with the flags of a call.
 pub work_settled : {S V : Type 0} {Made : Result V LedgerFault → Book → List Event → Type 0}
     {Leaves : Book → List Event → Type 0} {Work : Result V LedgerFault → Transition}
     {naming : Naming} {was is : Summary} {middle last : S} {before flag : Bool}
@@ -237,73 +242,16 @@ pub work_settled : {S V : Type 0} {Made : Result V LedgerFault → Book → List
     → Finishes ghosts middle last before flag tried result
     → AttemptsBy Made Leaves naming was is (state ghosts first) (state ghosts middle) tried
     → IsTransition (seen_on (state_on ghosts naming first before was))
-    (seen_on (state_on ghosts naming last flag is)) (Work result)
+    (seen_on (state_on ghosts naming last flag is)) (Work result) × Reopens result before flag
 work_settled {S = S} {Made = Made} {Leaves = Leaves} {Work = Work} {naming = naming} {was = was} {is = is} {middle = middle} {last = last} {flag = flag} {tried = tried} {result = result} comes ghosts first is_open leaves settles tries =
     let old = state_on ghosts naming first in
     let new = state_on ghosts naming last flag is in
     subst (λ before. Finishes ghosts middle last before flag tried result
-    → IsTransition (seen_on (old before was)) (seen_on new) (Work result)) (sym is_open)
-    (λ finishes. work_served comes (old false was) new result refl (leaves first)
-    (serves_by ghosts naming was is first middle last flag tried result tries finishes.survives
-    finishes.ends comes.wanting)) settles
-
--- The flags of such a call.
-pub reopens_settled : {S V : Type 0} {Made : Result V LedgerFault → Book → List Event → Type 0}
-    {Leaves : Book → List Event → Type 0} {naming : Naming} {was is : Summary} {middle last : S}
-    {before flag : Bool} {tried : Result (Result V LedgerFault) StoreError}
-    {result : Result V LedgerFault} → ((book : Book) → Made (Err Memory) book [])
-    → (ghosts : Ghosts S) (first : S) → before ≡ false
-    → Finishes ghosts middle last before flag tried result
-    → AttemptsBy Made Leaves naming was is (state ghosts first) (state ghosts middle) tried
-    → Reopens result before flag
-reopens_settled {Made = Made} {Leaves = Leaves} {naming = naming} {was = was} {is = is} {middle = middle} {last = last} {before = before} {flag = flag} {tried = tried} {result = result} wants ghosts first is_open settles tries =
-    let finishes : Finishes ghosts middle last false flag tried result =
-    subst (λ before. Finishes ghosts middle last before flag tried result) is_open settles in
+    → IsTransition (seen_on (old before was)) (seen_on new) (Work result)
+    × Reopens result before flag) (sym is_open)
+    (λ finishes.
     let serves = serves_by ghosts naming was is first middle last flag tried result tries
-    finishes.survives finishes.ends wants in
-    record {
-      reopen = serves.served ∙ sym is_open;
-      store = serves.reopen ∙ ap (λ was. was || is_store result) (sym is_open);
-    }
-
--- Records that are submitted together come to such work,
-pub many_come : (naming : Naming) (records : List (List ℕ))
-    → ComesTo (TakesOf naming records) (LeavesFirst naming records) (Takes naming records)
-many_come naming records = record {
-  served = λ result book events open_now served made. made;
-  wanting = λ book. record { makes = refl; reopens = record { reopen = refl; store = refl } };
-  before = λ book. record {
-    was_open = refl;
-    closed = refl;
-    answers = [];
-    kept = record { none = refl; same = refl };
-  };
-  within = λ book events leaves. record {
-    was_open = refl;
-    closed = refl;
-    answers = leaves.answers;
-    kept = leaves.accepts;
-  };
-}
-
--- and so does a single call
-pub one_comes : {V A : Type 0} (view : V → A) (outcome : Book → Outcome A)
-    → ComesTo (MakesOf view outcome) (LeavesOne outcome) (Calls view outcome)
-one_comes view outcome = record {
-  served = λ result book events open_now served made. record {
-    makes = made;
-    reopens = record { reopen = served; store = sym open_now };
-  };
-  wanting = λ book. refl;
-  before = λ book. record { makes = inl refl; reopens = record { reopen = refl; store = refl } };
-  within = λ book events leaves.
-      record { makes = leaves; reopens = record { reopen = refl; store = refl } };
-}
-
--- A ledger that is to be reopened takes no record.
-pub many_reopen : (shelf : LedgerState) (naming : Naming) (records : List (List ℕ))
-    → shelf.must_reopen ≡ true
-    → IsTransition (seen_on shelf) (seen_on shelf) (Takes naming records (Err Reopen))
-many_reopen shelf naming records closed =
-    (call_reopen {V = Accepted} {view = λ (accepted : Accepted). accepted}
-    {outcome = accept_outcome naming (first_of records)} shelf closed).work
+    finishes.survives finishes.ends comes.wanting in (
+      work_served comes (old false was) new result refl (leaves first) serves,
+      record { reopen = serves.served; store = serves.reopen },
+    )) settles

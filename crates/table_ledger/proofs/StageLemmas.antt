@@ -1,26 +1,26 @@
 -- A call that is tried inside a transaction: looks at the tables, and then an answer or steps.
-use Rattle.std.proofs.Common.{◌≡◌, Result, Ok, Err, [], ◌∷◌, refl, sym, ap, subst, true≢false}
+use Rattle.std.proofs.Common.{◌≡◌, inl, inr, List, Result, Ok, Err, Some, [], ◌∷◌, refl, sym, ap}
+use Rattle.std.proofs.Common.{subst, true≢false}
 use Rattle.std.specs.Prelude.{IsErr}
-use Rattle.sqlite_trees.specs.View.{View}
 use Rattle.sqlite_trees.specs.declared.error.StoreError.{StoreError}
 use Rattle.book_model.specs.declared.fault.LedgerFault.{LedgerFault}
-use Rattle.book_model.specs.Words.{Book, after, Outcome, Naming}
+use Rattle.book_model.specs.Words.{Book, Event, after, Outcome, Naming}
 use Rattle.book_core.specs.Calls.{Makes, listed}
 use Rattle.table_model.specs.Tables.{Tables}
 use Rattle.table_model.specs.TablesOf.{tables_of}
-use Rattle.tree_rows.specs.Rows.{IsUnchanged}
+use Rattle.table_laws.specs.FromCalls.{IsFromCalls}
 use Rattle.tree_rows.proofs.Calls.{only_looks, kept_after_look}
 use Rattle.tree_tables.specs.Holds.{Holds}
-use Rattle.tree_tables.specs.States.{State}
-use Rattle.tree_tables.specs.Steps.{Does, Looks}
+use Rattle.tree_tables.specs.States.{State, HasCleanDisk, Survives}
+use Rattle.tree_tables.specs.Steps.{Does, KeepsLastCommit, Looks}
 use Rattle.tree_tables.proofs.Looking.{only_both}
 use Rattle.table_ledger.specs.Attempts.{LeavesOpen}
 use Rattle.table_ledger.specs.Commits.{Saw}
 use Rattle.table_ledger.specs.Ready.{IsStoredIn, Remembers}
-use Rattle.table_ledger.specs.Stages.{IsAt, Stages}
+use Rattle.table_ledger.specs.Stages.{IsAt, LeavesOne, MakesOf, Stages, StagesBy}
 use Rattle.table_ledger.specs.declared.summary.Summary.{Summary}
+use Rattle.table_ledger.proofs.Remembered.{remembers_as}
 use Rattle.table_ledger.proofs.SurvivalLemmas.{clean_before, survives_then}
-use Rattle.table_ledger.proofs.TryLemmas.{IsEvent}
 use Rattle.table_ledger.proofs.UnchangedStores.{holds_on, stands_kept, stands_same, stands_then, trees_same}
 
 -- looks, and then steps, which may rest on what was seen
@@ -48,107 +48,125 @@ does_seen {old = old} {middle = middle} {new = new} (Err error) saw does = recor
       kept_after_look (saw.seen (clean_before does.survives clean)).same (does.refused clean);
 }
 
--- a look that is refused after another, before a step
-pub does_unseen_next : {A U : Type 0} {old middle new : State} {Known When : Tables → Type 0}
-    {Others : Tables → A → Type 0} {change : Tables → Tables} {error : StoreError}
-    (result : Result U StoreError) → IsErr result → Saw old middle Known
-    → Looks {A = A} (Err error) middle new Others → Does result old new When change
-does_unseen_next (Err other) failed saw looks = record {
-  survives = survives_then saw.survives looks.survives;
-  done = λ clean. tt;
-  refused = λ clean.
-      kept_after_look (saw.seen (clean_before looks.survives clean)).same (looks.refused clean);
-}
-does_unseen_next (Ok value) failed saw looks = absurd (true≢false (sym failed))
+-- What steps make of a book: an event of the outcome, with this answer, the tables that it leaves,
+-- and the summaries that then remember the book.
+pub record IsEvent {V A : Type 0} (view : V → A) (naming : Naming) (outcome : Book → Outcome A)
+    (value : V) (Is : Summary → Type 0) (When : Tables → Type 0) (change : Tables → Tables)
+    (book : Book) : Type 0 where
+  pub event : Event
+  pub is : (outcome book).event ≡ Some event
+  pub answer : (outcome book).answer ≡ Ok (view value)
+  pub when : When (tables_of naming book)
+  pub calls : IsFromCalls naming (after event book)
+  pub tables : change (tables_of naming book) ≡ tables_of naming (after event book)
+  pub remembers : (summary : Summary) → Is summary → Remembers summary (after event book)
 
--- a book stays where nothing changes
-pub at_same : {naming : Naming} {was : Summary} {book : Book} (old new : View)
-    → IsUnchanged old new → IsAt naming was old book → IsAt naming was new book
-at_same {naming} {was} {book} old new same at = record {
-  kept = subst (IsStoredIn naming book) (sym (trees_same old new same)) at.kept;
-  remembers = at.remembers;
-}
+module _ {V T : Type 0} {answered : T → Result V LedgerFault}
+    {Made : Result V LedgerFault → Book → List Event → Type 0}
+    {Leaves : Book → List Event → Type 0} {naming : Naming} {was : Summary}
+    {Is : Summary → Type 0} where
+  -- Work is not staged where the store refused it:
+  pub unstaged : {old new : State} (staged : Result T StoreError) → IsErr staged
+      → Survives old new (λ trees. ⊥)
+      → (HasCleanDisk new → (book : Book) → IsAt naming was old.view book
+      → KeepsLastCommit old.view new.view)
+      → StagesBy answered Made Leaves naming was Is old new staged
+  unstaged (Err error) failed survives stands =
+      record { plain = tt; survives = survives; found = stands }
+  unstaged (Ok value) failed survives stands = absurd (true≢false (sym failed))
 
-module _ {V A : Type 0} (view : V → A) (naming : Naming) (was : Summary)
-    (outcome : Book → Outcome A) where
-  -- The call is answered by looks alone.
-  pub stage_answered : {old new : State} {Known : Tables → Type 0} {answer : Result V LedgerFault}
-      → Saw old new Known → LeavesOpen answer
-      → ((book : Book) → IsAt naming was old.view book → Known (tables_of naming book)
-      → Makes view (outcome book) answer [])
-      → Stages view naming was was old new outcome (Ok answer)
-  stage_answered {old} {new} saw plain makes = record {
-    plain = plain;
-    survives = saw.survives;
+  -- the last look,
+  pub stage_refused : {B : Type 0} {old middle new : State} {Known : Tables → Type 0}
+      {Answers : Tables → B → Type 0} {error : StoreError} (staged : Result T StoreError)
+      → IsErr staged → Saw old middle Known → Looks {A = B} (Err error) middle new Answers
+      → StagesBy answered Made Leaves naming was Is old new staged
+  stage_refused {old = old} {middle = middle} staged failed saw looks =
+      unstaged staged failed (survives_then saw.survives looks.survives) (λ clean book at.
+      stands_then (stands_same old.view middle.view
+      (saw.seen (clean_before looks.survives clean)).same) (stands_kept (looks.refused clean)))
+
+  -- or the steps after looks.
+  pub stage_undone : {U : Type 0} {old middle new : State} {Known When : Tables → Type 0}
+      {change : Tables → Tables} {error : StoreError} (staged : Result T StoreError)
+      → IsErr staged → Saw old middle Known → Does {T = U} (Err error) middle new When change
+      → StagesBy answered Made Leaves naming was Is old new staged
+  stage_undone {old = old} {middle = middle} staged failed saw does =
+      unstaged staged failed (survives_then saw.survives does.survives) (λ clean book at.
+      stands_then (stands_same old.view middle.view
+      (saw.seen (clean_before does.survives clean)).same) (stands_kept (does.refused clean)))
+
+  -- What was staged is answered, and this summary remembers the book.
+  pub staged_so : {old new : State} {done : T} (is : Summary) → Is is
+      → StagesBy answered Made Leaves naming was Is old new (Ok done)
+      → StagesBy (λ answer. answer) Made Leaves naming was (λ summary. summary ≡ is) old new
+      (Ok (answered done))
+  staged_so is told stages = record {
+    plain = stages.plain;
+    survives = stages.survives;
     found = λ clean book at.
-        let seen = saw.seen clean in
+        let staged = stages.found clean book at in
         record {
-          events = [];
-          makes = makes book at (seen.known (tables_of naming book) at.kept.holds);
-          only = only_looks old.view seen.same;
-          at = at_same old.view new.view seen.same at;
+          events = staged.events;
+          made = staged.made;
+          leaves = staged.leaves;
+          only = staged.only;
+          kept = staged.kept;
+          remembers = λ summary same. remembers_as (staged.remembers is told) same;
         };
   }
 
-  -- The last look is refused.
-  pub stage_refused : {B : Type 0} {old middle new : State} {Known : Tables → Type 0}
-      {Answers : Tables → B → Type 0} {error : StoreError} → Saw old middle Known
-      → Looks {A = B} (Err error) middle new Answers
-      → Stages view naming was was old new outcome (Err error)
-  stage_refused {B} {old} {middle} saw looks = record {
-    plain = tt;
-    survives = survives_then saw.survives looks.survives;
-    found = λ clean book at.
-        stands_then (stands_same old.view middle.view
-        (saw.seen (clean_before looks.survives clean)).same) (stands_kept (looks.refused clean));
-  }
+-- The call is answered by looks alone.
+pub stage_answered : {V A : Type 0} {view : V → A} {naming : Naming} {was : Summary}
+    (outcome : Book → Outcome A) {old new : State} {Known : Tables → Type 0}
+    {answer : Result V LedgerFault} → Saw old new Known → LeavesOpen answer
+    → ((book : Book) → IsAt naming was old.view book → Known (tables_of naming book)
+    → Makes view (outcome book) answer [])
+    → Stages view naming was was old new outcome (Ok answer)
+stage_answered {naming = naming} outcome {old = old} {new = new} saw plain makes = record {
+  plain = plain;
+  survives = saw.survives;
+  found = λ clean book at.
+      let seen = saw.seen clean in
+      record {
+        events = [];
+        made = makes book at (seen.known (tables_of naming book) at.kept.holds);
+        leaves = inl refl;
+        only = only_looks old.view seen.same;
+        kept = subst (IsStoredIn naming book) (sym (trees_same old.view new.view seen.same))
+            at.kept;
+        remembers = λ summary same. remembers_as at.remembers same;
+      };
+}
 
-  module _ {old middle : State} (new : State) {Known : Tables → Type 0} (When : Tables → Type 0)
-      (change : Tables → Tables) (saw : Saw old middle Known) where
-    -- The steps are written, and the call is answered as the outcome says.
-    pub stage_done : {T : Type 0} {done : T} {is : Summary} {value : V}
-        → Does (Ok done) middle new When change
-        → (events : (book : Book) → IsAt naming was old.view book → Known (tables_of naming book)
-        → IsEvent view naming was outcome When change book)
-        → ((book : Book) (at : IsAt naming was old.view book) (known : Known (tables_of naming book))
-        → (outcome book).answer ≡ Ok (view value))
-        → ((book : Book) (at : IsAt naming was old.view book)
-        (known : Known (tables_of naming book))
-        → Remembers is (after (events book at known).event book))
-        → Stages view naming was is old new outcome (Ok (Ok value))
-    stage_done does events answers remembers = record {
-      plain = record { stored = refl; served = refl };
-      survives = survives_then saw.survives does.survives;
-      found = λ clean book at.
-          let tables = tables_of naming book in
-          let seen = saw.seen (clean_before does.survives clean) in
-          let known = seen.known tables at.kept.holds in
-          let event = events book at known in
-          let changes = does.done clean in
-          record {
-            events = event.event ∷ [];
-            makes = (answers book at known, ap listed (sym event.is));
-            only = only_both old.view (only_looks old.view seen.same) changes.only;
-            at = record {
-              kept = record {
-                calls = event.calls;
-                holds = subst (Holds new.view.trees) event.tables
-                    (changes.made tables
-                    (holds_on old.view middle.view tables seen.same at.kept.holds) event.when);
-              };
-              remembers = remembers book at known;
-            };
-          };
-    }
-
-    -- The steps are refused.
-    pub stage_undone : {T : Type 0} {error : StoreError}
-        → Does {T = T} (Err error) middle new When change
-        → Stages view naming was was old new outcome (Err error)
-    stage_undone does = record {
-      plain = tt;
-      survives = survives_then saw.survives does.survives;
-      found = λ clean book at.
-          stands_then (stands_same old.view middle.view
-          (saw.seen (clean_before does.survives clean)).same) (stands_kept (does.refused clean));
-    }
+-- The steps of a call are staged after its looks.
+pub stage_steps : {V A T : Type 0} {view : V → A} {naming : Naming} {was : Summary}
+    {outcome : Book → Outcome A} {first middle last : State} {Known When : Tables → Type 0}
+    {change : Tables → Tables} {value : V} {Is : Summary → Type 0} (staged : Result T StoreError)
+    → Saw first middle Known → Does staged middle last When change
+    → ((book : Book) → IsAt naming was first.view book → Known (tables_of naming book)
+    → IsEvent view naming outcome value Is When change book)
+    → StagesBy (λ done. Ok value) (MakesOf view outcome) (LeavesOne outcome) naming was Is first last
+    staged
+stage_steps {naming = naming} {first = first} {middle = middle} {last = last} (Ok done) saw does events = record {
+  plain = record { stored = refl; served = refl };
+  survives = survives_then saw.survives does.survives;
+  found = λ clean book at.
+      let tables = tables_of naming book in
+      let seen = saw.seen (clean_before does.survives clean) in
+      let event = events book at (seen.known tables at.kept.holds) in
+      let changes = does.done clean in
+      record {
+        events = event.event ∷ [];
+        made = (event.answer, ap listed (sym event.is));
+        leaves = inr (ap listed (sym event.is));
+        only = only_both first.view (only_looks first.view seen.same) changes.only;
+        kept = record {
+          calls = event.calls;
+          holds = subst (Holds last.view.trees) event.tables
+              (changes.made tables
+              (holds_on first.view middle.view tables seen.same at.kept.holds) event.when);
+        };
+        remembers = event.remembers;
+      };
+}
+stage_steps (Err error) saw does events = stage_undone (Err error) refl saw does

@@ -1,21 +1,20 @@
--- Steps inside one transaction, one after the other, and their commit.
-use Rattle.std.proofs.Common.{◌≡◌, ◌∙◌, Result, Ok, Err, false, refl, sym, ap, subst, true≢false}
-use Rattle.std.specs.Prelude.{IsErr, OnErr, OnOk}
+-- Steps inside one transaction, one after the other, and the store after their commit.
+use Rattle.std.proofs.Common.{◌≡◌, ◌∙◌, Result, Ok, Err, false, refl, sym, ap, subst}
+use Rattle.std.specs.Prelude.{OnOk}
 use Rattle.sqlite_trees.specs.Tree.{Trees}
 use Rattle.sqlite_trees.specs.View.{View, Commits, OnlyWrites}
 use Rattle.sqlite_trees.specs.declared.error.StoreError.{StoreError}
-use Rattle.sqlite_trees.specs.declared.store.Store.{Ghosts}
 use Rattle.table_model.specs.TablesAfter.{new_tables}
 use Rattle.table_model.specs.Tables.{Tables}
 use Rattle.tree_rows.specs.Rows.{IsUnchanged}
 use Rattle.tree_tables.specs.Holds.{Holds, has_book}
-use Rattle.tree_tables.specs.States.{State, HasCleanDisk, Survives, state}
-use Rattle.tree_tables.specs.Steps.{Always, Changes, Does, HasNoRows, IsUndone, Makes, MayCommit}
-use Rattle.tree_tables.specs.Steps.{KeepsLastCommit}
+use Rattle.tree_tables.specs.States.{State, HasCleanDisk, Survives}
+use Rattle.tree_tables.specs.Steps.{Always, Changes, Does, HasNoRows, KeepsLastCommit, Makes}
+use Rattle.tree_tables.specs.Steps.{MayCommit}
 use Rattle.tree_tables.proofs.Looking.{kept_after}
-use Rattle.table_ledger.specs.Commits.{CommitsOne, CommitsWritten, IsAtRest, IsDone, Saw, Stores}
+use Rattle.table_ledger.specs.Commits.{IsAtRest, Saw, Stores}
 use Rattle.table_ledger.specs.NewBooks.{MakesNew}
-use Rattle.table_ledger.proofs.UnchangedStores.{rest_on, stands_kept, stands_then, trees_same}
+use Rattle.table_ledger.proofs.UnchangedStores.{rest_on, trees_same}
 use Rattle.table_ledger.proofs.SurvivalLemmas.{clean_before, survives_both, survives_none}
 use Rattle.table_ledger.proofs.SurvivalLemmas.{survives_so, survives_then}
 
@@ -94,16 +93,6 @@ does_so (Err error) does so = record {
 
 -- ---- the commit
 
--- steps that were refused are no commit, whichever error is answered
-commit_unwritten : {T U : Type 0} {first last : State} {When : Tables → Type 0}
-    {change : Tables → Tables} {error : StoreError} (result : Result U StoreError) → IsErr result
-    → Does {T = T} (Err error) first last When change → CommitsOne result first last When change
-commit_unwritten (Err other) failed does = record {
-  survives = survives_so does.survives (λ clean trees none. absurd none);
-  done = λ clean rest tables holds when. stands_kept (does.refused clean);
-}
-commit_unwritten (Ok value) failed does = absurd (true≢false (sym failed))
-
 -- the last commit stays after steps
 pub stands_only : (old new : View) → OnlyWrites old new → KeepsLastCommit old new
 stands_only old new only = record {
@@ -121,54 +110,6 @@ rests first middle last rest only commits = record {
   settled = ap (λ (v : View). v.trees) commits.is
       ∙ sym (ap (λ (v : View). v.committed) commits.is);
 }
-
-module _ {T : Type 0} (first middle last : State) (When : Tables → Type 0)
-    (change : Tables → Tables) {written : T} (does : Does (Ok written) first middle When change)
-    (survives : Survives middle last (MayCommit middle.view)) where
-  -- what was written
-  steps : HasCleanDisk last → Changes first.view middle.view When change
-  steps clean = does.done (clean_before survives clean)
-
-  ended : {U : Type 0} (result : Result U StoreError)
-      → OnOk result (HasCleanDisk last → Commits middle.view last.view)
-      → OnErr result (HasCleanDisk last → IsUndone middle.view last.view)
-      → HasCleanDisk last → IsAtRest first.view → (tables : Tables)
-      → Holds first.view.trees tables → When tables
-      → IsDone first.view last.view (change tables) result
-  ended (Ok value) committed undone clean rest tables holds when = record {
-    holds = subst (λ trees. Holds trees (change tables))
-        (sym (ap (λ (v : View). v.trees) (committed clean).is))
-        ((steps clean).made tables holds when);
-    rest = rests first.view middle.view last.view rest (steps clean).only (committed clean);
-  }
-  ended (Err error) committed undone clean rest tables holds when =
-      stands_then (stands_only first.view middle.view (steps clean).only) (undone clean).stands
-
-  -- steps and their commit are one commit
-  steps_commit : {U : Type 0} (result : Result U StoreError)
-      → OnOk result (HasCleanDisk last → Commits middle.view last.view)
-      → OnErr result (HasCleanDisk last → IsUndone middle.view last.view)
-      → CommitsOne result first last When change
-  steps_commit result committed undone = record {
-    survives = survives_both does.survives survives (λ clean trees none. absurd none)
-        (λ clean trees made tables holds when.
-        subst (λ (found : _). Holds found (change tables)) (sym made.whole)
-        ((steps clean).made tables holds when));
-    done = ended result committed undone;
-  }
-
--- What was written and then committed is one commit; so is nothing, where it was not written.
-pub one_commit : {S T U : Type 0} {ghosts : Ghosts S} {first : State} {middle last : S}
-    {When : Tables → Type 0} {change : Tables → Tables} {result : Result U StoreError}
-    (written : Result T StoreError) → CommitsWritten ghosts written result middle last
-    → Does written first (state ghosts middle) When change
-    → CommitsOne result first (state ghosts last) When change
-one_commit {ghosts = ghosts} {first = first} {middle = middle} {last = last} {When = When} {change = change} {result = result} (Ok done) commits does =
-    steps_commit first (state ghosts middle) (state ghosts last) When change does commits.survives
-    result commits.committed commits.refused
-one_commit {S = S} {ghosts = ghosts} {first = first} {When = When} {change = change} {result = result} (Err error) commits does =
-    subst (λ (store : S). CommitsOne result first (state ghosts store) When change)
-    (sym commits.left.1) (commit_unwritten result commits.left.0 does)
 
 -- ---- new books
 

@@ -1,6 +1,7 @@
 -- What survives two calls.
-use Rattle.std.proofs.Common.{inl, inr, arith, rules}
+use Rattle.std.proofs.Common.{inl, inr, arith}
 use Rattle.sqlite_trees.specs.Tree.{Trees}
+use Rattle.tree_rows.proofs.Calls.{closes_both}
 use Rattle.tree_tables.specs.States.{State, HasCleanDisk, Survives}
 
 -- the disk was clean before a call, if it is after it
@@ -20,17 +21,8 @@ survives_both {first} {middle} {last} one two early late = record {
   clean = (let a = one.clean in let b = two.clean in omega (arith, a, b));
   shield = λ shielded. two.shield (one.shield shielded);
   counts = (let a = one.counts in let b = two.counts in omega (arith, a, b));
-  closes = λ clean is_open.
-      let before : HasCleanDisk middle = clean_before two clean in
-      let a = one.counts in
-      let b = two.counts in
-      elim (one.closes before is_open) [
-        | inl still ↦ elim (two.closes clean still) [
-          | inl stays ↦ inl stays
-          | inr more ↦ inr (search rules)
-        ]
-        | inr more ↦ inr (search rules)
-      ];
+  closes = λ clean is_open. closes_both one.counts two.counts
+      (one.closes (clean_before two clean) is_open) (two.closes clean);
   crash = λ clean trees left.
       let before : HasCleanDisk middle = clean_before two clean in
       elim (two.crash clean trees left) [

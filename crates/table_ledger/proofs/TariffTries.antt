@@ -1,6 +1,6 @@
 -- A tariff that is tried: what it answers, and what it writes.
-use Rattle.std.proofs.Common.{◌≡◌, ◌≢◌, ◌∙◌, inl, inr, ℕ, List, [], refl, sym, ap, subst}
-use Rattle.std.proofs.Common.{Bool, true, false, cond, Result, Ok, Err, Some, None}
+use Rattle.std.proofs.Common.{◌≡◌, ◌≢◌, ◌∙◌, inl, inr, ℕ, List, refl, sym, ap, subst}
+use Rattle.std.proofs.Common.{Bool, true, false, cond, not, Result, Ok, Err, Some, None}
 use Rattle.std.specs.Prelude.{if◌then◌else◌, nat_lt, sum_by}
 use Rattle.std.specs.List.{list_any}
 use Rattle.sqlite_trees.specs.View.{View}
@@ -11,12 +11,11 @@ use Rattle.book_model.specs.Words.{most_cost, open_number, total_of, with_tariff
 use Rattle.book_model.specs.Words.{tariff_outcome, tariff_event, Naming, has_text, is_effective}
 use Rattle.book_model.specs.Words.{is_later, terms_answer, tariff_answer, Rulings}
 use Rattle.book_model.specs.declared.answer.Ruled.{Ruled}
-use Rattle.book_model.specs.declared.answer.Ruled.TheVariants.{Done, Already}
+use Rattle.book_model.specs.declared.answer.Ruled.TheVariants.{Done}
 use Rattle.book_model.specs.declared.fault.LedgerFault.{LedgerFault}
 use Rattle.book_model.specs.declared.fault.LedgerFault.TheVariants.{Full}
 use Rattle.book_model.proofs.CallLemmas.{by_tests}
 use Rattle.book_core.specs.Repricing.{if_room}
-use Rattle.book_core.specs.Calls.{Makes}
 use Rattle.book_core.proofs.TariffLemmas.{done_by, later_by, other_by}
 use Rattle.table_model.specs.Tables.{Tables}
 use Rattle.table_model.specs.TablesOf.{tables_of}
@@ -29,46 +28,41 @@ use Rattle.table_model.proofs.SumRead.{sum_is_read}
 use Rattle.table_model.specs.Steps.{tariff_by_steps}
 use Rattle.table_model.specs.TableChanges.{amount_under, put_tariff}
 use Rattle.std.specs.FinMap.{values}
+use Rattle.tree_tables.specs.States.{State}
 use Rattle.tree_rows.proofs.Maps.{not_none}
 use Rattle.tree_rows.proofs.Taking.{some_is}
 use Rattle.table_ledger.specs.Repricing.{CostUnder, CountsRecords}
-use Rattle.table_ledger.specs.Ready.{IsReadyAt, Remembers}
+use Rattle.table_ledger.specs.Stages.{AttemptsOne, IsAt}
 use Rattle.book_core.specs.OfficeRulings.{ruled_in}
 use Rattle.table_ledger.specs.Attempts.{LeavesOpen}
 use Rattle.table_ledger.specs.TariffRefusals.{IsNoTariff}
 use Rattle.table_ledger.specs.declared.summary.Summary.{Summary}
-use Rattle.table_ledger.proofs.Answering.{makes_refused, ruled_makes}
-use Rattle.table_ledger.proofs.Remembered.{rulings_are}
-use Rattle.table_ledger.proofs.TryLemmas.{IsEvent}
+use Rattle.table_ledger.proofs.Answering.{opens, opens_if}
+use Rattle.table_ledger.proofs.Remembered.{Says, rulings_are}
+use Rattle.table_ledger.proofs.StageLemmas.{IsEvent}
+use Rattle.table_ledger.proofs.TryLemmas.{saw_none, try_answered}
 
 -- ---- a text that is no tariff
 
-pub unread_plain : {V : Type 0} (text : List ℕ) (fault : LedgerFault) → IsNoTariff text fault
-    → LeavesOpen {V = V} (Err fault)
-unread_plain {V} text fault (inl wanting) =
-    subst (λ fault. LeavesOpen {V = V} (Err fault)) (sym wanting)
-    (record { stored = refl; served = refl })
-unread_plain {V} text fault (inr refused) =
-    subst (λ fault. LeavesOpen {V = V} (Err fault)) (sym refused.1)
-    (record { stored = refl; served = refl })
-
-pub unread_makes : (text : List ℕ) (fault : LedgerFault) → IsNoTariff text fault → (book : Book)
-    → Makes (λ (ruled : Ruled). ruled) (tariff_outcome text book) (Err fault) []
-unread_makes text fault (inl wanting) book =
-    subst (λ fault. Makes (λ (ruled : Ruled). ruled) (tariff_outcome text book) (Err fault) [])
-    (sym wanting) refl
-unread_makes text fault (inr refused) book =
-    makes_refused (λ (ruled : Ruled). ruled) (tariff_outcome text book) fault
-    (ap (tariff_answer book text) refused.2 ∙ ap Err (sym refused.1))
+pub tariff_unread : {naming : Naming} {was : Summary} {state : State} (text : List ℕ)
+    (fault : LedgerFault) → IsNoTariff text fault
+    → AttemptsOne (λ (ruled : Ruled). ruled) naming was was state state (tariff_outcome text)
+    (Ok (Err fault))
+tariff_unread {naming} {was} {state} text fault is =
+    let Answered : LedgerFault → Type 0 = λ fault.
+    AttemptsOne (λ (ruled : Ruled). ruled) naming was was state state (tariff_outcome text)
+    (Ok (Err fault)) in
+    elim is [
+      | inl wanting ↦ subst Answered (sym wanting)
+          (try_answered (tariff_outcome text) saw_none (opens refl refl) (λ book at known. refl))
+      | inr refused ↦ subst Answered (sym refused.1)
+          (try_answered (tariff_outcome text) saw_none (opens refl refl) (λ book at known. (
+            ap (tariff_answer book text) refused.2,
+            refl,
+          )))
+    ]
 
 -- ---- the tests
-
-plain_by : (told there later much : Bool) → LeavesOpen (by_tests told there later much)
-plain_by true there later much = record { stored = refl; served = refl }
-plain_by false true later much = record { stored = refl; served = refl }
-plain_by false false false much = record { stored = refl; served = refl }
-plain_by false false true true = record { stored = refl; served = refl }
-plain_by false false true false = record { stored = refl; served = refl }
 
 -- what a cost says about room
 no_room : (cost : ℕ) → None ≡ if_room cost → nat_lt most_cost cost ≡ true
@@ -98,9 +92,11 @@ module _ (summary : Summary) (text : List ℕ) (terms : Terms) where
   -- an answer without a look at the records leaves the books open
   pub tariff_plain : LeavesOpen (terms_ruled (ruled_in summary.rulings) false text terms)
   tariff_plain =
-      plain_by (list_any (has_text text) (ruled_in summary.rulings).tariffs)
-      (list_any (is_effective terms.effective) (ruled_in summary.rulings).tariffs)
-      (is_later terms.effective (ruled_in summary.rulings)) false
+      opens_if (list_any (has_text text) (ruled_in summary.rulings).tariffs) (opens refl refl)
+      (opens_if (list_any (is_effective terms.effective) (ruled_in summary.rulings).tariffs)
+      (opens refl refl)
+      (opens_if (not (is_later terms.effective (ruled_in summary.rulings))) (opens refl refl)
+      (opens refl refl)))
 
   -- a tariff that is Done but for the cost is later than all that was ruled
   pub tariff_later : terms_ruled (ruled_in summary.rulings) false text terms ≡ Ok Done
@@ -111,7 +107,7 @@ module _ (summary : Summary) (text : List ℕ) (terms : Terms) where
       (is_later terms.effective (ruled_in summary.rulings))
 
   module _ (said : terms_in text ≡ Ok terms) (naming : Naming) (view : View) (book : Book)
-      (ready : IsReadyAt naming summary view book) where
+      (ready : IsAt naming summary view book) where
     -- what the records cost under it
     abbrev cost : ℕ
     cost = sum_by (amount_under terms) (values (tables_of naming book).records)
@@ -195,14 +191,17 @@ module _ (summary : Summary) (text : List ℕ) (terms : Terms) where
           ∙ sum_is_read naming book text terms readable.sound readable.lines.framed later
 
       -- A tariff that is answered Done is an event.
-      abbrev pub tariff_is_event : IsDay terms.effective → (period held : ℕ)
+      pub tariff_is_event : IsDay terms.effective → (period held : ℕ)
           → period ≡ open_by (ruled_in summary.rulings) → held ≡ summary.held
-          → IsEvent (λ (ruled : Ruled). ruled) naming summary (tariff_outcome text)
+          → IsEvent (λ (ruled : Ruled). ruled) naming (tariff_outcome text) Done
+          (Says (with_tariff (Some text) terms (ruled_in summary.rulings)) summary.choices
+          summary.held amount)
           (CountsRecords held) (tariff_by_steps period text terms amount) book
       tariff_is_event day period held number_is same_held = record {
         event = TariffAccepted (Some text) terms;
         is = ap (λ said. tariff_event text said (tariff_answer book text (terms_in text))) said
             ∙ ap (tariff_event text (Ok terms)) (tariff_done done amount known);
+        answer = tariff_done done amount known;
         when = sym ready.remembers.held ∙ sym same_held;
         calls = calls_stay.tariff naming book text terms ready.kept.calls
             (record { said = said; day = day })
@@ -214,25 +213,10 @@ module _ (summary : Summary) (text : List ℕ) (terms : Terms) where
             ∙ tariff_is_steps (open_number book) text terms amount (tables_of naming book)
             (sum_is ∙ ap (λ (tables : Tables). tables.book.amount) (tables_follow answer))
             ∙ sym (tables_follow answer);
+        remembers = λ other says. record {
+          rulings = says.rulings ∙ ap (with_tariff (Some text) terms) ready.remembers.rulings;
+          choices = says.choices ∙ ready.remembers.choices;
+          held = says.held ∙ ready.remembers.held;
+          total = says.total ∙ sum_is;
+        };
       }
-
-      -- and it is remembered
-      pub tariff_remembered : (is : Summary)
-          → ruled_in is.rulings ≡ with_tariff (Some text) terms (ruled_in summary.rulings)
-          → is.choices ≡ summary.choices → is.held ≡ summary.held → is.total ≡ amount
-          → Remembers is (put_in_force (Some text) terms book)
-      tariff_remembered is rulings choices held total = record {
-        rulings = rulings ∙ ap (with_tariff (Some text) terms) ready.remembers.rulings;
-        choices = choices ∙ ready.remembers.choices;
-        held = held ∙ ready.remembers.held;
-        total = total ∙ sum_is;
-      }
-
--- an answer that is not Done makes no event
-pub tariff_makes : (answer : Result Ruled LedgerFault) (text : List ℕ) (terms : Terms) (book : Book)
-    → terms_in text ≡ Ok terms → (tariff_outcome text book).answer ≡ answer → answer ≢ Ok Done
-    → Makes (λ (ruled : Ruled). ruled) (tariff_outcome text book) answer []
-tariff_makes answer text terms book said is other =
-    ruled_makes (tariff_outcome text book) answer is other
-    (λ already. ap (tariff_event text (terms_in text)) (is ∙ already)
-    ∙ ap (λ said. tariff_event text said (Ok Already)) said)

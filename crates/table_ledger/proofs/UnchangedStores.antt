@@ -44,6 +44,10 @@ stands_same old new same = record {
   committed = λ is_open. committed_same old new same;
 }
 
+-- also if nothing is done,
+pub stands_still : (view : View) → KeepsLastCommit view view
+stands_still view = stands_same view view (unchanged_none view)
+
 -- if a call says so,
 pub stands_kept : {old new : View} → KeepsCommitted old new → KeepsLastCommit old new
 stands_kept kept = record { was_open = kept.was_open; committed = kept.committed }

@@ -19,6 +19,7 @@ use Rattle.tree_tables.proofs.WalkNames.{IsWalking, KeepsNames, names_stay}
 use Rattle.tree_tables.proofs.WalkNames.{next_names, walking_ends}
 use Rattle.table_ledger.proofs.Refusals.{does_failed_next, does_unseen}
 use Rattle.table_ledger.proofs.SurvivalLemmas.{survives_none}
+use Rattle.table_ledger.proofs.TryLemmas.{saw_none}
 
 -- A walk has reached a name. Nothing is committed; and of the tables as they are now this still holds,
 -- by those before the walk.
@@ -157,4 +158,4 @@ module _ (When : Tables → Type 0) (Still : Tables → Tables → Type 0)
         → Does result old new Then change
     of_blind {change = change} {why = why} result failed looks =
         does_failed_next result failed walked
-        (does_unseen {U = Unit {0}} {When = Always} {change = change} (Err why) refl looks)
+        (does_unseen {U = Unit {0}} {When = Always} {change = change} (Err why) refl saw_none looks)

@@ -31,29 +31,33 @@ pub record KeepsRulings (was is : Summary) : Type 0 where
   pub rulings : ruled_in is.rulings ≡ ruled_in was.rulings
   pub choices : is.choices ≡ was.choices
 
--- the call answered what the outcome says, and its event was written, with no commit
-pub record IsStaged {V A : Type 0} (view : V → A) (naming : Naming) (is : Summary) (old new : View)
-    (outcome : Outcome A) (book : Book) (answer : Result V LedgerFault) : Type 0 where
+-- what was staged makes such events of the book, and each such summary remembers the book then
+pub record IsStaged (Made Leaves : Book → List Event → Type 0) (naming : Naming)
+    (Is : Summary → Type 0) (old new : View) (book : Book) : Type 0 where
   pub events : List Event
-  pub makes : Makes view outcome answer events
+  pub made : Made book events
+  pub leaves : Leaves book events
   pub only : OnlyWrites old new
-  pub at : IsAt naming is new (after_all events book)
+  pub kept : IsStoredIn naming (after_all events book) new.trees
+  pub remembers : (is : Summary) → Is is → Remembers is (after_all events book)
 
--- a call is staged, or the store refused it, and its last commit stays
-abbrev pub StagedOrRefused : {V A : Type 0} → (V → A) → Naming → Summary → View → View
-    → Outcome A → Book → Result (Result V LedgerFault) StoreError → Type 0
-StagedOrRefused view naming is old new outcome book (Ok answer) =
-    IsStaged view naming is old new outcome book answer
-StagedOrRefused view naming is old new outcome book (Err error) = KeepsLastCommit old new
+-- work is staged, for this answer, or the store refused it, and its last commit stays
+abbrev pub StagedOrRefused : {V T : Type 0} → (T → Result V LedgerFault)
+    → (Result V LedgerFault → Book → List Event → Type 0) → (Book → List Event → Type 0) → Naming
+    → (Summary → Type 0) → View → View → Book → Result T StoreError → Type 0
+StagedOrRefused answered Made Leaves naming Is old new book (Ok value) =
+    IsStaged (Made (answered value)) Leaves naming Is old new book
+StagedOrRefused answered Made Leaves naming Is old new book (Err error) = KeepsLastCommit old new
 
--- A call is tried inside a transaction of a ledger.
-pub record Stages {V A : Type 0} (view : V → A) (naming : Naming) (was is : Summary)
-    (old new : State) (outcome : Book → Outcome A)
-    (tried : Result (Result V LedgerFault) StoreError) : Type 0 where
-  pub plain : IfOk tried LeavesOpen
+-- Work is tried inside a transaction of a ledger, with no commit.
+pub record StagesBy {V T : Type 0} (answered : T → Result V LedgerFault)
+    (Made : Result V LedgerFault → Book → List Event → Type 0)
+    (Leaves : Book → List Event → Type 0) (naming : Naming) (was : Summary) (Is : Summary → Type 0)
+    (old new : State) (staged : Result T StoreError) : Type 0 where
+  pub plain : IfOk staged (λ value. LeavesOpen (answered value))
   pub survives : Survives old new (λ trees. ⊥)
   pub found : HasCleanDisk new → (book : Book) → IsAt naming was old.view book
-      → StagedOrRefused view naming is old.view new.view (outcome book) book tried
+      → StagedOrRefused answered Made Leaves naming Is old.view new.view book staged
 
 -- ---- records, one after another
 
@@ -115,27 +119,11 @@ pub record IsMade (Made : Book → List Event → Type 0) (naming : Naming) (sum
   pub made : Made book events
   pub ready : IsReadyAt naming summary new (after_all events book)
 
--- the work was made, or the store refused, and its last commit stays
-abbrev pub MadeOrStands : {V : Type 0} → (Result V LedgerFault → Book → List Event → Type 0)
-    → Naming → Summary → View → View → Book → Result (Result V LedgerFault) StoreError → Type 0
-MadeOrStands Made naming is old new book (Ok answer) = IsMade (Made answer) naming is new book
-MadeOrStands Made naming is old new book (Err error) = KeepsLastCommit old new
-
 -- the work was made, or the store refused, and the ledger remembers the same book
 abbrev pub MadeOrRefused : {V : Type 0} → (Result V LedgerFault → Book → List Event → Type 0)
     → Naming → Summary → View → View → Book → Result (Result V LedgerFault) StoreError → Type 0
 MadeOrRefused Made naming is old new book (Ok answer) = IsMade (Made answer) naming is new book
 MadeOrRefused Made naming is old new book (Err error) = IsRefused is old new book
-
--- Work is written and committed, on the store of a ledger that is ready; where the store refuses,
--- nothing is said of what the summary remembers.
-pub record WritesBy {V : Type 0} (Made : Result V LedgerFault → Book → List Event → Type 0)
-    (Leaves : Book → List Event → Type 0) (naming : Naming) (was is : Summary) (old new : State)
-    (tried : Result (Result V LedgerFault) StoreError) : Type 0 where
-  pub plain : IfOk tried LeavesOpen
-  pub survives : Survives old new (MayKeepBy naming was old.view Leaves)
-  pub found : HasCleanDisk new → (book : Book) → IsReadyAt naming was old.view book
-      → MadeOrStands Made naming is old.view new.view book tried
 
 -- Work is tried on the store of a ledger that is ready.
 pub record AttemptsBy {V : Type 0} (Made : Result V LedgerFault → Book → List Event → Type 0)
@@ -176,11 +164,12 @@ abbrev pub TakesOf : Naming → List (List ℕ) → Result (Vec Accepted Global)
     → List Event → Type 0
 TakesOf naming records answer book events = Takes naming records answer false book events false
 
--- they are written and committed
-abbrev pub WritesMany : Naming → List (List ℕ) → Summary → Summary → State → State
+-- they are staged, and this summary remembers the book then
+abbrev pub StagesFirst : Naming → List (List ℕ) → Summary → Summary → State → State
     → Result (Result (Vec Accepted Global) LedgerFault) StoreError → Type 0
-WritesMany naming records was is old new tried =
-    WritesBy (TakesOf naming records) (LeavesFirst naming records) naming was is old new tried
+StagesFirst naming records was is old new staged =
+    StagesBy (λ answer. answer) (TakesOf naming records) (LeavesFirst naming records) naming was
+    (λ summary. summary ≡ is) old new staged
 
 -- they are tried
 abbrev pub AttemptsMany : Naming → List (List ℕ) → Summary → Summary → State → State
@@ -199,11 +188,12 @@ abbrev pub MakesOf : {V A : Type 0} → (V → A) → (Book → Outcome A) → R
     → List Event → Type 0
 MakesOf view outcome answer book events = Makes view (outcome book) answer events
 
--- it is written and committed
-abbrev pub WritesOne : {V A : Type 0} → (V → A) → Naming → Summary → Summary → State → State
+-- it is staged, and this summary remembers the book then
+abbrev pub Stages : {V A : Type 0} → (V → A) → Naming → Summary → Summary → State → State
     → (Book → Outcome A) → Result (Result V LedgerFault) StoreError → Type 0
-WritesOne view naming was is old new outcome tried =
-    WritesBy (MakesOf view outcome) (LeavesOne outcome) naming was is old new tried
+Stages view naming was is old new outcome staged =
+    StagesBy (λ answer. answer) (MakesOf view outcome) (LeavesOne outcome) naming was
+    (λ summary. summary ≡ is) old new staged
 
 -- it is tried
 abbrev pub AttemptsOne : {V A : Type 0} → (V → A) → Naming → Summary → Summary → State → State

@@ -11,9 +11,9 @@ ghost use Rattle.tree_tables.specs.Steps.{Does};
 ghost use Rattle.table_ledger.specs.RecordWrites.{AreRemembered, IsNew};
 ghost use Rattle.table_ledger.specs.NewRecords.{with_new_record};
 ghost use Rattle.table_ledger.specs.Stages.{AttemptsMany, AttemptsOne, KeepsRulings, Stages};
-ghost use Rattle.table_ledger.specs.Stages.{StagesMany, WritesMany, WritesOne};
+ghost use Rattle.table_ledger.specs.Stages.{StagesFirst, StagesMany};
 
-use crate::commits::{Entry, write_entry};
+use crate::commits::{Entry, commit_written, write_entry};
 use crate::day_write::look_for_day;
 use crate::disputes::IDENTITY_LENGTH;
 use crate::effects::look_for_effects;
@@ -154,9 +154,9 @@ fn stage_records<S: Store, N: Naming>(
     Ok(None)
 }
 
-/// Answers records, in order, up to the first that is refused, and commits what was written of
-/// those before it.
-fn commit_records<S: Store, N: Naming>(
+/// Answers records inside the transaction, in order, up to the first that is refused: those before
+/// it, or why the first one is.
+fn stage_many<S: Store, N: Naming>(
     tables: &mut TreeTables<S>,
     alloc: Global,
     naming: &N,
@@ -165,7 +165,7 @@ fn commit_records<S: Store, N: Naming>(
 ) -> Result<Result<Vec<Accepted>, LedgerFault>, StoreError>
     requires some { 0 < length records.now }
     requires usage { All (λ one. IsUsageRecord one.items) records.now }
-    ensures writes { WritesMany (N.name_of naming.now) (records_in records.now)
+    ensures stages { StagesFirst (N.name_of naming.now) (records_in records.now)
         summary.old summary.new (state S.Store tables.old.store) (state S.Store tables.new.store)
         result }
     ensures ruled { KeepsRulings summary.old summary.new }
@@ -173,7 +173,6 @@ fn commit_records<S: Store, N: Naming>(
 {
     let mut answers = Vec::with_capacity(alloc, records.len())?;
     let refusal = stage_records(tables, alloc, naming, summary, records, &mut answers)?;
-    tables.commit()?;
     let Some(fault) = refusal else {
         return Ok(Ok(answers));
     };
@@ -200,7 +199,8 @@ pub(crate) fn try_accept_many<S: Store, N: Naming>(
 {
     let held = summary.held;
     let total = summary.total;
-    match commit_records(tables, alloc, naming, summary, records) {
+    let staged = stage_many(tables, alloc, naming, summary, records);
+    match commit_written(tables, staged) {
         Ok(answer) => Ok(answer),
         Err(error) => {
             // What was written is rolled back.
@@ -209,25 +209,6 @@ pub(crate) fn try_accept_many<S: Store, N: Naming>(
             Err(error)
         }
     }
-}
-
-/// Answers a record, and commits what was written of it.
-fn commit_record<S: Store, N: Naming>(
-    tables: &mut TreeTables<S>,
-    alloc: Global,
-    naming: &N,
-    summary: &mut Summary,
-    bytes: &[u8],
-) -> Result<Result<Accepted, LedgerFault>, StoreError>
-    requires usage { IsUsageRecord bytes.now }
-    ensures writes { WritesOne (λ accepted. accepted) (N.name_of naming.now) summary.old summary.new
-        (state S.Store tables.old.store) (state S.Store tables.new.store)
-        (accept_outcome (N.name_of naming.now) bytes.now) result }
-    ensures ruled { KeepsRulings summary.old summary.new }
-{
-    let answer = stage_record(tables, alloc, naming, summary, bytes)?;
-    tables.commit()?;
-    Ok(answer)
 }
 
 /// Submits a record as one commit.
@@ -245,7 +226,8 @@ pub(crate) fn try_accept<S: Store, N: Naming>(
 {
     let held = summary.held;
     let total = summary.total;
-    match commit_record(tables, alloc, naming, summary, bytes) {
+    let staged = stage_record(tables, alloc, naming, summary, bytes);
+    match commit_written(tables, staged) {
         Ok(answer) => Ok(answer),
         Err(error) => {
             // What was written is rolled back.

@@ -9,7 +9,8 @@ ghost use Rattle.book_model.specs.Words.{by_bytes, same_bytes, members, set_of};
 ghost use Rattle.tree_tables.specs.Steps.{FailsByStore, Looks};
 ghost use Rattle.table_ledger.specs.LineReads.{NamesRise, line_stored, lines_stored};
 ghost use Rattle.table_ledger.specs.RecordReads.{CanBeRead, HasWideNames};
-ghost use Rattle.table_ledger.specs.Attempts.{Attempts, TriesItsOwn};
+ghost use Rattle.table_ledger.specs.Attempts.{TriesItsOwn};
+ghost use Rattle.table_ledger.specs.Stages.{AttemptsOne};
 
 use crate::days::is_day;
 use crate::summary::Summary;
@@ -144,7 +145,7 @@ pub(crate) fn try_adjustments<S: Store>(
     alloc: Global,
     period: u16,
 ) -> Result<Result<Vec<Line>, LedgerFault>, StoreError>
-    ensures tries { (naming : Naming) → Attempts (λ lines. lines.items) naming summary.now summary.now
+    ensures tries { (naming : Naming) → AttemptsOne (λ lines. lines.items) naming summary.now summary.now
         (state S.Store tables.old.store) (state S.Store tables.new.store) (adjustments_outcome naming period)
         result }
     ensures shown { IfOk result (λ answer. IfOk answer (λ lines. AreLines lines.items)) }

@@ -10,7 +10,7 @@ ghost use Rattle.tree_tables.specs.States.{state};
 ghost use Rattle.tree_tables.specs.Steps.{Always, Does, Looks};
 ghost use Rattle.tree_tables.specs.Stored.{IsAsRead};
 ghost use Rattle.table_ledger.specs.Adoptions.{IsLast};
-ghost use Rattle.table_ledger.specs.Attempts.{Attempts};
+ghost use Rattle.table_ledger.specs.Stages.{AttemptsOne};
 
 use crate::choices::charge;
 use crate::chosen::{Chosen, look_for_chosen};
@@ -132,7 +132,7 @@ pub(crate) fn try_adopt<S: Store>(
     summary: &mut Summary,
     rule: u8,
 ) -> Result<Result<Ruled, LedgerFault>, StoreError>
-    ensures tries { (naming : Naming) → Attempts (λ ruled. ruled) naming summary.old summary.new
+    ensures tries { (naming : Naming) → AttemptsOne (λ ruled. ruled) naming summary.old summary.new
         (state S.Store tables.old.store) (state S.Store tables.new.store)
         (adopt_outcome rule) result }
 {

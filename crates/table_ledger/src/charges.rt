@@ -3,7 +3,8 @@
 ghost use Rattle.std.specs.Prelude.{◌≡◌, ◌+◌, IfOk, IfSome, IsTrue, None, false};
 ghost use Rattle.tree_tables.specs.States.{state};
 ghost use Rattle.book_model.specs.Words.{IsDay, charges_outcome, Naming, AreRows};
-ghost use Rattle.table_ledger.specs.Attempts.{Attempts, TriesItsOwn};
+ghost use Rattle.table_ledger.specs.Attempts.{TriesItsOwn};
+ghost use Rattle.table_ledger.specs.Stages.{AttemptsOne};
 
 use crate::days::is_day;
 use crate::summary::Summary;
@@ -82,7 +83,7 @@ pub(crate) fn try_charges<S: Store>(
     summary: &Summary,
     period: u16,
 ) -> Result<Result<Vec<ChargeRow>, LedgerFault>, StoreError>
-    ensures tries { (naming : Naming) → Attempts (λ rows. rows.items) naming summary.now summary.now
+    ensures tries { (naming : Naming) → AttemptsOne (λ rows. rows.items) naming summary.now summary.now
         (state S.Store tables.old.store) (state S.Store tables.new.store) (charges_outcome period) result }
     ensures shown { IfOk result (λ answer. IfOk answer (λ rows. AreRows rows.items)) }
     ensures own { (naming : Naming) → TriesItsOwn naming summary.now (state S.Store tables.old.store)

@@ -11,7 +11,7 @@ ghost use Rattle.tree_tables.specs.States.{state};
 ghost use Rattle.tree_tables.specs.Steps.{Always, Does, Looks};
 ghost use Rattle.tree_tables.specs.Stored.{stored_entry};
 ghost use Rattle.table_ledger.specs.RecordWrites.{IsNext};
-ghost use Rattle.table_ledger.specs.Attempts.{Attempts};
+ghost use Rattle.table_ledger.specs.Stages.{AttemptsOne};
 
 use crate::commits::{commit_written, write_effects};
 use crate::day_write::look_for_day;
@@ -115,7 +115,7 @@ pub(crate) fn try_choose<S: Store>(
     summary: &mut Summary,
     name: [u8; 32],
 ) -> Result<Result<Ruled, LedgerFault>, StoreError>
-    ensures tries { (naming : Naming) → Attempts (λ ruled. ruled) naming summary.old summary.new
+    ensures tries { (naming : Naming) → AttemptsOne (λ ruled. ruled) naming summary.old summary.new
         (state S.Store tables.old.store) (state S.Store tables.new.store)
         (choose_outcome naming name) result }
 {

@@ -5,7 +5,7 @@ ghost use Rattle.tree_tables.specs.Days.{NoneNext};
 ghost use Rattle.tree_tables.specs.States.{state};
 ghost use Rattle.tree_tables.specs.Steps.{Does};
 ghost use Rattle.table_model.specs.Steps.{close_by_steps};
-ghost use Rattle.table_ledger.specs.Attempts.{Attempts};
+ghost use Rattle.table_ledger.specs.Stages.{AttemptsOne};
 
 use crate::commits::commit_written;
 use crate::summary::Summary;
@@ -34,7 +34,7 @@ pub(crate) fn try_close<S: Store>(
     close: &Close,
 ) -> Result<Result<Ruled, LedgerFault>, StoreError>
     requires day { IsDay close.now.through }
-    ensures tries { (naming : Naming) → Attempts (λ ruled. ruled) naming summary.old summary.new
+    ensures tries { (naming : Naming) → AttemptsOne (λ ruled. ruled) naming summary.old summary.new
         (state S.Store tables.old.store) (state S.Store tables.new.store)
         (close_outcome close.now.period close.now.through) result }
 {

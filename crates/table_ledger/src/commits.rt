@@ -136,12 +136,13 @@ pub(crate) fn write_entry<S: Store>(
 }
 
 /// Commits what was written, if all of it was. So what a call writes is one commit.
-pub(crate) fn commit_written<S: Store>(
+pub(crate) fn commit_written<S: Store, T: Drop>(
     tables: &mut TreeTables<S>,
-    written: Result<(), StoreError>,
-) -> Result<(), StoreError>
+    written: Result<T, StoreError>,
+) -> Result<T, StoreError>
     ensures { CommitsWritten S.Store written result tables.old.store tables.new.store }
 {
-    written?;
-    tables.commit()
+    let answer = written?;
+    tables.commit()?;
+    Ok(answer)
 }

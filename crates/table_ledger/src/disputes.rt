@@ -10,7 +10,8 @@ ghost use Rattle.tree_tables.specs.Steps.{FailsByStore, Looks};
 ghost use Rattle.table_ledger.specs.DisputeReads.{IsShownRow};
 ghost use Rattle.table_ledger.specs.RecordReads.{HasWideNames};
 ghost use Rattle.tree_tables.specs.UsageData.{IsUsageData};
-ghost use Rattle.table_ledger.specs.Attempts.{Attempts, TriesItsOwn};
+ghost use Rattle.table_ledger.specs.Attempts.{TriesItsOwn};
+ghost use Rattle.table_ledger.specs.Stages.{AttemptsOne};
 
 use crate::days::is_day;
 use crate::summary::Summary;
@@ -131,7 +132,7 @@ pub(crate) fn try_disputes<S: Store>(
     summary: &Summary,
     alloc: Global,
 ) -> Result<Result<Vec<Dispute>, LedgerFault>, StoreError>
-    ensures tries { (naming : Naming) → Attempts (λ found. map dispute_shown found.items) naming
+    ensures tries { (naming : Naming) → AttemptsOne (λ found. map dispute_shown found.items) naming
         summary.now summary.now (state S.Store tables.old.store) (state S.Store tables.new.store)
         (disputes_outcome naming) result }
     ensures shown { IfOk result (λ answer.

@@ -3,7 +3,8 @@
 ghost use Rattle.std.specs.Prelude.{◌≡◌, All, IfOk};
 ghost use Rattle.book_model.specs.Words.{IsDay, periods_outcome, Naming};
 ghost use Rattle.tree_tables.specs.States.{state};
-ghost use Rattle.table_ledger.specs.Attempts.{Attempts, TriesItsOwn};
+ghost use Rattle.table_ledger.specs.Attempts.{TriesItsOwn};
+ghost use Rattle.table_ledger.specs.Stages.{AttemptsOne};
 
 use crate::summary::Summary;
 use book_core::LedgerFault;
@@ -18,7 +19,7 @@ pub(crate) fn try_periods<S: Store>(
     summary: &Summary,
     alloc: Global,
 ) -> Result<Result<Vec<i32>, LedgerFault>, StoreError>
-    ensures tries { (naming : Naming) → Attempts (λ days. days.items) naming summary.now summary.now
+    ensures tries { (naming : Naming) → AttemptsOne (λ days. days.items) naming summary.now summary.now
         (state S.Store _tables.now.store) (state S.Store _tables.now.store) periods_outcome result }
     ensures shown { IfOk result (λ answer. IfOk answer (λ days. All IsDay days.items)) }
     ensures own { (naming : Naming) → TriesItsOwn naming summary.now

@@ -9,7 +9,7 @@ ghost use Rattle.table_model.specs.Steps.{tariff_by_steps};
 ghost use Rattle.tree_tables.specs.Steps.{Does};
 ghost use Rattle.table_ledger.specs.Repricing.{CountsRecords};
 ghost use Rattle.table_ledger.specs.TariffRefusals.{IsNoTariff};
-ghost use Rattle.table_ledger.specs.Attempts.{Attempts};
+ghost use Rattle.table_ledger.specs.Stages.{AttemptsOne};
 
 use crate::commits::commit_written;
 use crate::repricing::{cost_under, reprice_all};
@@ -78,7 +78,7 @@ fn put_in_force<S: Store>(
     requires said { terms_in text.now ≡ Ok tariff }
     requires done { terms_ruled (ruled_in summary.old.rulings) false text.now tariff
         ≡ Ok Ruled.Done }
-    ensures tries { (naming : Naming) → Attempts (λ ruled. ruled) naming summary.old summary.new
+    ensures tries { (naming : Naming) → AttemptsOne (λ ruled. ruled) naming summary.old summary.new
         (state S.Store tables.old.store) (state S.Store tables.new.store) (tariff_outcome text.now) result }
 {
     let Some(amount) = cost_under(tables, alloc, &tariff)? else {
@@ -106,7 +106,7 @@ pub(crate) fn try_tariff<S: Store>(
     alloc: Global,
     text: &str,
 ) -> Result<Result<Ruled, LedgerFault>, StoreError>
-    ensures tries { (naming : Naming) → Attempts (λ ruled. ruled) naming summary.old summary.new
+    ensures tries { (naming : Naming) → AttemptsOne (λ ruled. ruled) naming summary.old summary.new
         (state S.Store tables.old.store) (state S.Store tables.new.store) (tariff_outcome text.now) result }
 {
     let tariff = match tariff_of(alloc, text) {

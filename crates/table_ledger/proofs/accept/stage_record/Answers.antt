@@ -1,12 +1,13 @@
 use Rattle.std.proofs.Common.{refl}
-use Rattle.table_ledger.proofs.AcceptTries.{stage_unread, stage_known, stage_unpriced, stage_full}
-use Rattle.table_ledger.proofs.AcceptTries.{price_is, saw_as, stage_unkept, stage_kept}
+use Rattle.table_ledger.proofs.AcceptTries.{price_is, saw_as, stage_full, stage_kept, stage_known}
+use Rattle.table_ledger.proofs.AcceptTries.{stage_unpriced}
+use Rattle.table_ledger.proofs.StageLemmas.{stage_refused, stage_undone}
+use Rattle.table_ledger.proofs.TryLemmas.{saw_none}
 use Rattle.table_ledger.proofs.accept.stage_record.Goals as goal
 
 pub returns-in_err-stored-clause-stages : goal.returns-in_err-stored-clause-stages
 returns-in_err-stored-clause-stages g c =
-    stage_unread _ _ _ _ c.requires.usage c.name_of-name.ensures _ c.from_residual.ensures.0
-    c.in_err-stored.ensures.looks
+    stage_refused _ c.from_residual.ensures.0 saw_none c.in_err-stored.ensures.looks
 
 pub returns-in-Some-clause-stages : goal.returns-in-Some-clause-stages
 returns-in-Some-clause-stages g c =
@@ -31,11 +32,7 @@ returns-then-is_full-clause-stages g c =
 
 pub returns-in_err-write_new-clause-stages : goal.returns-in_err-write_new-clause-stages
 returns-in_err-write_new-clause-stages g c =
-    let price = price_is c.price_in.ensures.value c.tariffs.ensures c.of_usage-usage.ensures
-    c.in-Some-price_in.is in
-    stage_unkept _ _ _ _ c.requires.usage c.name_of-name.ensures c.in-Some-price_in.priced price
-    c.is_full.ensures c.if-is_full.false _ c.from_residual-in_err-write_new.ensures.0
-    c.in-Some-price_in.ensures.bounds
+    stage_undone _ c.from_residual-in_err-write_new.ensures.0
     (saw_as c.name_of-name.result c.in_default.is c.in_ok-stored.ensures.looks)
     c.in_err-write_new.ensures.does
 
@@ -46,4 +43,5 @@ returns-clause-stages g c =
     stage_kept _ _ _ _ c.requires.usage c.name_of-name.ensures c.in-Some-price_in.priced price
     c.is_full.ensures c.if-is_full.false _ c.in-Some-price_in.ensures.bounds
     (saw_as c.name_of-name.result c.in_default.is c.in_ok-stored.ensures.looks)
-    c.in_ok-write_new.ensures.does refl refl refl refl
+    c.in_ok-write_new.ensures.does
+    (record { rulings = refl; choices = refl; held = refl; total = refl })

@@ -63,7 +63,7 @@ returns-in_err-push-in-Ok-clause-stages g c =
     step_untold c.args.records.now c.loop-one.one-index c.one-item.result c.loop-one-test.true
     c.one-item.is c.deref.ensures.value c.loop-one.invariant.survives c.loop-one.invariant.taken
     (state g.S.Store c.stage_record.new.tables.store) c.push.new.self.items
-    c.from_residual-in_err-push-in-Ok.result c.from_residual-in_err-push-in-Ok.ensures.0 c.in-Ok.is
+    c.from_residual-in_err-push-in-Ok.result c.from_residual-in_err-push-in-Ok.ensures.0
     c.in_ok-fault.ensures.stages
 
 pub returns-clause-stages : goal.returns-clause-stages

@@ -1,4 +1,4 @@
-use Rattle.std.proofs.Common.{◌≡◌, ◌∙◌, ap, sym, true, false}
+use Rattle.std.proofs.Common.{◌≡◌, ◌∙◌, ap, sym, true, false, refl}
 use Rattle.std.specs.Prelude.{List}
 use Rattle.table_model.specs.PeriodLists.{lines_read}
 use Rattle.table_laws.specs.ListsRead.{is_period}
@@ -7,8 +7,8 @@ use Rattle.tree_tables.specs.declared.line_rows.StoredLine.{StoredLine}
 use Rattle.table_ledger.specs.LineReads.{lines_stored}
 use Rattle.book_core.specs.OfficeRulings.{ruled_in}
 use Rattle.table_ledger.proofs.LineReadings.{lines_listed}
-use Rattle.table_ledger.proofs.ListReadings.{first_refused, later_refused, no_period, period_read}
-use Rattle.table_ledger.proofs.TryLemmas.{saw_found, saw_none, saw_then, try_stopped}
+use Rattle.table_ledger.proofs.ListReadings.{no_period, period_read}
+use Rattle.table_ledger.proofs.TryLemmas.{saw_found, saw_none, saw_then, try_refused, try_stopped}
 use Rattle.table_model.specs.TablesOf.{tables_of}
 use Rattle.table_ledger.proofs.OwnBooks.{own_failed}
 use Rattle.table_ledger.proofs.BookLists.{own_lines, own_records, own_rise, own_shown}
@@ -24,17 +24,17 @@ returns-then-not-has_period-clause-tries g c = λ naming.
 
 pub returns-in_err-found-clause-tries : goal.returns-in_err-found-clause-tries
 returns-in_err-found-clause-tries g c = λ naming.
-    first_refused _ c.from_residual.ensures.0 c.in_err-found.ensures.looks
+    try_refused _ c.from_residual.ensures.0 saw_none c.in_err-found.ensures.looks
 
 pub returns-in_err-lines-clause-tries : goal.returns-in_err-lines-clause-tries
 returns-in_err-lines-clause-tries g c = λ naming.
-    later_refused _ c.from_residual-in_err-lines.ensures.0
+    try_refused _ c.from_residual-in_err-lines.ensures.0
     (saw_found c.in_ok-found.ensures.looks) c.in_err-lines.ensures.looks
 
 pub returns-in_default-clause-tries : goal.returns-in_default-clause-tries
 returns-in_default-clause-tries g c = λ naming.
-    try_stopped _ _ _ _ (saw_then (saw_found c.in_ok-found.ensures.looks)
-    (saw_found c.in_ok-lines.ensures.looks))
+    try_stopped _ refl (saw_then (saw_found c.in_ok-found.ensures.looks)
+    (saw_found c.in_ok-lines.ensures.looks)) (λ book same. same)
 
 pub returns-clause-tries : goal.returns-clause-tries
 returns-clause-tries g c = λ naming.

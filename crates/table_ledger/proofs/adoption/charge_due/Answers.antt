@@ -1,8 +1,8 @@
 use Rattle.std.proofs.Common.{refl}
 use Rattle.tree_tables.specs.Steps.{Always}
-use Rattle.table_ledger.proofs.DueCharges.{does_seen}
+use Rattle.table_ledger.proofs.StageLemmas.{does_seen}
 use Rattle.table_ledger.proofs.StepLemmas.{does_so}
-use Rattle.table_ledger.proofs.TryLemmas.{saw_found}
+use Rattle.table_ledger.proofs.TryLemmas.{saw_found, saw_none}
 use Rattle.table_ledger.proofs.Refusals.{does_unseen}
 use Rattle.table_ledger.proofs.adoption.charge_due.Goals as goal
 
@@ -15,5 +15,5 @@ returns g c = record {
 
 pub returns-in_err-chosen : goal.returns-in_err-chosen
 returns-in_err-chosen g c = record {
-  does = does_unseen _ c.from_residual.ensures.0 c.in_err-chosen.ensures.looks;
+  does = does_unseen _ c.from_residual.ensures.0 saw_none c.in_err-chosen.ensures.looks;
 }

@@ -4,9 +4,10 @@ use Rattle.tree_tables.specs.Stored.{IsAsRead}
 use Rattle.book_core.specs.Effects.{charge_held}
 use Rattle.table_model.specs.TableChanges.{charge_in}
 use Rattle.table_ledger.specs.Adoptions.{IsLast}
-use Rattle.table_ledger.proofs.DueCharges.{does_seen, settles_charged, settles_due, settles_undue}
+use Rattle.table_ledger.proofs.DueCharges.{settles_charged, settles_due, settles_undue}
+use Rattle.table_ledger.proofs.StageLemmas.{does_seen}
 use Rattle.table_ledger.proofs.StepLemmas.{does_nothing, does_so}
-use Rattle.table_ledger.proofs.TryLemmas.{saw_found}
+use Rattle.table_ledger.proofs.TryLemmas.{saw_found, saw_none}
 use Rattle.table_ledger.proofs.Refusals.{does_unseen}
 use Rattle.table_ledger.proofs.adoption.charge_due_record.Goals as goal
 
@@ -64,5 +65,5 @@ returns g c = record {
 
 pub returns-in_err-is_due : goal.returns-in_err-is_due
 returns-in_err-is_due g c = record {
-  does = does_unseen _ c.from_residual.ensures.0 c.in_err-is_due.ensures.looks;
+  does = does_unseen _ c.from_residual.ensures.0 saw_none c.in_err-is_due.ensures.looks;
 }

@@ -1,14 +1,14 @@
-use Rattle.std.proofs.Common.{◌≡◌, ◌∙◌, sym, subst, true, false}
+use Rattle.std.proofs.Common.{◌≡◌, ◌∙◌, sym, subst, true, false, refl}
 use Rattle.book_model.specs.Words.{AreRows}
 use Rattle.table_model.specs.PeriodLists.{rows_read}
 use Rattle.table_model.specs.TablesOf.{tables_of}
 use Rattle.table_laws.specs.ListsRead.{is_period}
 use Rattle.table_laws.proofs.ListLemmas.{lists_follow}
 use Rattle.book_core.specs.OfficeRulings.{ruled_in}
-use Rattle.table_ledger.proofs.ListReadings.{first_refused, no_period, period_read}
+use Rattle.table_ledger.proofs.ListReadings.{no_period, period_read}
 use Rattle.table_ledger.proofs.BookLists.{own_days, own_rows}
 use Rattle.table_ledger.proofs.OwnBooks.{own_failed}
-use Rattle.table_ledger.proofs.TryLemmas.{saw_found, saw_none, try_stopped}
+use Rattle.table_ledger.proofs.TryLemmas.{saw_found, saw_none, try_refused, try_stopped}
 use Rattle.table_ledger.proofs.charges.try_charges.Goals as goal
 
 pub returns-then-not-has_period-clause-tries : goal.returns-then-not-has_period-clause-tries
@@ -21,11 +21,11 @@ returns-then-not-has_period-clause-tries g c = λ naming.
 
 pub returns-in_err-rows-clause-tries : goal.returns-in_err-rows-clause-tries
 returns-in_err-rows-clause-tries g c = λ naming.
-    first_refused _ c.from_residual.ensures.0 c.in_err-rows.ensures.looks
+    try_refused _ c.from_residual.ensures.0 saw_none c.in_err-rows.ensures.looks
 
 pub returns-then-not-can_show-clause-tries : goal.returns-then-not-can_show-clause-tries
 returns-then-not-can_show-clause-tries g c = λ naming.
-    try_stopped _ _ _ _ (saw_found c.in_ok-rows.ensures.looks)
+    try_stopped _ refl (saw_found c.in_ok-rows.ensures.looks) (λ book same. same)
 
 pub returns-clause-tries : goal.returns-clause-tries
 returns-clause-tries g c = λ naming.

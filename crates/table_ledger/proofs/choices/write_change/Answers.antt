@@ -2,9 +2,9 @@ use Rattle.std.proofs.Common.{ap}
 use Rattle.table_model.specs.Tables.{DayTable}
 use Rattle.tree_tables.specs.Steps.{Always}
 use Rattle.table_ledger.specs.RecordWrites.{write_line, write_mark}
-use Rattle.table_ledger.proofs.DueCharges.{does_seen}
+use Rattle.table_ledger.proofs.StageLemmas.{does_seen}
 use Rattle.table_ledger.proofs.StepLemmas.{does_so}
-use Rattle.table_ledger.proofs.TryLemmas.{saw_found}
+use Rattle.table_ledger.proofs.TryLemmas.{saw_found, saw_none}
 use Rattle.table_ledger.proofs.Refusals.{does_unseen}
 use Rattle.table_ledger.proofs.choices.write_change.Goals as goal
 
@@ -22,4 +22,4 @@ returns g c =
 
 pub returns-in_err-day : goal.returns-in_err-day
 returns-in_err-day g c =
-    does_unseen _ c.from_residual.ensures.0 c.in_err-day.ensures.looks
+    does_unseen _ c.from_residual.ensures.0 saw_none c.in_err-day.ensures.looks

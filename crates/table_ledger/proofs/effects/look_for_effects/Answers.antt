@@ -1,12 +1,11 @@
 use Rattle.std.proofs.Common.{◌∙◌, ap, map}
 use Rattle.book_core.specs.Effects.{effects_of}
-use Rattle.book_core.specs.declared.effects.Effects.{Effects}
 use Rattle.tree_tables.specs.Stored.{stored_entry}
 use Rattle.table_model.specs.Views.{rows_with}
 use Rattle.table_laws.specs.AcceptRead.{view_with}
 use Rattle.table_laws.proofs.AcceptLemmas.{two_are_enough}
-use Rattle.table_ledger.proofs.Refusals.{looks_failed}
-use Rattle.table_ledger.proofs.TryLemmas.{looks_known, looks_refused, saw_found, saw_then}
+use Rattle.table_ledger.proofs.Refusals.{looks_failed, looks_failed_next}
+use Rattle.table_ledger.proofs.TryLemmas.{looks_known, saw_found, saw_then}
 use Rattle.table_ledger.proofs.effects.look_for_effects.Goals as goal
 
 pub returns-in_err-sharing : goal.returns-in_err-sharing
@@ -16,10 +15,8 @@ returns-in_err-sharing g c = record {
 
 pub returns-in_err-view : goal.returns-in_err-view
 returns-in_err-view g c = record {
-  looks =
-      looks_failed {B = Effects} {Others = λ tables effects. Unit {0}}
-      _ c.from_residual-in_err-view.ensures.0
-      (looks_refused {A = Effects} (saw_found c.in_ok-sharing.ensures.looks) c.in_err-view.ensures.looks);
+  looks = looks_failed_next _ c.from_residual-in_err-view.ensures.0
+      (saw_found c.in_ok-sharing.ensures.looks) c.in_err-view.ensures.looks;
 }
 
 pub returns : goal.returns

@@ -2,8 +2,8 @@ use Rattle.std.proofs.Common.{ap}
 use Rattle.table_ledger.proofs.StepLemmas.{does_then}
 use Rattle.table_ledger.proofs.Refusals.{does_failed, does_unseen}
 use Rattle.table_ledger.proofs.StepLemmas.{does_so}
-use Rattle.table_ledger.proofs.TryLemmas.{saw_found}
-use Rattle.table_ledger.proofs.DueCharges.{does_seen}
+use Rattle.table_ledger.proofs.TryLemmas.{saw_found, saw_none}
+use Rattle.table_ledger.proofs.StageLemmas.{does_seen}
 use Rattle.tree_tables.specs.Steps.{Always}
 use Rattle.table_model.specs.Tables.{DayTable}
 use Rattle.table_ledger.proofs.repricing.change_price.Goals as goal
@@ -17,7 +17,7 @@ returns g c = record {
 
 pub returns-in_err-write : goal.returns-in_err-write
 returns-in_err-write g c = record {
-  does = does_unseen _ c.from_residual.ensures.0 c.in_err-write.ensures.looks;
+  does = does_unseen _ c.from_residual.ensures.0 saw_none c.in_err-write.ensures.looks;
 }
 
 pub returns-in_err-change_day : goal.returns-in_err-change_day

@@ -7,7 +7,8 @@ use Rattle.book_core.proofs.SubmissionLemmas.{takes_part}
 use Rattle.book_core.proofs.TransitionLemmas.{work_as}
 use Rattle.table_ledger.specs.LedgerState.{ledger_state}
 use Rattle.table_ledger.specs.Stages.{most_in_commit}
-use Rattle.table_ledger.proofs.ServedWork.{many_come, many_reopen, work_settled}
+use Rattle.table_ledger.proofs.OneCall.{many_come, many_reopen}
+use Rattle.table_ledger.proofs.ServedWork.{work_settled}
 use Rattle.table_ledger.proofs.ledger.TableLedgerLedger.accept_many.Goals as goal
 
 pub returns-then-self-clause-takes : goal.returns-then-self-clause-takes
@@ -39,7 +40,7 @@ returns-clause-takes g c =
     c.first_records-first.ensures.first (c.first_records-first.ensures.some c.requires.some) was before
     events is takes)
     (work_settled (many_come names (records_in part)) g.S.Store c.args.self.now.tables.store
-    c.if-self.false g.met.S.Store.settled c.finish.ensures.settles c.try_accept_many-tried.ensures.tries)
+    c.if-self.false g.met.S.Store.settled c.finish.ensures.settles c.try_accept_many-tried.ensures.tries).0
 
 pub returns-clause-few : goal.returns-clause-few
 returns-clause-few g c =
@@ -51,4 +52,4 @@ returns-clause-few g c =
     (λ was before events is takes. subst (λ part. Takes names (records_in part) result was before events is)
     c.first_records-first.ensures.first takes)
     (work_settled (many_come names (records_in part)) g.S.Store c.args.self.now.tables.store
-    c.if-self.false g.met.S.Store.settled c.finish.ensures.settles c.try_accept_many-tried.ensures.tries)
+    c.if-self.false g.met.S.Store.settled c.finish.ensures.settles c.try_accept_many-tried.ensures.tries).0

@@ -1,8 +1,7 @@
 use Rattle.std.proofs.Common.{◌∙◌, sym, true≢false}
 use Rattle.table_ledger.specs.LedgerState.{ledger_state}
-use Rattle.table_ledger.proofs.OneCall.{call_reopen}
 use Rattle.table_ledger.proofs.FinishedLists.{own_settled}
-use Rattle.table_ledger.proofs.FinishLemmas.{call_settled}
+use Rattle.table_ledger.proofs.OneCall.{call_reopen, call_settled}
 use Rattle.table_ledger.proofs.ledger.TableLedgerLedger.adjustments.Goals as goal
 
 pub returns-then-self-clause-lines : goal.returns-then-self-clause-lines

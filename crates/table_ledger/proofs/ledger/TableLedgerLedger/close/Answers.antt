@@ -1,7 +1,6 @@
 use Rattle.table_ledger.specs.LedgerState.{ledger_state}
 use Rattle.table_ledger.proofs.CodeDays.{kept_day}
-use Rattle.table_ledger.proofs.OneCall.{call_reopen}
-use Rattle.table_ledger.proofs.FinishLemmas.{call_settled}
+use Rattle.table_ledger.proofs.OneCall.{call_reopen, call_settled}
 use Rattle.table_ledger.proofs.ledger.TableLedgerLedger.close.Goals as goal
 
 pub returns-then-self : goal.returns-then-self

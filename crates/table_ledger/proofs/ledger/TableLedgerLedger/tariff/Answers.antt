@@ -1,6 +1,5 @@
 use Rattle.table_ledger.specs.LedgerState.{ledger_state}
-use Rattle.table_ledger.proofs.OneCall.{call_reopen}
-use Rattle.table_ledger.proofs.FinishLemmas.{call_settled}
+use Rattle.table_ledger.proofs.OneCall.{call_reopen, call_settled}
 use Rattle.table_ledger.proofs.ledger.TableLedgerLedger.tariff.Goals as goal
 
 pub returns-then-self : goal.returns-then-self
