@@ -14,7 +14,7 @@ use Rattle.table_ledger.specs.Stages.{StagesBy, MayKeepBy, AttemptsBy}
 use Rattle.table_ledger.specs.declared.summary.Summary.{Summary}
 use Rattle.table_ledger.proofs.StepLemmas.{rests, stands_only}
 use Rattle.table_ledger.proofs.SurvivalLemmas.{clean_before, survives_both, survives_so}
-use Rattle.table_ledger.proofs.TryLemmas.{at_ready}
+use Rattle.table_ledger.proofs.TryLemmas.{at_ready, stored_in}
 use Rattle.table_ledger.proofs.UnchangedStores.{stands_then}
 
 module _ {S V T : Type 0} {answered : T → Result V LedgerFault}
@@ -23,7 +23,7 @@ module _ {S V T : Type 0} {answered : T → Result V LedgerFault}
     {Is : Summary → Type 0} {first : State} (ghosts : Ghosts S) {middle last : S} where
   -- what a stop in the commit may leave
   may_keep : {value : T}
-      → StagesBy answered Made Leaves naming was Is first (state ghosts middle) (Ok value)
+      → StagesBy (λ tables. tables) answered Made Leaves naming was Is first (state ghosts middle) (Ok value)
       → Survives (state ghosts middle) (state ghosts last) (MayCommit (ghosts.view middle))
       → Survives first (state ghosts last) (MayKeepBy naming was first.view Leaves)
   may_keep stages late =
@@ -34,17 +34,17 @@ module _ {S V T : Type 0} {answered : T → Result V LedgerFault}
         events = staged.events;
         leaves = staged.leaves;
         stored = subst (IsStoredIn naming (after_all staged.events book)) (sym whole.whole)
-            staged.kept;
+            (stored_in staged.kept);
       })
 
   -- What was staged is committed,
   pub committed : {written : Result T StoreError} {value : T} {is : Summary}
-      → StagesBy answered Made Leaves naming was Is first (state ghosts middle) written
+      → StagesBy (λ tables. tables) answered Made Leaves naming was Is first (state ghosts middle) written
       → CommitsWritten ghosts written (Ok value) middle last → Is is
       → AttemptsBy Made Leaves naming was is first (state ghosts last) (Ok (answered value))
   committed {is = is} all commits told =
       let stages =
-      subst (StagesBy answered Made Leaves naming was Is first (state ghosts middle)) commits.answer
+      subst (StagesBy (λ tables. tables) answered Made Leaves naming was Is first (state ghosts middle)) commits.answer
       all in
       record {
         plain = stages.plain;
@@ -59,7 +59,7 @@ module _ {S V T : Type 0} {answered : T → Result V LedgerFault}
                 rest = rests first.view (ghosts.view middle) (ghosts.view last) ready.rest
                     staged.only whole;
                 kept = subst (IsStoredIn naming (after_all staged.events book))
-                    (sym (ap (λ (v : View). v.trees) whole.is)) staged.kept;
+                    (sym (ap (λ (v : View). v.trees) whole.is)) (stored_in staged.kept);
                 remembers = staged.remembers is told;
               };
             };
@@ -68,7 +68,7 @@ module _ {S V T : Type 0} {answered : T → Result V LedgerFault}
   -- or it is not, and the ledger remembers the same book.
   pub uncommitted : {error : StoreError} {is : Summary} (written : Result T StoreError)
       (tried : Result (Result V LedgerFault) StoreError) → IsErr tried
-      → StagesBy answered Made Leaves naming was Is first (state ghosts middle) written
+      → StagesBy (λ tables. tables) answered Made Leaves naming was Is first (state ghosts middle) written
       → CommitsWritten ghosts written (Err error) middle last
       → ((book : Book) → Remembers was book → Remembers is book)
       → AttemptsBy Made Leaves naming was is first (state ghosts last) tried

@@ -10,6 +10,7 @@ mod StepLemmas
 mod StageLemmas
 mod CommitLemmas
 mod ManyLemmas
+mod SumLemmas
 mod ServedWork
 mod OneCall
 mod LastChoice

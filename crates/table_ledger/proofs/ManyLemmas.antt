@@ -15,10 +15,12 @@ use Rattle.book_core.specs.Submissions.{Accepts, Takes, first_of, records_in}
 use Rattle.book_core.specs.Transition.{NoEvent}
 use Rattle.book_core.proofs.SubmissionLemmas.{refused_one}
 use Rattle.book_core.proofs.TransitionLemmas.{after_all-append}
+use Rattle.table_model.specs.Tables.{Tables}
 use Rattle.tree_tables.specs.States.{State, HasCleanDisk, Survives}
 use Rattle.tree_tables.proofs.Looking.{only_both}
 use Rattle.table_ledger.specs.Attempts.{LeavesOpen}
-use Rattle.table_ledger.specs.Stages.{IsAt, IsStaged, Stages, StagesFirst, StagesMany, AreStaged}
+use Rattle.table_ledger.specs.Stages.{IsAtAs, IsStaged, StagesAs, StagesFirst, StagesMany}
+use Rattle.table_ledger.specs.Stages.{AreStaged}
 use Rattle.table_ledger.specs.Stages.{LeavesOne, MakesOf, RefusesNext}
 use Rattle.table_ledger.specs.declared.summary.Summary.{Summary}
 use Rattle.table_ledger.proofs.Remembered.{remembers_as}
@@ -36,27 +38,28 @@ refused_none view outcome Reopen events plain makes = makes
 refused_none view outcome fault events plain makes = makes.1
 
 -- a record is staged, with this answer
-abbrev pub IsAnswered : Naming → List ℕ → Result Accepted LedgerFault → Summary → View → View → Book
-    → Type 0
-IsAnswered naming bytes answer is old new book =
+abbrev pub IsAnswered : (Tables → Tables) → Naming → List ℕ → Result Accepted LedgerFault → Summary
+    → View → View → Book → Type 0
+IsAnswered written naming bytes answer is old new book =
     let outcome = accept_outcome naming bytes in
-    IsStaged (MakesOf (λ (accepted : Accepted). accepted) outcome answer) (LeavesOne outcome) naming
+    IsStaged written (MakesOf (λ (accepted : Accepted). accepted) outcome answer) (LeavesOne outcome) naming
     (λ summary. summary ≡ is) old new book
 
 -- the records so far were taken: whatever is taken of the rest, all of it is
-pub record AreTaken (naming : Naming) (records rest : List (List ℕ)) (is : Summary)
-    (old new : View) (book : Book) (answers : List Accepted) : Type 0 where
+pub record AreTaken (written : Tables → Tables) (naming : Naming) (records rest : List (List ℕ))
+    (is : Summary) (old new : View) (book : Book) (answers : List Accepted) : Type 0 where
   pub events : List Event
   pub leads : (later : List Accepted) (late : List Event)
       → Accepts naming rest later false (after_all events book) late false
       → Accepts naming records (answers ++ later) false book (late ++ events) false
   pub only : OnlyWrites old new
-  pub at : IsAt naming is new (after_all events book)
+  pub at : IsAtAs written naming is new (after_all events book)
 
 -- no record was taken yet
-pub none_taken : {naming : Naming} {records : List (List ℕ)} {is : Summary} {view : View}
-    {book : Book} → IsAt naming is view book → AreTaken naming records records is view view book []
-none_taken {naming} {records} {book = book} at = record {
+pub none_taken : {written : Tables → Tables} {naming : Naming} {records : List (List ℕ)}
+    {is : Summary} {view : View} {book : Book} → IsAtAs written naming is view book
+    → AreTaken written naming records records is view view book []
+none_taken {naming = naming} {records = records} {book = book} at = record {
   events = [];
   leads = λ later late accepts.
       subst (λ events. Accepts naming records later false book events false)
@@ -66,12 +69,13 @@ none_taken {naming} {records} {book = book} at = record {
 }
 
 -- one more record was answered and written
-pub more_taken : {naming : Naming} {records rest : List (List ℕ)} {bytes : List ℕ}
-    {was is : Summary} {old middle new : View} {book : Book} {answers : List Accepted}
-    {answer : Accepted} (taken : AreTaken naming records (bytes ∷ rest) was old middle book answers)
-    → IsAnswered naming bytes (Ok answer) is middle new (after_all taken.events book)
-    → AreTaken naming records rest is old new book (answers ++ answer ∷ [])
-more_taken {naming} {records} {rest} {bytes} {was} {is} {old} {middle} {new} {book} {answers} {answer} taken staged = record {
+pub more_taken : {written : Tables → Tables} {naming : Naming} {records rest : List (List ℕ)}
+    {bytes : List ℕ} {was is : Summary} {old middle new : View} {book : Book}
+    {answers : List Accepted} {answer : Accepted}
+    (taken : AreTaken written naming records (bytes ∷ rest) was old middle book answers)
+    → IsAnswered written naming bytes (Ok answer) is middle new (after_all taken.events book)
+    → AreTaken written naming records rest is old new book (answers ++ answer ∷ [])
+more_taken {written} {naming} {records} {rest} {bytes} {was} {is} {old} {middle} {new} {book} {answers} {answer} taken staged = record {
   events = staged.events ++ taken.events;
   leads = λ later late accepts.
       subst (λ all. Accepts naming records all false book (late ++ (staged.events ++ taken.events)) false)
@@ -91,17 +95,17 @@ more_taken {naming} {records} {rest} {bytes} {was} {is} {old} {middle} {new} {bo
         all = refl;
       })));
   only = only_both old taken.only staged.only;
-  at = subst (IsAt naming is new) (sym (after_all-append staged.events taken.events book))
+  at = subst (IsAtAs written naming is new) (sym (after_all-append staged.events taken.events book))
       (record { kept = staged.kept; remembers = staged.remembers is refl });
 }
 
 -- the records that were taken are staged, and nothing more is
-pub all_taken : {naming : Naming} {records rest : List (List ℕ)} {is : Summary} {old new : View}
-    {book : Book} {answers : List Accepted} {refusal : Option LedgerFault}
-    (taken : AreTaken naming records rest is old new book answers)
+pub all_taken : {written : Tables → Tables} {naming : Naming} {records rest : List (List ℕ)}
+    {is : Summary} {old new : View} {book : Book} {answers : List Accepted}
+    {refusal : Option LedgerFault} (taken : AreTaken written naming records rest is old new book answers)
     → (answers ≡ [] → RefusesNext naming records book refusal)
-    → AreStaged naming records is old new book answers refusal
-all_taken {naming} {records} {book = book} {answers = answers} taken none = record {
+    → AreStaged written naming records is old new book answers refusal
+all_taken {naming = naming} {records = records} {book = book} {answers = answers} taken none = record {
   events = taken.events;
   accepts = subst (λ all. Accepts naming records all false book taken.events false)
       (append-nil answers) (taken.leads [] [] (record { none = refl; same = refl }));
@@ -111,15 +115,15 @@ all_taken {naming} {records} {book = book} {answers = answers} taken none = reco
 }
 
 -- the next record was refused, and those before it are staged
-pub refused_next : {naming : Naming} {records rest : List (List ℕ)} {bytes : List ℕ}
-    {was is : Summary} {old middle new : View} {book : Book} {answers : List Accepted}
-    (fault : LedgerFault)
-    (taken : AreTaken naming records (bytes ∷ rest) was old middle book answers)
+pub refused_next : {written : Tables → Tables} {naming : Naming} {records rest : List (List ℕ)}
+    {bytes : List ℕ} {was is : Summary} {old middle new : View} {book : Book}
+    {answers : List Accepted} (fault : LedgerFault)
+    (taken : AreTaken written naming records (bytes ∷ rest) was old middle book answers)
     → LeavesOpen {V = Accepted} (Err fault)
-    → IsAnswered naming bytes (Err fault) is middle new (after_all taken.events book)
+    → IsAnswered written naming bytes (Err fault) is middle new (after_all taken.events book)
     → (answers ≡ [] → records ≡ bytes ∷ rest)
-    → AreStaged naming records is old new book answers (Some fault)
-refused_next {naming} {records} {rest} {bytes} {was} {is} {old} {middle} {new} {book} {answers} fault taken plain staged all =
+    → AreStaged written naming records is old new book answers (Some fault)
+refused_next {written} {naming} {records} {rest} {bytes} {was} {is} {old} {middle} {new} {book} {answers} fault taken plain staged all =
     let outcome = accept_outcome naming bytes (after_all taken.events book) in
     let none : staged.events ≡ [] = refused_none (λ (accepted : Accepted). accepted) outcome fault
     staged.events plain staged.made in
@@ -143,7 +147,7 @@ refused_next {naming} {records} {rest} {bytes} {was} {is} {old} {middle} {new} {
             reopens = record { reopen = plain.served; store = sym plain.stored };
           });
       only = only_both old taken.only staged.only;
-      at = subst (λ events. IsAt naming is new (after_all events (after_all taken.events book))) none
+      at = subst (λ events. IsAtAs written naming is new (after_all events (after_all taken.events book))) none
           (record { kept = staged.kept; remembers = staged.remembers is refl });
     }
 
@@ -163,43 +167,44 @@ rest_is records i found bytes within is same =
     ∙ (λ j. (sym is j).items ∷ records_in (drop (sym (add-one i) j) records))
     ∙ ap (λ one. one ∷ records_in (drop (i + 1) records)) (sym same)
 
-module _ {naming : Naming} (records : List (Vec ℕ Global)) {was is : Summary}
+module _ {written : Tables → Tables} {naming : Naming} (records : List (Vec ℕ Global))
+    {was is : Summary}
     {old middle : State} {answers : List Accepted} (i : ℕ) (found : Vec ℕ Global) {bytes : List ℕ}
     (within : i < length records) (here : found ≡ get_or records i found)
     (same : bytes ≡ found.items)
     (early : Survives old middle (λ trees. ⊥))
-    (taken : HasCleanDisk middle → (book : Book) → IsAt naming was old.view book
-    → AreTaken naming (records_in records) (records_in (drop i records)) is old.view middle.view book
+    (taken : HasCleanDisk middle → (book : Book) → IsAtAs written naming was old.view book
+    → AreTaken written naming (records_in records) (records_in (drop i records)) is old.view middle.view book
     answers) (new : State) where
   -- what was taken before the record
-  before_it : HasCleanDisk middle → (book : Book) → IsAt naming was old.view book
-      → AreTaken naming (records_in records) (bytes ∷ records_in (drop (i + 1) records)) is old.view
+  before_it : HasCleanDisk middle → (book : Book) → IsAtAs written naming was old.view book
+      → AreTaken written naming (records_in records) (bytes ∷ records_in (drop (i + 1) records)) is old.view
       middle.view book answers
   before_it clean book at =
-      subst (λ rest. AreTaken naming (records_in records) rest is old.view middle.view book answers)
+      subst (λ rest. AreTaken written naming (records_in records) rest is old.view middle.view book answers)
       (rest_is records i found bytes within here same) (taken clean book at)
 
   -- the record was answered, and written where it is new
   pub step_taken : {next : Summary} {given : Result Accepted LedgerFault} {answer : Accepted}
       → given ≡ Ok answer
-      → Stages (λ (accepted : Accepted). accepted) naming is next middle new
+      → StagesAs written (λ (accepted : Accepted). accepted) naming is next middle new
       (accept_outcome naming bytes) (Ok given)
-      → HasCleanDisk new → (book : Book) → IsAt naming was old.view book
-      → AreTaken naming (records_in records) (records_in (drop (i + 1) records)) next old.view new.view
+      → HasCleanDisk new → (book : Book) → IsAtAs written naming was old.view book
+      → AreTaken written naming (records_in records) (records_in (drop (i + 1) records)) next old.view new.view
       book (answers ++ answer ∷ [])
   step_taken {next = next} {given = given} {answer = answer} given_is stages clean book at =
       let before = before_it (clean_before stages.survives clean) book at in
       more_taken before
-      (subst (λ given. IsAnswered naming bytes given next middle.view new.view
+      (subst (λ given. IsAnswered written naming bytes given next middle.view new.view
       (after_all before.events book)) given_is
       (stages.found clean (after_all before.events book) before.at))
 
   -- the books refused it
   pub step_refused : {next : Summary} {given : Result Accepted LedgerFault} (fault : LedgerFault)
       → given ≡ Err fault → length answers ≡ i
-      → Stages (λ (accepted : Accepted). accepted) naming is next middle new
+      → StagesAs written (λ (accepted : Accepted). accepted) naming is next middle new
       (accept_outcome naming bytes) (Ok given)
-      → StagesMany naming (records_in records) was next old new answers (Ok (Some fault))
+      → StagesMany written naming (records_in records) was next old new answers (Ok (Some fault))
   step_refused {next = next} {given = given} fault given_is count stages =
       let plain : LeavesOpen {V = Accepted} (Err fault) =
       subst (λ (given : Result Accepted LedgerFault). LeavesOpen given) given_is stages.plain in
@@ -209,7 +214,7 @@ module _ {naming : Naming} (records : List (Vec ℕ Global)) {was is : Summary}
         found = λ clean book at.
             let before = before_it (clean_before stages.survives clean) book at in
             refused_next fault before plain
-            (subst (λ given. IsAnswered naming bytes given next middle.view new.view
+            (subst (λ given. IsAnswered written naming bytes given next middle.view new.view
             (after_all before.events book)) given_is
             (stages.found clean (after_all before.events book) before.at))
             (λ empty. ap (λ n. records_in (drop n records)) (sym (sym count ∙ ap length empty))
@@ -219,9 +224,9 @@ module _ {naming : Naming} (records : List (Vec ℕ Global)) {was is : Summary}
   -- the store refused it
   pub step_failed : {next : Summary} {error : StoreError} (late : List Accepted)
       (tried : Result (Option LedgerFault) StoreError) → IsErr tried
-      → Stages (λ (accepted : Accepted). accepted) naming is next middle new
+      → StagesAs written (λ (accepted : Accepted). accepted) naming is next middle new
       (accept_outcome naming bytes) (Err error)
-      → StagesMany naming (records_in records) was next old new late tried
+      → StagesMany written naming (records_in records) was next old new late tried
   step_failed late (Err other) failed stages = record {
     plain = tt;
     survives = survives_then early stages.survives;
@@ -235,9 +240,9 @@ module _ {naming : Naming} (records : List (Vec ℕ Global)) {was is : Summary}
   -- it was answered, and there is no memory for the answer
   pub step_untold : {next : Summary} {given : Result Accepted LedgerFault} (late : List Accepted)
       (tried : Result (Option LedgerFault) StoreError) → IsErr tried
-      → Stages (λ (accepted : Accepted). accepted) naming is next middle new
+      → StagesAs written (λ (accepted : Accepted). accepted) naming is next middle new
       (accept_outcome naming bytes) (Ok given)
-      → StagesMany naming (records_in records) was next old new late tried
+      → StagesMany written naming (records_in records) was next old new late tried
   step_untold late (Err other) failed stages = record {
     plain = tt;
     survives = survives_then early stages.survives;
@@ -251,7 +256,7 @@ module _ {naming : Naming} (records : List (Vec ℕ Global)) {was is : Summary}
 -- Records that were staged one after another are staged as one: those that were taken,
 pub many_staged : {naming : Naming} {records : List (List ℕ)} {was is : Summary}
     {old new : State} {refusal : Option LedgerFault} (answers : Vec Accepted Global)
-    → StagesMany naming records was is old new answers.items (Ok refusal)
+    → StagesMany (λ tables. tables) naming records was is old new answers.items (Ok refusal)
     → StagesFirst naming records was is old new (Ok (Ok answers))
 many_staged answers stages = record {
   plain = record { stored = refl; served = refl };
@@ -272,7 +277,7 @@ many_staged answers stages = record {
 pub none_staged : {naming : Naming} {records : List (List ℕ)} {was is : Summary}
     {old new : State} (fault : LedgerFault) {answers : List Accepted} → answers ≡ []
     → 0 < length records
-    → StagesMany naming records was is old new answers (Ok (Some fault))
+    → StagesMany (λ tables. tables) naming records was is old new answers (Ok (Some fault))
     → StagesFirst naming records was is old new (Ok (Err fault))
 none_staged {naming} {records} fault {answers} empty some stages = record {
   plain = stages.plain;

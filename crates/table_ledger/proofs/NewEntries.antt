@@ -1,5 +1,5 @@
 -- Writing a new record makes the tables that it is to make.
-use Rattle.std.proofs.Common.{◌≡◌, ◌∙◌, ℕ, ◌+◌, List, Bool, true, false, refl, sym, ap}
+use Rattle.std.proofs.Common.{◌≡◌, ◌∙◌, ℕ, List, Bool, true, false, refl, sym, ap}
 use Rattle.std.proofs.Common.{Option, Some, None, cond, true≢false}
 use Rattle.std.specs.List.{last_or}
 use Rattle.std.specs.FinMap.{get, get-insert, insert}
@@ -18,10 +18,10 @@ use Rattle.table_model.specs.RowChanges.{change_day, change_line, change_mark, u
 use Rattle.table_model.specs.Tables.{RecordRow, RecordTable, Tables}
 use Rattle.table_model.specs.Views.{rows_with}
 use Rattle.table_laws.specs.AcceptRead.{view_with}
-use Rattle.table_model.specs.Steps.{put_record_row, set_sums}
+use Rattle.table_model.specs.Steps.{put_record_row}
 use Rattle.table_ledger.specs.DayWrites.{WritesDayRows}
 use Rattle.table_ledger.specs.RecordWrites.{AreRemembered, write_days, write_line, write_mark}
-use Rattle.table_ledger.specs.NewRecords.{with_new_record, with_record_effects}
+use Rattle.table_ledger.specs.NewRecords.{with_record_effects, with_unsummed}
 use Rattle.book_core.specs.OfficeRulings.{ruled_in}
 use Rattle.table_ledger.specs.declared.day_write.DayWrite.{DayWrite}
 use Rattle.table_ledger.specs.declared.summary.Summary.{Summary}
@@ -36,13 +36,13 @@ tied Less is = absurd (true≢false (sym is))
 tied Equal is = refl
 tied Greater is = absurd (true≢false (sym is))
 
--- the tables with a row, these sums and these effects
-abbrev kept_by : List ℕ × RecordRow → ℕ → ℕ → ℕ → Effects → DayWrite → Tables → Tables
-kept_by row held amount period effects day tables =
-    set_sums held amount (put_record_row row.0 row.1
-    (write_mark effects.unmark (write_line period effects.line (write_days period day tables))))
+-- the tables with a row and these effects
+abbrev kept_by : List ℕ × RecordRow → ℕ → Effects → DayWrite → Tables → Tables
+kept_by row period effects day tables =
+    put_record_row row.0 row.1
+    (write_mark effects.unmark (write_line period effects.line (write_days period day tables)))
 
--- what is written makes the tables with the record and its effects
+-- what is written makes the tables with the record and its effects, but for the sums
 pub entry_kept : (summary : Summary) (name bytes identity behind : List ℕ) (priced : Priced)
     (period : ℕ) (effects : Effects) (day : DayWrite) (tables : Tables)
     → identity ≡ identity_by (ruled_in summary.rulings) bytes → behind ≡ data_of bytes
@@ -59,16 +59,12 @@ pub entry_kept : (summary : Summary) (name bytes identity behind : List ℕ) (pr
         charged = effects.charged;
         posted = false;
       },
-    ) (summary.held + 1) (summary.total + priced.amount) period effects day tables
-    ≡ with_new_record summary name bytes priced tables
+    ) period effects day tables
+    ≡ with_unsummed summary name bytes priced tables
 entry_kept summary name bytes identity behind priced period effects day tables owner rest number
     remembered planned writes =
     let marked = change_mark effects.unmark tables.records in
     (λ i. record tables {
-      book = record tables.book {
-        held = sym remembered.held i + 1;
-        amount = sym remembered.amount i + priced.amount;
-      };
       records = insert marked name (record {
         identity = owner i;
         data_bytes = rest i;
@@ -80,10 +76,6 @@ entry_kept summary name bytes identity behind priced period effects day tables o
       lines = change_line period effects.line tables.lines;
     })
     ∙ (λ i. record tables {
-      book = record tables.book {
-        held = tables.book.held + 1;
-        amount = tables.book.amount + priced.amount;
-      };
       records = insert marked name (record {
         identity = identity_by (ruled_in summary.rulings) bytes;
         data_bytes = data_of bytes;
@@ -94,11 +86,13 @@ entry_kept summary name bytes identity behind priced period effects day tables o
       days = change_day (number i) effects.day tables.days;
       lines = change_line (number i) effects.line tables.lines;
     })
-    ∙ ap (λ effects. with_record_effects summary name bytes priced effects tables)
+    ∙ ap (λ effects. record (with_record_effects summary name bytes priced effects tables) {
+      book = tables.book;
+    })
     (planned
     ∙ ap (λ closes. effects_of (view_with (last_or None closes) tables.choices
     (rows_with (identity_by (ruled_in summary.rulings) bytes) tables.records)) name priced)
-    (sym remembered.closes))
+    (sym remembered))
 
 -- a name that no record has is still that of none after a mark was taken
 pub new_still : (unmark : Option (List ℕ)) (records : RecordTable) (name : List ℕ)

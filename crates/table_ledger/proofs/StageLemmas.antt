@@ -16,8 +16,8 @@ use Rattle.tree_tables.specs.Steps.{Does, KeepsLastCommit, Looks}
 use Rattle.tree_tables.proofs.Looking.{only_both}
 use Rattle.table_ledger.specs.Attempts.{LeavesOpen}
 use Rattle.table_ledger.specs.Commits.{Saw}
-use Rattle.table_ledger.specs.Ready.{IsStoredIn, Remembers}
-use Rattle.table_ledger.specs.Stages.{IsAt, LeavesOne, MakesOf, Stages, StagesBy}
+use Rattle.table_ledger.specs.Ready.{Remembers}
+use Rattle.table_ledger.specs.Stages.{IsAtAs, IsStoredAs, LeavesOne, MakesOf, StagesAs, StagesBy}
 use Rattle.table_ledger.specs.declared.summary.Summary.{Summary}
 use Rattle.table_ledger.proofs.Remembered.{remembers_as}
 use Rattle.table_ledger.proofs.SurvivalLemmas.{clean_before, survives_then}
@@ -50,27 +50,33 @@ does_seen {old = old} {middle = middle} {new = new} (Err error) saw does = recor
 
 -- What steps make of a book: an event of the outcome, with this answer, the tables that it leaves,
 -- and the summaries that then remember the book.
-pub record IsEvent {V A : Type 0} (view : V → A) (naming : Naming) (outcome : Book → Outcome A)
-    (value : V) (Is : Summary → Type 0) (When : Tables → Type 0) (change : Tables → Tables)
-    (book : Book) : Type 0 where
+pub record IsEventAs {V A : Type 0} (written : Tables → Tables) (view : V → A) (naming : Naming)
+    (outcome : Book → Outcome A) (value : V) (Is : Summary → Type 0) (When : Tables → Type 0)
+    (change : Tables → Tables) (book : Book) : Type 0 where
   pub event : Event
   pub is : (outcome book).event ≡ Some event
   pub answer : (outcome book).answer ≡ Ok (view value)
-  pub when : When (tables_of naming book)
+  pub when : When (written (tables_of naming book))
   pub calls : IsFromCalls naming (after event book)
-  pub tables : change (tables_of naming book) ≡ tables_of naming (after event book)
+  pub tables : change (written (tables_of naming book)) ≡ written (tables_of naming (after event book))
   pub remembers : (summary : Summary) → Is summary → Remembers summary (after event book)
+
+-- where all of it is written
+abbrev pub IsEvent : {V A : Type 0} → (V → A) → Naming → (Book → Outcome A) → V
+    → (Summary → Type 0) → (Tables → Type 0) → (Tables → Tables) → Book → Type 0
+IsEvent view naming outcome value Is When change book =
+    IsEventAs (λ tables. tables) view naming outcome value Is When change book
 
 module _ {V T : Type 0} {answered : T → Result V LedgerFault}
     {Made : Result V LedgerFault → Book → List Event → Type 0}
     {Leaves : Book → List Event → Type 0} {naming : Naming} {was : Summary}
-    {Is : Summary → Type 0} where
+    {Is : Summary → Type 0} {written : Tables → Tables} where
   -- Work is not staged where the store refused it:
   pub unstaged : {old new : State} (staged : Result T StoreError) → IsErr staged
       → Survives old new (λ trees. ⊥)
-      → (HasCleanDisk new → (book : Book) → IsAt naming was old.view book
+      → (HasCleanDisk new → (book : Book) → IsAtAs written naming was old.view book
       → KeepsLastCommit old.view new.view)
-      → StagesBy answered Made Leaves naming was Is old new staged
+      → StagesBy written answered Made Leaves naming was Is old new staged
   unstaged (Err error) failed survives stands =
       record { plain = tt; survives = survives; found = stands }
   unstaged (Ok value) failed survives stands = absurd (true≢false (sym failed))
@@ -79,7 +85,7 @@ module _ {V T : Type 0} {answered : T → Result V LedgerFault}
   pub stage_refused : {B : Type 0} {old middle new : State} {Known : Tables → Type 0}
       {Answers : Tables → B → Type 0} {error : StoreError} (staged : Result T StoreError)
       → IsErr staged → Saw old middle Known → Looks {A = B} (Err error) middle new Answers
-      → StagesBy answered Made Leaves naming was Is old new staged
+      → StagesBy written answered Made Leaves naming was Is old new staged
   stage_refused {old = old} {middle = middle} staged failed saw looks =
       unstaged staged failed (survives_then saw.survives looks.survives) (λ clean book at.
       stands_then (stands_same old.view middle.view
@@ -89,7 +95,7 @@ module _ {V T : Type 0} {answered : T → Result V LedgerFault}
   pub stage_undone : {U : Type 0} {old middle new : State} {Known When : Tables → Type 0}
       {change : Tables → Tables} {error : StoreError} (staged : Result T StoreError)
       → IsErr staged → Saw old middle Known → Does {T = U} (Err error) middle new When change
-      → StagesBy answered Made Leaves naming was Is old new staged
+      → StagesBy written answered Made Leaves naming was Is old new staged
   stage_undone {old = old} {middle = middle} staged failed saw does =
       unstaged staged failed (survives_then saw.survives does.survives) (λ clean book at.
       stands_then (stands_same old.view middle.view
@@ -97,8 +103,8 @@ module _ {V T : Type 0} {answered : T → Result V LedgerFault}
 
   -- What was staged is answered, and this summary remembers the book.
   pub staged_so : {old new : State} {done : T} (is : Summary) → Is is
-      → StagesBy answered Made Leaves naming was Is old new (Ok done)
-      → StagesBy (λ answer. answer) Made Leaves naming was (λ summary. summary ≡ is) old new
+      → StagesBy written answered Made Leaves naming was Is old new (Ok done)
+      → StagesBy written (λ answer. answer) Made Leaves naming was (λ summary. summary ≡ is) old new
       (Ok (answered done))
   staged_so is told stages = record {
     plain = stages.plain;
@@ -117,23 +123,24 @@ module _ {V T : Type 0} {answered : T → Result V LedgerFault}
 
 -- The call is answered by looks alone.
 pub stage_answered : {V A : Type 0} {view : V → A} {naming : Naming} {was : Summary}
-    (outcome : Book → Outcome A) {old new : State} {Known : Tables → Type 0}
-    {answer : Result V LedgerFault} → Saw old new Known → LeavesOpen answer
-    → ((book : Book) → IsAt naming was old.view book → Known (tables_of naming book)
-    → Makes view (outcome book) answer [])
-    → Stages view naming was was old new outcome (Ok answer)
-stage_answered {naming = naming} outcome {old = old} {new = new} saw plain makes = record {
+    (written : Tables → Tables) (outcome : Book → Outcome A) {old new : State}
+    {Known : Tables → Type 0} {answer : Result V LedgerFault} → Saw old new Known
+    → LeavesOpen answer
+    → ((book : Book) → IsAtAs written naming was old.view book
+    → Known (written (tables_of naming book)) → Makes view (outcome book) answer [])
+    → StagesAs written view naming was was old new outcome (Ok answer)
+stage_answered {naming = naming} written outcome {old = old} {new = new} saw plain makes = record {
   plain = plain;
   survives = saw.survives;
   found = λ clean book at.
       let seen = saw.seen clean in
       record {
         events = [];
-        made = makes book at (seen.known (tables_of naming book) at.kept.holds);
+        made = makes book at (seen.known (written (tables_of naming book)) at.kept.holds);
         leaves = inl refl;
         only = only_looks old.view seen.same;
-        kept = subst (IsStoredIn naming book) (sym (trees_same old.view new.view seen.same))
-            at.kept;
+        kept = subst (IsStoredAs written naming book)
+            (sym (trees_same old.view new.view seen.same)) at.kept;
         remembers = λ summary same. remembers_as at.remembers same;
       };
 }
@@ -141,17 +148,19 @@ stage_answered {naming = naming} outcome {old = old} {new = new} saw plain makes
 -- The steps of a call are staged after its looks.
 pub stage_steps : {V A T : Type 0} {view : V → A} {naming : Naming} {was : Summary}
     {outcome : Book → Outcome A} {first middle last : State} {Known When : Tables → Type 0}
-    {change : Tables → Tables} {value : V} {Is : Summary → Type 0} (staged : Result T StoreError)
+    {change : Tables → Tables} {value : V} {Is : Summary → Type 0} {written : Tables → Tables}
+    (staged : Result T StoreError)
     → Saw first middle Known → Does staged middle last When change
-    → ((book : Book) → IsAt naming was first.view book → Known (tables_of naming book)
-    → IsEvent view naming outcome value Is When change book)
-    → StagesBy (λ done. Ok value) (MakesOf view outcome) (LeavesOne outcome) naming was Is first last
-    staged
-stage_steps {naming = naming} {first = first} {middle = middle} {last = last} (Ok done) saw does events = record {
+    → ((book : Book) → IsAtAs written naming was first.view book
+    → Known (written (tables_of naming book))
+    → IsEventAs written view naming outcome value Is When change book)
+    → StagesBy written (λ done. Ok value) (MakesOf view outcome) (LeavesOne outcome) naming was Is
+    first last staged
+stage_steps {naming = naming} {first = first} {middle = middle} {last = last} {written = written} (Ok done) saw does events = record {
   plain = record { stored = refl; served = refl };
   survives = survives_then saw.survives does.survives;
   found = λ clean book at.
-      let tables = tables_of naming book in
+      let tables = written (tables_of naming book) in
       let seen = saw.seen (clean_before does.survives clean) in
       let event = events book at (seen.known tables at.kept.holds) in
       let changes = does.done clean in

@@ -1,6 +1,7 @@
 -- A call that is tried: looks at the tables, and then an answer or a refusal.
 use Rattle.std.proofs.Common.{List, Result, Ok, Err, [], sym, subst, true≢false}
 use Rattle.std.specs.Prelude.{IsErr}
+use Rattle.sqlite_trees.specs.Tree.{Trees}
 use Rattle.sqlite_trees.specs.View.{View}
 use Rattle.sqlite_trees.specs.declared.error.StoreError.{StoreError}
 use Rattle.book_model.specs.declared.fault.LedgerFault.{LedgerFault}
@@ -15,7 +16,7 @@ use Rattle.tree_rows.proofs.Calls.{kept_same, unchanged_both}
 use Rattle.table_ledger.specs.Commits.{Saw}
 use Rattle.table_ledger.specs.Ready.{IsReadyAt, IsStoredIn, Remembers}
 use Rattle.table_ledger.specs.Attempts.{LeavesOpen}
-use Rattle.table_ledger.specs.Stages.{AttemptsBy, AttemptsOne, IsAt}
+use Rattle.table_ledger.specs.Stages.{AttemptsBy, AttemptsOne, IsAt, IsStoredAs}
 use Rattle.table_ledger.specs.declared.summary.Summary.{Summary}
 use Rattle.table_ledger.proofs.UnchangedStores.{holds_on, rest_on, stands_kept, stands_same}
 use Rattle.table_ledger.proofs.UnchangedStores.{stands_then, trees_same, unchanged_none}
@@ -90,7 +91,15 @@ looks_stopped {old = old} {new = new} saw = record {
 -- a ledger that is ready is at its book
 pub at_ready : {naming : Naming} {summary : Summary} {view : View} {book : Book}
     → IsReadyAt naming summary view book → IsAt naming summary view book
-at_ready ready = record { kept = ready.kept; remembers = ready.remembers }
+at_ready ready = record {
+  kept = record { calls = ready.kept.calls; holds = ready.kept.holds };
+  remembers = ready.remembers;
+}
+
+-- trees that hold the tables with all that was written hold the book
+pub stored_in : {naming : Naming} {book : Book} {trees : Trees}
+    → IsStoredAs (λ tables. tables) naming book trees → IsStoredIn naming book trees
+stored_in kept = record { calls = kept.calls; holds = kept.holds }
 
 -- a ledger is ready after what changes nothing
 pub ready_same : {naming : Naming} {was : Summary} {book : Book} (old new : View)

@@ -21,3 +21,8 @@ abbrev pub with_new_record : Summary → List ℕ → List ℕ → Priced → Ta
 with_new_record summary name bytes priced tables =
     with_record_effects summary name bytes priced
     (effects_of (view_in tables (identity_by (ruled_in summary.rulings) bytes)) name priced) tables
+
+-- the same, but for the sums in the row of the book
+abbrev pub with_unsummed : Summary → List ℕ → List ℕ → Priced → Tables → Tables
+with_unsummed summary name bytes priced tables =
+    record (with_new_record summary name bytes priced tables) { book = tables.book }

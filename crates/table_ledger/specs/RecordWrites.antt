@@ -4,7 +4,7 @@ use Rattle.std.specs.FinMap.{get, values}
 use Rattle.table_model.specs.RowChanges.{change_mark, change_line}
 use Rattle.table_model.specs.Tables.{Tables}
 use Rattle.book_core.specs.declared.effects.LineChange.{LineChange}
-use Rattle.table_model.specs.Steps.{put_record_row, set_sums}
+use Rattle.table_model.specs.Steps.{put_record_row}
 use Rattle.tree_tables.specs.Stored.{new_entry}
 use Rattle.table_ledger.specs.DayWrites.{day_written}
 use Rattle.table_ledger.specs.declared.commits.Entry.{Entry}
@@ -12,11 +12,14 @@ use Rattle.table_ledger.specs.declared.day_write.DayWrite.{DayWrite}
 use Rattle.book_core.specs.OfficeRulings.{ruled_in}
 use Rattle.table_ledger.specs.declared.summary.Summary.{Summary}
 
--- the tables are those of the book that the summary remembers
-pub record AreRemembered (summary : Summary) (tables : Tables) : Type 0 where
-  pub closes : values tables.closes ≡ (ruled_in summary.rulings).closes
-  pub held : tables.book.held ≡ summary.held
-  pub amount : tables.book.amount ≡ summary.total
+-- the closes are those of the book that the summary remembers
+abbrev pub AreRemembered : Summary → Tables → Type 0
+AreRemembered summary tables = values tables.closes ≡ (ruled_in summary.rulings).closes
+
+-- the sums in the row of the book are these
+pub record HaveSums (held amount : ℕ) (tables : Tables) : Type 0 where
+  pub held_is : tables.book.held ≡ held
+  pub amount_is : tables.book.amount ≡ amount
 
 -- no record has the name
 abbrev pub IsNew : List ℕ → Tables → Type 0
@@ -45,12 +48,8 @@ write_effects entry tables =
     write_mark entry.effects.unmark (write_line entry.period entry.effects.line
     (write_days entry.period entry.day tables))
 
--- the record's row is added, and the sums are these
-abbrev pub write_row : Entry → Tables → Tables
-write_row entry tables =
-    set_sums entry.sums.held entry.sums.amount
-    (put_record_row (new_entry entry.record).0 (new_entry entry.record).1 tables)
-
--- all of it
+-- all of it, and the record's row
 abbrev pub write_entry : Entry → Tables → Tables
-write_entry entry tables = write_row entry (write_effects entry tables)
+write_entry entry tables =
+    put_record_row (new_entry entry.record).0 (new_entry entry.record).1
+    (write_effects entry tables)

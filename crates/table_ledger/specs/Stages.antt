@@ -11,6 +11,10 @@ use Rattle.book_model.specs.Words.{Book, Event, after_all, accept_outcome, Outco
 use Rattle.book_core.specs.Calls.{Calls, Makes, is_store, is_reopen, listed}
 use Rattle.book_core.specs.OfficeRulings.{ruled_in}
 use Rattle.book_core.specs.Submissions.{Accepts, Takes, first_of}
+use Rattle.table_model.specs.Tables.{Tables}
+use Rattle.table_model.specs.TablesOf.{tables_of}
+use Rattle.table_laws.specs.FromCalls.{IsFromCalls}
+use Rattle.tree_tables.specs.Holds.{Holds}
 use Rattle.tree_tables.specs.States.{State, HasCleanDisk, Survives}
 use Rattle.tree_tables.specs.Steps.{KeepsLastCommit}
 use Rattle.table_ledger.specs.Ready.{IsReadyAt, IsStoredIn, Remembers}
@@ -20,11 +24,23 @@ use Rattle.table_ledger.specs.declared.summary.Summary.{Summary}
 
 -- ---- inside a transaction
 
--- The trees hold the book, which calls made, as the transaction sees them; and the summary is that
+-- the trees hold the tables of the book, which calls made, as they are at this point of the
+-- transaction: what is written later is not there yet
+pub record IsStoredAs (written : Tables → Tables) (naming : Naming) (book : Book) (trees : Trees)
+    : Type 0 where
+  pub calls : IsFromCalls naming book
+  pub holds : Holds trees (written (tables_of naming book))
+
+-- The trees hold the tables of the book so, as the transaction sees them; and the summary is that
 -- of the book.
-pub record IsAt (naming : Naming) (summary : Summary) (view : View) (book : Book) : Type 0 where
-  pub kept : IsStoredIn naming book view.trees
+pub record IsAtAs (written : Tables → Tables) (naming : Naming) (summary : Summary) (view : View)
+    (book : Book) : Type 0 where
+  pub kept : IsStoredAs written naming book view.trees
   pub remembers : Remembers summary book
+
+-- all is written
+abbrev pub IsAt : Naming → Summary → View → Book → Type 0
+IsAt = IsAtAs (λ tables. tables)
 
 -- the rulings that are remembered stay
 pub record KeepsRulings (was is : Summary) : Type 0 where
@@ -32,32 +48,33 @@ pub record KeepsRulings (was is : Summary) : Type 0 where
   pub choices : is.choices ≡ was.choices
 
 -- what was staged makes such events of the book, and each such summary remembers the book then
-pub record IsStaged (Made Leaves : Book → List Event → Type 0) (naming : Naming)
-    (Is : Summary → Type 0) (old new : View) (book : Book) : Type 0 where
+pub record IsStaged (written : Tables → Tables) (Made Leaves : Book → List Event → Type 0)
+    (naming : Naming) (Is : Summary → Type 0) (old new : View) (book : Book) : Type 0 where
   pub events : List Event
   pub made : Made book events
   pub leaves : Leaves book events
   pub only : OnlyWrites old new
-  pub kept : IsStoredIn naming (after_all events book) new.trees
+  pub kept : IsStoredAs written naming (after_all events book) new.trees
   pub remembers : (is : Summary) → Is is → Remembers is (after_all events book)
 
 -- work is staged, for this answer, or the store refused it, and its last commit stays
-abbrev pub StagedOrRefused : {V T : Type 0} → (T → Result V LedgerFault)
+abbrev pub StagedOrRefused : {V T : Type 0} → (Tables → Tables) → (T → Result V LedgerFault)
     → (Result V LedgerFault → Book → List Event → Type 0) → (Book → List Event → Type 0) → Naming
     → (Summary → Type 0) → View → View → Book → Result T StoreError → Type 0
-StagedOrRefused answered Made Leaves naming Is old new book (Ok value) =
-    IsStaged (Made (answered value)) Leaves naming Is old new book
-StagedOrRefused answered Made Leaves naming Is old new book (Err error) = KeepsLastCommit old new
+StagedOrRefused written answered Made Leaves naming Is old new book (Ok value) =
+    IsStaged written (Made (answered value)) Leaves naming Is old new book
+StagedOrRefused written answered Made Leaves naming Is old new book (Err error) =
+    KeepsLastCommit old new
 
 -- Work is tried inside a transaction of a ledger, with no commit.
-pub record StagesBy {V T : Type 0} (answered : T → Result V LedgerFault)
+pub record StagesBy {V T : Type 0} (written : Tables → Tables) (answered : T → Result V LedgerFault)
     (Made : Result V LedgerFault → Book → List Event → Type 0)
     (Leaves : Book → List Event → Type 0) (naming : Naming) (was : Summary) (Is : Summary → Type 0)
     (old new : State) (staged : Result T StoreError) : Type 0 where
   pub plain : IfOk staged (λ value. LeavesOpen (answered value))
   pub survives : Survives old new (λ trees. ⊥)
-  pub found : HasCleanDisk new → (book : Book) → IsAt naming was old.view book
-      → StagedOrRefused answered Made Leaves naming Is old.view new.view book staged
+  pub found : HasCleanDisk new → (book : Book) → IsAtAs written naming was old.view book
+      → StagedOrRefused written answered Made Leaves naming Is old.view new.view book staged
 
 -- ---- records, one after another
 
@@ -74,29 +91,31 @@ RefusesOpen None = Unit {0}
 RefusesOpen (Some fault) = LeavesOpen {V = Vec Accepted Global} (Err fault)
 
 -- the first of the records were answered and written, with no commit; and if none was, this is why
-pub record AreStaged (naming : Naming) (records : List (List ℕ)) (is : Summary) (old new : View)
-    (book : Book) (answers : List Accepted) (refusal : Option LedgerFault) : Type 0 where
+pub record AreStaged (written : Tables → Tables) (naming : Naming) (records : List (List ℕ))
+    (is : Summary) (old new : View) (book : Book) (answers : List Accepted)
+    (refusal : Option LedgerFault) : Type 0 where
   pub events : List Event
   pub accepts : Accepts naming records answers false book events false
   pub none : answers ≡ [] → RefusesNext naming records book refusal
   pub only : OnlyWrites old new
-  pub at : IsAt naming is new (after_all events book)
+  pub at : IsAtAs written naming is new (after_all events book)
 
 -- they were answered and written, or the store refused, and its last commit stays
-abbrev pub AreStagedOrRefused : Naming → List (List ℕ) → Summary → View → View → Book
-    → List Accepted → Result (Option LedgerFault) StoreError → Type 0
-AreStagedOrRefused naming records is old new book answers (Ok refusal) =
-    AreStaged naming records is old new book answers refusal
-AreStagedOrRefused naming records is old new book answers (Err error) = KeepsLastCommit old new
+abbrev pub AreStagedOrRefused : (Tables → Tables) → Naming → List (List ℕ) → Summary → View → View
+    → Book → List Accepted → Result (Option LedgerFault) StoreError → Type 0
+AreStagedOrRefused written naming records is old new book answers (Ok refusal) =
+    AreStaged written naming records is old new book answers refusal
+AreStagedOrRefused written naming records is old new book answers (Err error) =
+    KeepsLastCommit old new
 
 -- Records are tried inside a transaction, up to the first refusal.
-pub record StagesMany (naming : Naming) (records : List (List ℕ)) (was is : Summary)
-    (old new : State) (answers : List Accepted) (tried : Result (Option LedgerFault) StoreError)
-    : Type 0 where
+pub record StagesMany (written : Tables → Tables) (naming : Naming) (records : List (List ℕ))
+    (was is : Summary) (old new : State) (answers : List Accepted)
+    (tried : Result (Option LedgerFault) StoreError) : Type 0 where
   pub plain : IfOk tried RefusesOpen
   pub survives : Survives old new (λ trees. ⊥)
-  pub found : HasCleanDisk new → (book : Book) → IsAt naming was old.view book
-      → AreStagedOrRefused naming records is old.view new.view book answers tried
+  pub found : HasCleanDisk new → (book : Book) → IsAtAs written naming was old.view book
+      → AreStagedOrRefused written naming records is old.view new.view book answers tried
 
 -- ---- work that is one commit, whatever events it makes
 
@@ -168,8 +187,8 @@ TakesOf naming records answer book events = Takes naming records answer false bo
 abbrev pub StagesFirst : Naming → List (List ℕ) → Summary → Summary → State → State
     → Result (Result (Vec Accepted Global) LedgerFault) StoreError → Type 0
 StagesFirst naming records was is old new staged =
-    StagesBy (λ answer. answer) (TakesOf naming records) (LeavesFirst naming records) naming was
-    (λ summary. summary ≡ is) old new staged
+    StagesBy (λ tables. tables) (λ answer. answer) (TakesOf naming records)
+    (LeavesFirst naming records) naming was (λ summary. summary ≡ is) old new staged
 
 -- they are tried
 abbrev pub AttemptsMany : Naming → List (List ℕ) → Summary → Summary → State → State
@@ -188,12 +207,18 @@ abbrev pub MakesOf : {V A : Type 0} → (V → A) → (Book → Outcome A) → R
     → List Event → Type 0
 MakesOf view outcome answer book events = Makes view (outcome book) answer events
 
--- it is staged, and this summary remembers the book then
+-- it is staged, so far, and this summary remembers the book then
+abbrev pub StagesAs : {V A : Type 0} → (Tables → Tables) → (V → A) → Naming → Summary → Summary
+    → State → State → (Book → Outcome A) → Result (Result V LedgerFault) StoreError → Type 0
+StagesAs written view naming was is old new outcome staged =
+    StagesBy written (λ answer. answer) (MakesOf view outcome) (LeavesOne outcome) naming was
+    (λ summary. summary ≡ is) old new staged
+
+-- all of it
 abbrev pub Stages : {V A : Type 0} → (V → A) → Naming → Summary → Summary → State → State
     → (Book → Outcome A) → Result (Result V LedgerFault) StoreError → Type 0
 Stages view naming was is old new outcome staged =
-    StagesBy (λ answer. answer) (MakesOf view outcome) (LeavesOne outcome) naming was
-    (λ summary. summary ≡ is) old new staged
+    StagesAs (λ tables. tables) view naming was is old new outcome staged
 
 -- it is tried
 abbrev pub AttemptsOne : {V A : Type 0} → (V → A) → Naming → Summary → Summary → State → State

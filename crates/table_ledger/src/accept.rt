@@ -1,19 +1,21 @@
 //! Records that are submitted.
 
 ghost use Rattle.std.specs.Prelude.{◌≡◌, ◌<◌, Ok, Err, [], false, if◌then◌else◌, All, IfOk, length};
-ghost use Rattle.std.specs.Prelude.{None};
+ghost use Rattle.std.specs.Prelude.{None, ℕ};
 ghost use Rattle.tree_tables.specs.States.{state};
 ghost use Rattle.book_model.specs.Words.{data_of, IsPriced, accept_outcome, IsUsageRecord};
 ghost use Rattle.book_model.specs.Words.{same_bytes};
 ghost use Rattle.book_core.specs.Identities.{identity_in};
 ghost use Rattle.book_core.specs.Submissions.{records_in};
+ghost use Rattle.table_model.specs.Steps.{set_sums};
 ghost use Rattle.tree_tables.specs.Steps.{Does};
 ghost use Rattle.table_ledger.specs.RecordWrites.{AreRemembered, IsNew};
-ghost use Rattle.table_ledger.specs.NewRecords.{with_new_record};
+ghost use Rattle.table_ledger.specs.NewRecords.{with_unsummed};
 ghost use Rattle.table_ledger.specs.Stages.{AttemptsMany, AttemptsOne, KeepsRulings, Stages};
+ghost use Rattle.table_ledger.specs.Stages.{StagesAs};
 ghost use Rattle.table_ledger.specs.Stages.{StagesFirst, StagesMany};
 
-use crate::commits::{Entry, commit_written, write_entry};
+use crate::commits::{Entry, commit_written, write_entry, write_sums};
 use crate::day_write::look_for_day;
 use crate::disputes::IDENTITY_LENGTH;
 use crate::effects::look_for_effects;
@@ -24,7 +26,7 @@ use sqlite_trees::error::StoreError;
 use sqlite_trees::store::Store;
 use std::alloc::Global;
 use tariff_rules::Priced;
-use tree_tables::{NewRecord, StoredRecord, Sums, TreeTables};
+use tree_tables::{NewRecord, StoredRecord, TreeTables};
 
 /// What is answered to a record whose name is that of a held one.
 fn known_or_clash(stored: &StoredRecord, bytes: &[u8]) -> Result<Accepted, LedgerFault>
@@ -51,7 +53,8 @@ fn identity_in_force(adopted: Option<u16>, second: &[u8; 32]) -> &[u8]
     }
 }
 
-/// Writes a new record at a price, with its effects, inside the transaction.
+/// Writes a new record at a price, with its effects, inside the transaction; the sums are not
+/// written yet.
 fn write_new<S: Store>(
     tables: &mut TreeTables<S>,
     alloc: Global,
@@ -65,7 +68,8 @@ fn write_new<S: Store>(
     requires usage { IsUsageRecord bytes.now }
     requires priced { IsPriced priced.now }
     ensures does { Does result (state S.Store tables.old.store) (state S.Store tables.new.store)
-        (λ tables. AreRemembered summary.now tables × IsNew name tables) (with_new_record summary.now name bytes.now priced.now) }
+        (λ tables. AreRemembered summary.now tables × IsNew name tables)
+        (with_unsummed summary.now name bytes.now priced.now) }
 {
     let second = usage.identity2();
     let identity = identity_in_force(summary.rulings.adopted(), &second);
@@ -83,10 +87,6 @@ fn write_new<S: Store>(
             charged: effects.charged,
             posted: false,
         },
-        sums: Sums {
-            held: summary.held as u64 + 1,
-            amount: summary.total + priced.amount,
-        },
         period,
         effects,
         day,
@@ -95,8 +95,8 @@ fn write_new<S: Store>(
 }
 
 /// Answers a record, and writes it inside the transaction if it is new, a tariff is in force on
-/// its day, and there is room for it.
-fn stage_record<S: Store, N: Naming>(
+/// its day, and there is room for it. The row of the book has the sums that it had.
+fn stage_one<S: Store, N: Naming>(
     tables: &mut TreeTables<S>,
     alloc: Global,
     naming: &N,
@@ -104,7 +104,8 @@ fn stage_record<S: Store, N: Naming>(
     bytes: &[u8],
 ) -> Result<Result<Accepted, LedgerFault>, StoreError>
     requires usage { IsUsageRecord bytes.now }
-    ensures stages { Stages (λ accepted. accepted) (N.name_of naming.now) summary.old summary.new
+    ensures stages { (held amount : ℕ) → StagesAs (set_sums held amount) (λ accepted. accepted)
+        (N.name_of naming.now) summary.old summary.new
         (state S.Store tables.old.store) (state S.Store tables.new.store)
         (accept_outcome (N.name_of naming.now) bytes.now) result }
     ensures ruled { KeepsRulings summary.old summary.new }
@@ -126,8 +127,58 @@ fn stage_record<S: Store, N: Naming>(
     Ok(Ok(Accepted::Kept))
 }
 
+/// Answers a record, and writes it inside the transaction if it is new, a tariff is in force on
+/// its day, and there is room for it.
+fn stage_record<S: Store, N: Naming>(
+    tables: &mut TreeTables<S>,
+    alloc: Global,
+    naming: &N,
+    summary: &mut Summary,
+    bytes: &[u8],
+) -> Result<Result<Accepted, LedgerFault>, StoreError>
+    requires usage { IsUsageRecord bytes.now }
+    ensures stages { Stages (λ accepted. accepted) (N.name_of naming.now) summary.old summary.new
+        (state S.Store tables.old.store) (state S.Store tables.new.store)
+        (accept_outcome (N.name_of naming.now) bytes.now) result }
+    ensures ruled { KeepsRulings summary.old summary.new }
+{
+    let (held, total) = (summary.held, summary.total);
+    let answer = stage_one(tables, alloc, naming, summary, bytes)?;
+    write_sums(tables, held, total, summary)?;
+    Ok(answer)
+}
+
 /// Answers records inside the transaction, in order, up to the first that is refused, and says why
-/// that one is.
+/// that one is. The row of the book has the sums that it had.
+fn stage_each<S: Store, N: Naming>(
+    tables: &mut TreeTables<S>,
+    alloc: Global,
+    naming: &N,
+    summary: &mut Summary,
+    records: &[Vec<u8>],
+    answers: &mut Vec<Accepted>,
+) -> Result<Option<LedgerFault>, StoreError>
+    requires usage { All (λ one. IsUsageRecord one.items) records.now }
+    requires none { answers.old.items ≡ [] }
+    ensures stages { StagesMany (set_sums summary.old.held summary.old.total)
+        (N.name_of naming.now) (records_in records.now)
+        summary.old summary.new (state S.Store tables.old.store) (state S.Store tables.new.store)
+        answers.new.items result }
+    ensures ruled { KeepsRulings summary.old summary.new }
+    ensures all { IfOk result (λ refusal. refusal ≡ None
+        → length answers.new.items ≡ length records.now) }
+{
+    for one in records {
+        match stage_one(tables, alloc, naming, summary, one)? {
+            Err(fault) => return Ok(Some(fault)),
+            Ok(accepted) => answers.push(accepted)?,
+        }
+    }
+    Ok(None)
+}
+
+/// Answers records inside the transaction, in order, up to the first that is refused, and says why
+/// that one is. The sums are written once, after the last.
 fn stage_records<S: Store, N: Naming>(
     tables: &mut TreeTables<S>,
     alloc: Global,
@@ -138,20 +189,17 @@ fn stage_records<S: Store, N: Naming>(
 ) -> Result<Option<LedgerFault>, StoreError>
     requires usage { All (λ one. IsUsageRecord one.items) records.now }
     requires none { answers.old.items ≡ [] }
-    ensures stages { StagesMany (N.name_of naming.now) (records_in records.now)
+    ensures stages { StagesMany (λ tables. tables) (N.name_of naming.now) (records_in records.now)
         summary.old summary.new (state S.Store tables.old.store) (state S.Store tables.new.store)
         answers.new.items result }
     ensures ruled { KeepsRulings summary.old summary.new }
     ensures all { IfOk result (λ refusal. refusal ≡ None
         → length answers.new.items ≡ length records.now) }
 {
-    for one in records {
-        match stage_record(tables, alloc, naming, summary, one)? {
-            Err(fault) => return Ok(Some(fault)),
-            Ok(accepted) => answers.push(accepted)?,
-        }
-    }
-    Ok(None)
+    let (held, total) = (summary.held, summary.total);
+    let refusal = stage_each(tables, alloc, naming, summary, records, answers)?;
+    write_sums(tables, held, total, summary)?;
+    Ok(refusal)
 }
 
 /// Answers records inside the transaction, in order, up to the first that is refused: those before

@@ -1,26 +1,24 @@
 //! What a new record writes, the parts of it that other changes write too, and the commit.
 
-ghost use Rattle.std.specs.Prelude.{◌≡◌, ◌<◌, ◌^◌, None};
-ghost use Rattle.book_model.specs.Words.{IsPriced};
 ghost use Rattle.table_model.specs.Steps as step;
 ghost use Rattle.tree_tables.specs.States.{state};
 ghost use Rattle.tree_tables.specs.Steps.{Always, Does};
 ghost use Rattle.table_ledger.specs.Commits.{CommitsWritten};
 ghost use Rattle.table_ledger.specs.DayWrites.{WriteFits};
 ghost use Rattle.table_ledger.specs.RecordWrites as entry_spec;
-ghost use Rattle.table_ledger.specs.RecordWrites.{IsNew};
+ghost use Rattle.table_ledger.specs.RecordWrites.{HaveSums, IsNew};
 
 use crate::day_write::{DayWrite, look_for_day};
+use crate::summary::Summary;
 use book_core::{DayChange, Effects, LineChange};
 use sqlite_trees::error::StoreError;
 use sqlite_trees::store::Store;
 use tree_tables::{DayKey, DayRow, LineKey, NewRecord, Sums, TreeTables};
 
-/// A new record, what the book counts with it, and what it changes in the open period.
+/// A new record, and what it changes in the open period.
 #[derive(Clone, Copy)]
 pub(crate) struct Entry<'a> {
     pub(crate) record: NewRecord<'a>,
-    pub(crate) sums: Sums,
     pub(crate) period: u16,
     pub(crate) effects: Effects,
     pub(crate) day: DayWrite,
@@ -89,16 +87,23 @@ fn write_mark<S: Store>(
     }
 }
 
-/// Writes the record's row and the sums.
-fn write_row<S: Store>(tables: &mut TreeTables<S>, entry: &Entry<'_>) -> Result<(), StoreError>
-    requires priced { IsPriced entry.now.record.priced }
-    requires held { entry.now.sums.held < 2 ^ 63 }
-    requires amount { entry.now.sums.amount < 2 ^ 63 }
-    ensures { Does result (state S.Store tables.old.store) (state S.Store tables.new.store)
-        (IsNew entry.now.record.name.now) (entry_spec.write_row entry.now) }
+/// Writes the sums that are remembered into the row of the book, unless they were these before.
+pub(crate) fn write_sums<S: Store>(
+    tables: &mut TreeTables<S>,
+    held: usize,
+    total: u64,
+    summary: &Summary,
+) -> Result<(), StoreError>
+    ensures does { Does result (state S.Store tables.old.store) (state S.Store tables.new.store)
+        (HaveSums held total) (step.set_sums summary.now.held summary.now.total) }
 {
-    tables.insert_record(&entry.record)?;
-    tables.set_sums(&entry.sums)
+    if summary.held == held && summary.total == total {
+        return Ok(());
+    }
+    tables.set_sums(&Sums {
+        held: summary.held as u64,
+        amount: summary.total,
+    })
 }
 
 /// Writes what effects change in a period: the charge row that was made of them, the line and the
@@ -119,20 +124,17 @@ pub(crate) fn write_effects<S: Store>(
     write_mark(tables, &effects.unmark)
 }
 
-/// Writes a record whose name is new, and all that it changes.
+/// Writes a record whose name is new, and all that it changes but the sums.
 pub(crate) fn write_entry<S: Store>(
     tables: &mut TreeTables<S>,
     entry: &Entry<'_>,
 ) -> Result<(), StoreError>
-    requires priced { IsPriced entry.now.record.priced }
-    requires held { entry.now.sums.held < 2 ^ 63 }
-    requires amount { entry.now.sums.amount < 2 ^ 63 }
-    requires day { WriteFits entry.now.day }
+    requires { WriteFits entry.now.day }
     ensures { Does result (state S.Store tables.old.store) (state S.Store tables.new.store)
         (IsNew entry.now.record.name.now) (entry_spec.write_entry entry.now) }
 {
     write_effects(tables, entry.period, &entry.day, &entry.effects)?;
-    write_row(tables, entry)
+    tables.insert_record(&entry.record)
 }
 
 /// Commits what was written, if all of it was. So what a call writes is one commit.

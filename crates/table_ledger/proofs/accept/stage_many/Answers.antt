@@ -30,7 +30,7 @@ returns-then-is_empty-clause-stages g c =
     none_staged c.in-Some.fault
     (none_left answers.items answers.len answers.ok.0 (sym c.is_empty.ensures ∙ c.if-is_empty.true))
     (some_in c.args.records.now c.requires.some)
-    (subst (λ refusal. StagesMany (g.N.Naming.name_of c.args.naming.now)
+    (subst (λ refusal. StagesMany (λ tables. tables) (g.N.Naming.name_of c.args.naming.now)
     (records_in c.args.records.now) c.args.summary.now c.stage_records.new.summary
     (state g.S.Store c.args.tables.now.store) (state g.S.Store c.stage_records.new.tables.store)
     answers.items (Ok refusal)) c.in-Some.is c.in_ok-refusal.ensures.stages)

@@ -1,47 +1,20 @@
-use Rattle.std.proofs.Common.{refl}
-use Rattle.table_ledger.proofs.AcceptTries.{price_is, saw_as, stage_full, stage_kept, stage_known}
-use Rattle.table_ledger.proofs.AcceptTries.{stage_unpriced}
-use Rattle.table_ledger.proofs.StageLemmas.{stage_refused, stage_undone}
-use Rattle.table_ledger.proofs.TryLemmas.{saw_none}
+use Rattle.table_ledger.proofs.SumLemmas.{one_failed, one_summed, one_unsummed}
 use Rattle.table_ledger.proofs.accept.stage_record.Goals as goal
 
-pub returns-in_err-stored-clause-stages : goal.returns-in_err-stored-clause-stages
-returns-in_err-stored-clause-stages g c =
-    stage_refused _ c.from_residual.ensures.0 saw_none c.in_err-stored.ensures.looks
+pub returns-in_err-answer-clause-stages : goal.returns-in_err-answer-clause-stages
+returns-in_err-answer-clause-stages g c =
+    let was = c.args.summary.now in
+    one_failed c.from_residual.result c.from_residual.ensures.0
+    (c.in_err-answer.ensures.stages was.held was.total)
 
-pub returns-in-Some-clause-stages : goal.returns-in-Some-clause-stages
-returns-in-Some-clause-stages g c =
-    stage_known _ _ _ _ c.requires.usage c.name_of-name.ensures c.in-Some.stored
-    c.known_or_clash.result c.known_or_clash.ensures
-    (saw_as c.name_of-name.result c.in-Some.is c.in_ok-stored.ensures.looks)
-
-pub returns-in_default-price_in-clause-stages : goal.returns-in_default-price_in-clause-stages
-returns-in_default-price_in-clause-stages g c =
-    let price = price_is c.price_in.ensures.value c.tariffs.ensures c.of_usage-usage.ensures
-    c.in_default-price_in.is in
-    stage_unpriced _ _ _ _ c.requires.usage c.name_of-name.ensures price
-    (saw_as c.name_of-name.result c.in_default.is c.in_ok-stored.ensures.looks)
-
-pub returns-then-is_full-clause-stages : goal.returns-then-is_full-clause-stages
-returns-then-is_full-clause-stages g c =
-    let price = price_is c.price_in.ensures.value c.tariffs.ensures c.of_usage-usage.ensures
-    c.in-Some-price_in.is in
-    stage_full _ _ _ _ c.requires.usage c.name_of-name.ensures c.in-Some-price_in.priced price
-    c.is_full.ensures c.if-is_full.true
-    (saw_as c.name_of-name.result c.in_default.is c.in_ok-stored.ensures.looks)
-
-pub returns-in_err-write_new-clause-stages : goal.returns-in_err-write_new-clause-stages
-returns-in_err-write_new-clause-stages g c =
-    stage_undone _ c.from_residual-in_err-write_new.ensures.0
-    (saw_as c.name_of-name.result c.in_default.is c.in_ok-stored.ensures.looks)
-    c.in_err-write_new.ensures.does
+pub returns-in_err-write_sums-clause-stages : goal.returns-in_err-write_sums-clause-stages
+returns-in_err-write_sums-clause-stages g c =
+    let was = c.args.summary.now in
+    one_unsummed c.from_residual-in_err-write_sums.result
+    c.from_residual-in_err-write_sums.ensures.0
+    (c.in_ok-answer.ensures.stages was.held was.total) c.in_err-write_sums.ensures.does
 
 pub returns-clause-stages : goal.returns-clause-stages
 returns-clause-stages g c =
-    let price = price_is c.price_in.ensures.value c.tariffs.ensures c.of_usage-usage.ensures
-    c.in-Some-price_in.is in
-    stage_kept _ _ _ _ c.requires.usage c.name_of-name.ensures c.in-Some-price_in.priced price
-    c.is_full.ensures c.if-is_full.false _ c.in-Some-price_in.ensures.bounds
-    (saw_as c.name_of-name.result c.in_default.is c.in_ok-stored.ensures.looks)
-    c.in_ok-write_new.ensures.does
-    (record { rulings = refl; choices = refl; held = refl; total = refl })
+    let was = c.args.summary.now in
+    one_summed (c.in_ok-answer.ensures.stages was.held was.total) c.in_ok-write_sums.ensures.does

@@ -5,7 +5,7 @@ use Rattle.table_ledger.proofs.commits.write_entry.Goals as goal
 
 pub returns : goal.returns
 returns g c =
-    does_then c.write_row.result c.in_ok-write_effects.ensures c.write_row.ensures
+    does_then c.insert_record.result c.in_ok-write_effects.ensures c.insert_record.ensures.does
     (λ tables new. (
       tt,
       new_still c.args.entry.now.effects.unmark tables.records

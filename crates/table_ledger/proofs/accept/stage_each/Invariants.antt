@@ -3,9 +3,10 @@ use Rattle.sqlite_trees.specs.Tree.{Trees}
 use Rattle.book_model.specs.Words.{Book}
 use Rattle.book_core.specs.Submissions.{records_in}
 use Rattle.tree_tables.specs.States.{HasCleanDisk, Survives, state}
-use Rattle.table_ledger.specs.Stages.{IsAt, KeepsRulings}
+use Rattle.table_model.specs.Steps.{set_sums}
+use Rattle.table_ledger.specs.Stages.{IsAtAs, KeepsRulings}
 use Rattle.table_ledger.proofs.ManyLemmas.{AreTaken}
-use Rattle.table_ledger.proofs.accept.stage_records.Given as goal
+use Rattle.table_ledger.proofs.accept.stage_each.Given as goal
 
 -- each record so far was taken, and what was written of them is not committed
 abbrev pub invariant-loop-one : goal.invariant-loop-one
@@ -15,9 +16,11 @@ invariant-loop-one g l = record {
       (λ (trees : Trees). ⊥);
   count : length l.answers.items ≡ l.one-index;
   taken : HasCleanDisk (state g.S.Store l.tables.store) → (book : Book)
-      → IsAt (g.N.Naming.name_of l.naming) l.initial.summary (g.S.Store.view l.initial.tables.store)
+      → IsAtAs (set_sums l.initial.summary.held l.initial.summary.total)
+      (g.N.Naming.name_of l.naming) l.initial.summary (g.S.Store.view l.initial.tables.store)
       book
-      → AreTaken (g.N.Naming.name_of l.naming)
+      → AreTaken (set_sums l.initial.summary.held l.initial.summary.total)
+      (g.N.Naming.name_of l.naming)
       (records_in l.records)
       (records_in (drop l.one-index l.records)) l.summary
       (g.S.Store.view l.initial.tables.store) (g.S.Store.view l.tables.store) book l.answers.items;

@@ -1,0 +1,190 @@
+-- The sums in the row of the book, which are written once, after the records that change them.
+use Rattle.std.proofs.Common.{◌≡◌, ◌∙◌, ℕ, List, Result, Ok, Err, Option, refl, sym, subst, true≢false}
+use Rattle.std.specs.Prelude.{IsErr}
+use Rattle.sqlite_trees.specs.View.{View}
+use Rattle.sqlite_trees.specs.declared.error.StoreError.{StoreError}
+use Rattle.book_model.specs.declared.answer.Accepted.{Accepted}
+use Rattle.book_model.specs.declared.fault.LedgerFault.{LedgerFault}
+use Rattle.book_model.specs.Words.{Book, Event, Naming}
+use Rattle.table_model.specs.Steps.{set_sums}
+use Rattle.table_model.specs.Tables.{Tables}
+use Rattle.table_model.specs.TablesOf.{tables_of}
+use Rattle.tree_tables.specs.Holds.{Holds}
+use Rattle.tree_tables.specs.States.{State}
+use Rattle.tree_tables.specs.Steps.{Changes, Does}
+use Rattle.tree_tables.proofs.Looking.{only_both}
+use Rattle.table_ledger.specs.RecordWrites.{HaveSums}
+use Rattle.table_ledger.specs.Stages.{IsAt, IsAtAs, StagesBy, StagesMany}
+use Rattle.table_ledger.specs.declared.summary.Summary.{Summary}
+use Rattle.table_ledger.proofs.Remembered.{remembers_as}
+use Rattle.table_ledger.proofs.StepLemmas.{stands_only}
+use Rattle.table_ledger.proofs.SurvivalLemmas.{clean_before, survives_none, survives_then}
+use Rattle.table_ledger.proofs.UnchangedStores.{stands_kept, stands_then}
+
+-- sums that are these already are not written again
+pub sums_there : (held amount : ℕ) (tables : Tables) → HaveSums held amount tables
+    → tables ≡ set_sums held amount tables
+sums_there held amount tables have =
+    λ i. record tables {
+      book = record tables.book { held = have.held_is i; amount = have.amount_is i };
+    }
+
+-- before the first record they are those that the summary remembers
+pub sums_remembered : {naming : Naming} {was : Summary} {view : View} {book : Book}
+    → IsAt naming was view book → IsAtAs (set_sums was.held was.total) naming was view book
+sums_remembered {naming = naming} {was = was} {view = view} {book = book} at = record {
+  kept = record {
+    calls = at.kept.calls;
+    holds = subst (Holds view.trees)
+        (sums_there was.held was.total (tables_of naming book)
+        (record { held_is = sym at.remembers.held; amount_is = sym at.remembers.total }))
+        at.kept.holds;
+  };
+  remembers = at.remembers;
+}
+
+-- where they are written after the last, all of it is written
+pub sums_written : {naming : Naming} {is : Summary} {middle new : View} {book : Book}
+    (held amount : ℕ) → Changes middle new (HaveSums held amount) (set_sums is.held is.total)
+    → IsAtAs (set_sums held amount) naming is middle book → IsAt naming is new book
+sums_written {naming = naming} {is = is} {middle = middle} {new = new} {book = book} held amount changes at = record {
+  kept = record {
+    calls = at.kept.calls;
+    holds = subst (Holds new.trees)
+        (sym (sums_there is.held is.total (tables_of naming book)
+        (record { held_is = sym at.remembers.held; amount_is = sym at.remembers.total })))
+        (changes.made (set_sums held amount (tables_of naming book)) at.kept.holds
+        (record { held_is = refl; amount_is = refl }));
+  };
+  remembers = at.remembers;
+}
+
+-- sums that were these before are not written
+pub sums_stay : {T : Type 0} {now : State} {done : T} {held amount count cost : ℕ} → count ≡ held
+    → cost ≡ amount → Does (Ok done) now now (HaveSums held amount) (set_sums count cost)
+sums_stay {now = now} {count = count} {cost = cost} held_is amount_is = record {
+  survives = survives_none;
+  done = λ clean. record {
+    only = refl;
+    made = λ tables holds have. subst (Holds now.view.trees)
+        (sums_there count cost tables (record {
+          held_is = have.held_is ∙ sym held_is;
+          amount_is = have.amount_is ∙ sym amount_is;
+        })) holds;
+  };
+  refused = λ clean. tt;
+}
+
+-- ---- the records of a commit
+
+module _ {naming : Naming} {records : List (List ℕ)} {was is : Summary} {old middle : State}
+    {answers : List Accepted} where
+  -- the store refused one of them
+  pub many_failed : {error : StoreError} (tried : Result (Option LedgerFault) StoreError)
+      → IsErr tried
+      → StagesMany (set_sums was.held was.total) naming records was is old middle answers (Err error)
+      → StagesMany (λ tables. tables) naming records was is old middle answers tried
+  many_failed (Err other) failed stages = record {
+    plain = tt;
+    survives = stages.survives;
+    found = λ clean book at. stages.found clean book (sums_remembered at);
+  }
+  many_failed (Ok refusal) failed stages = absurd (true≢false (sym failed))
+
+  -- it refused the sums
+  pub many_unsummed : {T : Type 0} {new : State} {refusal : Option LedgerFault} {error : StoreError}
+      (tried : Result (Option LedgerFault) StoreError) → IsErr tried
+      → StagesMany (set_sums was.held was.total) naming records was is old middle answers (Ok refusal)
+      → Does {T = T} (Err error) middle new (HaveSums was.held was.total)
+      (set_sums is.held is.total)
+      → StagesMany (λ tables. tables) naming records was is old new answers tried
+  many_unsummed (Err other) failed stages does = record {
+    plain = tt;
+    survives = survives_then stages.survives does.survives;
+    found = λ clean book at.
+        let staged = stages.found (clean_before does.survives clean) book (sums_remembered at) in
+        stands_then (stands_only old.view middle.view staged.only) (stands_kept (does.refused clean));
+  }
+  many_unsummed (Ok refusal) failed stages does = absurd (true≢false (sym failed))
+
+  -- the sums are written
+  pub many_summed : {T : Type 0} {done : T} {new : State} {refusal : Option LedgerFault}
+      → StagesMany (set_sums was.held was.total) naming records was is old middle answers (Ok refusal)
+      → Does (Ok done) middle new (HaveSums was.held was.total) (set_sums is.held is.total)
+      → StagesMany (λ tables. tables) naming records was is old new answers (Ok refusal)
+  many_summed stages does = record {
+    plain = stages.plain;
+    survives = survives_then stages.survives does.survives;
+    found = λ clean book at.
+        let staged = stages.found (clean_before does.survives clean) book (sums_remembered at) in
+        let changes = does.done clean in
+        record {
+          events = staged.events;
+          accepts = staged.accepts;
+          none = staged.none;
+          only = only_both old.view staged.only changes.only;
+          at = sums_written was.held was.total changes staged.at;
+        };
+  }
+
+-- ---- one record
+
+module _ {V : Type 0} {Made : Result V LedgerFault → Book → List Event → Type 0}
+    {Leaves : Book → List Event → Type 0} {naming : Naming} {was is : Summary}
+    {old middle : State} where
+  -- the store refused it
+  pub one_failed : {error : StoreError} (staged : Result (Result V LedgerFault) StoreError)
+      → IsErr staged
+      → StagesBy (set_sums was.held was.total) (λ answer. answer) Made Leaves naming was
+      (λ summary. summary ≡ is) old middle (Err error)
+      → StagesBy (λ tables. tables) (λ answer. answer) Made Leaves naming was
+      (λ summary. summary ≡ is) old middle staged
+  one_failed (Err other) failed stages = record {
+    plain = tt;
+    survives = stages.survives;
+    found = λ clean book at. stages.found clean book (sums_remembered at);
+  }
+  one_failed (Ok answer) failed stages = absurd (true≢false (sym failed))
+
+  -- it refused the sums
+  pub one_unsummed : {T : Type 0} {new : State} {answer : Result V LedgerFault}
+      {error : StoreError} (staged : Result (Result V LedgerFault) StoreError) → IsErr staged
+      → StagesBy (set_sums was.held was.total) (λ answer. answer) Made Leaves naming was
+      (λ summary. summary ≡ is) old middle (Ok answer)
+      → Does {T = T} (Err error) middle new (HaveSums was.held was.total)
+      (set_sums is.held is.total)
+      → StagesBy (λ tables. tables) (λ answer. answer) Made Leaves naming was
+      (λ summary. summary ≡ is) old new staged
+  one_unsummed (Err other) failed stages does = record {
+    plain = tt;
+    survives = survives_then stages.survives does.survives;
+    found = λ clean book at.
+        let staged = stages.found (clean_before does.survives clean) book (sums_remembered at) in
+        stands_then (stands_only old.view middle.view staged.only) (stands_kept (does.refused clean));
+  }
+  one_unsummed (Ok answer) failed stages does = absurd (true≢false (sym failed))
+
+  -- the sums are written
+  pub one_summed : {T : Type 0} {done : T} {new : State} {answer : Result V LedgerFault}
+      → StagesBy (set_sums was.held was.total) (λ answer. answer) Made Leaves naming was
+      (λ summary. summary ≡ is) old middle (Ok answer)
+      → Does (Ok done) middle new (HaveSums was.held was.total) (set_sums is.held is.total)
+      → StagesBy (λ tables. tables) (λ answer. answer) Made Leaves naming was
+      (λ summary. summary ≡ is) old new (Ok answer)
+  one_summed stages does = record {
+    plain = stages.plain;
+    survives = survives_then stages.survives does.survives;
+    found = λ clean book at.
+        let staged = stages.found (clean_before does.survives clean) book (sums_remembered at) in
+        let changes = does.done clean in
+        let summed = sums_written was.held was.total changes
+        (record { kept = staged.kept; remembers = staged.remembers is refl }) in
+        record {
+          events = staged.events;
+          made = staged.made;
+          leaves = staged.leaves;
+          only = only_both old.view staged.only changes.only;
+          kept = summed.kept;
+          remembers = λ summary same. remembers_as summed.remembers same;
+        };
+  }

@@ -1,0 +1,79 @@
+use Rattle.std.proofs.Common.{drop, ◌≡◌, ◌∙◌, ◌++◌, ◌∷◌, [], ◌+◌, refl, sym, ap, subst, length, length-append}
+use Rattle.tree_tables.specs.States.{state}
+use Rattle.table_ledger.proofs.SurvivalLemmas.{survives_none, survives_then}
+use Rattle.book_core.specs.Submissions.{records_in}
+use Rattle.table_model.specs.Steps.{set_sums}
+use Rattle.table_ledger.proofs.ManyLemmas.{AreTaken, all_taken, none_taken, step_failed}
+use Rattle.table_ledger.proofs.ManyLemmas.{step_refused, step_taken, step_untold}
+use Rattle.table_ledger.proofs.accept.stage_each.Goals as goal
+
+pub loop-one-init : goal.loop-one-init
+loop-one-init g c = record {
+  ruled = record { rulings = refl; choices = refl };
+  survives = survives_none;
+  count = ap length c.requires.none;
+  taken = λ clean book at.
+      let records = records_in c.args.records.now in
+      let view = g.S.Store.view c.args.tables.now.store in
+      let sums = c.args.summary.now in
+      subst (λ answers. AreTaken (set_sums sums.held sums.total)
+      (g.N.Naming.name_of c.args.naming.now) records records
+      c.args.summary.now view view book answers) (sym c.requires.none) (none_taken at);
+}
+
+pub loop-one-preserved : goal.loop-one-preserved
+loop-one-preserved g c =
+    let before = c.loop-one.invariant in
+    let sums = c.args.summary.now in
+    let stages = c.in_ok-fault.ensures.stages sums.held sums.total in
+    let ruled = c.in_ok-fault.ensures.ruled in
+    let all : c.push.new.self.items ≡ c.loop-one.answers.items ++ c.in-Ok.accepted ∷ [] =
+    c.in_ok-push-in-Ok.ensures.items in
+    let records = records_in c.args.records.now in
+    record {
+      ruled = record {
+        rulings = ruled.rulings ∙ before.ruled.rulings;
+        choices = ruled.choices ∙ before.ruled.choices;
+      };
+      survives = survives_then before.survives stages.survives;
+      count = ap length all ∙ length-append c.loop-one.answers.items (c.in-Ok.accepted ∷ [])
+          ∙ ap (λ n. n + 1) before.count;
+      taken = λ clean book at.
+          subst (λ answers. AreTaken (set_sums sums.held sums.total)
+          (g.N.Naming.name_of c.args.naming.now) records
+          (records_in (drop (c.loop-one.one-index + 1) c.args.records.now)) c.stage_one.new.summary
+          (g.S.Store.view c.args.tables.now.store) (g.S.Store.view c.stage_one.new.tables.store) book
+          answers) (sym all)
+          (step_taken c.args.records.now c.loop-one.one-index c.one-item.result c.loop-one-test.true
+          c.one-item.is c.deref.ensures.value before.survives before.taken
+          (state g.S.Store c.stage_one.new.tables.store) c.in-Ok.is stages clean book at);
+    }
+
+pub returns-in_err-fault-clause-stages : goal.returns-in_err-fault-clause-stages
+returns-in_err-fault-clause-stages g c =
+    step_failed c.args.records.now c.loop-one.one-index c.one-item.result c.loop-one-test.true
+    c.one-item.is c.deref.ensures.value c.loop-one.invariant.survives c.loop-one.invariant.taken
+    (state g.S.Store c.stage_one.new.tables.store) c.loop-one.answers.items c.from_residual.result c.from_residual.ensures.0
+    (c.in_err-fault.ensures.stages c.args.summary.now.held c.args.summary.now.total)
+
+pub returns-in-Err-clause-stages : goal.returns-in-Err-clause-stages
+returns-in-Err-clause-stages g c =
+    step_refused c.args.records.now c.loop-one.one-index c.one-item.result c.loop-one-test.true
+    c.one-item.is c.deref.ensures.value c.loop-one.invariant.survives c.loop-one.invariant.taken
+    (state g.S.Store c.stage_one.new.tables.store) c.in-Err.fault c.in-Err.is c.loop-one.invariant.count
+    (c.in_ok-fault.ensures.stages c.args.summary.now.held c.args.summary.now.total)
+
+pub returns-in_err-push-in-Ok-clause-stages : goal.returns-in_err-push-in-Ok-clause-stages
+returns-in_err-push-in-Ok-clause-stages g c =
+    step_untold c.args.records.now c.loop-one.one-index c.one-item.result c.loop-one-test.true
+    c.one-item.is c.deref.ensures.value c.loop-one.invariant.survives c.loop-one.invariant.taken
+    (state g.S.Store c.stage_one.new.tables.store) c.push.new.self.items
+    c.from_residual-in_err-push-in-Ok.result c.from_residual-in_err-push-in-Ok.ensures.0
+    (c.in_ok-fault.ensures.stages c.args.summary.now.held c.args.summary.now.total)
+
+pub returns-clause-stages : goal.returns-clause-stages
+returns-clause-stages g c = record {
+  plain = tt;
+  survives = c.loop-one.invariant.survives;
+  found = λ clean book at. all_taken (c.loop-one.invariant.taken clean book at) (λ empty. tt);
+}
