@@ -1,0 +1,2 @@
+-- The lemmas: books that were copied.
+pub mod CopyLemmas

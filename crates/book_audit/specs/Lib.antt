@@ -1,7 +1,10 @@
 -- The trees and what is looked up in them; the rule of identity; what the data of a record say;
--- which record of an identity was chosen last; how a record is charged and posted.
+-- which record of an identity was chosen last; how a record is charged and posted; books that were
+-- copied; and what is printed.
 pub mod Trees
 pub mod Rules
 pub mod Data
 pub mod Choices
 pub mod Marks
+pub mod Copies
+pub mod Texts

@@ -1,5 +1,8 @@
 //! What is printed for an audit.
 
+ghost use Rattle.std.specs.Prelude.{◌≡◌, ℕ, List, ◌++◌, IfOk, OnOk, codes, string_bytes};
+ghost use Rattle.book_audit.specs.Texts.{IsAuditText, count_line, sound_text};
+
 use crate::audited::{Audited, Counts};
 use crate::finding::{Finding, Place, Wrong};
 use smf_text::{FIRST_DAY, LAST_DAY, day_text};
@@ -47,7 +50,9 @@ fn wrong_text(wrong: Wrong) -> &'static str {
 }
 
 /// Adds a day, or its number if it is not a valid day.
-fn push_day(alloc: Global, out: &mut String, day: i32) -> Result<(), AllocError> {
+fn push_day(alloc: Global, out: &mut String, day: i32) -> Result<(), AllocError>
+    ensures { OnOk result ((more : List ℕ) × (string_bytes out.new ≡ string_bytes out.old ++ more)) }
+{
     if FIRST_DAY <= day && day <= LAST_DAY {
         return out.push_str(day_text(alloc, day)?.as_str());
     }
@@ -55,7 +60,9 @@ fn push_day(alloc: Global, out: &mut String, day: i32) -> Result<(), AllocError>
 }
 
 /// Adds where a charge row is.
-fn push_spot(alloc: Global, out: &mut String, spot: &DayKey) -> Result<(), AllocError> {
+fn push_spot(alloc: Global, out: &mut String, spot: &DayKey) -> Result<(), AllocError>
+    ensures { OnOk result ((more : List ℕ) × (string_bytes out.new ≡ string_bytes out.old ++ more)) }
+{
     let period = spot.period;
     write!(out, "day_sum {period} ")?;
     push_day(alloc, out, spot.place.day)?;
@@ -66,12 +73,16 @@ fn push_spot(alloc: Global, out: &mut String, spot: &DayKey) -> Result<(), Alloc
 }
 
 /// Adds the name of a record.
-fn push_name(alloc: Global, out: &mut String, name: &[u8; 32]) -> Result<(), AllocError> {
+fn push_name(alloc: Global, out: &mut String, name: &[u8; 32]) -> Result<(), AllocError>
+    ensures { OnOk result ((more : List ℕ) × (string_bytes out.new ≡ string_bytes out.old ++ more)) }
+{
     out.push_str(hex::encode(alloc, *name)?.as_str())
 }
 
 /// Adds a place.
-fn push_place(alloc: Global, out: &mut String, place: &Place) -> Result<(), AllocError> {
+fn push_place(alloc: Global, out: &mut String, place: &Place) -> Result<(), AllocError>
+    ensures { OnOk result ((more : List ℕ) × (string_bytes out.new ≡ string_bytes out.old ++ more)) }
+{
     match place {
         Place::File => out.push_str("file"),
         Place::Tree(tree) => out.push_str(tree.name()),
@@ -94,7 +105,10 @@ fn push_place(alloc: Global, out: &mut String, place: &Place) -> Result<(), Allo
 }
 
 /// Adds the line of what is wrong.
-fn push_finding(alloc: Global, out: &mut String, finding: &Finding) -> Result<(), AllocError> {
+fn push_finding(alloc: Global, out: &mut String, finding: &Finding) -> Result<(), AllocError>
+    ensures { OnOk result ((rest : List ℕ)
+        × (string_bytes out.new ≡ string_bytes out.old ++ codes "UNSOUND " ++ rest)) }
+{
     out.push_str("UNSOUND ")?;
     push_place(alloc, out, &finding.place)?;
     out.push_str(": ")?;
@@ -103,12 +117,16 @@ fn push_finding(alloc: Global, out: &mut String, finding: &Finding) -> Result<()
 }
 
 /// Adds a line with a word and a number.
-fn push_count(out: &mut String, word: &str, count: u64) -> Result<(), AllocError> {
+fn push_count(out: &mut String, word: &str, count: u64) -> Result<(), AllocError>
+    ensures { OnOk result (string_bytes out.new ≡ string_bytes out.old ++ count_line word.now count) }
+{
     writeln!(out, "{word} {count}")
 }
 
 /// Adds the lines of sound books.
-fn push_counts(out: &mut String, counts: &Counts) -> Result<(), AllocError> {
+fn push_counts(out: &mut String, counts: &Counts) -> Result<(), AllocError>
+    ensures { OnOk result (string_bytes out.new ≡ string_bytes out.old ++ sound_text counts.now) }
+{
     out.push_str("SOUND\n")?;
     push_count(out, "RECORDS", counts.records)?;
     push_count(out, "TARIFFS", counts.tariffs)?;
@@ -119,7 +137,9 @@ fn push_counts(out: &mut String, counts: &Counts) -> Result<(), AllocError> {
 }
 
 /// The text of an audit.
-pub fn audit_text(alloc: Global, audited: &Audited) -> Result<String, AllocError> {
+pub fn audit_text(alloc: Global, audited: &Audited) -> Result<String, AllocError>
+    ensures { IfOk result (λ text. IsAuditText audited.now (string_bytes text)) }
+{
     let mut out = String::new(alloc);
     match audited {
         Audited::Sound(counts) => push_counts(&mut out, counts)?,

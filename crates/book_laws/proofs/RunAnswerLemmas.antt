@@ -115,9 +115,9 @@ requests_are naming (asked ∷ requests) (answer ∷ answers) was before events 
     run_opened naming requests answers made.between (after_all made.early before) made.late is
     made.next is_open in
     let first = asks_done naming asked (dump_here asked) (response_by answer) before made.early
-    (subst (λ was. AsksWithoutReader naming asked answer was before made.early false) shut
-    (subst (λ is. AsksWithoutReader naming asked answer was before made.early is) between made.first))
-    (All-head Free answer answers free) in
+    made.between
+    (subst (λ was. AsksWithoutReader naming asked answer was before made.early made.between) shut
+    made.first) (All-head Free answer answers free) in
     let next = requests_are naming requests answers made.between (after_all made.early before)
     made.late is made.next between is_open (All-tail Free answer answers free) in
     let book : after_all made.early before ≡ after_all (asked_outcome naming asked (dump_here asked)

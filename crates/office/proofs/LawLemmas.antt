@@ -90,56 +90,57 @@ same_done outcome told book events is made =
     let events_are = ap (λ told. events_by told (outcome book).event) is ∙ sym made in
     λ i. record { told = is i; events = events_are i }
 
--- a call on open books that leaves them open said what the definitions say, unless memory ran out
+-- a call on open books said what the definitions say, unless memory or the store hindered it
 calls_done : (outcome : Book → Outcome Response) (told : Result Response LedgerFault) (book : Book)
-    (events : List Event) → Calls (λ told. told) outcome told false book events false
+    (events : List Event) (is : Bool) → Calls (λ told. told) outcome told false book events is
     → is_hindered told ≡ false
     → asked_outcome_by (outcome book) ≡ record { told = told; events = events }
-calls_done outcome (Ok value) book events called free =
+calls_done outcome (Ok value) book events is called free =
     same_done outcome (Ok value) book events called.makes.0 called.makes.1
-calls_done outcome (Err Memory) book events called free = cc free
-calls_done outcome (Err Store) book events called free = let no = called.reopens.store in cc no
-calls_done outcome (Err Reopen) book events called free = let no = called.reopens.reopen in cc no
-calls_done outcome (Err fault) book events called free =
+calls_done outcome (Err Memory) book events is called free = cc free
+calls_done outcome (Err Store) book events is called free = cc free
+calls_done outcome (Err Reopen) book events is called free = let no = called.reopens.reopen in cc no
+calls_done outcome (Err fault) book events is called free =
     same_done outcome (Err fault) book events called.makes.0 called.makes.1
 
 not_both : (told : Bool) → told ≡ true → told ≡ false → ⊥
 not_both told is_so is_not = cc
 
 receives_done : (naming : Naming) (dump : Dump) (told : Result Response LedgerFault) (book : Book)
-    (events : List Event) → Receives naming dump told false book events false
+    (events : List Event) (is : Bool) → Receives naming dump told false book events is
     → is_hindered told ≡ false
     → import_asked_outcome naming dump book ≡ record { told = told; events = events }
-receives_done naming dump (Ok (Count receipt)) book events made free =
+receives_done naming dump (Ok (Count receipt)) book events is made free =
     let found = front dump.layout dump.bytes in
-    let all = is_whole naming (stop_after dump.cut found) found.records book receipt events false
+    let all = is_whole naming (stop_after dump.cut found) found.records book receipt events is
     made (record {
       memory = λ same. not_both (is_hindering receipt.stop) (ap is_hindering same) free;
       store = λ same. not_both (is_hindering receipt.stop) (ap is_hindering same) free;
     }) in
     λ i. record { told = Ok (Count (all.told.receipt i)); events = all.told.events i }
-receives_done naming dump (Ok (Ruling ruled)) book events made free = absurd made
-receives_done naming dump (Ok (Text text)) book events made free = absurd made
-receives_done naming dump (Err fault) book events made free = absurd made
+receives_done naming dump (Ok (Ruling ruled)) book events is made free = absurd made
+receives_done naming dump (Ok (Text text)) book events is made free = absurd made
+receives_done naming dump (Err fault) book events is made free = absurd made
 
 pub asks_done : (naming : Naming) (asked : Asked) (dump : Dump) (told : Result Response LedgerFault)
-    (book : Book) (events : List Event) → Asks naming asked dump told false book events false
-    → is_hindered told ≡ false
+    (book : Book) (events : List Event) (is : Bool)
+    → Asks naming asked dump told false book events is → is_hindered told ≡ false
     → asked_outcome naming asked dump book ≡ record { told = told; events = events }
-asks_done naming (Tariff text) dump told book events made free =
-    calls_done (response_outcome Ruling (tariff_outcome (string_bytes text))) told book events made free
-asks_done naming (Close period through) dump told book events made free =
-    calls_done (response_outcome Ruling (close_outcome period through)) told book events made free
-asks_done naming (Choose name) dump told book events made free =
-    calls_done (response_outcome Ruling (choose_outcome naming name)) told book events made free
-asks_done naming (Adopt rule) dump told book events made free =
-    calls_done (response_outcome Ruling (adopt_outcome rule)) told book events made free
-asks_done naming (Import layout) dump told book events made free =
-    receives_done naming dump told book events made free
-asks_done naming (ImportBytes layout bytes) dump told book events made free =
-    receives_done naming dump told book events made free
-asks_done naming (Report report) dump told book events made free =
-    calls_done (response_outcome Text (report_outcome naming report)) told book events made free
+asks_done naming (Tariff text) dump told book events is made free =
+    calls_done (response_outcome Ruling (tariff_outcome (string_bytes text))) told book events is made
+    free
+asks_done naming (Close period through) dump told book events is made free =
+    calls_done (response_outcome Ruling (close_outcome period through)) told book events is made free
+asks_done naming (Choose name) dump told book events is made free =
+    calls_done (response_outcome Ruling (choose_outcome naming name)) told book events is made free
+asks_done naming (Adopt rule) dump told book events is made free =
+    calls_done (response_outcome Ruling (adopt_outcome rule)) told book events is made free
+asks_done naming (Import layout) dump told book events is made free =
+    receives_done naming dump told book events is made free
+asks_done naming (ImportBytes layout bytes) dump told book events is made free =
+    receives_done naming dump told book events is made free
+asks_done naming (Report report) dump told book events is made free =
+    calls_done (response_outcome Text (report_outcome naming report)) told book events is made free
 
 -- a ledger that is open after requests was open before them
 open_at_first : {L : Type 0} (seen : L → Seen) (before : L) (exchanges : List (Exchange L))
@@ -147,7 +148,7 @@ open_at_first : {L : Type 0} (seen : L → Seen) (before : L) (exchanges : List 
     → IsStillOpen (seen before)
 open_at_first seen before [] done still = still
 open_at_first seen before (exchange ∷ later) done still =
-    open_earlier done.0.call.work (open_at_first seen exchange.after later done.1 still)
+    open_earlier done.0.work (open_at_first seen exchange.after later done.1 still)
 
 -- the headline
 pub answers_follow_history : {L : Type 0} (seen : L → Seen) → AnswersFollowHistory seen
@@ -155,15 +156,15 @@ answers_follow_history seen naming start before [] answered opened done still =
     record { end = start; told = refl; left = opened }
 answers_follow_history seen naming start before (exchange ∷ later) answered opened done still =
     let one = done.0 in
-    let told : Result Response LedgerFault = response_by exchange.reply.answer in
-    let gone = work_leaves opened one.call.work
+    let told : Result Response LedgerFault = response_by exchange.answer in
+    let gone = work_leaves opened one.work
     (open_at_first seen exchange.after later done.1 still) in
-    let first = subst (λ naming. Asks naming exchange.asked one.call.dump told false
+    let first = subst (λ naming. Asks naming exchange.asked one.dump told false
     (book_after start) gone.events false) opened.naming gone.made in
-    let work = subst (λ book. Asks naming exchange.asked one.call.dump told false book gone.events
+    let work = subst (λ book. Asks naming exchange.asked one.dump told false book gone.events
     false) (books_follow_history start) first in
     let history : List Event = gone.events ++ start in
-    let more = asks_answered naming exchange.asked one.call.dump told start false gone.events false
+    let more = asks_answered naming exchange.asked one.dump told start false gone.events false
     first answered in
     let rest = answers_follow_history seen naming history exchange.after later more
     (subst (λ book. IsOpenAt naming book (seen exchange.after))
@@ -173,11 +174,10 @@ answers_follow_history seen naming start before (exchange ∷ later) answered op
       told = (
         gone.events,
         record {
-          dump = one.call.dump;
-          given = one.call.given;
+          dump = one.dump;
+          given = one.given;
           work = work;
-          is = asks_done naming exchange.asked one.call.dump told (book_of start) gone.events work;
-          told = one.told;
+          is = asks_done naming exchange.asked one.dump told (book_of start) gone.events false work;
           answered = more;
         },
         rest.told,

@@ -1,14 +1,14 @@
 -- Requests, one after the other, on one ledger: each has the answer that the whole history before
 -- it defines.
-use Rattle.std.specs.Prelude.{◌≡◌, false, List, [], ◌∷◌, ◌++◌}
-use Rattle.streams.specs.InputOutput.{Input, Output}
+use Rattle.std.specs.Prelude.{◌≡◌, false, List, [], ◌∷◌, ◌++◌, Result}
+use Rattle.streams.specs.InputOutput.{Input}
+use Rattle.book_model.specs.declared.fault.LedgerFault.{LedgerFault}
 use Rattle.book_model.specs.Words.{IsMadeByCalls, Event, book_after, book_of, Naming, rulings_in}
 use Rattle.book_model.specs.Words.{record_batches}
 use Rattle.book_core.specs.Ledgers.{Seen, IsOpenAt, books}
 use Rattle.office.specs.declared.request.Asked.{Asked}
-use Rattle.office.specs.declared.request.Reply.{Reply}
-use Rattle.office.specs.Requests.{Dump, Gives, Asks, response_by}
-use Rattle.office.specs.Answers.{Answers, WritesAnswer}
+use Rattle.office.specs.declared.request.Answer.{Answer}
+use Rattle.office.specs.Requests.{Dump, Gives, Asks, IsAsked, response_by}
 use Rattle.office.specs.Outcomes.{asked_outcome, is_hindered}
 
 -- no store has failed, and what the ledger is stored on returned what was written
@@ -22,13 +22,12 @@ pub record DiffersAsAllowed (one other : List Event) : Type 0 where
   pub rulings : rulings_in one ≡ rulings_in other
   pub between : record_batches one ≡ record_batches other
 
--- a request, its reader and writer, and the ledger after it
+-- a request, what it was answered, the ledger after it, and its reader
 pub record Exchange (L : Type 0) : Type 0 where
   pub asked : Asked
-  pub reply : Reply
+  pub answer : Result Answer LedgerFault
   pub after : L
   pub input : Input
-  pub output : Output
 
 -- the ledger after all of them
 abbrev pub ledger_after : {L : Type 0} → L → List (Exchange L) → L
@@ -39,23 +38,21 @@ ledger_after before (exchange ∷ later) = ledger_after exchange.after later
 abbrev pub AreAnswered : {L : Type 0} → (L → Seen) → L → List (Exchange L) → Type 0
 AreAnswered seen before [] = Unit {0}
 AreAnswered seen before (exchange ∷ later) =
-    Answers exchange.asked exchange.reply (books seen before exchange.after) exchange.input
-    exchange.output × AreAnswered seen exchange.after later
+    IsAsked exchange.asked exchange.answer (books seen before exchange.after) exchange.input
+    × AreAnswered seen exchange.after later
 
--- After a history this was asked, answered and written, and it made these events, the newest first.
--- Unless a lack of memory or the store hindered it, the answer is what the definitions say of the
--- history, looked at as a whole.
+-- After a history this was asked and answered, and it made these events, the newest first. Unless a
+-- lack of memory or the store hindered it, the answer is what the definitions say of the history,
+-- looked at as a whole.
 pub record IsAnsweredAfter {L : Type 0} (naming : Naming) (history : List Event)
     (exchange : Exchange L) (made : List Event) : Type 0 where
   pub dump : Dump
-  pub given : Gives exchange.asked dump (response_by exchange.reply.answer) exchange.input
+  pub given : Gives exchange.asked dump (response_by exchange.answer) exchange.input
   pub work :
-      Asks naming exchange.asked dump (response_by exchange.reply.answer) false (book_of history) made
-      false
-  pub is : is_hindered (response_by exchange.reply.answer) ≡ false
+      Asks naming exchange.asked dump (response_by exchange.answer) false (book_of history) made false
+  pub is : is_hindered (response_by exchange.answer) ≡ false
       → asked_outcome naming exchange.asked dump (book_of history)
-      ≡ record { told = response_by exchange.reply.answer; events = made }
-  pub told : WritesAnswer exchange.reply.answer exchange.output exchange.reply.told
+      ≡ record { told = response_by exchange.answer; events = made }
   pub answered : IsMadeByCalls naming (made ++ history)
 
 -- so was each, after the history that goes on with what those before it made,
@@ -74,7 +71,7 @@ pub record FollowHistory {L : Type 0} (naming : Naming) (start : List Event)
   pub left : IsOpenAt naming (book_after end) after
 
 -- The headline: whatever is asked of the books of a history that calls made, new books if that is
--- empty, each text that is written is the one that the definitions give for the whole history.
+-- empty, each answer is the one that the definitions give for the whole history.
 abbrev pub AnswersFollowHistory : {L : Type 0} → (L → Seen) → Type 0
 AnswersFollowHistory {L} seen =
     (naming : Naming) (start : List Event) (before : L) (exchanges : List (Exchange L))
@@ -90,6 +87,6 @@ AnswersAreFree {L} {M} seen seen_other =
     (made made_other : List Event) (first : IsAnsweredAfter naming history one made)
     (second : IsAnsweredAfter naming other two made_other)
     → DiffersAsAllowed history other → one.asked ≡ two.asked → first.dump ≡ second.dump
-    → is_hindered (response_by one.reply.answer) ≡ false
-    → is_hindered (response_by two.reply.answer) ≡ false
-    → response_by one.reply.answer ≡ response_by two.reply.answer
+    → is_hindered (response_by one.answer) ≡ false
+    → is_hindered (response_by two.answer) ≡ false
+    → response_by one.answer ≡ response_by two.answer

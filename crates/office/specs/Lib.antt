@@ -1,5 +1,5 @@
 -- Read in this order: what is asked and what the books answer, also with no reader at hand; what
--- is written of it; the laws; and books that can't be opened now.
+-- is written of it; the laws; books that can't be opened now; and books that are kept by their names.
 pub mod Requests
 pub mod Runs
 pub mod Answers
@@ -7,3 +7,4 @@ pub mod Outcomes
 pub mod Laws
 pub mod Repeats
 pub mod Away
+pub mod Shelves

@@ -53,8 +53,9 @@ is_hindering (Ledger Memory) = true
 is_hindering (Ledger Store) = true
 is_hindering stop = false
 
--- out of memory is in place of the answer; or a lack of memory or the store stopped an import
+-- a lack of memory, or a fault of the store, is in place of the answer; or it stopped an import
 abbrev pub is_hindered : Result Response LedgerFault → Bool
 is_hindered (Err Memory) = true
+is_hindered (Err Store) = true
 is_hindered (Ok (Count receipt)) = is_hindering receipt.stop
 is_hindered told = false

@@ -9,11 +9,11 @@ mod repository;
 mod request;
 mod running;
 
-pub use answering::answer;
+pub use answering::write_answer;
 pub use asking::{ask, ask_without_reader};
 pub use away::AwayBooks;
 pub use book_reports::Report;
 pub use laws::{answers_are_free, answers_follow_history, run_twice_is_once};
 pub use repository::{Opened, Repository, RepositoryFault, Visit};
-pub use request::{Answer, Asked, Reply};
+pub use request::{Answer, Asked};
 pub use running::run;

@@ -13,17 +13,22 @@ pub trait Visit {
     /// What comes of it.
     type Answer: Drop;
 
-    /// What it does to the books, where this comes of it.
-    ghost work: { Naming → Self → Self.Answer → Transition };
+    /// What it does to the books, where this comes of it: the visit before and after it, and its
+    /// answer.
+    ghost work: { Naming → Self → Self → Self.Answer → Transition };
+
+    /// What is so where this comes of it, whatever the books are.
+    ghost comes: { Self → Self → Self.Answer → Type 0 };
 
     /// Does it. The books are closed afterwards.
-    fn visit<L: Ledger>(self, books: &mut L) -> Self::Answer
-        ensures { IsTransition (L.seen books.old) (L.seen books.new)
-            (work (L.seen books.old).naming self result) };
+    fn visit<L: Ledger>(&mut self, books: &mut L) -> Self::Answer
+        ensures done { IsTransition (L.seen books.old) (L.seen books.new)
+            (work (L.seen books.old).naming self.old self.new result) }
+        ensures came { comes self.old self.new result };
 
     /// What it makes of books that calls made, calls made.
-    ghost answered: { (naming : Naming) (it : Self) (answer : Self.Answer)
-        → MakesAnswered naming (work naming it answer) };
+    ghost answered: { (naming : Naming) (it after : Self) (answer : Self.Answer)
+        → MakesAnswered naming (work naming it after answer) };
 }
 
 /// What came of an opening of books.
@@ -52,12 +57,25 @@ pub enum RepositoryFault {
 
 /// Where books are kept by their names.
 pub trait Repository {
+    ghost use Rattle.std.specs.Prelude.{◌≡◌};
+    ghost use Rattle.office.specs.Shelves.{Shelf, ComesBy, IsMade, IsOpened};
+
+    /// What is known of them.
+    ghost shelf: { Self → Shelf };
+
     /// Says whether there is something with that name.
     fn expect(&self, book: &str) -> Result<(), RepositoryFault>;
 
     /// Makes new books under a name that is not there yet.
-    fn make(&self, book: &str) -> Result<(), RepositoryFault>;
+    fn make(&mut self, book: &str) -> Result<(), RepositoryFault>
+        ensures { IsMade book.now (shelf self.old) (shelf self.new) result };
 
-    /// Opens the books of a name, does something with them, and closes them.
-    fn open<V: Visit + Drop>(&self, book: &str, visit: V) -> Opened<V::Answer>;
+    /// Opens the books of a name, does something with them, and closes them. A fault may come
+    /// before the books were open, or as they were closed.
+    fn open<V: Visit>(&mut self, book: &str, visit: &mut V) -> Opened<V::Answer>
+        ensures opened { IsOpened (V.Visit.work (shelf self.old).naming visit.old visit.new) book.now
+            (shelf self.old) (shelf self.new) result.answer }
+        ensures log { (shelf self.new).has_log book.now result.has_log }
+        ensures came { ComesBy (V.Visit.comes visit.old visit.new) (visit.new ≡ visit.old)
+            result.answer };
 }

@@ -1,0 +1,144 @@
+-- What is done to books that are kept by their names.
+use Rattle.std.proofs.Common.{◌≡◌, ◌∙◌, ℕ, Bool, false, List, [], ◌++◌, refl, sym, subst, inr}
+use Rattle.std.proofs.Common.{Result, Ok, Err, append_assoc}
+use Rattle.book_model.specs.Words.{Book, Event, Naming, book_after, new_book}
+use Rattle.book_core.specs.Transition.{Transition, NoEvent, Then}
+use Rattle.book_core.proofs.TransitionLemmas.{after_all-append}
+use Rattle.office.specs.declared.repository.RepositoryFault.{RepositoryFault}
+use Rattle.office.specs.declared.repository.RepositoryFault.TheVariants.{Unseen}
+use Rattle.office.specs.Shelves.{Shelf, unknown, OpenedAnew, GoOn, IsDoneTo, IsOpened, IsMade}
+use Rattle.office.specs.Shelves.{ComesBy, IsUntouched, WhereUnopened}
+
+-- books that nothing was done to
+pub stays : (Held : List Event → Type 0) → GoOn NoEvent Held Held
+stays Held history held = record {
+  events = [];
+  is = false;
+  made = record { none = refl; same = refl };
+  now = held;
+}
+
+pub untouched : (book : List ℕ) (shelf : Shelf) → IsUntouched book shelf shelf
+untouched book shelf = record {
+  naming = refl;
+  here = stays (shelf.holds book);
+  elsewhere = λ other _. stays (shelf.holds other);
+}
+
+-- work, seen as other work
+pub done_as : (book : List ℕ) (Made Other : Transition) (old new : Shelf)
+    → ((before : Book) (events : List Event) (is : Bool) → Made false before events is
+    → Other false before events is)
+    → IsDoneTo book Made old new → IsDoneTo book Other old new
+done_as book Made Other old new implies done = record {
+  naming = done.naming;
+  here = λ history held.
+      let more = done.here history held in
+      record {
+        events = more.events;
+        is = more.is;
+        made = implies (book_after history) more.events more.is more.made;
+        now = more.now;
+      };
+  elsewhere = done.elsewhere;
+}
+
+-- work, and then work on the books as they were opened anew
+goes_on : (First Next : Transition) (One Two Three : List Event → Type 0) → GoOn First One Two
+    → GoOn Next Two Three → GoOn (Then First (OpenedAnew Next)) One Three
+goes_on First Next One Two Three first next history held =
+    let early = first history held in
+    let late = next (early.events ++ history) early.now in
+    record {
+      events = late.events ++ early.events;
+      is = late.is;
+      made = record {
+        between = early.is;
+        early = early.events;
+        late = late.events;
+        first = early.made;
+        next = record {
+          left = late.is;
+          made = subst (λ book. Next false book late.events late.is)
+              (after_all-append early.events history new_book) late.made;
+        };
+        all = refl;
+      };
+      now = subst Three (sym (append_assoc late.events early.events history)) late.now;
+    }
+
+-- nothing, and then nothing
+stays_on : (One Two Three : List Event → Type 0) → GoOn NoEvent One Two → GoOn NoEvent Two Three
+    → GoOn NoEvent One Three
+stays_on One Two Three first next history held =
+    let early = first history held in
+    let still : Two history = subst (λ (events : List Event). Two (events ++ history)) early.made.none early.now in
+    next history still
+
+pub done_then : (book : List ℕ) (First : Transition) (Next : Naming → Transition)
+    (one two three : Shelf) → IsDoneTo book First one two
+    → IsDoneTo book (Next two.naming) two three
+    → IsDoneTo book (Then First (OpenedAnew (Next one.naming))) one three
+done_then book First Next one two three first next = record {
+  naming = next.naming ∙ first.naming;
+  here = goes_on First (Next one.naming) (one.holds book) (two.holds book) (three.holds book) first.here
+      (subst (λ naming. GoOn (Next naming) (two.holds book) (three.holds book)) first.naming next.here);
+  elsewhere = λ other apart. stays_on (one.holds other) (two.holds other) (three.holds other)
+      (first.elsewhere other apart) (next.elsewhere other apart);
+}
+
+-- where nothing is known of books
+pub unknown_done : (book : List ℕ) (naming : Naming) (Made : Transition)
+    → IsDoneTo book Made (unknown naming) (unknown naming)
+unknown_done book naming Made = record {
+  naming = refl;
+  here = λ history held. absurd held;
+  elsewhere = λ other _ history held. absurd held;
+}
+
+pub unknown_untouched : (book : List ℕ) (naming : Naming)
+    → IsUntouched book (unknown naming) (unknown naming)
+unknown_untouched book naming = unknown_done book naming NoEvent
+
+unknown_unopened : {A : Type 0} (work : A → Transition) (book : List ℕ) (naming : Naming)
+    (fault : RepositoryFault)
+    → WhereUnopened ((answer : A) × IsDoneTo book (work answer) (unknown naming) (unknown naming))
+    (IsUntouched book (unknown naming) (unknown naming)) fault
+unknown_unopened work book naming Unseen = inr (unknown_untouched book naming)
+unknown_unopened work book naming fault = unknown_untouched book naming
+
+pub unknown_opened : {A : Type 0} (work : A → Transition) (book : List ℕ) (naming : Naming)
+    (answer : Result A RepositoryFault)
+    → IsOpened work book (unknown naming) (unknown naming) answer
+unknown_opened work book naming (Ok answer) = unknown_done book naming (work answer)
+unknown_opened work book naming (Err fault) = unknown_unopened work book naming fault
+
+pub unknown_made : (book : List ℕ) (naming : Naming) (result : Result (Unit {0}) RepositoryFault)
+    → IsMade book (unknown naming) (unknown naming) result
+unknown_made book naming (Ok made) = record {
+  kept = unknown_untouched book naming;
+  made = λ free. absurd free;
+  refused = tt;
+}
+unknown_made book naming (Err fault) = record {
+  kept = unknown_untouched book naming;
+  made = tt;
+  refused = λ free. absurd free;
+}
+
+-- a visit that was not made is as it is, whatever the fault
+pub same_where : (Visited Same : Type 0) (fault : RepositoryFault) → Same
+    → WhereUnopened Visited Same fault
+same_where Visited Same Unseen same = inr same
+same_where Visited Same fault same = same
+
+-- what comes of a visit, by what is told of it
+pub came_by : {A : Type 0} (Came : A → Type 0) (Same : Type 0) (answer : A)
+    (told : Result A RepositoryFault) → told ≡ Ok answer → Came answer → ComesBy Came Same told
+came_by Came Same answer told is came = subst (λ told. ComesBy Came Same told) (sym is) came
+
+pub same_by : {A : Type 0} (Came : A → Type 0) (Same : Type 0) (fault : RepositoryFault)
+    (told : Result A RepositoryFault) → told ≡ Err fault → Same → ComesBy Came Same told
+same_by {A} Came Same fault told is same =
+    subst (λ told. ComesBy Came Same told) (sym is)
+    (same_where ((answer : A) × Came answer) Same fault same)

@@ -1,0 +1,79 @@
+-- What is done to books that are kept by their names.
+use Rattle.std.specs.Prelude.{◌≡◌, ◌≢◌, ◌⊎◌, ℕ, Bool, false, List, [], ◌++◌, Result, Ok, Err, OnOk, OnErr}
+use Rattle.book_model.specs.Words.{Book, Event, Naming, book_after}
+use Rattle.book_core.specs.Transition.{Transition, NoEvent}
+use Rattle.office.specs.declared.repository.RepositoryFault.{RepositoryFault}
+use Rattle.office.specs.declared.repository.RepositoryFault.TheVariants.{Unseen}
+
+-- What is known of the books that are kept somewhere: how they name records; which history the books
+-- of a name hold, as the next opening finds them; that there is nothing under a name; and whether a
+-- log beside the books of a name holds a part of them.
+pub record Shelf : Type 1 where
+  pub naming : Naming
+  pub holds : List ℕ → List Event → Type 0
+  pub is_free : List ℕ → Type 0
+  pub has_log : List ℕ → Bool → Type 0
+
+-- where they are kept in files nothing is known, whatever the files hold
+abbrev pub unknown : Naming → Shelf
+unknown naming = record {
+  naming = naming;
+  holds = λ book history. ⊥;
+  is_free = λ book. ⊥;
+  has_log = λ book is. Unit {0};
+}
+
+-- Work on books that were opened anew, whatever was before, and whatever is left to be opened again.
+pub record OpenedAnew (Made : Transition) (was : Bool) (before : Book) (events : List Event) (is : Bool)
+    : Type 0 where
+  pub left : Bool
+  pub made : Made false before events left
+
+-- Books of this history now hold one that goes on with what such work made of it.
+pub record HoldsMore (Made : Transition) (history : List Event) (Holds : List Event → Type 0) : Type 0
+  where
+    pub events : List Event
+    pub is : Bool
+    pub made : Made false (book_after history) events is
+    pub now : Holds (events ++ history)
+
+-- so do books, whatever history they held
+abbrev pub GoOn : Transition → (List Event → Type 0) → (List Event → Type 0) → Type 0
+GoOn Made Held Holds = (history : List Event) → Held history → HoldsMore Made history Holds
+
+-- Such work was done on the books of a name, and nothing was done to others.
+pub record IsDoneTo (book : List ℕ) (Made : Transition) (old new : Shelf) : Type 0 where
+  pub naming : new.naming ≡ old.naming
+  pub here : GoOn Made (old.holds book) (new.holds book)
+  pub elsewhere : (other : List ℕ) → other ≢ book → GoOn NoEvent (old.holds other) (new.holds other)
+
+-- nothing was done to any books; the name is that of books that might have been visited
+abbrev pub IsUntouched : List ℕ → Shelf → Shelf → Type 0
+IsUntouched book old new = IsDoneTo book NoEvent old new
+
+-- What is so where books have no answer: they were as they are, unless they were open, and it was not
+-- seen that their closed files hold them.
+abbrev pub WhereUnopened : Type 0 → Type 0 → RepositoryFault → Type 0
+WhereUnopened Visited Untouched Unseen = Visited ⊎ Untouched
+WhereUnopened Visited Untouched fault = Untouched
+
+-- The books of a name were opened, visited once and closed, and this came of it; or they were not.
+abbrev pub IsOpened : {A : Type 0} → (A → Transition) → List ℕ → Shelf → Shelf
+    → Result A RepositoryFault → Type 0
+IsOpened work book old new (Ok answer) = IsDoneTo book (work answer) old new
+IsOpened {A} work book old new (Err fault) =
+    WhereUnopened ((answer : A) × IsDoneTo book (work answer) old new)
+    (IsUntouched book old new) fault
+
+-- What is so by what came of an opening: this of the visit's answer; or the visit is as it was.
+abbrev pub ComesBy : {A : Type 0} → (A → Type 0) → Type 0 → Result A RepositoryFault → Type 0
+ComesBy Came Same (Ok answer) = Came answer
+ComesBy {A} Came Same (Err fault) = WhereUnopened ((answer : A) × Came answer) Same fault
+
+-- New books were made under a name, if it was free: they hold no history. Where they were not made it
+-- is free still. Books that were there are as they were.
+pub record IsMade (book : List ℕ) (old new : Shelf) (result : Result (Unit {0}) RepositoryFault)
+    : Type 0 where
+  pub kept : IsUntouched book old new
+  pub made : OnOk result (old.is_free book → new.holds book [])
+  pub refused : OnErr result (old.is_free book → new.is_free book)
