@@ -1,10 +1,11 @@
--- Read in this order: how a dump is read, what a trial and a check are, the exit statuses, the name that a word spells,
--- what each number means, and the laws that follow.
+-- Read in this order: how a dump is read, what a trial and a check are, the exit statuses and what is said with them,
+-- the name that a word spells, what each number means, and the laws that follow.
 pub mod Readings
 pub mod Trials
 pub mod Checks
 pub mod Listings
 pub mod Statuses
+pub mod Messages
 pub mod Names
 pub mod Meanings
 pub mod Explanations

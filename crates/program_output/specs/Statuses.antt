@@ -1,5 +1,7 @@
 -- How the program ends, and the exit statuses.
 use Rattle.std.specs.Prelude.{ℕ, Bool, true}
+use Rattle.std.specs.declared.io.ErrorKind.{ErrorKind}
+use Rattle.std.specs.declared.io.ErrorKind.TheVariants.{OutOfMemory}
 use Rattle.book_model.specs.declared.fault.LedgerFault.{LedgerFault}
 use Rattle.book_model.specs.declared.fault.LedgerFault.TheVariants as ledger
 use Rattle.book_import.specs.declared.receipt.Stop.{Stop}
@@ -39,6 +41,11 @@ stop_status (Frame fault) = Refused
 stop_status Read = Io
 stop_status ReadLimit = Io
 stop_status (Ledger fault) = ledger_status fault
+
+-- words that could not be taken over: one is not UTF-8, or memory ran out
+abbrev pub arguments_status : ErrorKind → Status
+arguments_status OutOfMemory = Memory
+arguments_status kind = Usage
 
 -- A command that left a log beside the books, by its status and whether it may have changed them: a
 -- change that went well is in two files, and their store is at fault for that.

@@ -4,7 +4,9 @@
 
 mod check;
 mod damages;
+mod error_line;
 mod explanations;
+mod fault_message;
 mod frame_faults;
 mod laws;
 mod ledger_faults;
@@ -17,10 +19,11 @@ mod tariff_faults;
 mod trials;
 
 pub use check::check_list;
+pub use error_line::{PROGRAM, say};
 pub use explanations::{Explanation, FaultKind, explained};
 pub use laws::{numbers_are_one_to_one, same_records_same_texts};
 pub use message::{
-    PROGRAM, arguments_failed, books_busy, books_unsound, input_refused, io_failed, ledger_refused,
+    arguments_failed, books_busy, books_unsound, input_refused, io_failed, ledger_refused,
     log_left, no_such_number, out_of_memory, report_failed, stopped,
 };
 pub use names::name_of_text;

@@ -1,23 +1,28 @@
-//! What the program says on standard error, and the status that goes with it.
+//! What the program says on standard error, and the status that goes with it. A line that can't be
+//! written is dropped: the status says the same.
 
-ghost use Rattle.std.specs.Prelude.{◌≡◌};
-ghost use Rattle.program_output.specs.Statuses as spec;
-ghost use Rattle.program_output.specs.Statuses.{log_status, report_status, stop_status};
+ghost use Rattle.std.specs.Prelude.{◌≡◌, ◌≤◌, [], ◌∷◌, length};
+ghost use Rattle.std.specs.IoError.{error_kind};
+ghost use Rattle.program_output.specs.Messages.{AreSaid, arguments_line, busy_line, io_line};
+ghost use Rattle.program_output.specs.Messages.{ledger_line, line_of, log_line, no_number_line};
+ghost use Rattle.program_output.specs.Messages.{report_line, stop_lines, unsound_line};
+ghost use Rattle.program_output.specs.Statuses as statuses;
+ghost use Rattle.program_output.specs.Statuses.{arguments_status, log_status, report_status};
+ghost use Rattle.program_output.specs.Statuses.{stop_status};
 
+use crate::error_line::{say, say_line};
+use crate::fault_message::{ledger_message, numbered};
 use crate::status::Status;
 use book_core::LedgerFault;
 use book_import::Stop;
 use book_reports::ReportFault;
 use std::io;
-use std::io::{ErrorKind, Write};
-use tariff_rules::{Key, TariffFault};
-
-/// The name by which the program speaks of itself.
-pub const PROGRAM: &str = "chargectl";
+use std::io::ErrorKind;
+use streams::Writer;
 
 /// The status of a ledger's fault.
 fn ledger_status(fault: LedgerFault) -> Status
-    ensures { result ≡ spec.ledger_status fault }
+    ensures { result ≡ statuses.ledger_status fault }
 {
     match fault {
         LedgerFault::Memory => Status::Memory,
@@ -26,113 +31,83 @@ fn ledger_status(fault: LedgerFault) -> Status
     }
 }
 
-/// One line: a word after the program's name.
-fn say_word<E: Write>(errors: &mut E, word: &str) {
-    let _ = writeln!(errors, "{PROGRAM}: {word}");
-}
-
-/// One line: what is wrong with the words.
-fn say_error<E: Write>(errors: &mut E, what: &str) {
-    let _ = writeln!(errors, "error: {what}");
-}
-
-/// One line: a number after the word for what it numbers.
-fn say_number<E: Write>(errors: &mut E, word: &str, number: u8) {
-    let _ = writeln!(errors, "{PROGRAM}: {word} {number}");
-}
-
-/// One line: a tariff's fault with its number, and the key that is wrong.
-fn say_key<E: Write>(errors: &mut E, number: u8, key: Key) {
-    let _ = writeln!(errors, "{PROGRAM}: tariff {number} {key}");
-}
-
-/// One line: a ledger's fault with its number, and the period that is open.
-fn say_open<E: Write>(errors: &mut E, number: u8, open: u16) {
-    let _ = writeln!(errors, "{PROGRAM}: ledger {number} {open}");
-}
-
-/// One line: a tariff's fault with its number, and the key that is wrong.
-fn say_tariff<E: Write>(errors: &mut E, fault: TariffFault) {
-    let number = fault.number();
-    match fault {
-        TariffFault::Missing(key) | TariffFault::Range(key) => say_key(errors, number, key),
-        _ => say_number(errors, "tariff", number),
-    }
-}
-
-/// One line: a ledger's fault with its number, and what it carries.
-fn say_ledger<E: Write>(errors: &mut E, fault: LedgerFault) {
-    let number = fault.number();
-    match fault {
-        LedgerFault::TariffRefused(fault) => say_tariff(errors, fault),
-        LedgerFault::WrongPeriod(open) => say_open(errors, number, open),
-        _ => say_number(errors, "ledger", number),
-    }
-}
-
-/// Says that a file, a socket or the output failed. A line that can't be written is dropped: the
-/// status says the same.
-pub fn io_failed<E: Write>(errors: &mut E) -> Status
-    ensures { result ≡ Status.Io }
+/// Says that a file, a socket or the output failed.
+pub fn io_failed<E: Writer>(errors: &mut E) -> Status
+    ensures status { result ≡ Status.Io }
+    ensures said { AreSaid E.contents E.may_answer (io_line ∷ []) errors.old errors.new }
 {
-    say_word(errors, "io");
+    say_line(errors, "io");
     Status::Io
 }
 
 /// Says that memory ran out.
-pub fn out_of_memory<E: Write>(errors: &mut E) -> Status
-    ensures { result ≡ Status.Memory }
+pub fn out_of_memory<E: Writer>(errors: &mut E) -> Status
+    ensures status { result ≡ Status.Memory }
+    ensures said { AreSaid E.contents E.may_answer (ledger_line LedgerFault.Memory ∷ [])
+        errors.old errors.new }
 {
     ledger_refused(errors, LedgerFault::Memory)
 }
 
 /// Says that the words could not be taken over: one is not UTF-8, or there was no memory for them.
-pub fn arguments_failed<E: Write>(errors: &mut E, error: &io::Error) -> Status {
-    if error.kind() == ErrorKind::OutOfMemory {
-        return out_of_memory(errors);
+pub fn arguments_failed<E: Writer>(errors: &mut E, error: &io::Error) -> Status
+    ensures status { result ≡ arguments_status (error_kind error.now) }
+    ensures said { AreSaid E.contents E.may_answer (arguments_line (error_kind error.now) ∷ [])
+        errors.old errors.new }
+{
+    match error.kind() {
+        ErrorKind::OutOfMemory => out_of_memory(errors),
+        _ => {
+            say(errors, "error: a word is not UTF-8\n");
+            Status::Usage
+        }
     }
-    say_error(errors, "a word is not UTF-8");
-    Status::Usage
 }
 
 /// Says that nothing has the number that was to be explained.
-pub fn no_such_number<E: Write>(errors: &mut E) -> Status
-    ensures { result ≡ Status.Usage }
+pub fn no_such_number<E: Writer>(errors: &mut E) -> Status
+    ensures status { result ≡ Status.Usage }
+    ensures said { AreSaid E.contents E.may_answer (no_number_line ∷ []) errors.old errors.new }
 {
-    say_error(errors, "nothing has this number");
+    say(errors, "error: nothing has this number\n");
     Status::Usage
 }
 
 /// Says in a word why the input was refused.
-pub fn input_refused<E: Write>(errors: &mut E, word: &str) -> Status
-    ensures { result ≡ Status.Refused }
+pub fn input_refused<E: Writer>(errors: &mut E, word: &str) -> Status
+    requires { length word.now ≤ 64 }
+    ensures status { result ≡ Status.Refused }
+    ensures said { AreSaid E.contents E.may_answer (line_of word.now ∷ []) errors.old errors.new }
 {
-    say_word(errors, word);
+    say_line(errors, word);
     Status::Refused
 }
 
 /// Says that an audit found books unsound.
-pub fn books_unsound<E: Write>(errors: &mut E) -> Status
-    ensures { result ≡ Status.Store }
+pub fn books_unsound<E: Writer>(errors: &mut E) -> Status
+    ensures status { result ≡ Status.Store }
+    ensures said { AreSaid E.contents E.may_answer (unsound_line ∷ []) errors.old errors.new }
 {
-    say_word(errors, "unsound");
+    say_line(errors, "unsound");
     Status::Store
 }
 
 /// Says that another program has the file of the books open.
-pub fn books_busy<E: Write>(errors: &mut E) -> Status
-    ensures { result ≡ Status.Store }
+pub fn books_busy<E: Writer>(errors: &mut E) -> Status
+    ensures status { result ≡ Status.Store }
+    ensures said { AreSaid E.contents E.may_answer (busy_line ∷ []) errors.old errors.new }
 {
-    say_word(errors, "busy");
+    say_line(errors, "busy");
     Status::Store
 }
 
 /// Says that the log beside the books holds a part of them. A change of books that went well ends so
 /// with a status of its own: a copy of their file alone may lack it.
-pub fn log_left<E: Write>(errors: &mut E, status: Status, is_change: bool) -> Status
-    ensures { result ≡ log_status status is_change }
+pub fn log_left<E: Writer>(errors: &mut E, status: Status, is_change: bool) -> Status
+    ensures status { result ≡ log_status status is_change }
+    ensures said { AreSaid E.contents E.may_answer (log_line ∷ []) errors.old errors.new }
 {
-    say_word(errors, "log");
+    say_line(errors, "log");
     match status {
         Status::Done if is_change => Status::Store,
         _ => status,
@@ -140,16 +115,19 @@ pub fn log_left<E: Write>(errors: &mut E, status: Status, is_change: bool) -> St
 }
 
 /// Says why a ledger refused.
-pub fn ledger_refused<E: Write>(errors: &mut E, fault: LedgerFault) -> Status
-    ensures { result ≡ spec.ledger_status fault }
+pub fn ledger_refused<E: Writer>(errors: &mut E, fault: LedgerFault) -> Status
+    ensures status { result ≡ statuses.ledger_status fault }
+    ensures said { AreSaid E.contents E.may_answer (ledger_line fault ∷ []) errors.old errors.new }
 {
-    say_ledger(errors, fault);
+    let message = ledger_message(fault);
+    say_line(errors, message.as_str());
     ledger_status(fault)
 }
 
 /// Says why a report was not written.
-pub fn report_failed<E: Write>(errors: &mut E, fault: ReportFault) -> Status
-    ensures { result ≡ report_status fault }
+pub fn report_failed<E: Writer>(errors: &mut E, fault: ReportFault) -> Status
+    ensures status { result ≡ report_status fault }
+    ensures said { AreSaid E.contents E.may_answer (report_line fault ∷ []) errors.old errors.new }
 {
     match fault {
         ReportFault::Write => io_failed(errors),
@@ -159,13 +137,15 @@ pub fn report_failed<E: Write>(errors: &mut E, fault: ReportFault) -> Status
 }
 
 /// Says why a dump was not read to its end, if it was not.
-pub fn stopped<E: Write>(errors: &mut E, stop: Stop) -> Status
-    ensures { result ≡ stop_status stop }
+pub fn stopped<E: Writer>(errors: &mut E, stop: Stop) -> Status
+    ensures status { result ≡ stop_status stop }
+    ensures said { AreSaid E.contents E.may_answer (stop_lines stop) errors.old errors.new }
 {
     match stop {
         Stop::End => Status::Done,
         Stop::Frame(fault) => {
-            say_number(errors, "frame", fault.number());
+            let message = numbered("frame", fault.number());
+            say_line(errors, message.as_str());
             Status::Refused
         }
         Stop::Read | Stop::ReadLimit => io_failed(errors),

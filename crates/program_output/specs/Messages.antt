@@ -1,0 +1,120 @@
+-- What the program says on standard error: each line in its very bytes, and that it was said.
+use Rattle.std.specs.Prelude.{◌≡◌, ◌⊎◌, true, ℕ, List, [], ◌∷◌, ◌++◌, length, take, drop, codes}
+use Rattle.std.specs.Prelude.{Option, Result}
+use Rattle.std.specs.Fmt.{decimal}
+use Rattle.std.specs.declared.io.Error.{Error}
+use Rattle.std.specs.declared.io.ErrorKind.{ErrorKind}
+use Rattle.std.specs.declared.io.ErrorKind.TheVariants.{OutOfMemory}
+use Rattle.std.specs.Io.KnownBytes.{Appends}
+use Rattle.smf_frames.specs.Faults.{frame_number}
+use Rattle.tariff_rules.specs.declared.fault.TariffFault.{TariffFault}
+use Rattle.tariff_rules.specs.declared.fault.TariffFault.TheVariants as tariff
+use Rattle.tariff_rules.specs.Faults.{tariff_number, key_text}
+use Rattle.streams.specs.AnswerFlags.{is_failed_write}
+use Rattle.book_model.specs.declared.fault.LedgerFault.{LedgerFault}
+use Rattle.book_model.specs.declared.fault.LedgerFault.TheVariants as ledger
+use Rattle.book_model.specs.Faults.{ledger_number}
+use Rattle.book_import.specs.declared.receipt.Stop.{Stop}
+use Rattle.book_import.specs.declared.receipt.Stop.TheVariants.{End, Frame, Read, ReadLimit, Ledger}
+use Rattle.report_texts.specs.Columns.{newline}
+use Rattle.book_reports.specs.declared.fault.ReportFault.{ReportFault}
+use Rattle.book_reports.specs.declared.fault.ReportFault.TheVariants as report
+use Rattle.book_reports.specs.ReceiptLines.{fault_text}
+
+-- the name by which the program speaks of itself
+abbrev pub program_name : List ℕ
+program_name = codes "chargectl"
+
+-- a line that has something after the program's name
+abbrev pub line_of : List ℕ → List ℕ
+line_of what = program_name ++ codes ": " ++ what ++ newline
+
+-- a fault of a tariff: its number, and the key that is missing or out of range
+abbrev pub tariff_message : TariffFault → List ℕ
+tariff_message (tariff.Missing key) =
+    fault_text (codes "tariff") (tariff_number (tariff.Missing key)) ++ codes " " ++ key_text key
+tariff_message (tariff.Range key) =
+    fault_text (codes "tariff") (tariff_number (tariff.Range key)) ++ codes " " ++ key_text key
+tariff_message fault = fault_text (codes "tariff") (tariff_number fault)
+
+-- a refusal of the books: its number, and the period that is open, where another one was named; of a
+-- text that is no tariff, the fault of the tariff
+abbrev pub ledger_message : LedgerFault → List ℕ
+ledger_message (ledger.TariffRefused fault) = tariff_message fault
+ledger_message (ledger.WrongPeriod period) =
+    fault_text (codes "ledger") (ledger_number (ledger.WrongPeriod period)) ++ codes " "
+    ++ decimal period
+ledger_message fault = fault_text (codes "ledger") (ledger_number fault)
+
+-- a file, a socket or the output failed
+abbrev pub io_line : List ℕ
+io_line = line_of (codes "io")
+
+-- an audit found books unsound
+abbrev pub unsound_line : List ℕ
+unsound_line = line_of (codes "unsound")
+
+-- another program has the file of the books open
+abbrev pub busy_line : List ℕ
+busy_line = line_of (codes "busy")
+
+-- the log beside the books holds a part of them
+abbrev pub log_line : List ℕ
+log_line = line_of (codes "log")
+
+-- nothing has the number that was to be explained
+abbrev pub no_number_line : List ℕ
+no_number_line = codes "error: nothing has this number\n"
+
+-- the books refused
+abbrev pub ledger_line : LedgerFault → List ℕ
+ledger_line fault = line_of (ledger_message fault)
+
+-- the words of the program could not be taken over
+abbrev pub arguments_line : ErrorKind → List ℕ
+arguments_line OutOfMemory = ledger_line ledger.Memory
+arguments_line kind = codes "error: a word is not UTF-8\n"
+
+-- a report was not written whole
+abbrev pub report_line : ReportFault → List ℕ
+report_line report.Write = io_line
+report_line report.Memory = ledger_line ledger.Memory
+report_line (report.Ledger fault) = ledger_line fault
+
+-- why a dump was not read to its end, if it was not
+abbrev pub stop_lines : Stop → List (List ℕ)
+stop_lines End = []
+stop_lines (Frame fault) = line_of (fault_text (codes "frame") (frame_number fault)) ∷ []
+stop_lines Read = io_line ∷ []
+stop_lines ReadLimit = io_line ∷ []
+stop_lines (Ledger fault) = ledger_line fault ∷ []
+
+-- a write of these bytes failed, or took none of them
+pub record FailsToWrite {E : Type 0} (may_answer : E → List ℕ → Result ℕ Error → E → Type 0)
+    (bytes : List ℕ) (old new : E) : Type 0 where
+  pub answer : Result ℕ Error
+  pub made : may_answer old bytes answer new
+  pub failed : is_failed_write answer (length bytes) ≡ true
+
+-- a prefix of a text was written, and then the write of the rest failed
+pub record IsCutShort {E : Type 0} (contents : E → Option (List ℕ))
+    (may_answer : E → List ℕ → Result ℕ Error → E → Type 0) (text : List ℕ) (old new : E) : Type 0
+  where
+    pub count : ℕ
+    pub between : E
+    pub grown : Appends (contents old) (contents new) (take count text)
+    pub fails : FailsToWrite may_answer (drop count text) between new
+
+-- A text was said to a writer: the whole of it, unless a write failed.
+abbrev pub IsSaid : {E : Type 0} → (E → Option (List ℕ))
+    → (E → List ℕ → Result ℕ Error → E → Type 0) → List ℕ → E → E → Type 0
+IsSaid contents may_answer text old new =
+    Appends (contents old) (contents new) text ⊎ IsCutShort contents may_answer text old new
+
+-- Texts were said one after another. After one that was cut short the next is still begun.
+abbrev pub AreSaid : {E : Type 0} → (E → Option (List ℕ))
+    → (E → List ℕ → Result ℕ Error → E → Type 0) → List (List ℕ) → E → E → Type 0
+AreSaid contents may_answer [] old new = new ≡ old
+AreSaid contents may_answer (text ∷ texts) old new =
+    (between : _) × IsSaid contents may_answer text old between
+    × AreSaid contents may_answer texts between new

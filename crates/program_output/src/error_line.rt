@@ -1,0 +1,57 @@
+//! Lines on standard error. They are made in a buffer of fixed size: a line takes no memory, so a
+//! lack of it can be said.
+
+ghost use Rattle.std.specs.Prelude.{◌≡◌, ◌<◌, ◌≤◌, [], ◌∷◌, length, take};
+ghost use Rattle.std.specs.Io.KnownBytes.{Appends};
+ghost use Rattle.program_output.specs.Messages.{AreSaid, FailsToWrite, line_of};
+
+use arrayvec::ArrayString;
+use streams::Writer;
+
+/// The name by which the program speaks of itself.
+pub const PROGRAM: &str = "chargectl";
+
+/// Room for a line: the program's name, what it says, and what stands around that.
+type Line = ArrayString<80>;
+
+/// Writes once, and answers how many bytes were taken: none where the write failed.
+fn write_once<E: Writer>(errors: &mut E, bytes: &[u8]) -> usize
+    requires { 0 < length bytes.now }
+    ensures bound { result ≤ length bytes.now }
+    ensures taken { Appends (E.contents errors.old) (E.contents errors.new) (take result bytes.now) }
+    ensures failed { result ≡ 0 → FailsToWrite E.may_answer bytes.now errors.old errors.new }
+{
+    match errors.hand(bytes) {
+        Ok(count) => count,
+        Err(_) => 0,
+    }
+}
+
+/// Says a text, in as many writes as the writer needs. After a write that failed, or that took
+/// nothing, there are no more.
+pub fn say<E: Writer>(errors: &mut E, text: &str)
+    ensures { AreSaid E.contents E.may_answer (text.now ∷ []) errors.old errors.new }
+{
+    let bytes = text.as_bytes();
+    let mut written = 0;
+    'writes: while written < bytes.len() {
+        let count = write_once(errors, &bytes[written..]);
+        if count == 0 {
+            return;
+        }
+        written += count;
+    }
+}
+
+/// Says a line that has this after the program's name.
+pub(crate) fn say_line<E: Writer>(errors: &mut E, what: &str)
+    requires { length what.now ≤ 64 }
+    ensures { AreSaid E.contents E.may_answer (line_of what.now ∷ []) errors.old errors.new }
+{
+    let mut line = Line::new();
+    line.push_str(PROGRAM);
+    line.push_str(": ");
+    line.push_str(what);
+    line.push_str("\n");
+    say(errors, line.as_str());
+}
