@@ -2,7 +2,11 @@
 use Rattle.std.proofs.Common.{◌≡◌, IsTrue, List, [], ◌++◌, ℕ, refl, sym, ap, subst, inl, inr}
 use Rattle.std.proofs.Common.{Option, None, Some, Result, Ok, Err, false}
 use Rattle.std.proofs.Math.Logic.{∥∥₁_elim, ∥∥₁_map, ∥∥₁_prop}
-use Rattle.std.specs.Prelude.{IfSome}
+use Rattle.std.specs.Prelude.{IfSome, MatchResult}
+use Rattle.office.specs.declared.repository.RepositoryFault.{RepositoryFault}
+use Rattle.office.specs.Shelves.{ComesBy}
+use Rattle.office.proofs.ShelfLemmas.{same_where}
+use Rattle.book_files.specs.Faults.{IsReleased}
 use Rattle.sqlite_disk.specs.declared.Disk.{Ghosts}
 use Rattle.sqlite_disk.specs.declared.files.Files.{Files}
 use Rattle.sqlite_store.specs.FileStore.{state, view, recovers, IsReady}
@@ -73,11 +77,11 @@ opened_stands names book first store ready found held kept = λ clean. record {
 }
 
 -- what is done in a visit is answered, where its work is
-pub done_answered : {V A F : Type 0} (work : Naming → V → A → Transition) (names : Naming) (visit : V)
-    → ((answer : A) → MakesAnswered names (work names visit answer)) → (result : Result A F)
-    → MakesAnswered names (done_by work names visit result)
-done_answered work names visit answers (Ok answer) = answers answer
-done_answered work names visit answers (Err fault) = λ history was events is none answered.
+pub done_answered : {A F : Type 0} (work : A → Transition) (names : Naming)
+    → ((answer : A) → MakesAnswered names (work answer)) → (result : Result A F)
+    → MakesAnswered names (done_by work result)
+done_answered work names answers (Ok answer) = answers answer
+done_answered work names answers (Err fault) = λ history was events is none answered.
     subst (λ (events : List Event). IsMadeByCalls names (events ++ history)) (sym none.none) answered
 
 -- what an opened store leaves of each book, the files leave of each history
@@ -146,9 +150,22 @@ held_goes_on names first image store ready found each history held =
     }) ∣₁
 
 -- where nothing was done to open books, nothing was made of them, whatever was answered
-pub looked_only : {V A F : Type 0} (names : Naming) (visit : V) (result : Result A F) (book : Book)
-    (image : Image)
-    → ∥ LeavesBook names (done_by (λ (naming : Naming) (it : V) (answer : A). NoEvent) names visit
-    result) book image ∥₁ → ∥ LeavesBook names NoEvent book image ∥₁
-looked_only names visit (Ok answer) book image left = left
-looked_only names visit (Err fault) book image left = left
+pub looked_only : {A F : Type 0} (names : Naming) (result : Result A F) (book : Book) (image : Image)
+    → ∥ LeavesBook names (done_by (λ (answer : A). NoEvent) result) book image ∥₁
+    → ∥ LeavesBook names NoEvent book image ∥₁
+looked_only names (Ok answer) book image left = left
+looked_only names (Err fault) book image left = left
+
+-- what came of a visit, where its answer is handed on, or was not seen
+pub comes_on : {A : Type 0} (Came : A → Type 0) (Same : Type 0)
+    (answer told : Result A RepositoryFault) → IsReleased answer told
+    → MatchResult answer Came (λ fault. Same) → ComesBy Came Same told
+comes_on {A} Came Same (Ok answer) told (inl is) came =
+    subst (λ told. ComesBy Came Same told) (sym is) came
+comes_on {A} Came Same (Err fault) told (inl is) same =
+    subst (λ told. ComesBy Came Same told) (sym is)
+    (same_where ((answer : A) × Came answer) Same fault same)
+comes_on {A} Came Same (Ok answer) told (inr is) came =
+    subst (λ told. ComesBy Came Same told) (sym is) (inl (answer, came))
+comes_on {A} Came Same (Err fault) told (inr is) same =
+    subst (λ told. ComesBy Came Same told) (sym is) (inr same)

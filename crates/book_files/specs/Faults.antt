@@ -33,7 +33,7 @@ use Rattle.book_files.specs.declared.copies.CopyFault.TheVariants as copies
 use Rattle.book_files.specs.declared.session.Ended.{Ended}
 use Rattle.book_files.specs.declared.session.Ended.TheVariants.{Closed, Refused}
 use Rattle.office.specs.declared.repository.RepositoryFault.{RepositoryFault}
-use Rattle.office.specs.declared.repository.RepositoryFault.TheVariants.{Io, Exists, Busy, Ledger}
+use Rattle.office.specs.declared.repository.RepositoryFault.TheVariants.{Io, Exists, Busy, Ledger, Unseen}
 
 -- what the failure of a file means
 abbrev pub file_fault : ErrorKind → RepositoryFault
@@ -92,6 +92,10 @@ HoldsOurs naming image = HoldsOurBooks naming image ⊎ HoldsEmptyBooks image
 -- a store is at rest with it
 abbrev pub ShowsOurs : Naming → View → Type 0
 ShowsOurs naming view = ShowsOurBooks naming view ⊎ IsEmpty view
+
+-- an answer is handed on, or, where no memory was left to see that closed files hold books, that
+abbrev pub IsReleased : {A : Type 0} → Result A RepositoryFault → Result A RepositoryFault → Type 0
+IsReleased answer told = (told ≡ answer) ⊎ (told ≡ Err Unseen)
 
 -- no files are in hand: memory ran out, another program has them, or they are out of reach
 abbrev pub IsWithoutFiles : RepositoryFault → Type 0

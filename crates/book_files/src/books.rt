@@ -1,7 +1,7 @@
 //! The books in a store, and the store of a file, which is closed after a visit. What is done to
 //! open books is written for any store, so that it is proved once.
 
-ghost use Rattle.std.specs.Prelude.{◌≡◌, true, false, is_some, ⊤, IfErr, IfOk, IsTrue};
+ghost use Rattle.std.specs.Prelude.{◌≡◌, true, false, is_some, ⊤, IfErr, IfOk, IsTrue, MatchResult};
 ghost use Rattle.sqlite_disk.specs.Disk.{MoreFaults};
 ghost use Rattle.sqlite_store.specs.FileStore.{view};
 ghost use Rattle.sqlite_trees.specs.Tree.{Trees};
@@ -36,16 +36,18 @@ use tree_tables::{StoredBook, TreeTables};
 
 /// Visits the books in a store. They name records by SHA-256. The store is given back: whatever a
 /// stop may leave of it holds what the visit made of its book.
-pub fn visit_in<S: Store, V: Visit + Drop>(
+pub fn visit_in<S: Store, V: Visit>(
     alloc: Global,
     store: S,
-    visit: V,
+    visit: &mut V,
 ) -> (Result<V::Answer, RepositoryFault>, S)
     requires { IsClean (S.Store.view store) → HasShapes (S.Store.view store) }
     ensures left { (book : Book) → StandsAt file_names book (S.Store.view store)
         → IsClean (S.Store.view result.1) → (trees : Trees) → S.Store.recovers result.1 trees
-        → LeavesTrees file_names (done_by V.Visit.work file_names visit result.0) book trees }
+        → LeavesTrees file_names (done_by (V.Visit.work file_names visit.old visit.new) result.0) book trees }
     ensures clean { IsClean (S.Store.view result.1) → IsClean (S.Store.view store) }
+    ensures came { MatchResult result.0 (V.Visit.comes visit.old visit.new)
+        (λ _. visit.new ≡ visit.old) }
     ensures there { IfOk result.0 (λ answer. IsClean (S.Store.view result.1)
         → has_book (S.Store.view store).trees ≡ true) }
 
@@ -164,17 +166,19 @@ fn resume_in<S: Store>(alloc: Global, store: S) -> (Result<(), RepositoryFault>,
 
 /// Visits the books in a file that was opened, and closes it: whatever may be found of it then, and
 /// wherever a stop comes within this, holds what the visit made of the book.
-pub(crate) fn visit_and_close<D: Disk, V: Visit + Drop>(
+pub(crate) fn visit_and_close<D: Disk, V: Visit>(
     alloc: Global,
     store: FileStore<D>,
-    visit: V,
+    visit: &mut V,
 ) -> (Result<V::Answer, RepositoryFault>, Closed<D>)
     requires { HasShapes (view store) }
     ensures left { IsTrue result.1.is_kept → (book : Book) → StandsAt file_names book (view store)
         → (image : Image) → MayBeFound D.Disk result.1.files image
-        → ∥ LeavesBook file_names (done_by V.Visit.work file_names visit result.0) book image ∥₁ }
+        → ∥ LeavesBook file_names (done_by (V.Visit.work file_names visit.old visit.new) result.0) book image ∥₁ }
     ensures short { IsShort D.Disk result.1 }
     ensures clean { AreClean D.Disk result.1.files.log result.1.files.db → IsClean (view store) }
+    ensures came { MatchResult result.0 (V.Visit.comes visit.old visit.new)
+        (λ _. visit.new ≡ visit.old) }
     ensures there { IfOk result.0 (λ answer.
         AreClean D.Disk result.1.files.log result.1.files.db
         → has_book (view store).trees ≡ true) }

@@ -28,11 +28,13 @@ impl Visit for Look {
     /// They were opened.
     type Answer = ();
 
-    ghost work = { λ _ _ _. NoEvent };
+    ghost work = { λ _ _ _ _. NoEvent };
 
-    ghost answered = { λ naming _ _. none_answered naming };
+    ghost comes = { λ _ _ _. Unit {0} };
 
-    fn visit<L: Ledger>(self, _books: &mut L) {}
+    ghost answered = { λ naming _ _ _. none_answered naming };
+
+    fn visit<L: Ledger>(&mut self, _books: &mut L) {}
 }
 
 /// Why there is no copy of books.
@@ -85,7 +87,7 @@ pub fn copy_at<S: Start, T: Start>(
     };
     match copy_to(rt, &mut files, copy, seed, held) {
         Ok(store) => {
-            let (opened, closed) = visit_and_close(rt.alloc(), store, Look);
+            let (opened, closed) = visit_and_close(rt.alloc(), store, &mut Look);
             Copied {
                 answer: opened.map_err(CopyFault::Refused),
                 original: Some(files),

@@ -2,7 +2,7 @@
 
 ghost use Rattle.std.specs.Prelude.{◌≡◌};
 ghost use Rattle.std.specs.IoError.{error_kind};
-ghost use Rattle.book_files.specs.Faults.{file_fault, look_answer, open_fault};
+ghost use Rattle.book_files.specs.Faults.{IsReleased, file_fault, look_answer, open_fault};
 
 use crate::log::Log;
 use crate::session::{Ended, audit_at, visit_at};
@@ -111,6 +111,11 @@ pub(crate) fn not_looked_through(fault: LookFault) -> Result<Audited, Repository
 }
 
 impl Repository for Files<'_> {
+    ghost use Rattle.book_restarts.specs.FileBooks.{file_names};
+    ghost use Rattle.office.specs.Shelves.{unknown};
+
+    ghost shelf = { λ _. unknown file_names };
+
     /// Says whether the file is there.
     fn expect(&self, book: &str) -> Result<(), RepositoryFault> {
         match fs::exists(self.rt, book) {
@@ -121,14 +126,14 @@ impl Repository for Files<'_> {
     }
 
     /// Makes new books under a name that is not there yet.
-    fn make(&self, book: &str) -> Result<(), RepositoryFault> {
+    fn make(&mut self, book: &str) -> Result<(), RepositoryFault> {
         self.make_new(book)
     }
 
     /// Visits the books of a file that is there. What a ledger left in it is opened at the same
     /// cost whatever it holds: the whole file is not read. After the visit the books are one file,
     /// where their log could be brought into it.
-    fn open<V: Visit + Drop>(&self, book: &str, visit: V) -> Opened<V::Answer> {
+    fn open<V: Visit>(&mut self, book: &str, visit: &mut V) -> Opened<V::Answer> {
         match self.begin_with(book) {
             Ok((log, seed)) => {
                 let (answer, ended) = visit_at(self.rt, book, seed, Unknown, visit);
@@ -154,7 +159,7 @@ impl AuditedRepository for Files<'_> {
 
     /// Copies the books of a file, and whatever their log holds of them, into one file. They are
     /// only read.
-    fn back_up<W: Watch>(&self, book: &str, copy: &str, watch: &mut W) -> Opened<Audited> {
+    fn back_up<W: Watch>(&mut self, book: &str, copy: &str, watch: &mut W) -> Opened<Audited> {
         self.copy_books(book, copy, watch)
     }
 }
@@ -165,17 +170,21 @@ pub(crate) fn released<T: Drop, D: Disk + Drop>(
     log: &Log<'_>,
     answer: Result<T, RepositoryFault>,
     ended: Ended<D>,
-) -> Opened<T> {
+) -> Opened<T>
+    ensures { IsReleased answer result.answer }
+{
     match ended {
         Ended::Closed(closed) => {
             let is_kept = closed.is_kept;
             let has_log = log.release(closed);
-            let answer = if is_kept {
-                answer
+            if is_kept {
+                Opened { answer, has_log }
             } else {
-                Err(RepositoryFault::Unseen)
-            };
-            Opened { answer, has_log }
+                Opened {
+                    answer: Err(RepositoryFault::Unseen),
+                    has_log,
+                }
+            }
         }
         Ended::Refused(files) => {
             let has_log = log.leave(files);
@@ -185,7 +194,9 @@ pub(crate) fn released<T: Drop, D: Disk + Drop>(
 }
 
 /// What came of files that were not opened.
-pub(crate) fn without_log<T: Drop>(answer: Result<T, RepositoryFault>) -> Opened<T> {
+pub(crate) fn without_log<T: Drop>(answer: Result<T, RepositoryFault>) -> Opened<T>
+    ensures { result.answer ≡ answer }
+{
     Opened {
         answer,
         has_log: false,

@@ -1,7 +1,7 @@
 //! One session on the books in a file: it is opened, visited and closed; or looked through; or new
 //! books are made in it, or continued.
 
-ghost use Rattle.std.specs.Prelude.{◌≡◌, [], false, true, ⊤, IfErr, IfOk, List};
+ghost use Rattle.std.specs.Prelude.{◌≡◌, [], false, true, ⊤, IfErr, IfOk, List, MatchResult};
 ghost use Rattle.sqlite_wal.specs.Files.{image_at};
 ghost use Rattle.sqlite_wal.specs.Recovery.{Image};
 ghost use Rattle.book_model.specs.Words.{Event};
@@ -35,21 +35,24 @@ pub enum Ended<D: Disk> {
 /// Opens the file at the path, visits its books, and closes it. `S` stands for what the files hold:
 /// each call has one of its own. Whatever may be found of them next, and wherever a stop comes
 /// within this, holds the books of the history before it, gone on with what the visit made.
-pub fn visit_at<S: LeftByLedger, V: Visit + Drop>(
+pub fn visit_at<S: LeftByLedger, V: Visit>(
     rt: &HostRuntime,
     path: &str,
     seed: u64,
     start: S,
-    visit: V,
+    visit: &mut V,
 ) -> (Result<V::Answer, RepositoryFault>, Ended<FileFrom<S>>)
     ensures history { (image : Image) → MayFollow ⟦<FileFrom<S> as Disk>⟧ result.1 image
-        → GoesOn file_names (done_by V.Visit.work file_names visit result.0) (image_at S.Start)
+        → GoesOn file_names (done_by (V.Visit.work file_names visit.old visit.new) result.0) (image_at S.Start)
         image }
 
     // Where the log is left short, the file alone, without any log, holds all of that.
     ensures alone { (image : Image) → IsFileAlone ⟦<FileFrom<S> as Disk>⟧ result.1 image
-        → GoesOn file_names (done_by V.Visit.work file_names visit result.0) (image_at S.Start)
+        → GoesOn file_names (done_by (V.Visit.work file_names visit.old visit.new) result.0) (image_at S.Start)
         image }
+
+    ensures came { MatchResult result.0 (V.Visit.comes visit.old visit.new)
+        (λ _. visit.new ≡ visit.old) }
 
     // There are books exactly where their row is there: that there are none is answered only of files
     // that hold none, or not their row, and without it none are visited. A fault of the store is told

@@ -1,19 +1,25 @@
 //! The commands on books. Faults are found in this order: a date or a name, the books, the file,
-//! what the books say, or the stop of an import, and then the output.
+//! what the books say, or the stop of an import, and then the output. The books are closed before
+//! their answer is written.
 
-ghost use Rattle.office.specs.Requests.{IsAskableUnread};
-ghost use Rattle.std.specs.Prelude.{IsOk};
+ghost use Rattle.std.specs.Prelude.{◌≡◌, IfErr};
+ghost use Rattle.book_core.specs.Transition.{IsTransition};
+ghost use Rattle.office.specs.Answers.{answer_text};
+ghost use Rattle.office.specs.Requests.{IsAskableUnread, response_by, response_of};
 ghost use Rattle.office.proofs.AskLemmas.{askable_once};
-ghost use Rattle.chargectl.specs.Visits.{AsksOnce, once_answered};
+ghost use Rattle.chargectl.specs.Commands as spec;
+ghost use Rattle.chargectl.specs.Commands.{AsksOnce, once_answered, ComesOf, IsAnswered, IsPrinted};
+ghost use Rattle.chargectl.specs.Commands.{IsTextFault, IsTold, Tells, TellsAnswered, answer_of};
+ghost use Rattle.chargectl.specs.Commands.{ends_by};
 
 use crate::command_fault::{CommandFault, ended};
-use crate::ended::Ended;
-use crate::progress::{ClearingWriter, WatchedReader, WatchedRows};
-use book_audit::{Audited, AuditedRepository, audit_text};
+use crate::ended::{Answered, Ended};
+use crate::progress::{WatchedReader, clear_line};
 use book_core::{Ledger, LedgerFault, Sink, Source};
-use book_reports::ReportFault;
-use command_line::DumpFile;
-use office::{Answer, Asked, Opened, Reply, Report, Repository, Visit, answer};
+use command_line::{BookRequest, DumpFile};
+use office::{
+    Answer, Asked, Opened, Report, Repository, RepositoryFault, Visit, ask, write_answer,
+};
 use program_output::name_of_text;
 use smf_text::day_of_text;
 use std::alloc::Global;
@@ -24,239 +30,286 @@ use tariff_rules::{MAX_TEXT, TariffFault};
 /// The rule of identity that can be adopted: books begin under the other one.
 const LATER_RULE: u8 = 2;
 
-/// A request to the office, with the reader of its dump and the writer of its answer.
+/// A request to the office, with the reader of its dump.
 #[derive(Drop)]
-struct OfficeRequest<R: Read + Drop, W: Write + Drop> {
+struct OfficeRequest<R: Read + Drop> {
     alloc: Global,
     asked: Asked,
-    input: R,
-    output: W,
+    /// None after it was read.
+    input: Option<R>,
     ghost askable: { IsAskableUnread asked } by { Prim.hlevel askable_once },
 }
 
-impl<R: Read + Drop, W: Write + Drop> Visit for OfficeRequest<R, W> {
-    /// What the books answered was written, or the first fault.
-    type Answer = Result<(), CommandFault>;
+impl<R: Read + Drop> Visit for OfficeRequest<R> {
+    /// What the books answered.
+    type Answer = Result<Answer, LedgerFault>;
 
-    ghost work = { λ naming request told. AsksOnce naming request.asked (IsOk told) };
+    ghost work = { λ naming request _ told. AsksOnce naming request.asked (response_by told) };
 
-    ghost answered = { λ naming request told. once_answered naming request.asked (IsOk told) };
+    ghost comes = { λ _ _ _. Unit {0} };
 
-    fn visit<L: Ledger>(self, books: &mut L) -> Result<(), CommandFault> {
-        let mut source = Source::new(self.input);
-        let mut sink = Sink::new(self.output);
-        let Reply { answer, told } = answer(self.alloc, books, &self.asked, &mut source, &mut sink);
-        let written = flushed(told, sink.into_inner());
-        // An import that stopped says so, also where its receipt could not be written.
-        if let Answer::Receipt(receipt) = answer? {
-            ended(receipt.stop)?;
+    ghost answered = { λ naming request _ told.
+        once_answered naming request.asked (response_by told) };
+
+    fn visit<L: Ledger>(&mut self, books: &mut L) -> Result<Answer, LedgerFault> {
+        match self.input.take() {
+            Some(input) => ask_with(self.alloc, books, &self.asked, input),
+            None => ask_with(self.alloc, books, &self.asked, io::empty()),
         }
-        written
     }
 }
 
-/// The answer was written, and has left the program.
-fn flushed<W: Write + Drop>(
-    told: Result<(), ReportFault>,
-    mut output: W,
-) -> Result<(), CommandFault> {
-    told?;
-    Ok(output.flush()?)
+/// Asks the books, with a reader that was not asked yet.
+fn ask_with<L: Ledger, R: Read + Drop>(
+    alloc: Global,
+    books: &mut L,
+    asked: &Asked,
+    input: R,
+) -> Result<Answer, LedgerFault>
+    requires { IsAskableUnread asked.now }
+    ensures { IsTransition (L.seen books.old) (L.seen books.new)
+        (spec.AsksOnceBy (L.seen books.old).naming asked.now result) }
+{
+    let mut source = Source::new(input);
+    ask(alloc, books, asked, &mut source)
 }
 
-/// Asks the books of a name, and writes what they answer.
-fn ask_books<S: Repository, R: Read + Drop, O: Write + Drop>(
+/// It may change the books.
+fn may_change(asked: &Asked) -> bool
+    ensures { result ≡ spec.may_change asked.now }
+{
+    match asked {
+        Asked::Report(_) => false,
+        _ => true,
+    }
+}
+
+/// What came of a request: its answer, its refusal, or why the books were not opened.
+fn answer_in(
+    told: Result<Result<Answer, LedgerFault>, RepositoryFault>,
+) -> Result<Answer, CommandFault>
+    ensures { result ≡ answer_of told }
+{
+    match told {
+        Ok(Ok(answer)) => Ok(answer),
+        Ok(Err(fault)) => Err(CommandFault::Ledger(fault)),
+        Err(fault) => Err(CommandFault::from(fault)),
+    }
+}
+
+/// Asks the books of a name.
+fn ask_books<S: Repository, R: Read + Drop>(
     rt: &HostRuntime,
-    repository: &S,
+    repository: &mut S,
     book: &str,
     asked: Asked,
     input: R,
-    output: O,
-) -> Ended
+) -> Answered
     requires { IsAskableUnread asked }
+    ensures { IsAnswered asked book.now (S.shelf repository.old) (S.shelf repository.new) result }
 {
-    let is_change = !matches!(&asked, Asked::Report(_));
-    let office_request = OfficeRequest {
+    let is_change = may_change(&asked);
+    let mut office_request = OfficeRequest {
         alloc: rt.alloc(),
         asked,
-        input,
-        output,
+        input: Some(input),
     };
-    let Opened { answer, has_log } = repository.open(book, office_request);
-    let came = match answer {
-        Ok(told) => told,
-        Err(fault) => Err(CommandFault::from(fault)),
-    };
-    Ended {
-        came,
+    let Opened { answer, has_log } = repository.open(book, &mut office_request);
+    Answered {
+        answer: answer_in(answer),
         has_log,
         is_change,
     }
 }
 
-/// Submits a tariff.
-pub(crate) fn tariff<S: Repository, O: Write + Drop>(
-    rt: &HostRuntime,
-    repository: &S,
-    book: &str,
-    file: &str,
+/// Writes what came of a command, and says how it ends.
+pub(crate) fn tell<O: Write + Drop>(
+    answered: Result<Answered, CommandFault>,
     output: O,
-) -> Result<Ended, CommandFault> {
+) -> (Ended, O)
+    ensures { Tells answered (O.contents output) (O.contents result.1) result.0 }
+{
+    match answered {
+        Ok(answered) => tell_answered(answered, output),
+        Err(fault) => (Ended::without_log(Err(fault)), output),
+    }
+}
+
+/// The same, where the books were closed.
+fn tell_answered<O: Write + Drop>(answered: Answered, output: O) -> (Ended, O)
+    ensures { TellsAnswered answered (O.contents output) (O.contents result.1) result.0 }
+{
+    let Answered {
+        answer,
+        has_log,
+        is_change,
+    } = answered;
+    let (came, output) = tell_answer(answer, output);
+    let ended = Ended {
+        came,
+        has_log,
+        is_change,
+    };
+    (ended, output)
+}
+
+fn tell_answer<O: Write + Drop>(
+    answer: Result<Answer, CommandFault>,
+    output: O,
+) -> (Result<(), CommandFault>, O)
+    ensures { IsTold answer (O.contents output) (O.contents result.1) result.0 }
+{
+    match answer {
+        Ok(answer) => {
+            let (written, output) = print(&answer, output);
+            (end_by(&answer, written), output)
+        }
+        Err(fault) => (Err(fault), output),
+    }
+}
+
+/// An import that stopped says so, also where its receipt could not be written.
+fn end_by(answer: &Answer, written: Result<(), CommandFault>) -> Result<(), CommandFault>
+    ensures { result ≡ ends_by answer.now written }
+{
+    if let Answer::Receipt(receipt) = answer {
+        ended(receipt.stop)?;
+    }
+    written
+}
+
+/// Writes an answer, so that it has left the program.
+fn print<O: Write + Drop>(answer: &Answer, output: O) -> (Result<(), CommandFault>, O)
+    ensures { IsPrinted (answer_text (response_of answer.now))
+        (O.contents output) (O.contents result.1) result.0 }
+{
+    let mut sink = Sink::new(output);
+    let told = write_answer(answer, &mut sink);
+    let mut output = sink.into_inner();
+    if let Err(fault) = told {
+        return (Err(CommandFault::Report(fault)), output);
+    }
+    match output.flush() {
+        Ok(()) => (Ok(()), output),
+        Err(error) => (Err(CommandFault::from(error)), output),
+    }
+}
+
+/// Submits a tariff.
+pub(crate) fn tariff<'a, S: Repository>(
+    rt: &HostRuntime,
+    repository: &mut S,
+    book: &str,
+    file: &'a str,
+) -> Result<Answered, CommandFault>
+    ensures { ComesOf (BookRequest.Tariff file.entry) book.now
+        (S.shelf repository.old) (S.shelf repository.new) result }
+{
     repository.expect(book)?;
     let asked = Asked::Tariff(tariff_text(rt, file)?);
-    Ok(ask_books(rt, repository, book, asked, io::empty(), output))
+    Ok(ask_books(rt, repository, book, asked, io::empty()))
 }
 
 /// The text of a tariff file.
-fn tariff_text(rt: &HostRuntime, file: &str) -> Result<String, CommandFault> {
+fn tariff_text(rt: &HostRuntime, file: &str) -> Result<String, CommandFault>
+    ensures { IfErr result IsTextFault }
+{
     let mut bytes = Vec::new(rt.alloc());
     fs::open(rt, file)?
         .take(MAX_TEXT as u64 + 1)
         .read_to_end(&mut bytes)?;
     if bytes.len() > MAX_TEXT {
-        return Err(refused(TariffFault::TooMany));
+        return Err(CommandFault::Ledger(LedgerFault::TariffRefused(TariffFault::TooMany)));
     }
-    String::from_utf8(bytes).map_err(|_| refused(TariffFault::Syntax))
-}
-
-fn refused(fault: TariffFault) -> CommandFault {
-    CommandFault::Ledger(LedgerFault::TariffRefused(fault))
+    match String::from_utf8(bytes) {
+        Ok(text) => Ok(text),
+        Err(_) => Err(CommandFault::Ledger(LedgerFault::TariffRefused(TariffFault::Syntax))),
+    }
 }
 
 /// Closes a period through a day.
-pub(crate) fn close<S: Repository, O: Write + Drop>(
+pub(crate) fn close<S: Repository>(
     rt: &HostRuntime,
-    repository: &S,
+    repository: &mut S,
     book: &str,
     period: u16,
     date: &str,
-    output: O,
-) -> Result<Ended, CommandFault> {
-    let Some(through) = day_of_text(date) else {
-        return Err(CommandFault::Argument);
+) -> Result<Answered, CommandFault>
+    ensures { ComesOf (BookRequest.Close period date.entry) book.now
+        (S.shelf repository.old) (S.shelf repository.new) result }
+{
+    let through = match day_of_text(date) {
+        Some(through) => through,
+        None => return Err(CommandFault::Argument),
     };
     repository.expect(book)?;
     let asked = Asked::Close { period, through };
-    Ok(ask_books(rt, repository, book, asked, io::empty(), output))
+    Ok(ask_books(rt, repository, book, asked, io::empty()))
 }
 
 /// Chooses the record of a name.
-pub(crate) fn choose<S: Repository, O: Write + Drop>(
+pub(crate) fn choose<S: Repository>(
     rt: &HostRuntime,
-    repository: &S,
+    repository: &mut S,
     book: &str,
     name: &str,
-    output: O,
-) -> Result<Ended, CommandFault> {
-    let Some(name) = name_of_text(name) else {
-        return Err(CommandFault::Argument);
+) -> Result<Answered, CommandFault>
+    ensures { ComesOf (BookRequest.Choose name.entry) book.now
+        (S.shelf repository.old) (S.shelf repository.new) result }
+{
+    let chosen = match name_of_text(name) {
+        Some(chosen) => chosen,
+        None => return Err(CommandFault::Argument),
     };
     repository.expect(book)?;
-    let asked = Asked::Choose(name);
-    Ok(ask_books(rt, repository, book, asked, io::empty(), output))
+    let asked = Asked::Choose(chosen);
+    Ok(ask_books(rt, repository, book, asked, io::empty()))
 }
 
 /// Adopts the later rule of identity.
-pub(crate) fn adopt<S: Repository, O: Write + Drop>(
+pub(crate) fn adopt<S: Repository>(
     rt: &HostRuntime,
-    repository: &S,
+    repository: &mut S,
     book: &str,
-    output: O,
-) -> Result<Ended, CommandFault> {
+) -> Result<Answered, CommandFault>
+    ensures { ComesOf BookRequest.Adopt book.now
+        (S.shelf repository.old) (S.shelf repository.new) result }
+{
     repository.expect(book)?;
     let asked = Asked::Adopt(LATER_RULE);
-    Ok(ask_books(rt, repository, book, asked, io::empty(), output))
+    Ok(ask_books(rt, repository, book, asked, io::empty()))
 }
 
-/// Reads a dump into the books, and prints the receipt line, whatever stopped the import.
-pub(crate) fn import_dump<S: Repository, O: Write + Drop>(
+/// Reads a dump into the books, whatever stops the import.
+pub(crate) fn import_dump<S: Repository>(
     rt: &HostRuntime,
-    repository: &S,
+    repository: &mut S,
     book: &str,
     dump: DumpFile<'_>,
-    output: O,
-) -> Result<Ended, CommandFault> {
+) -> Result<Answered, CommandFault>
+    ensures { ComesOf (BookRequest.Import dump.entry) book.now
+        (S.shelf repository.old) (S.shelf repository.new) result }
+{
     repository.expect(book)?;
     let asked = Asked::Import(dump.layout);
     let is_shown = !dump.quiet && rt.stderr().is_terminal();
     let input = WatchedReader::open(rt, dump.file, is_shown)?;
-    let output = ClearingWriter::new(rt, output, is_shown);
-    Ok(ask_books(rt, repository, book, asked, input, output))
+    let answered = ask_books(rt, repository, book, asked, input);
+    clear_line(rt, is_shown);
+    Ok(answered)
 }
 
-/// Prints a report of the books.
-pub(crate) fn report<S: Repository, O: Write + Drop>(
+/// Makes a report of the books.
+pub(crate) fn report<S: Repository>(
     rt: &HostRuntime,
-    repository: &S,
+    repository: &mut S,
     book: &str,
     report: Report,
-    output: O,
-) -> Result<Ended, CommandFault> {
+) -> Result<Answered, CommandFault>
+    ensures { ComesOf (BookRequest.Print report) book.now
+        (S.shelf repository.old) (S.shelf repository.new) result }
+{
     repository.expect(book)?;
     let asked = Asked::Report(report);
-    Ok(ask_books(rt, repository, book, asked, io::empty(), output))
-}
-
-/// Audits the whole file of books, and prints the result.
-pub(crate) fn audit<S: AuditedRepository, O: Write + Drop>(
-    rt: &HostRuntime,
-    repository: &S,
-    book: &str,
-    quiet: bool,
-    output: O,
-) -> Result<Ended, CommandFault> {
-    repository.expect(book)?;
-    let mut rows = WatchedRows::new(rt, !quiet && rt.stderr().is_terminal());
-    let audited = repository.audit(book, &mut rows);
-    rows.clear();
-    Ok(show_audited(rt.alloc(), audited, output))
-}
-
-/// Copies books to another file, audits the copy, and prints the result.
-pub(crate) fn back_up<S: AuditedRepository, O: Write + Drop>(
-    rt: &HostRuntime,
-    repository: &S,
-    book: &str,
-    copy: &str,
-    quiet: bool,
-    output: O,
-) -> Result<Ended, CommandFault> {
-    repository.expect(book)?;
-    let mut rows = WatchedRows::new(rt, !quiet && rt.stderr().is_terminal());
-    let audited = repository.back_up(book, copy, &mut rows);
-    rows.clear();
-    Ok(show_audited(rt.alloc(), audited, output))
-}
-
-/// Prints what came of an audit. Books that are unsound end the command so, whatever became of the
-/// text.
-fn show_audited<O: Write + Drop>(alloc: Global, audited: Opened<Audited>, output: O) -> Ended {
-    let Opened { answer, has_log } = audited;
-    let came = match answer {
-        Ok(audited) => write_audited(alloc, &audited, output),
-        Err(fault) => Err(CommandFault::from(fault)),
-    };
-    Ended {
-        came,
-        has_log,
-        is_change: false,
-    }
-}
-
-fn write_audited<O: Write + Drop>(
-    alloc: Global,
-    audited: &Audited,
-    output: O,
-) -> Result<(), CommandFault> {
-    let text = audit_text(alloc, audited)?;
-    let written = write_text(&text, output);
-    match audited {
-        Audited::Sound(_) => written,
-        Audited::Unsound(_) => Err(CommandFault::Unsound),
-    }
-}
-
-fn write_text<O: Write + Drop>(text: &String, mut output: O) -> Result<(), CommandFault> {
-    write!(output, "{text}")?;
-    Ok(output.flush()?)
+    Ok(ask_books(rt, repository, book, asked, io::empty()))
 }

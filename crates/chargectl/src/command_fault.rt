@@ -1,3 +1,7 @@
+ghost use Rattle.std.specs.Prelude.{◌≡◌};
+ghost use Rattle.program_output.specs.Messages.{AreSaid};
+ghost use Rattle.chargectl.specs.Faults.{end_of, fault_lines, fault_status};
+
 use book_core::LedgerFault;
 use book_import::Stop;
 use book_reports::ReportFault;
@@ -8,7 +12,8 @@ use program_output::{
 };
 use std::alloc::AllocError;
 use std::io;
-use std::io::{ErrorKind, Write};
+use std::io::ErrorKind;
+use streams::Writer;
 
 /// Why a command did not do what it was asked.
 #[derive(Clone, Copy, Debug)]
@@ -34,8 +39,11 @@ pub(crate) enum CommandFault {
 }
 
 impl CommandFault {
-    /// Says it on standard error, in one line.
-    pub(crate) fn write_to<E: Write>(self, errors: &mut E) -> Status {
+    /// Says it on standard error, in one line; of a rate outside its limits it says nothing.
+    pub(crate) fn write_to<E: Writer>(self, errors: &mut E) -> Status
+        ensures status { result ≡ fault_status self }
+        ensures said { AreSaid E.contents E.may_answer (fault_lines self) errors.old errors.new }
+    {
         match self {
             CommandFault::Io => io_failed(errors),
             CommandFault::Usage => Status::Usage,
@@ -52,7 +60,9 @@ impl CommandFault {
 }
 
 /// A dump was read to its end, or why not.
-pub(crate) fn ended(stop: Stop) -> Result<(), CommandFault> {
+pub(crate) fn ended(stop: Stop) -> Result<(), CommandFault>
+    ensures { result ≡ end_of stop }
+{
     match stop {
         Stop::End => Ok(()),
         stop => Err(CommandFault::Stopped(stop)),
@@ -60,6 +70,11 @@ pub(crate) fn ended(stop: Stop) -> Result<(), CommandFault> {
 }
 
 impl From<io::Error> for CommandFault {
+    ghost use Rattle.std.specs.IoError.{error_kind};
+    ghost use Rattle.chargectl.specs.Faults.{io_fault};
+
+    ghost from_gives = { λ error fault. fault ≡ io_fault (error_kind error) };
+
     fn from(error: io::Error) -> CommandFault {
         if error.kind() == ErrorKind::OutOfMemory {
             CommandFault::Ledger(LedgerFault::Memory)
@@ -70,18 +85,31 @@ impl From<io::Error> for CommandFault {
 }
 
 impl From<AllocError> for CommandFault {
+    ghost use Rattle.chargectl.specs.declared.command_fault.CommandFault.TheVariants.{Ledger};
+    ghost use Rattle.book_model.specs.declared.fault.LedgerFault.TheVariants.{Memory};
+
+    ghost from_gives = { λ _ fault. fault ≡ Ledger Memory };
+
     fn from(_: AllocError) -> CommandFault {
         CommandFault::Ledger(LedgerFault::Memory)
     }
 }
 
 impl From<LedgerFault> for CommandFault {
+    ghost use Rattle.chargectl.specs.declared.command_fault.CommandFault.TheVariants.{Ledger};
+
+    ghost from_gives = { λ refused fault. fault ≡ Ledger refused };
+
     fn from(fault: LedgerFault) -> CommandFault {
         CommandFault::Ledger(fault)
     }
 }
 
 impl From<RepositoryFault> for CommandFault {
+    ghost use Rattle.chargectl.specs.Faults.{shelf_fault};
+
+    ghost from_gives = { λ refused fault. fault ≡ shelf_fault refused };
+
     fn from(fault: RepositoryFault) -> CommandFault {
         match fault {
             RepositoryFault::Io => CommandFault::Io,
@@ -94,6 +122,10 @@ impl From<RepositoryFault> for CommandFault {
 }
 
 impl From<ReportFault> for CommandFault {
+    ghost use Rattle.chargectl.specs.declared.command_fault.CommandFault.TheVariants.{Report};
+
+    ghost from_gives = { λ refused fault. fault ≡ Report refused };
+
     fn from(fault: ReportFault) -> CommandFault {
         CommandFault::Report(fault)
     }

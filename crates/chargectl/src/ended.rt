@@ -1,8 +1,25 @@
 //! How a command ended, and what it says of that on standard error.
 
+ghost use Rattle.std.specs.Prelude.{◌≡◌};
+ghost use Rattle.program_output.specs.Messages.{AreSaid};
+ghost use Rattle.chargectl.specs.Faults.{came_lines, came_status, error_lines, settled_as};
+ghost use Rattle.chargectl.specs.Faults.{status_by, without_log};
+
 use crate::command_fault::CommandFault;
+use office::Answer;
 use program_output::{Status, log_left};
-use std::io::Write;
+use streams::Writer;
+
+/// What came of a request to the books, which are closed again.
+#[derive(Drop)]
+pub(crate) struct Answered {
+    /// What they answered, or why not.
+    pub(crate) answer: Result<Answer, CommandFault>,
+    /// The log beside the books holds a part of them.
+    pub(crate) has_log: bool,
+    /// It may have changed the books.
+    pub(crate) is_change: bool,
+}
 
 /// How a command ended.
 #[derive(Drop)]
@@ -17,7 +34,9 @@ pub(crate) struct Ended {
 
 impl Ended {
     /// How a command ended that left no log.
-    pub(crate) fn without_log(came: Result<(), CommandFault>) -> Ended {
+    pub(crate) fn without_log(came: Result<(), CommandFault>) -> Ended
+        ensures { result ≡ without_log came }
+    {
         Ended {
             came,
             has_log: false,
@@ -25,16 +44,38 @@ impl Ended {
         }
     }
 
+    /// How a command ended that may have found a fault before it opened any books.
+    pub(crate) fn settled(came: Result<Ended, CommandFault>) -> Ended
+        ensures { result ≡ settled_as came }
+    {
+        match came {
+            Ok(ended) => ended,
+            Err(fault) => Ended::without_log(Err(fault)),
+        }
+    }
+
     /// Says on standard error why it was not done, and where the books are in two files.
-    pub(crate) fn write_to<E: Write>(self, errors: &mut E) -> Status {
-        let status = match self.came {
-            Ok(()) => Status::Done,
-            Err(fault) => fault.write_to(errors),
-        };
+    #[tactic(auto, using(program_output::proofs::MessageLemmas::said_then))]
+    pub(crate) fn write_to<E: Writer>(self, errors: &mut E) -> Status
+        ensures status { result ≡ status_by self }
+        ensures said { AreSaid E.contents E.may_answer (error_lines self) errors.old errors.new }
+    {
+        let status = say_fault(self.came, errors);
         if self.has_log {
             log_left(errors, status, self.is_change)
         } else {
             status
         }
+    }
+}
+
+/// Says why a command was not done, if it was not.
+fn say_fault<E: Writer>(came: Result<(), CommandFault>, errors: &mut E) -> Status
+    ensures status { result ≡ came_status came }
+    ensures said { AreSaid E.contents E.may_answer (came_lines came) errors.old errors.new }
+{
+    match came {
+        Ok(()) => Status::Done,
+        Err(fault) => fault.write_to(errors),
     }
 }

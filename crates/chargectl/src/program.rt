@@ -1,53 +1,68 @@
 //! What the program does with its words and streams.
 
-use crate::book_commands::{adopt, audit, back_up, choose, close, import_dump, report, tariff};
+ghost use Rattle.std.specs.Prelude.{◌≡◌, map, string_bytes};
+ghost use Rattle.program_output.specs.Messages.{AreSaid};
+ghost use Rattle.chargectl.specs.Faults.{shelf_end, status_by};
+ghost use Rattle.chargectl.specs.Reading as spec;
+ghost use Rattle.chargectl.specs.Reading.{Checks, TellsOf, TriesBy, check_end, trial_end};
+ghost use Rattle.chargectl.specs.Requests.{CommandsBy, Does, IsRefusedFor, Runs};
+
+use crate::audits::{audit, back_up};
+use crate::book_commands::{adopt, choose, close, import_dump, report, tariff, tell};
 use crate::command_fault::{CommandFault, ended};
 use crate::ended::Ended;
 use crate::progress::WatchedReader;
 use crate::serve::serve;
 use book_audit::AuditedRepository;
 use book_core::{Sink, Source};
-use book_import::MAX_READS;
+use book_import::{MAX_READS, Receipt, Stop};
+use book_reports::ReportFault;
 use command_line::{ArgumentFault, BookRequest, DumpFile, NumberKind, Request, requested_by};
+use office::RepositoryFault;
 use program_output::{
-    Explanation, FaultKind, PROGRAM, Status, check_list, explained, io_failed, out_of_memory, trial,
+    Explanation, FaultKind, PROGRAM, Status, check_list, explained, io_failed, out_of_memory, say,
+    trial,
 };
 use smf_frames::Layout;
 use std::alloc::Global;
 use std::io::{IsTerminal, Read, Write};
+use streams::Writer;
 use tariff_rules::{MAX_RATE, Tariff};
 
 /// Does what the words ask for, the first of which is the program's name. Books are kept on a
-/// shelf.
-pub fn command<S: AuditedRepository, I: Read + Drop, O: Write + Drop, E: Write>(
+/// shelf. Why it was not done is said on standard error.
+pub fn command<S: AuditedRepository, I: Read + Drop, O: Write + Drop, E: Writer>(
     rt: &HostRuntime,
-    repository: &S,
+    repository: &mut S,
     words: &[String],
     input: I,
     output: O,
     errors: &mut E,
-) -> Status {
+) -> (Status, O)
+    ensures { CommandsBy S.shelf repository.old repository.new (map string_bytes words.now)
+        (I.remaining input) (O.contents output) (O.contents result.1)
+        (λ lines. AreSaid E.contents E.may_answer lines errors.old errors.new) result.0 }
+{
     match requested_by(rt.alloc(), PROGRAM, words, MAX_RATE as u32) {
-        Ok(request) => status_of(run(rt, repository, request, input, output), errors),
+        Ok(request) => {
+            let (ended, output) = run(rt, repository, request, input, output);
+            (ended.write_to(errors), output)
+        }
         Err(fault) => refuse(&fault, output, errors),
-    }
-}
-
-fn status_of<E: Write>(ended: Result<Ended, CommandFault>, errors: &mut E) -> Status {
-    match ended {
-        Ok(ended) => ended.write_to(errors),
-        Err(command_fault) => command_fault.write_to(errors),
     }
 }
 
 /// Does what is asked.
 fn run<S: AuditedRepository, I: Read + Drop, O: Write + Drop>(
     rt: &HostRuntime,
-    repository: &S,
+    repository: &mut S,
     request: Request<'_>,
     input: I,
-    output: O,
-) -> Result<Ended, CommandFault> {
+    mut output: O,
+) -> (Ended, O)
+    ensures { Runs S.shelf repository.old repository.new request.entry (I.remaining input)
+        (O.contents output) (O.contents result.1) result.0 }
+{
     match request {
         Request::Trial {
             layout,
@@ -56,12 +71,16 @@ fn run<S: AuditedRepository, I: Read + Drop, O: Write + Drop>(
             record,
         } => {
             let tariff = Tariff::flat(rt.alloc(), cpu, excp, record);
-            let came = run_trial(rt.alloc(), layout, tariff, input, output);
-            Ok(Ended::without_log(came))
+            let (came, output) = run_trial(rt.alloc(), layout, tariff, input, output);
+            (Ended::without_log(came), output)
         }
-        Request::Check(dump) => Ok(Ended::without_log(check(rt, dump, output))),
+        Request::Check(dump) => {
+            let (came, output) = check(rt, dump, output);
+            (Ended::without_log(came), output)
+        }
         Request::Explain { kind, number } => {
-            Ok(Ended::without_log(explain(kind, number, output)))
+            let came = explain(kind, number, &mut output);
+            (Ended::without_log(came), output)
         }
         Request::OfBooks { book, asked } => run_on_books(rt, repository, book, asked, output),
     }
@@ -70,44 +89,70 @@ fn run<S: AuditedRepository, I: Read + Drop, O: Write + Drop>(
 /// Does what is asked of books.
 fn run_on_books<S: AuditedRepository, O: Write + Drop>(
     rt: &HostRuntime,
-    repository: &S,
+    repository: &mut S,
     book: &str,
     asked: BookRequest<'_>,
-    output: O,
-) -> Result<Ended, CommandFault> {
+    mut output: O,
+) -> (Ended, O)
+    ensures { Does asked.entry book.now (S.shelf repository.old) (S.shelf repository.new)
+        (O.contents output) (O.contents result.1) result.0 }
+{
     match asked {
-        BookRequest::Init => Ok(Ended::without_log(Ok(repository.make(book)?))),
-        BookRequest::Tariff { file } => tariff(rt, repository, book, file, output),
-        BookRequest::Import(dump) => import_dump(rt, repository, book, dump, output),
-        BookRequest::Close { period, date } => close(rt, repository, book, period, date, output),
-        BookRequest::Choose { name } => choose(rt, repository, book, name, output),
-        BookRequest::Adopt => adopt(rt, repository, book, output),
-        BookRequest::Print(asked) => report(rt, repository, book, asked, output),
-        BookRequest::Audit { quiet } => audit(rt, repository, book, quiet, output),
-        BookRequest::BackUp { copy, quiet } => {
-            back_up(rt, repository, book, copy, quiet, output)
+        BookRequest::Init => {
+            let came = made(repository.make(book));
+            (Ended::without_log(came), output)
         }
-        BookRequest::Serve { port, requests } => serve(
-            rt, repository, book, port, requests, output,
-        ),
+        BookRequest::Tariff { file } => tell(tariff(rt, repository, book, file), output),
+        BookRequest::Import(dump) => tell(import_dump(rt, repository, book, dump), output),
+        BookRequest::Close { period, date } => {
+            tell(close(rt, repository, book, period, date), output)
+        }
+        BookRequest::Choose { name } => tell(choose(rt, repository, book, name), output),
+        BookRequest::Adopt => tell(adopt(rt, repository, book), output),
+        BookRequest::Print(asked) => tell(report(rt, repository, book, asked), output),
+        BookRequest::Audit { quiet } => {
+            let audited = audit(rt, repository, book, quiet, &mut output);
+            (Ended::settled(audited), output)
+        }
+        BookRequest::BackUp { copy, quiet } => {
+            let audited = back_up(rt, repository, book, copy, quiet, &mut output);
+            (Ended::settled(audited), output)
+        }
+        BookRequest::Serve { port, requests } => {
+            let (served, output) = serve(rt, repository, book, port, requests, output);
+            (Ended::settled(served), output)
+        }
+    }
+}
+
+/// New books were made, or why not.
+fn made(answer: Result<(), RepositoryFault>) -> Result<(), CommandFault>
+    ensures { result ≡ shelf_end answer }
+{
+    match answer {
+        Ok(()) => Ok(()),
+        Err(fault) => Err(CommandFault::from(fault)),
     }
 }
 
 /// Says what was wrong with the words, or helps where help was asked for.
-fn refuse<O: Write + Drop, E: Write>(
+fn refuse<O: Write + Drop, E: Writer>(
     fault: &ArgumentFault,
     mut output: O,
     errors: &mut E,
-) -> Status {
+) -> (Status, O)
+    ensures { IsRefusedFor fault.now (O.contents output) (O.contents result.1)
+        (λ lines. AreSaid E.contents E.may_answer lines errors.old errors.new) result.0 }
+{
     match fault {
-        ArgumentFault::Memory => out_of_memory(errors),
+        ArgumentFault::Memory => (out_of_memory(errors), output),
         ArgumentFault::Wrong(text) => {
-            let _ = write!(errors, "{text}");
-            Status::Usage
+            say(errors, text.as_str());
+            (Status::Usage, output)
         }
         ArgumentFault::Help(text) => match write!(output, "{text}") {
-            Ok(()) => Status::Done,
-            Err(_) => io_failed(errors),
+            Ok(()) => (Status::Done, output),
+            Err(_) => (io_failed(errors), output),
         },
     }
 }
@@ -116,8 +161,11 @@ fn refuse<O: Write + Drop, E: Write>(
 fn explain<O: Write + Drop>(
     kind: NumberKind,
     number: u16,
-    mut output: O,
-) -> Result<(), CommandFault> {
+    output: &mut O,
+) -> Result<(), CommandFault>
+    ensures { TellsOf (spec.kind_of kind) number (O.contents output.old) (O.contents output.new)
+        result }
+{
     let Some(Explanation { meaning, advice }) = explained(numbered(kind), number) else {
         return Err(CommandFault::Number);
     };
@@ -125,7 +173,9 @@ fn explain<O: Write + Drop>(
     Ok(output.flush()?)
 }
 
-fn numbered(kind: NumberKind) -> FaultKind {
+fn numbered(kind: NumberKind) -> FaultKind
+    ensures { result ≡ spec.kind_of kind }
+{
     match kind {
         NumberKind::Frame => FaultKind::Frame,
         NumberKind::Ledger => FaultKind::Ledger,
@@ -142,12 +192,24 @@ fn run_trial<I: Read + Drop, O: Write + Drop>(
     tariff: Option<Tariff>,
     input: I,
     output: O,
-) -> Result<(), CommandFault> {
-    let tariff = tariff.ok_or(CommandFault::Usage)?;
+) -> (Result<(), CommandFault>, O)
+    ensures { TriesBy layout tariff (I.remaining input) (O.contents output) (O.contents result.1)
+        result.0 }
+{
+    let Some(tariff) = tariff else {
+        return (Err(CommandFault::Usage), output);
+    };
     let mut source = Source::new(input);
     let mut sink = Sink::new(output);
-    let receipt = trial(alloc, &mut source, layout, MAX_READS, tariff, &mut sink)?;
-    ended(receipt.stop)
+    let told = trial(alloc, &mut source, layout, MAX_READS, tariff, &mut sink);
+    (trial_ended(told), sink.into_inner())
+}
+
+/// How a trial ends.
+fn trial_ended(told: Result<Receipt, ReportFault>) -> Result<(), CommandFault>
+    ensures { result ≡ trial_end told }
+{
+    ended(told?.stop)
 }
 
 /// Says what each record of a file is. Where the list goes to a terminal, the list itself shows how
@@ -156,12 +218,25 @@ fn check<O: Write + Drop>(
     rt: &HostRuntime,
     dump: DumpFile<'_>,
     output: O,
-) -> Result<(), CommandFault> {
+) -> (Result<(), CommandFault>, O)
+    ensures { Checks dump.entry.layout (O.contents output) (O.contents result.1) result.0 }
+{
     let layout = dump.layout;
     let is_shown = !dump.quiet && rt.stderr().is_terminal() && !rt.stdout().is_terminal();
-    let mut source = Source::new(WatchedReader::open(rt, dump.file, is_shown)?);
+    let reader = match WatchedReader::open(rt, dump.file, is_shown) {
+        Ok(reader) => reader,
+        Err(error) => return (Err(CommandFault::from(error)), output),
+    };
+    let mut source = Source::new(reader);
     let mut sink = Sink::new(output);
     let answer = check_list(rt.alloc(), &mut source, layout, MAX_READS, &mut sink);
     source.into_inner().clear();
-    ended(answer?)
+    (check_ended(answer), sink.into_inner())
+}
+
+/// How a check ends.
+fn check_ended(told: Result<Stop, ReportFault>) -> Result<(), CommandFault>
+    ensures { result ≡ check_end told }
+{
+    ended(told?)
 }

@@ -1,10 +1,11 @@
 //! Shelves with one book in memory.
 
+ghost use Rattle.std.specs.Prelude.{◌≡◌};
+
 use book_audit::{Audited, AuditedRepository, Watch};
 use book_core::{LedgerFault, Naming, PlainLedger};
 use office::{AwayBooks, Opened, Repository, RepositoryFault, Visit};
 use std::alloc::Global;
-use std::cell::Cell;
 use tariff_rules::Tariff;
 
 /// Gives all records the same name, so that books refuse the second one.
@@ -30,16 +31,22 @@ pub(crate) struct OneBook {
     pub(crate) alloc: Global,
 }
 
+#[tactic(auto, using(office::proofs::ShelfLemmas::unknown_made, office::proofs::ShelfLemmas::unknown_opened, office::proofs::ShelfLemmas::came_by, office::proofs::ShelfLemmas::same_by))]
 impl Repository for OneBook {
+    ghost use Rattle.std.specs.Prelude.{replicate};
+    ghost use Rattle.office.specs.Shelves.{unknown};
+
+    ghost shelf = { λ _. unknown (λ _. replicate 32 7) };
+
     fn expect(&self, _book: &str) -> Result<(), RepositoryFault> {
         Ok(())
     }
 
-    fn make(&self, _book: &str) -> Result<(), RepositoryFault> {
+    fn make(&mut self, _book: &str) -> Result<(), RepositoryFault> {
         Err(RepositoryFault::Exists)
     }
 
-    fn open<V: Visit + Drop>(&self, _book: &str, visit: V) -> Opened<V::Answer> {
+    fn open<V: Visit>(&mut self, _book: &str, visit: &mut V) -> Opened<V::Answer> {
         let Some(tariff) = Tariff::flat(self.alloc, 20_000, 500, 0) else {
             return without_log(Err(RepositoryFault::Io));
         };
@@ -50,18 +57,21 @@ impl Repository for OneBook {
     }
 }
 
+#[tactic(auto, using(book_audit::proofs::CopyLemmas::unknown_copied))]
 impl AuditedRepository for OneBook {
     fn audit<W: Watch>(&self, _book: &str, _watch: &mut W) -> Opened<Audited> {
         without_log(Err(RepositoryFault::Io))
     }
 
-    fn back_up<W: Watch>(&self, _book: &str, _copy: &str, _watch: &mut W) -> Opened<Audited> {
+    fn back_up<W: Watch>(&mut self, _book: &str, _copy: &str, _watch: &mut W) -> Opened<Audited> {
         without_log(Err(RepositoryFault::Io))
     }
 }
 
 /// What came of books in memory, which have no log.
-fn without_log<T: Drop>(answer: Result<T, RepositoryFault>) -> Opened<T> {
+fn without_log<T: Drop>(answer: Result<T, RepositoryFault>) -> Opened<T>
+    ensures { result.answer ≡ answer }
+{
     Opened {
         answer,
         has_log: false,
@@ -73,21 +83,27 @@ fn without_log<T: Drop>(answer: Result<T, RepositoryFault>) -> Opened<T> {
 pub(crate) struct AwayTwice {
     pub(crate) book: OneBook,
     /// How often it was to be opened.
-    pub(crate) opened: Cell<u32>,
+    pub(crate) opened: u32,
 }
 
+#[tactic(auto, using(office::proofs::ShelfLemmas::unknown_made, office::proofs::ShelfLemmas::unknown_opened, office::proofs::ShelfLemmas::came_by, office::proofs::ShelfLemmas::same_by))]
 impl Repository for AwayTwice {
+    ghost use Rattle.std.specs.Prelude.{replicate};
+    ghost use Rattle.office.specs.Shelves.{unknown};
+
+    ghost shelf = { λ _. unknown (λ _. replicate 32 7) };
+
     fn expect(&self, book: &str) -> Result<(), RepositoryFault> {
         self.book.expect(book)
     }
 
-    fn make(&self, book: &str) -> Result<(), RepositoryFault> {
+    fn make(&mut self, book: &str) -> Result<(), RepositoryFault> {
         self.book.make(book)
     }
 
-    fn open<V: Visit + Drop>(&self, book: &str, visit: V) -> Opened<V::Answer> {
-        let opened = self.opened.get();
-        self.opened.set(opened.saturating_add(1));
+    fn open<V: Visit>(&mut self, book: &str, visit: &mut V) -> Opened<V::Answer> {
+        let opened = self.opened;
+        self.opened = opened.saturating_add(1);
         match opened {
             0 => without_log(Ok(visit.visit(&mut AwayBooks))),
             1 => without_log(Err(RepositoryFault::Ledger(LedgerFault::Store))),
@@ -96,12 +112,13 @@ impl Repository for AwayTwice {
     }
 }
 
+#[tactic(auto, using(book_audit::proofs::CopyLemmas::unknown_copied))]
 impl AuditedRepository for AwayTwice {
     fn audit<W: Watch>(&self, book: &str, watch: &mut W) -> Opened<Audited> {
         self.book.audit(book, watch)
     }
 
-    fn back_up<W: Watch>(&self, book: &str, copy: &str, watch: &mut W) -> Opened<Audited> {
+    fn back_up<W: Watch>(&mut self, book: &str, copy: &str, watch: &mut W) -> Opened<Audited> {
         self.book.back_up(book, copy, watch)
     }
 }

@@ -6,7 +6,6 @@ use crate::one_book::{AwayTwice, OneBook};
 use crate::sample::Record;
 use book_audit::AuditedRepository;
 use chargectl::{Status, command};
-use std::cell::Cell;
 use std::io;
 use std::io::Write;
 use std::net::{Shutdown, TcpListener, TcpStream};
@@ -223,13 +222,13 @@ fn serve_words(rt: &HostRuntime, port: u16, requests: usize) -> io::Result<Vec<S
 /// Serves clients from books. Whether all went well, and what the server said and they saw.
 fn seen_by<S: AuditedRepository>(
     rt: &HostRuntime,
-    repository: &S,
+    repository: &mut S,
     all: &'static [Client],
 ) -> Result<(bool, Vec<u8>), Fail> {
     let port = free_port(rt)?;
     let words = serve_words(rt, port, all.len())?;
     let mut errors = Vec::new(rt.alloc());
-    let mut clients = Clients {
+    let clients = Clients {
         rt,
         port,
         all,
@@ -237,22 +236,15 @@ fn seen_by<S: AuditedRepository>(
         now: None,
         seen: Vec::new(rt.alloc()),
     };
-    let status = command(
-        rt,
-        repository,
-        &words,
-        io::empty(),
-        &mut clients,
-        &mut errors,
-    );
+    let (status, clients) = command(rt, repository, &words, io::empty(), clients, &mut errors);
     let is_done = status == Status::Done && errors.is_empty();
     Ok((is_done, clients.seen))
 }
 
 #[test]
 fn clients_are_served_one_after_the_other(rt: HostRuntime) -> Result<(), Fail> {
-    let repository = OneBook { alloc: rt.alloc() };
-    let (is_done, seen) = seen_by(&rt, &repository, CLIENTS.as_slice())?;
+    let mut repository = OneBook { alloc: rt.alloc() };
+    let (is_done, seen) = seen_by(&rt, &mut repository, CLIENTS.as_slice())?;
     assert!(rt; is_done);
     assert_eq!(rt; String::from_utf8(seen)?.as_str(), SEEN);
     Ok(())
@@ -260,11 +252,11 @@ fn clients_are_served_one_after_the_other(rt: HostRuntime) -> Result<(), Fail> {
 
 #[test]
 fn clients_are_answered_while_the_books_are_away(rt: HostRuntime) -> Result<(), Fail> {
-    let repository = AwayTwice {
+    let mut repository = AwayTwice {
         book: OneBook { alloc: rt.alloc() },
-        opened: Cell::new(0),
+        opened: 0,
     };
-    let (is_done, seen) = seen_by(&rt, &repository, CLIENTS_OF_AWAY_BOOKS.as_slice())?;
+    let (is_done, seen) = seen_by(&rt, &mut repository, CLIENTS_OF_AWAY_BOOKS.as_slice())?;
     assert!(rt; is_done);
     assert_eq!(rt; String::from_utf8(seen)?.as_str(), SEEN_OF_AWAY_BOOKS);
     Ok(())

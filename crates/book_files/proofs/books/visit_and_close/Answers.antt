@@ -3,7 +3,7 @@ use Rattle.sqlite_disk.specs.Disk.{MoreFaults}
 use Rattle.sqlite_store.specs.FileStore.{faults, view}
 use Rattle.sqlite_trees.proofs.Doubt.{no_doubt}
 use Rattle.book_trees.specs.Closing.{HaveFailed}
-use Rattle.book_restarts.specs.FileBooks.{file_names}
+use Rattle.book_restarts.specs.FileBooks.{done_by, file_names}
 use Rattle.tree_tables.specs.Holds.{has_book}
 use Rattle.book_files.specs.Faults.{ShowsOurs}
 use Rattle.book_files.proofs.Causes.{cause_so, err_so, ok_so, since_none}
@@ -15,7 +15,9 @@ returns-clause-left g c = λ kept book stands image may.
     let closed = c.close_books.result in
     let clean = no_doubt _ (c.close_books.ensures.honest
     (found_clean g.D.Disk closed.files image may)) in
-    closed_leaves file_names _ book image c.visit_in-answer.result.1
+    closed_leaves file_names (done_by
+    (g.V.Visit.work file_names c.args.visit.now c.visit_in-answer.new.visit) c.visit_in-answer.result.0)
+    book image c.visit_in-answer.result.1
     (c.close_books.ensures.left kept image may)
     (λ trees left. c.visit_in-answer.ensures.left book stands clean trees left)
 

@@ -16,7 +16,7 @@ pub returns-in-Ok-clause-left : goal.returns-in-Ok-clause-left
 returns-in-Ok-clause-left g c = λ book stands clean trees left.
     let before = c.in-Ok.books in
     let after = c.visit-answer.new.books in
-    let work = c.visit-answer.ensures in
+    let work = c.visit-answer.ensures.done in
     let same = c.close_store.ensures.same in
     let still : IsClean (g.S.Store.view after.tables.store) =
     subst (λ store. IsClean (g.S.Store.view store)) same clean in
@@ -27,17 +27,17 @@ returns-in-Ok-clause-left g c = λ book stands clean trees left.
     visit_leaves file_names (g.S.Store.view after.tables.store)
     (g.S.Store.recovers after.tables.store) after.must_reopen after.summary
     (λ (trees : Trees). g.met.S.Store.settled after.tables.store trees) _ file_names
-    (g.V.Visit.work file_names c.args.visit c.visit-answer.result) book opened work still trees
+    (g.V.Visit.work file_names c.args.visit.now c.visit-answer.new.self c.visit-answer.result) book opened work still trees
     (subst (λ store. g.S.Store.recovers store trees) same left)
 
 pub returns-in-Ok-clause-clean : goal.returns-in-Ok-clause-clean
 returns-in-Ok-clause-clean g c = λ clean.
-    clean_before _ _ c.in-Ok.ensures.crash.clean (c.visit-answer.ensures.honest
+    clean_before _ _ c.in-Ok.ensures.crash.clean (c.visit-answer.ensures.done.honest
     (subst (λ store. IsClean (g.S.Store.view store)) c.close_store.ensures.same clean))
 
 pub returns-in-Ok-clause-there : goal.returns-in-Ok-clause-there
 returns-in-Ok-clause-there g c = λ clean.
-    c.in-Ok.ensures.there (c.visit-answer.ensures.honest
+    c.in-Ok.ensures.there (c.visit-answer.ensures.done.honest
     (subst (λ store. IsClean (g.S.Store.view store)) c.close_store.ensures.same clean))
 
 pub returns-in-Err-clause-left : goal.returns-in-Err-clause-left

@@ -11,7 +11,6 @@ use Rattle.book_restarts.specs.FileBooks.{file_names}
 use Rattle.book_trees.specs.LedgerFiles.{HoldsBooks, trees_held}
 use Rattle.book_files.specs.Faults.{HasNoCopyFor, IsWithoutFiles, open_fault}
 use Rattle.book_files.specs.declared.copies.CopyFault.TheVariants as copies
-use Rattle.book_files.specs.declared.copies.Look.{Look}
 use Rattle.book_files.specs.declared.session.Ended.TheVariants.{Closed, Refused}
 use Rattle.book_files.proofs.Causes.{mapped_err, uncopied_cause, visited_cause, without_files}
 use Rattle.book_files.proofs.SessionParts.{looked_only, session_goes_on}
@@ -24,7 +23,7 @@ returns-in-Ok-copy_to-clause-history g c = λ opened honest image may.
     (λ clean. subst (λ (i : Image). (held : HoldsBooks i) → (view c.in-Ok-copy_to.store).trees
     ≡ trees_held held) c.in-Ok.ensures.held (c.in-Ok-copy_to.ensures.found clean honest))
     (none_answered file_names)
-    (λ book stands. looked_only {V = Look} file_names (record {}) c.visit_and_close-opened.result.0 book image
+    (λ book stands. looked_only file_names c.visit_and_close-opened.result.0 book image
     (c.visit_and_close-opened.ensures.left may.0 book stands image may.1))
 
 pub returns-in-Err-clause-cause : goal.returns-in-Err-clause-cause

@@ -4,7 +4,7 @@ use Rattle.sqlite_std_file.specs.contracts.host.Host.{the_row}
 use Rattle.sqlite_std_file.specs.contracts.host.HostCalls.TheImpl as host
 use Rattle.sqlite_trees.proofs.Doubt.{clean_of}
 use Rattle.sqlite_wal.specs.Files.{image_at}
-use Rattle.book_restarts.specs.FileBooks.{file_names}
+use Rattle.book_restarts.specs.FileBooks.{done_by, file_names}
 use Rattle.book_trees.specs.LedgerFiles.{HoldsBooks, trees_held}
 use Rattle.book_trees.specs.Refusals.{AreFull}
 use Rattle.tree_tables.specs.Holds.{has_book}
@@ -18,10 +18,14 @@ use Rattle.book_files.proofs.session.visit_at.Goals as goal
 
 pub returns-in-Ok-clause-history : goal.returns-in-Ok-clause-history
 returns-in-Ok-clause-history g c = λ image may.
-    session_goes_on file_names _ (image_at g.S.Start) image c.in-Ok.store c.in-Ok.ensures.ready
+    session_goes_on file_names (done_by
+    (g.V.Visit.work file_names c.args.visit.now c.visit_and_close-answer.new.visit)
+    c.visit_and_close-answer.result.0) (image_at g.S.Start) image c.in-Ok.store c.in-Ok.ensures.ready
     c.in-Ok.ensures.found
-    (done_answered g.V.Visit.work file_names c.args.visit
-    (g.met.V.Visit.answered file_names c.args.visit) c.visit_and_close-answer.result.0)
+    (done_answered
+    (g.V.Visit.work file_names c.args.visit.now c.visit_and_close-answer.new.visit) file_names
+    (g.met.V.Visit.answered file_names c.args.visit.now c.visit_and_close-answer.new.visit)
+    c.visit_and_close-answer.result.0)
     (λ book stands. c.visit_and_close-answer.ensures.left may.0 book stands image may.1)
 
 pub returns-in-Ok-clause-there : goal.returns-in-Ok-clause-there
@@ -52,10 +56,14 @@ returns-in-Ok-clause-alone g c = λ image alone.
     let may = alone_follows (modelled.ghosts the_row g.row.S host.ghosts host.dict g.S.Start
     g.S.Start-dict g.S.Destruct-dict) c.visit_and_close-answer.result.1 image
     c.visit_and_close-answer.ensures.short alone in
-    session_goes_on file_names _ (image_at g.S.Start) image c.in-Ok.store c.in-Ok.ensures.ready
+    session_goes_on file_names (done_by
+    (g.V.Visit.work file_names c.args.visit.now c.visit_and_close-answer.new.visit)
+    c.visit_and_close-answer.result.0) (image_at g.S.Start) image c.in-Ok.store c.in-Ok.ensures.ready
     c.in-Ok.ensures.found
-    (done_answered g.V.Visit.work file_names c.args.visit
-    (g.met.V.Visit.answered file_names c.args.visit) c.visit_and_close-answer.result.0)
+    (done_answered
+    (g.V.Visit.work file_names c.args.visit.now c.visit_and_close-answer.new.visit) file_names
+    (g.met.V.Visit.answered file_names c.args.visit.now c.visit_and_close-answer.new.visit)
+    c.visit_and_close-answer.result.0)
     (λ book stands. c.visit_and_close-answer.ensures.left may.0 book stands image may.1)
 
 pub returns-in-Err-clause-cause : goal.returns-in-Err-clause-cause

@@ -1,0 +1,58 @@
+-- How an audit ends.
+use Rattle.std.proofs.Common.{◌≡◌, Bool, ℕ, List, Option, Result, Ok, Err, ap, inl, inr, refl, subst, sym}
+use Rattle.std.proofs.Common.{true≢false}
+use Rattle.std.specs.Prelude.{IsErr, IsErrAnd, OnOk}
+use Rattle.std.specs.Io.KnownBytes.{Appends}
+use Rattle.book_model.specs.declared.fault.LedgerFault.TheVariants as ledger
+use Rattle.book_audit.specs.declared.audited.Audited.{Audited}
+use Rattle.book_audit.specs.declared.audited.Audited.TheVariants.{Sound, Unsound}
+use Rattle.book_audit.specs.declared.audited.Counts.{Counts}
+use Rattle.book_audit.specs.declared.finding.Finding.{Finding}
+use Rattle.book_audit.specs.Texts.{IsAuditText, sound_text}
+use Rattle.office.specs.declared.repository.RepositoryFault.{RepositoryFault}
+use Rattle.chargectl.specs.declared.command_fault.CommandFault.{CommandFault}
+use Rattle.chargectl.specs.declared.command_fault.CommandFault.TheVariants as fault
+use Rattle.chargectl.specs.declared.ended.Ended.{Ended}
+use Rattle.chargectl.specs.Audits.{AuditsBy, EndsAudit}
+use Rattle.chargectl.specs.Faults.{shelf_fault}
+
+-- there was no memory for the text
+pub audit_memory : (audited : Audited) (held holds : Option (List ℕ))
+    (result : Result (Unit {0}) CommandFault)
+    → IsErrAnd result (λ why. why ≡ fault.Ledger ledger.Memory)
+    → EndsAudit (Ok audited) held holds result
+audit_memory (Sound counts) held holds (Ok done) is = absurd is
+audit_memory (Sound counts) held holds (Err why) is = tt
+audit_memory (Unsound finding) held holds (Ok done) is = absurd is
+audit_memory (Unsound finding) held holds (Err why) is = inr (ap Err is)
+
+sound_of : (counts : Counts) (text : List ℕ) (held holds : Option (List ℕ))
+    (written : Result (Unit {0}) CommandFault) → text ≡ sound_text counts
+    → OnOk written (Appends held holds text) → EndsAudit (Ok (Sound counts)) held holds written
+sound_of counts text held holds (Ok done) is line =
+    subst (λ text. Appends held holds text) is line
+sound_of counts text held holds (Err why) is line = tt
+
+-- the text of sound books was written, or not
+pub audit_sound : (audited : Audited) (counts : Counts) (text : List ℕ) (held holds : Option (List ℕ))
+    (written : Result (Unit {0}) CommandFault) → audited ≡ Sound counts → IsAuditText audited text
+    → OnOk written (Appends held holds text) → EndsAudit (Ok audited) held holds written
+audit_sound audited counts text held holds written is told line =
+    subst (λ audited. EndsAudit (Ok audited) held holds written) (sym is)
+    (sound_of counts text held holds written (subst (λ audited. IsAuditText audited text) is told) line)
+
+pub audit_unsound : (audited : Audited) (finding : Finding) (held holds : Option (List ℕ))
+    → audited ≡ Unsound finding → EndsAudit (Ok audited) held holds (Err fault.Unsound)
+audit_unsound audited finding held holds is =
+    subst (λ audited. EndsAudit (Ok audited) held holds (Err fault.Unsound)) (sym is) (inl refl)
+
+-- there is nothing of that name
+pub audits_none : (IsDone : Result Audited RepositoryFault → Type 0) (HasLog : Bool → Type 0)
+    (Untouched : Type 0) (held : Option (List ℕ)) (why : RepositoryFault)
+    (result : Result Ended CommandFault) → IsErr result
+    → IsErrAnd result (λ fault. fault ≡ shelf_fault why) → Untouched
+    → AuditsBy IsDone HasLog Untouched held held result
+audits_none IsDone HasLog Untouched held why (Ok ended) bad is untouched =
+    absurd (true≢false (sym bad))
+audits_none IsDone HasLog Untouched held why (Err fault) bad is untouched =
+    ((why, is), untouched, refl)

@@ -1,0 +1,317 @@
+-- Commands, one after the other, and the history that they make.
+use Rattle.std.proofs.Common.{◌≡◌, ◌≢◌, ◌∙◌, ◌⊎◌, Bool, true, false, true≢false, ℕ, List, [], ◌∷◌}
+use Rattle.std.proofs.Common.{◌++◌, Option, Result, Ok, Err, ap, inl, inr, refl, subst, sym}
+use Rattle.std.specs.Cmp.Lexicographic.{bytes_decides}
+use Rattle.book_audit.specs.Copies.{IsCopied}
+use Rattle.book_model.specs.Records.{same_bytes}
+use Rattle.book_model.specs.declared.fault.LedgerFault.{LedgerFault}
+use Rattle.book_model.specs.Words.{Event, IsMadeByCalls, Naming, book_after, book_of}
+use Rattle.book_model.proofs.StepLemmas.{books_follow_history}
+use Rattle.book_core.specs.Follow.{MakesAnswered}
+use Rattle.book_core.specs.Transition.{Transition, NoEvent}
+use Rattle.office.specs.declared.repository.RepositoryFault.{RepositoryFault}
+use Rattle.office.specs.declared.repository.RepositoryFault.TheVariants.{Unseen}
+use Rattle.office.specs.declared.request.Answer.{Answer}
+use Rattle.office.specs.declared.request.Asked.{Asked}
+use Rattle.office.specs.Requests.{Asks, response_by}
+use Rattle.office.specs.Shelves.{Shelf, HoldsMore, IsDoneTo, IsOpened, IsUntouched}
+use Rattle.office.proofs.LawLemmas.{asks_done}
+use Rattle.command_line.specs.declared.request.BookRequest.{BookRequest}
+use Rattle.command_line.specs.declared.request.BookRequest.TheVariants as asks
+use Rattle.command_line.specs.declared.request.Request.{Request}
+use Rattle.command_line.specs.declared.request.Request.TheVariants as request
+use Rattle.command_line.specs.declared.fault.ArgumentFault.{ArgumentFault}
+use Rattle.program_output.specs.declared.status.Status.{Status}
+use Rattle.chargectl.specs.declared.command_fault.CommandFault.{CommandFault}
+use Rattle.chargectl.specs.declared.ended.Answered.{Answered}
+use Rattle.chargectl.specs.declared.ended.Ended.{Ended}
+use Rattle.chargectl.specs.Commands.{AsksAndTells, AsksOnceBy, ComesOf, once_answered}
+use Rattle.chargectl.specs.Audits.{AuditsBy}
+use Rattle.chargectl.specs.CommandLaws.{AreCommanded, AskedBy, AsksOfHistory, Commanded}
+use Rattle.chargectl.specs.CommandLaws.{CommandsFollowHistory, DoesToHistory, Follows, FollowsBy}
+use Rattle.chargectl.specs.CommandLaws.{LeaveHistory, RunsOn, ServesOfHistory, place_after}
+use Rattle.chargectl.specs.Requests.{Does, DoesOrRefuses, ServesBy}
+use Rattle.chargectl.specs.Sittings.{SomeSittings}
+use Rattle.chargectl.proofs.SittingLemmas.{sittings_answered}
+
+by_test : {P : Type 0} (is : Bool) → (is ≡ true → P) → (P → is ≡ true) → P ⊎ (P → ⊥)
+by_test true same back = inl (same refl)
+by_test false same back = inr (λ p. true≢false (sym (back p)))
+
+-- two names are one or are apart
+one_or_apart : (one other : List ℕ) → (one ≡ other) ⊎ (one ≢ other)
+one_or_apart one other =
+    let decides = bytes_decides one other in
+    by_test (same_bytes one other) decides.0 decides.1
+
+-- The books of a name, which held a history that calls made, hold it with these events, of which this
+-- is so.
+record Step (naming : Naming) (history : List Event) (name : List ℕ) (old new : Shelf)
+    (So : List Event → Type 0) : Type 0 where
+  made : List Event
+  so : So made
+  answered : IsMadeByCalls naming (made ++ history)
+  held : new.holds name (made ++ history)
+  named : new.naming ≡ old.naming
+
+-- a step, of which something else follows
+step_as : {naming : Naming} {history : List Event} {name : List ℕ} {old new : Shelf}
+    {One Other : List Event → Type 0} → ((made : List Event) → One made → Other made)
+    → Step naming history name old new One → Step naming history name old new Other
+step_as follow step = record {
+  made = step.made;
+  so = follow step.made step.so;
+  answered = step.answered;
+  held = step.held;
+  named = step.named;
+}
+
+-- what is so where a name is that of books, and that nothing is done to others
+abbrev Where : List ℕ → List ℕ → (List Event → Type 0) → List Event → Type 0
+Where book name So made = (book ≡ name → So made) × (book ≢ name → made ≡ [])
+
+-- such work, on the books of a history
+record Makes (Made : Transition) (history made : List Event) : Type 0 where
+  is : Bool
+  made_so : Made false (book_after history) made is
+
+-- books of one name are those of another, or are not
+module _ (naming : Naming) (history : List Event) (name : List ℕ) (old new : Shelf)
+    (answered : IsMadeByCalls naming history) (held : old.holds name history) where
+  work_on : (book : List ℕ) (Made : Transition) → MakesAnswered naming Made
+      → IsDoneTo book Made old new
+      → Step naming history name old new (Where book name (Makes Made history))
+  work_on book Made makes done = elim (one_or_apart book name) [
+    | inl same ↦
+        let more = (subst (λ book. IsDoneTo book Made old new) same done).here history held in
+        record {
+          made = more.events;
+          so = (λ _. record { is = more.is; made_so = more.made }, λ apart. absurd (apart same));
+          answered = makes history false more.events more.is more.made answered;
+          held = more.now;
+          named = done.naming;
+        }
+    | inr apart ↦
+        let more = done.elsewhere name (λ same. apart (sym same)) history held in
+        record {
+          made = [];
+          so = (λ same. absurd (apart same), λ _. refl);
+          answered = answered;
+          held = subst (λ (events : List Event). new.holds name (events ++ history)) more.made.none
+              more.now;
+          named = done.naming;
+        }
+  ]
+
+  -- nothing was done to any books
+  none_on : (book : List ℕ) → IsUntouched book old new
+      → Step naming history name old new (λ made. made ≡ [])
+  none_on book done = elim (one_or_apart book name) [
+    | inl same ↦
+        none_by ((subst (λ book. IsUntouched book old new) same done).here history held)
+    | inr apart ↦ none_by (done.elsewhere name (λ same. apart (sym same)) history held)
+  ]
+    where
+      none_by : HoldsMore NoEvent history (new.holds name)
+          → Step naming history name old new (λ made. made ≡ [])
+      none_by more = record {
+        made = [];
+        so = refl;
+        answered = answered;
+        held = subst (λ (events : List Event). new.holds name (events ++ history)) more.made.none
+            more.now;
+        named = done.naming;
+      }
+
+  -- the office was asked once
+  asked_on : (book : List ℕ) (asked : Asked) (told : Result Answer LedgerFault)
+      → IsDoneTo book (AsksOnceBy naming asked told) old new
+      → Step naming history name old new (Where book name (Follows naming history asked told))
+  asked_on book asked told done =
+      step_as (λ made so. (λ same. follows_of made (so.0 same), so.1))
+      (work_on book (AsksOnceBy naming asked told) (once_answered naming asked (response_by told)) done)
+    where
+      follows_of : (made : List Event) → Makes (AsksOnceBy naming asked told) history made
+          → Follows naming history asked told made
+      follows_of made it =
+          let once = it.made_so in
+          record {
+            dump = once.dump;
+            input = once.input;
+            given = once.given;
+            is = asks_done naming asked once.dump (response_by told) (book_of history) made it.is
+                (subst (λ book. Asks naming asked once.dump (response_by told) false book made it.is)
+                (books_follow_history history) once.made);
+          }
+
+  -- or the books were not opened
+  opened_on : (book : List ℕ) (asked : Asked)
+      (told : Result (Result Answer LedgerFault) RepositoryFault)
+      → IsOpened (AsksOnceBy naming asked) book old new told
+      → Step naming history name old new (Where book name (FollowsBy naming history asked told))
+  opened_on book asked (Ok told) done = asked_on book asked told done
+  opened_on book asked (Err Unseen) done = elim done [
+    | inl seen ↦ step_as (λ made so. (λ same. inl (seen.0, so.0 same), so.1))
+        (asked_on book asked seen.0 seen.1)
+    | inr none ↦ step_as (λ made is. (λ _. inr is, λ _. is)) (none_on book none)
+  ]
+  opened_on book asked (Err fault) done =
+      step_as (λ made is. (λ _. is, λ _. is)) (none_on book done)
+
+-- no connections make no events
+none_served : (naming : Naming) (history made : List Event) → made ≡ []
+    → ServesOfHistory naming history made
+none_served naming history made is = record {
+  is = false;
+  made_so = record { sittings = 0; made = record { none = is; same = refl } };
+}
+
+module _ (history : List Event) (name : List ℕ) (old new : Shelf)
+    (answered : IsMadeByCalls old.naming history) (held : old.holds name history) where
+  -- a command that asks the office, or nothing
+  comes_on : (book : List ℕ) (request : BookRequest) (came : Result Answered CommandFault)
+      → ComesOf request book old new came
+      → Step old.naming history name old new
+      (Where book name (AskedBy old.naming history request came))
+  comes_on book request (Ok told) comes =
+      step_as (λ made so. (
+        λ same. record {
+          asked = comes.asked;
+          words = comes.words;
+          told = comes.came.told;
+          follows = so.0 same;
+          says = comes.came.says;
+        },
+        so.1,
+      ))
+      (opened_on old.naming history name old new answered held book comes.asked comes.came.told
+      comes.came.done)
+  comes_on book request (Err why) comes =
+      step_as (λ made is. (λ _. (comes.0, is), λ _. is))
+      (none_on old.naming history name old new answered held book comes.1)
+
+  asks_on : (book : List ℕ) (request : BookRequest) (has holds : Option (List ℕ)) (ended : Ended)
+      → AsksAndTells request book old new has holds ended
+      → Step old.naming history name old new
+      (Where book name (AsksOfHistory old.naming history request has holds ended))
+  asks_on book request has holds ended it =
+      step_as (λ made so. (
+        λ same. record { came = it.answered; asked = so.0 same; tells = it.tells },
+        so.1,
+      )) (comes_on book request it.answered it.comes)
+
+  -- books that are untouched, whatever else a command does
+  still_on : (book touched : List ℕ) → IsUntouched touched old new
+      → Step old.naming history name old new (Where book name (λ made. made ≡ []))
+  still_on book touched done =
+      step_as (λ made is. (λ _. is, λ _. is))
+      (none_on old.naming history name old new answered held touched done)
+
+  does_on : (book : List ℕ) (request : BookRequest) (has holds : Option (List ℕ)) (ended : Ended)
+      → Does request book old new has holds ended
+      → Step old.naming history name old new
+      (Where book name (DoesToHistory old.naming history request has holds ended))
+  does_on book asks.Init has holds ended does = still_on book book does.done.kept
+  does_on book (asks.Audit quiet) has holds ended does = by_came does.came does.does
+    where
+      by_came : (came : Result Ended CommandFault)
+          → AuditsBy (λ audited. IsUntouched book old new) (new.has_log book) (IsUntouched book old new)
+          has holds came
+          → Step old.naming history name old new (Where book name (λ made. made ≡ []))
+      by_came (Ok ended) it = still_on book book it.done
+      by_came (Err why) it = still_on book book it.1
+  does_on book (asks.BackUp copy quiet) has holds ended does = by_came does.came does.does
+    where
+      by_came : (came : Result Ended CommandFault)
+          → AuditsBy (IsCopied book copy.now old new) (new.has_log book) (IsUntouched book old new) has
+          holds came
+          → Step old.naming history name old new (Where book name (λ made. made ≡ []))
+      by_came (Ok ended) it = still_on book copy.now it.done.kept
+      by_came (Err why) it = still_on book book it.1
+  does_on book (asks.Serve port requests) has holds ended does = by_came does.came does.does
+    where
+      by_came : (came : Result Ended CommandFault) → ServesBy requests book old new has holds came
+          → Step old.naming history name old new
+          (Where book name (ServesOfHistory old.naming history))
+      by_came (Ok ended) it =
+          step_as (λ made so. (
+            λ same.
+                let made_it = so.0 same in
+                record { is = made_it.is; made_so = made_it.made_so },
+            so.1,
+          ))
+          (work_on old.naming history name old new answered held book (SomeSittings old.naming)
+          (sittings_answered old.naming) it.some)
+      by_came (Err why) it =
+          step_as (λ made is. (λ _. none_served old.naming history made is, λ _. is))
+          (none_on old.naming history name old new answered held book it.1)
+  does_on book request has holds ended does = asks_on book request has holds ended does
+
+-- the place of the books is as it was
+same_place : {S : Type 0} (shelf : S → Shelf) (history : List Event) (name : List ℕ) (old new : S)
+    → IsMadeByCalls (shelf old).naming history → (shelf old).holds name history → new ≡ old
+    → Step (shelf old).naming history name (shelf old) (shelf new) (λ made. made ≡ [])
+same_place shelf history name old new answered held same = record {
+  made = [];
+  so = refl;
+  answered = answered;
+  held = subst (λ place. (shelf place).holds name history) (sym same) held;
+  named = ap (λ place. (shelf place).naming) same;
+}
+
+runs_on : {S : Type 0} (shelf : S → Shelf) (history : List Event) (name : List ℕ) (old new : S)
+    → IsMadeByCalls (shelf old).naming history → (shelf old).holds name history
+    → (asked : Result Request ArgumentFault) (had has holds : Option (List ℕ))
+    (Says : List (List ℕ) → Type 0) (status : Status)
+    → DoesOrRefuses shelf old new asked had has holds Says status
+    → Step (shelf old).naming history name (shelf old) (shelf new)
+    (RunsOn (shelf old).naming name history asked has holds status)
+runs_on shelf history name old new answered held (Ok (request.OfBooks book asked)) had has holds Says
+    status done =
+    step_as (λ made so. record { ended = done.0; ends = done.2; here = so.0; elsewhere = so.1 })
+    (does_on history name (shelf old) (shelf new) answered held book.now asked has holds done.0 done.1)
+runs_on shelf history name old new answered held (Ok (request.Trial layout cpu excp fee)) had has holds
+    Says status done =
+    same_place shelf history name old new answered held done.1.0
+runs_on shelf history name old new answered held (Ok (request.Check dump)) had has holds Says status
+    done =
+    same_place shelf history name old new answered held done.1.0
+runs_on shelf history name old new answered held (Ok (request.Explain kind number)) had has holds
+    Says status done =
+    same_place shelf history name old new answered held done.1.0
+runs_on shelf history name old new answered held (Err fault) had has holds Says status done =
+    same_place shelf history name old new answered held done.0
+
+-- commands in turn, at a place that names records so
+in_turn : {S E : Type 0} (shelf : S → Shelf) (Says : E → List (List ℕ) → E → Type 0)
+    (naming : Naming) (name : List ℕ) (start : List Event) (before : S) (commands : List (Commanded S E))
+    → (shelf before).naming ≡ naming → IsMadeByCalls naming start → (shelf before).holds name start
+    → AreCommanded shelf Says before commands
+    → LeaveHistory shelf naming name start commands (place_after before commands)
+in_turn shelf Says naming name start before [] names answered held done =
+    record { end = start; done = refl; held = held }
+in_turn shelf Says naming name start before (command ∷ later) names answered held done =
+    let one = done.0 in
+    let step = subst (λ naming. Step naming start name (shelf before) (shelf command.after)
+    (RunsOn naming name start one.asked command.held command.holds command.status)) names
+    (runs_on shelf start name before command.after
+    (subst (λ naming. IsMadeByCalls naming start) (sym names) answered) held one.asked command.had
+    command.held command.holds (λ lines. Says command.quiet lines command.said) command.status
+    one.done) in
+    let rest = in_turn shelf Says naming name (step.made ++ start) command.after later (step.named ∙ names)
+    step.answered step.held done.1 in
+    record {
+      end = rest.end;
+      done = (
+        step.made,
+        record { asked = one.asked; read = one.read; runs = step.so; answered = step.answered },
+        rest.done,
+      );
+      held = rest.held;
+    }
+
+-- the headline
+pub commands_follow_history : {S E : Type 0} (shelf : S → Shelf)
+    (Says : E → List (List ℕ) → E → Type 0) → CommandsFollowHistory shelf Says
+commands_follow_history shelf Says name start before commands answered held done =
+    in_turn shelf Says (shelf before).naming name start before commands refl answered held done

@@ -1,0 +1,37 @@
+-- How an audit ends, of books or of a copy of them.
+use Rattle.std.specs.Prelude.{◌≡◌, ◌⊎◌, Bool, false, ℕ, List, OnOk, Option, Result, Ok, Err}
+use Rattle.std.specs.Io.KnownBytes.{Appends}
+use Rattle.book_model.specs.declared.fault.LedgerFault.TheVariants as ledger
+use Rattle.book_audit.specs.declared.audited.Audited.{Audited}
+use Rattle.book_audit.specs.declared.audited.Audited.TheVariants.{Sound, Unsound}
+use Rattle.book_audit.specs.Texts.{sound_text}
+use Rattle.office.specs.declared.repository.RepositoryFault.{RepositoryFault}
+use Rattle.chargectl.specs.declared.command_fault.CommandFault.{CommandFault}
+use Rattle.chargectl.specs.declared.command_fault.CommandFault.TheVariants as fault
+use Rattle.chargectl.specs.declared.ended.Ended.{Ended}
+use Rattle.chargectl.specs.Commands.{IsShelfFault}
+use Rattle.chargectl.specs.Faults.{shelf_fault}
+
+-- Of sound books the lines are written. Books that are unsound end the command so, whatever became of
+-- the text, unless there was no memory for it. Of books that were not opened nothing is written.
+abbrev pub EndsAudit : Result Audited RepositoryFault → Option (List ℕ) → Option (List ℕ)
+    → Result (Unit {0}) CommandFault → Type 0
+EndsAudit (Ok (Sound counts)) held holds came = OnOk came (Appends held holds (sound_text counts))
+EndsAudit (Ok (Unsound finding)) held holds came =
+    (came ≡ Err fault.Unsound) ⊎ (came ≡ Err (fault.Ledger ledger.Memory))
+EndsAudit (Err fault) held holds came = (holds ≡ held) × (came ≡ Err (shelf_fault fault))
+
+-- This was done where books were audited with this answer, and whether their log is left.
+pub record Audits (IsDone : Result Audited RepositoryFault → Type 0) (HasLog : Bool → Type 0)
+    (held holds : Option (List ℕ)) (ended : Ended) : Type 0 where
+  pub audited : Result Audited RepositoryFault
+  pub done : IsDone audited
+  pub ends : EndsAudit audited held holds ended.came
+  pub log : HasLog ended.has_log
+  pub change : ended.is_change ≡ false
+
+-- or there was nothing of that name
+abbrev pub AuditsBy : (Result Audited RepositoryFault → Type 0) → (Bool → Type 0) → Type 0
+    → Option (List ℕ) → Option (List ℕ) → Result Ended CommandFault → Type 0
+AuditsBy IsDone HasLog Untouched held holds (Ok ended) = Audits IsDone HasLog held holds ended
+AuditsBy IsDone HasLog Untouched held holds (Err why) = IsShelfFault why × Untouched × (holds ≡ held)

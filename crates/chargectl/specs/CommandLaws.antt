@@ -1,0 +1,164 @@
+-- Commands, one after the other, on books that are kept by their names: each tells what the definitions
+-- give for the whole history before it.
+use Rattle.std.specs.Prelude.{◌≡◌, ◌≢◌, Bool, false, ℕ, List, [], ◌∷◌, ◌++◌, Option}
+use Rattle.std.specs.Prelude.{Result, Ok, Err}
+use Rattle.streams.specs.InputOutput.{Input}
+use Rattle.tariff_rules.specs.Limits.{most_rate}
+use Rattle.book_model.specs.declared.fault.LedgerFault.{LedgerFault}
+use Rattle.book_model.specs.Words.{Event, IsMadeByCalls, Naming, book_after, book_of}
+use Rattle.office.specs.declared.repository.RepositoryFault.{RepositoryFault}
+use Rattle.office.specs.declared.request.Answer.{Answer}
+use Rattle.office.specs.declared.request.Asked.{Asked}
+use Rattle.office.specs.Outcomes.{asked_outcome, is_hindered}
+use Rattle.office.specs.Requests.{Dump, Gives, response_by}
+use Rattle.office.specs.Shelves.{Shelf, WhereUnopened}
+use Rattle.command_line.specs.declared.request.BookRequest.{BookRequest}
+use Rattle.command_line.specs.declared.request.BookRequest.TheVariants as book
+use Rattle.command_line.specs.declared.request.Request.{Request}
+use Rattle.command_line.specs.declared.request.Request.TheVariants as request
+use Rattle.command_line.specs.declared.fault.ArgumentFault.{ArgumentFault}
+use Rattle.command_line.specs.Known.{AreReadAs}
+use Rattle.program_output.specs.declared.status.Status.{Status}
+use Rattle.program_output.specs.Messages.{program_name}
+use Rattle.chargectl.specs.declared.command_fault.CommandFault.{CommandFault}
+use Rattle.chargectl.specs.declared.ended.Answered.{Answered}
+use Rattle.chargectl.specs.declared.ended.Ended.{Ended}
+use Rattle.chargectl.specs.Commands.{AsksNothing, IsAskedBy, Tells, answer_of}
+use Rattle.chargectl.specs.Faults.{status_by}
+use Rattle.chargectl.specs.Requests.{CommandsBy}
+use Rattle.chargectl.specs.Sittings.{SomeSittings}
+
+-- a command: its words, its input, its output and standard error before and after it, its status, and
+-- the place of the books after it
+pub record Commanded (S E : Type 0) : Type 0 where
+  pub words : List (List ℕ)
+  pub had : Option (List ℕ)
+  pub held : Option (List ℕ)
+  pub holds : Option (List ℕ)
+  pub quiet : E
+  pub said : E
+  pub status : Status
+  pub after : S
+
+-- the place after all of them
+abbrev pub place_after : {S E : Type 0} → S → List (Commanded S E) → S
+place_after before [] = before
+place_after before (command ∷ later) = place_after command.after later
+
+-- each kept its contract where the one before it left the books
+abbrev pub AreCommanded : {S E : Type 0} → (S → Shelf) → (E → List (List ℕ) → E → Type 0) → S
+    → List (Commanded S E) → Type 0
+AreCommanded shelf Says before [] = Unit {0}
+AreCommanded shelf Says before (command ∷ later) =
+    CommandsBy shelf before command.after command.words command.had command.held command.holds
+    (λ lines. Says command.quiet lines command.said) command.status
+    × AreCommanded shelf Says command.after later
+
+-- After a history this was asked and told, and it made these events, the newest first. Unless a lack
+-- of memory or the store hindered it, that is what the definitions say of the history, looked at as
+-- a whole.
+pub record Follows (naming : Naming) (history : List Event) (asked : Asked)
+    (told : Result Answer LedgerFault) (made : List Event) : Type 0 where
+  pub dump : Dump
+  pub input : Input
+  pub given : Gives asked dump (response_by told) input
+  pub is : is_hindered (response_by told) ≡ false
+      → asked_outcome naming asked dump (book_of history)
+      ≡ record { told = response_by told; events = made }
+
+-- where the books were not opened, none were made
+abbrev pub FollowsBy : Naming → List Event → Asked → Result (Result Answer LedgerFault) RepositoryFault
+    → List Event → Type 0
+FollowsBy naming history asked (Ok told) made = Follows naming history asked told made
+FollowsBy naming history asked (Err fault) made =
+    WhereUnopened ((told : Result Answer LedgerFault) × Follows naming history asked told made)
+    (made ≡ []) fault
+
+-- what the words ask of the books was asked, and so it was told
+pub record AskedOf (naming : Naming) (history : List Event) (request : BookRequest)
+    (answered : Answered) (made : List Event) : Type 0 where
+  pub asked : Asked
+  pub words : IsAskedBy request asked
+  pub told : Result (Result Answer LedgerFault) RepositoryFault
+  pub follows : FollowsBy naming history asked told made
+  pub says : answered.answer ≡ answer_of told
+
+-- or nothing was asked
+abbrev pub AskedBy : Naming → List Event → BookRequest → Result Answered CommandFault → List Event
+    → Type 0
+AskedBy naming history request (Ok answered) made = AskedOf naming history request answered made
+AskedBy naming history request (Err why) made = AsksNothing request why × (made ≡ [])
+
+-- and that was written
+pub record AsksOfHistory (naming : Naming) (history : List Event) (request : BookRequest)
+    (held holds : Option (List ℕ)) (ended : Ended) (made : List Event) : Type 0 where
+  pub came : Result Answered CommandFault
+  pub asked : AskedBy naming history request came made
+  pub tells : Tells came held holds ended
+
+-- Connections made these events of the books of a history.
+pub record ServesOfHistory (naming : Naming) (history made : List Event) : Type 0 where
+  pub is : Bool
+  pub made_so : SomeSittings naming false (book_after history) made is
+
+-- what each command on books does to the history that they hold
+abbrev pub DoesToHistory : Naming → List Event → BookRequest → Option (List ℕ) → Option (List ℕ)
+    → Ended → List Event → Type 0
+DoesToHistory naming history book.Init held holds ended made = made ≡ []
+DoesToHistory naming history (book.Audit quiet) held holds ended made = made ≡ []
+DoesToHistory naming history (book.BackUp copy quiet) held holds ended made = made ≡ []
+DoesToHistory naming history (book.Serve port requests) held holds ended made =
+    ServesOfHistory naming history made
+DoesToHistory naming history asked held holds ended made =
+    AsksOfHistory naming history asked held holds ended made
+
+-- it does so to the books that its words name, and nothing to others
+pub record OnBooks (naming : Naming) (name book : List ℕ) (history : List Event)
+    (request : BookRequest) (held holds : Option (List ℕ)) (status : Status) (made : List Event)
+    : Type 0 where
+  pub ended : Ended
+  pub ends : status ≡ status_by ended
+  pub here : book ≡ name → DoesToHistory naming history request held holds ended made
+  pub elsewhere : book ≢ name → made ≡ []
+
+-- so with all requests: only those on books do anything to them
+abbrev pub RunsOn : Naming → List ℕ → List Event → Result Request ArgumentFault → Option (List ℕ)
+    → Option (List ℕ) → Status → List Event → Type 0
+RunsOn naming name history (Ok (request.OfBooks book asked)) held holds status made =
+    OnBooks naming name book.now history asked held holds status made
+RunsOn naming name history asked held holds status made = made ≡ []
+
+-- What a command did to the books of a name, which held this history, by its words; calls made all of
+-- what they hold now.
+pub record DoneAfter {S E : Type 0} (naming : Naming) (name : List ℕ) (history : List Event)
+    (command : Commanded S E) (made : List Event) : Type 0 where
+  pub asked : Result Request ArgumentFault
+  pub read : AreReadAs program_name most_rate command.words asked
+  pub runs : RunsOn naming name history asked command.held command.holds command.status made
+  pub answered : IsMadeByCalls naming (made ++ history)
+
+-- so it is with each, after the history that goes on with what those before it made
+abbrev pub AreDoneAfter : {S E : Type 0} → Naming → List ℕ → List Event → List (Commanded S E)
+    → List Event → Type 0
+AreDoneAfter naming name history [] end = end ≡ history
+AreDoneAfter naming name history (command ∷ later) end =
+    (made : List Event) × DoneAfter naming name history command made
+    × AreDoneAfter naming name (made ++ history) later end
+
+-- and the books hold the history with all of it
+pub record LeaveHistory {S E : Type 0} (shelf : S → Shelf) (naming : Naming) (name : List ℕ)
+    (start : List Event) (commands : List (Commanded S E)) (after : S) : Type 0 where
+  pub end : List Event
+  pub done : AreDoneAfter naming name start commands end
+  pub held : (shelf after).holds name end
+
+-- The headline: after any commands, the books of a name that held a history which calls made hold it
+-- with what the commands made of it; and each told what the definitions give for the whole history
+-- before it.
+abbrev pub CommandsFollowHistory : {S E : Type 0} → (S → Shelf) → (E → List (List ℕ) → E → Type 0)
+    → Type 0
+CommandsFollowHistory {S} {E} shelf Says =
+    (name : List ℕ) (start : List Event) (before : S) (commands : List (Commanded S E))
+    → IsMadeByCalls (shelf before).naming start → (shelf before).holds name start
+    → AreCommanded shelf Says before commands
+    → LeaveHistory shelf (shelf before).naming name start commands (place_after before commands)

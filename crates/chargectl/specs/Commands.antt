@@ -1,0 +1,160 @@
+-- What each command on books asks of the office, what is written, and how it ends.
+use Rattle.std.specs.Prelude.{◌≡◌, ◌⊎◌, ⊤, Bool, true, false, ℕ, List, Option, Some, None, Result, Ok, Err}
+use Rattle.std.specs.Prelude.{take}
+use Rattle.std.specs.declared.io.ErrorKind.{ErrorKind}
+use Rattle.std.specs.Io.KnownBytes.{Appends}
+use Rattle.smf_text.specs.Day.{day_of_text_of}
+use Rattle.tariff_rules.specs.declared.fault.TariffFault.{TariffFault}
+use Rattle.streams.specs.InputOutput.{Input}
+use Rattle.book_model.specs.declared.fault.LedgerFault.{LedgerFault}
+use Rattle.book_model.specs.declared.fault.LedgerFault.TheVariants as ledger
+use Rattle.book_model.specs.Words.{Book, Event, Naming}
+use Rattle.book_core.specs.Follow.{MakesAnswered}
+use Rattle.book_core.specs.Transition.{Transition}
+use Rattle.office.specs.declared.repository.RepositoryFault.{RepositoryFault}
+use Rattle.office.specs.declared.request.Asked.{Asked}
+use Rattle.office.specs.declared.request.Asked.TheVariants as asks
+use Rattle.office.specs.declared.request.Answer.{Answer}
+use Rattle.office.specs.declared.request.Answer.TheVariants as answers
+use Rattle.office.specs.Requests.{Dump, Response, Asks, Gives, response_of, response_by}
+use Rattle.office.specs.Answers.{answer_text}
+use Rattle.office.specs.Shelves.{Shelf, IsOpened, IsUntouched}
+use Rattle.office.proofs.LawLemmas.{asks_answered}
+use Rattle.command_line.specs.declared.request.BookRequest.{BookRequest}
+use Rattle.command_line.specs.declared.request.BookRequest.TheVariants as book
+use Rattle.program_output.specs.Names.{name_in}
+use Rattle.chargectl.specs.declared.command_fault.CommandFault.{CommandFault}
+use Rattle.chargectl.specs.declared.command_fault.CommandFault.TheVariants as fault
+use Rattle.chargectl.specs.declared.ended.Answered.{Answered}
+use Rattle.chargectl.specs.declared.ended.Ended.{Ended}
+use Rattle.chargectl.specs.Faults.{end_of, io_fault, shelf_fault, without_log}
+
+-- The table: what a command asks of the office. The text of a tariff is what its file gave.
+abbrev pub IsAskedBy : BookRequest → Asked → Type 0
+IsAskedBy (book.Tariff file) (asks.Tariff text) = ⊤
+IsAskedBy (book.Import dump) (asks.Import layout) = layout ≡ dump.layout
+IsAskedBy (book.Close period date) (asks.Close number through) =
+    (number ≡ period) × (day_of_text_of date.now ≡ Some through)
+IsAskedBy (book.Choose name) (asks.Choose chosen) = name_in name.now ≡ Some chosen
+IsAskedBy book.Adopt (asks.Adopt rule) = rule ≡ 2
+IsAskedBy (book.Print report) (asks.Report printed) = printed ≡ report
+IsAskedBy request asked = ⊥
+
+-- it may change the books
+abbrev pub may_change : Asked → Bool
+may_change (asks.Report report) = false
+may_change asked = true
+
+-- The office was asked this once, with the dump that a reader gave, and answered this.
+pub record AsksOnce (naming : Naming) (asked : Asked) (told : Result Response LedgerFault) (was : Bool)
+    (before : Book) (events : List Event) (is : Bool) : Type 0 where
+  pub dump : Dump
+  pub input : Input
+  pub given : Gives asked dump told input
+  pub made : Asks naming asked dump told was before events is
+
+-- one request makes events that the books answered
+pub once_answered : (naming : Naming) (asked : Asked) (told : Result Response LedgerFault)
+    → MakesAnswered naming (AsksOnce naming asked told)
+once_answered naming asked told history was events is once =
+    asks_answered naming asked once.dump told history was events is once.made
+
+-- what a visit to the books did that asked this once, by its answer
+abbrev pub AsksOnceBy : Naming → Asked → Result Answer LedgerFault → Transition
+AsksOnceBy naming asked told = AsksOnce naming asked (response_by told)
+
+-- what came of a request: its answer, its refusal, or why the books were not opened
+abbrev pub answer_of : Result (Result Answer LedgerFault) RepositoryFault → Result Answer CommandFault
+answer_of (Ok (Ok answer)) = Ok answer
+answer_of (Ok (Err refusal)) = Err (fault.Ledger refusal)
+answer_of (Err shelf) = Err (shelf_fault shelf)
+
+-- The books of a name were opened, and the office was asked this once.
+pub record IsAnswered (asked : Asked) (book : List ℕ) (old new : Shelf) (answered : Answered) : Type 0
+  where
+    pub told : Result (Result Answer LedgerFault) RepositoryFault
+    pub done : IsOpened (AsksOnceBy old.naming asked) book old new told
+    pub says : answered.answer ≡ answer_of told
+    pub log : new.has_log book answered.has_log
+    pub change : answered.is_change ≡ may_change asked
+
+-- the place of the books failed, or there is nothing of that name
+abbrev pub IsShelfFault : CommandFault → Type 0
+IsShelfFault why = (shelf : RepositoryFault) × (why ≡ shelf_fault shelf)
+
+-- a file failed, or is not there
+abbrev pub IsFileFault : CommandFault → Type 0
+IsFileFault why = (kind : ErrorKind) × (why ≡ io_fault kind)
+
+-- the file of a tariff failed, or its text is none
+abbrev pub IsTextFault : CommandFault → Type 0
+IsTextFault why = IsFileFault why
+    ⊎ ((refused : TariffFault) × (why ≡ fault.Ledger (ledger.TariffRefused refused)))
+
+-- a word is not what it has to be, before anything else; or else the place of the books failed
+abbrev pub IsWordFault : {A : Type 0} → Option A → CommandFault → Type 0
+IsWordFault None why = why ≡ fault.Argument
+IsWordFault (Some read) why = IsShelfFault why
+
+-- why a command asks nothing
+abbrev pub AsksNothing : BookRequest → CommandFault → Type 0
+AsksNothing (book.Tariff file) why = IsShelfFault why ⊎ IsTextFault why
+AsksNothing (book.Import dump) why = IsShelfFault why ⊎ IsFileFault why
+AsksNothing (book.Close period date) why = IsWordFault (day_of_text_of date.now) why
+AsksNothing (book.Choose name) why = IsWordFault (name_in name.now) why
+AsksNothing request why = IsShelfFault why
+
+-- a command asked what its words ask
+pub record Asking (request : BookRequest) (book : List ℕ) (old new : Shelf) (answered : Answered)
+    : Type 0 where
+  pub asked : Asked
+  pub words : IsAskedBy request asked
+  pub came : IsAnswered asked book old new answered
+
+-- What came of a command: the office was asked just what its words ask, once; or nothing was asked.
+abbrev pub ComesOf : BookRequest → List ℕ → Shelf → Shelf → Result Answered CommandFault → Type 0
+ComesOf request book old new (Ok answered) = Asking request book old new answered
+ComesOf request book old new (Err why) = AsksNothing request why × IsUntouched book old new
+
+-- the first fault
+abbrev pub first_fault : Result (Unit {0}) CommandFault → Result (Unit {0}) CommandFault
+    → Result (Unit {0}) CommandFault
+first_fault (Ok done) later = later
+first_fault (Err fault) later = Err fault
+
+-- how a command ends whose answer was written, or why not: an import that stopped says so
+abbrev pub ends_by : Answer → Result (Unit {0}) CommandFault → Result (Unit {0}) CommandFault
+ends_by (answers.Receipt receipt) written = first_fault (end_of receipt.stop) written
+ends_by answer written = written
+
+-- the text was written whole; or the output failed, and has a prefix of it
+abbrev pub IsPrinted : List ℕ → Option (List ℕ) → Option (List ℕ) → Result (Unit {0}) CommandFault
+    → Type 0
+IsPrinted text held holds (Ok done) = Appends held holds text
+IsPrinted text held holds (Err fault) = (count : ℕ) × Appends held holds (take count text)
+
+-- What a command writes of an answer, and how it ends. Of a fault nothing is written.
+abbrev pub IsTold : Result Answer CommandFault → Option (List ℕ) → Option (List ℕ)
+    → Result (Unit {0}) CommandFault → Type 0
+IsTold (Ok answer) held holds came = (written : Result (Unit {0}) CommandFault)
+    × IsPrinted (answer_text (response_of answer)) held holds written × (came ≡ ends_by answer written)
+IsTold (Err fault) held holds came = (holds ≡ held) × (came ≡ Err fault)
+
+-- with what the books left, and whether they may have changed
+pub record TellsAnswered (answered : Answered) (held holds : Option (List ℕ)) (ended : Ended) : Type 0
+  where
+    pub told : IsTold answered.answer held holds ended.came
+    pub log : ended.has_log ≡ answered.has_log
+    pub change : ended.is_change ≡ answered.is_change
+
+-- and where nothing was asked
+abbrev pub Tells : Result Answered CommandFault → Option (List ℕ) → Option (List ℕ) → Ended → Type 0
+Tells (Ok answered) held holds ended = TellsAnswered answered held holds ended
+Tells (Err why) held holds ended = (holds ≡ held) × (ended ≡ without_log (Err why))
+
+-- A command that asks the office: what came of it, and what was told of that.
+pub record AsksAndTells (request : BookRequest) (book : List ℕ) (old new : Shelf)
+    (held holds : Option (List ℕ)) (ended : Ended) : Type 0 where
+  pub answered : Result Answered CommandFault
+  pub comes : ComesOf request book old new answered
+  pub tells : Tells answered held holds ended

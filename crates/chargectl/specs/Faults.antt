@@ -1,0 +1,97 @@
+-- Why a command did not do what it was asked, and the exit status and the lines on standard error
+-- that say so.
+use Rattle.std.specs.Prelude.{if◌then◌else◌, false, ℕ, List, [], ◌∷◌, ◌++◌, codes, Result, Ok, Err}
+use Rattle.std.specs.declared.io.ErrorKind.{ErrorKind}
+use Rattle.std.specs.declared.io.ErrorKind.TheVariants.{OutOfMemory}
+use Rattle.book_model.specs.declared.fault.LedgerFault.TheVariants as ledger
+use Rattle.book_import.specs.declared.receipt.Stop.{Stop}
+use Rattle.book_import.specs.declared.receipt.Stop.TheVariants.{End}
+use Rattle.office.specs.declared.repository.RepositoryFault.{RepositoryFault}
+use Rattle.office.specs.declared.repository.RepositoryFault.TheVariants as shelf
+use Rattle.program_output.specs.declared.status.Status.{Status}
+use Rattle.program_output.specs.declared.status.Status.TheVariants as status
+use Rattle.program_output.specs.Messages.{busy_line, io_line, ledger_line, line_of, log_line}
+use Rattle.program_output.specs.Messages.{no_number_line, report_line, stop_lines, unsound_line}
+use Rattle.program_output.specs.Statuses.{ledger_status, log_status, report_status, stop_status}
+use Rattle.chargectl.specs.declared.command_fault.CommandFault.{CommandFault}
+use Rattle.chargectl.specs.declared.command_fault.CommandFault.TheVariants as fault
+use Rattle.chargectl.specs.declared.ended.Ended.{Ended}
+
+-- the exit status of a fault
+abbrev pub fault_status : CommandFault → Status
+fault_status fault.Io = status.Io
+fault_status fault.Usage = status.Usage
+fault_status fault.Number = status.Usage
+fault_status fault.Exists = status.Refused
+fault_status fault.Busy = status.Store
+fault_status fault.Argument = status.Refused
+fault_status (fault.Ledger refused) = ledger_status refused
+fault_status (fault.Report refused) = report_status refused
+fault_status (fault.Stopped stop) = stop_status stop
+fault_status fault.Unsound = status.Store
+
+-- the exit status of what a command came to
+abbrev pub came_status : Result (Unit {0}) CommandFault → Status
+came_status (Ok done) = status.Done
+came_status (Err fault) = fault_status fault
+
+-- the exit status of a command, which may have left a log beside the books
+abbrev pub status_by : Ended → Status
+status_by ended =
+    if ended.has_log then log_status (came_status ended.came) ended.is_change
+    else came_status ended.came
+
+-- What is said of a fault: one line. Of a rate outside its limits nothing is said.
+abbrev pub fault_lines : CommandFault → List (List ℕ)
+fault_lines fault.Io = io_line ∷ []
+fault_lines fault.Usage = []
+fault_lines fault.Number = no_number_line ∷ []
+fault_lines fault.Exists = line_of (codes "exists") ∷ []
+fault_lines fault.Busy = busy_line ∷ []
+fault_lines fault.Argument = line_of (codes "word") ∷ []
+fault_lines (fault.Ledger refused) = ledger_line refused ∷ []
+fault_lines (fault.Report refused) = report_line refused ∷ []
+fault_lines (fault.Stopped stop) = stop_lines stop
+fault_lines fault.Unsound = unsound_line ∷ []
+
+-- what is said of what a command came to: nothing, where all went well
+abbrev pub came_lines : Result (Unit {0}) CommandFault → List (List ℕ)
+came_lines (Ok done) = []
+came_lines (Err fault) = fault_lines fault
+
+-- what a command says on standard error, which may have left a log beside the books
+abbrev pub error_lines : Ended → List (List ℕ)
+error_lines ended =
+    if ended.has_log then came_lines ended.came ++ log_line ∷ [] else came_lines ended.came
+
+-- a command that left no log
+abbrev pub without_log : Result (Unit {0}) CommandFault → Ended
+without_log came = record { came = came; has_log = false; is_change = false }
+
+-- a command that may have found a fault before it opened any books
+abbrev pub settled_as : Result Ended CommandFault → Ended
+settled_as (Ok ended) = ended
+settled_as (Err fault) = without_log (Err fault)
+
+-- a dump was read to its end, or why not
+abbrev pub end_of : Stop → Result (Unit {0}) CommandFault
+end_of End = Ok tt
+end_of stop = Err (fault.Stopped stop)
+
+-- there were no open books, or it was not seen that their closed files hold them
+abbrev pub shelf_fault : RepositoryFault → CommandFault
+shelf_fault shelf.Io = fault.Io
+shelf_fault shelf.Exists = fault.Exists
+shelf_fault shelf.Busy = fault.Busy
+shelf_fault (shelf.Ledger refused) = fault.Ledger refused
+shelf_fault shelf.Unseen = fault.Ledger ledger.Memory
+
+-- how a command ends where that is all that it asks
+abbrev pub shelf_end : Result (Unit {0}) RepositoryFault → Result (Unit {0}) CommandFault
+shelf_end (Ok done) = Ok done
+shelf_end (Err fault) = Err (shelf_fault fault)
+
+-- a file, a socket or the output failed, or there was no memory for it
+abbrev pub io_fault : ErrorKind → CommandFault
+io_fault OutOfMemory = fault.Ledger ledger.Memory
+io_fault kind = fault.Io

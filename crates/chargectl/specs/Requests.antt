@@ -1,0 +1,119 @@
+-- What the program does: for each request, and for words that are none.
+use Rattle.std.specs.Prelude.{◌≡◌, ◌⊎◌, true, ℕ, List, [], ◌∷◌, Option, Result, Ok, Err, OnOk}
+use Rattle.std.specs.Prelude.{string_bytes}
+use Rattle.std.specs.Io.KnownBytes.{Appends}
+use Rattle.tariff_rules.specs.Limits.{most_rate}
+use Rattle.book_audit.specs.Copies.{IsCopied}
+use Rattle.book_model.specs.declared.fault.LedgerFault.TheVariants as ledger
+use Rattle.office.specs.declared.repository.RepositoryFault.{RepositoryFault}
+use Rattle.office.specs.Shelves.{Shelf, IsDoneTo, IsMade, IsUntouched}
+use Rattle.command_line.specs.declared.request.BookRequest.{BookRequest}
+use Rattle.command_line.specs.declared.request.BookRequest.TheVariants as book
+use Rattle.command_line.specs.declared.request.Request.{Request}
+use Rattle.command_line.specs.declared.request.Request.TheVariants as request
+use Rattle.command_line.specs.declared.fault.ArgumentFault.{ArgumentFault}
+use Rattle.command_line.specs.Known.{AreReadAs}
+use Rattle.command_line.specs.declared.fault.ArgumentFault.TheVariants as words
+use Rattle.program_output.specs.declared.status.Status.{Status}
+use Rattle.program_output.specs.declared.status.Status.TheVariants as status
+use Rattle.program_output.specs.Messages.{io_line, ledger_line, program_name}
+use Rattle.chargectl.specs.declared.command_fault.CommandFault.{CommandFault}
+use Rattle.chargectl.specs.declared.ended.Ended.{Ended}
+use Rattle.chargectl.specs.Audits.{AuditsBy}
+use Rattle.chargectl.specs.Commands.{AsksAndTells, IsShelfFault}
+use Rattle.chargectl.specs.Faults.{error_lines, settled_as, shelf_end, status_by, without_log}
+use Rattle.chargectl.specs.Reading.{Checks, TellsOf, TriesAt, kind_of}
+use Rattle.chargectl.specs.Sittings.{ServesAll, SomeSittings}
+
+-- new books were made, or not, and nothing was written
+pub record Makes (book : List ℕ) (old new : Shelf) (held holds : Option (List ℕ)) (ended : Ended)
+    : Type 0 where
+  pub made : Result (Unit {0}) RepositoryFault
+  pub done : IsMade book old new made
+  pub ends : ended ≡ without_log (shelf_end made)
+  pub none : holds ≡ held
+
+-- What a service came to: some connections were answered, and where nothing went wrong all, with
+-- their lines; and whether a log is left.
+pub record Serves (requests : ℕ) (book : List ℕ) (old new : Shelf) (held holds : Option (List ℕ))
+    (ended : Ended) : Type 0 where
+  pub some : IsDoneTo book (SomeSittings old.naming) old new
+  pub all : OnOk ended.came (ServesAll requests 0 book old new held holds)
+  pub log : new.has_log book ended.has_log
+  pub change : ended.is_change ≡ true
+
+-- or there was nothing of that name
+abbrev pub ServesBy : ℕ → List ℕ → Shelf → Shelf → Option (List ℕ) → Option (List ℕ)
+    → Result Ended CommandFault → Type 0
+ServesBy requests book old new held holds (Ok ended) = Serves requests book old new held holds ended
+ServesBy requests book old new held holds (Err why) =
+    IsShelfFault why × IsUntouched book old new × (holds ≡ held)
+
+-- a command that may have found a fault before it opened any books
+pub record SettlesBy (Does : Result Ended CommandFault → Type 0) (ended : Ended) : Type 0 where
+  pub came : Result Ended CommandFault
+  pub does : Does came
+  pub ends : ended ≡ settled_as came
+
+-- Each command on books.
+abbrev pub Does : BookRequest → List ℕ → Shelf → Shelf → Option (List ℕ) → Option (List ℕ) → Ended
+    → Type 0
+Does book.Init name old new held holds ended = Makes name old new held holds ended
+Does (book.Audit quiet) name old new held holds ended =
+    SettlesBy (AuditsBy (λ audited. IsUntouched name old new) (new.has_log name)
+    (IsUntouched name old new) held holds) ended
+Does (book.BackUp copy quiet) name old new held holds ended =
+    SettlesBy (AuditsBy (IsCopied name copy.now old new) (new.has_log name) (IsUntouched name old new)
+    held holds) ended
+Does (book.Serve port requests) name old new held holds ended =
+    SettlesBy (ServesBy requests name old new held holds) ended
+Does asked name old new held holds ended = AsksAndTells asked name old new held holds ended
+
+-- a command that opens no books, and leaves no log
+pub record EndsAt (Does : Result (Unit {0}) CommandFault → Type 0) (ended : Ended) : Type 0 where
+  pub came : Result (Unit {0}) CommandFault
+  pub does : Does came
+  pub ends : ended ≡ without_log came
+
+-- The table of the commands.
+abbrev pub Runs : {S : Type 0} → (S → Shelf) → S → S → Request → Option (List ℕ) → Option (List ℕ)
+    → Option (List ℕ) → Ended → Type 0
+Runs shelf old new (request.Trial layout cpu excp fee) had held holds ended =
+    (new ≡ old) × EndsAt (TriesAt layout cpu excp fee had held holds) ended
+Runs shelf old new (request.Check dump) had held holds ended =
+    (new ≡ old) × EndsAt (Checks dump.layout held holds) ended
+Runs shelf old new (request.Explain kind number) had held holds ended =
+    (new ≡ old) × EndsAt (TellsOf (kind_of kind) number held holds) ended
+Runs shelf old new (request.OfBooks name asked) had held holds ended =
+    Does asked name.now (shelf old) (shelf new) held holds ended
+
+-- What was wrong with the words, or help, which is written to standard output; and what is said on
+-- standard error.
+abbrev pub IsRefusedFor : ArgumentFault → Option (List ℕ) → Option (List ℕ)
+    → (List (List ℕ) → Type 0) → Status → Type 0
+IsRefusedFor words.Memory held holds Says ended =
+    (holds ≡ held) × (ended ≡ status.Memory) × Says (ledger_line ledger.Memory ∷ [])
+IsRefusedFor (words.Wrong text) held holds Says ended =
+    (holds ≡ held) × (ended ≡ status.Usage) × Says (string_bytes text ∷ [])
+IsRefusedFor (words.Help text) held holds Says ended =
+    (Appends held holds (string_bytes text) × (ended ≡ status.Done) × Says [])
+    ⊎ ((ended ≡ status.Io) × Says (io_line ∷ []))
+
+-- What was asked was done; or nothing was asked.
+abbrev pub DoesOrRefuses : {S : Type 0} → (S → Shelf) → S → S → Result Request ArgumentFault
+    → Option (List ℕ) → Option (List ℕ) → Option (List ℕ) → (List (List ℕ) → Type 0) → Status
+    → Type 0
+DoesOrRefuses shelf old new (Ok request) had held holds Says status =
+    (ended : Ended) × Runs shelf old new request had held holds ended × (status ≡ status_by ended)
+    × Says (error_lines ended)
+DoesOrRefuses shelf old new (Err fault) had held holds Says status =
+    (new ≡ old) × IsRefusedFor fault held holds Says status
+
+-- The program: its words ask for something by the table of the commands, and that was done. These
+-- lines, and no others, were said on standard error.
+pub record CommandsBy {S : Type 0} (shelf : S → Shelf) (old new : S) (words : List (List ℕ))
+    (had held holds : Option (List ℕ)) (Says : List (List ℕ) → Type 0) (status : Status) : Type 0
+  where
+    pub asked : Result Request ArgumentFault
+    pub read : AreReadAs program_name most_rate words asked
+    pub done : DoesOrRefuses shelf old new asked had held holds Says status
