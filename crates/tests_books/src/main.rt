@@ -8,7 +8,15 @@
 //! | `commands:` | sessions of the program's commands, over files |
 //! | `stops:` | as those of `tables:`; it is separate because disks that stop take the longest |
 //!
-//! Rows on books are those of `tests_tables`. In a session every word that begins with `@` is a file
+//! Rows on books are those of `tests_tables`, and may serve their books to clients, as the program
+//! does over HTTP:
+//!
+//! | A line on books | Is answered with |
+//! |---|---|
+//! | `serve`, with a body of clients | the program's line of each that is served, and how many are left; then of each the first line that it got, and whether what it still sent was read |
+//! | `serve refused COUNT`, with such a body | the same, by books that refuse the call after so many for lack of memory |
+//!
+//! In a session every word that begins with `@` is a file
 //! of this row alone:
 //!
 //! | A line | Is answered with |
@@ -24,23 +32,26 @@
 //! | `files` | the names of the row's files, in order |
 #![tactic(auto)]
 
+mod client;
 mod command_output;
+mod served_rows;
 mod session_streams;
 mod sessions;
 
 use book_core::PlainLedger;
+use served_rows::ServedRows;
 use sessions::Sessions;
 use std::test::Fail;
 use std::{env, fs, process};
 use tests_scripts::play_files;
-use tests_tables::{BookRows, Names, TreeBooks};
+use tests_tables::{Names, TreeBooks};
 
 /// Plays the scripts of a section.
 fn play_section(rt: &HostRuntime, section: &str, names: &[String]) -> Result<(), Fail> {
     println!(rt; "{section}")?;
     match section {
-        "memory:" => play_files(rt, BookRows::<PlainLedger<Names>>::new(), names),
-        "tables:" | "stops:" => play_files(rt, BookRows::<TreeBooks>::new(), names),
+        "memory:" => play_files(rt, ServedRows::<PlainLedger<Names>>::new(), names),
+        "tables:" | "stops:" => play_files(rt, ServedRows::<TreeBooks>::new(), names),
         "commands:" => {
             let within = env::temp_dir(rt)?;
             let id = process::id(rt.process());

@@ -5,7 +5,7 @@ use book_core::{Ledger, Sink, Source};
 use book_http::{Served, serve_one};
 use std::alloc::Global;
 use std::io::Write;
-use tests_scripts::{LimitedReader, LimitedWriter, LineResult, push_line};
+use tests_scripts::{LimitedWriter, LineResult, push_line};
 
 /// What became of a request.
 #[derive(Drop)]
@@ -57,7 +57,7 @@ impl Exchange {
         request: &[u8],
         ledger: &mut L,
     ) -> Exchange {
-        let mut source = Source::new(LimitedReader::new(request, connection.reads, false));
+        let mut source = Source::new(connection.reader(request));
         let mut sink = Sink::new(LimitedWriter::new(alloc, connection.writes));
         let served = serve_one(alloc, &mut source, &mut sink, ledger);
         Exchange {

@@ -10,9 +10,11 @@
 //! - `each-read REQUEST` sends it once for each count of reads after which reading fails.
 //! - `each-write at:PLACE REQUEST` sends it once for each count of writes after which writing
 //!   fails, and each time once more. At the place in the dump is the count, if a place is given.
-//! - `connection pieces:SIZE reads:COUNT takes:SIZE writes:COUNT` sets how many bytes a read gives
-//!   and a write takes, and after how many each fails. What is left out is not limited.
+//! - `connection sends:SIZE pieces:SIZE reads:COUNT takes:SIZE writes:COUNT` sets how many bytes of a
+//!   request come at all, how many a read gives and a write takes, and after how many each fails. What
+//!   is left out is not limited.
 //!
+//! Clients that are served one after the other (`read_clients`) are such lines too, each of a request.
 //! Lengths and counts that follow each other and have the same result are shown as one.
 #![tactic(auto)]
 
@@ -20,6 +22,9 @@ mod connection;
 mod exchange;
 mod lines;
 mod lost_answers;
+mod scripted_client;
 mod scripted_request;
 
+pub use connection::Connection;
 pub use lines::{RequestLines, answer_request};
+pub use scripted_client::{ScriptedClient, read_clients};

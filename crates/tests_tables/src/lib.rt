@@ -54,5 +54,5 @@ mod uninterrupted;
 
 pub use lines::Lines;
 pub use names::Names;
-pub use rows::{BookRows, Books};
+pub use rows::{AsksOpenBooks, BookRows, Books};
 pub use tree_books::TreeBooks;

@@ -1,5 +1,6 @@
 //! What the lines of a row have set so far, and how books are asked.
 
+use crate::rows::AsksOpenBooks;
 use book_core::Ledger;
 use std::alloc::AllocError;
 use tests_ledgers::{BookLines, answer};
@@ -49,5 +50,23 @@ impl Lines {
             return self.ask_each_call(named, ledger, ask, out);
         }
         self.ask_once(named, ledger, ask, out)
+    }
+}
+
+/// A line of a row that is asked of its books.
+#[derive(Drop)]
+pub(crate) struct RowLine<'a> {
+    pub(crate) lines: &'a mut Lines,
+    pub(crate) ask: Ask<'a>,
+}
+
+impl AsksOpenBooks for RowLine<'_> {
+    fn ask<L: Ledger>(
+        &mut self,
+        named: &Named,
+        ledger: &mut L,
+        out: &mut Vec<u8>,
+    ) -> Result<bool, AllocError> {
+        self.lines.ask(named, ledger, self.ask, out)
     }
 }

@@ -1,8 +1,8 @@
 //! Books in memory.
 
-use crate::lines::Lines;
+use crate::lines::{Lines, RowLine};
 use crate::names::Names;
-use crate::rows::Books;
+use crate::rows::{AsksOpenBooks, Books};
 use book_core::PlainLedger;
 use std::alloc::{AllocError, Global};
 use tariff_rules::Tariff;
@@ -22,6 +22,17 @@ impl Books for PlainLedger<Names> {
         }
     }
 
+    fn ask_open<A: AsksOpenBooks>(
+        self,
+        named: &Named,
+        asking: &mut A,
+        out: &mut Vec<u8>,
+    ) -> Result<(PlainLedger<Names>, bool), AllocError> {
+        let mut ledger = self;
+        let is_read = asking.ask(named, &mut ledger, out)?;
+        Ok((ledger, is_read))
+    }
+
     fn answer(
         self,
         lines: &mut Lines,
@@ -29,8 +40,6 @@ impl Books for PlainLedger<Names> {
         ask: Ask<'_>,
         out: &mut Vec<u8>,
     ) -> Result<(PlainLedger<Names>, bool), AllocError> {
-        let mut ledger = self;
-        let is_read = lines.ask(named, &mut ledger, ask, out)?;
-        Ok((ledger, is_read))
+        self.ask_open(named, &mut RowLine { lines, ask }, out)
     }
 }

@@ -7,10 +7,10 @@ ghost use Rattle.tree_tables.specs.Holds.{HasShapes};
 
 use crate::changed_rows::{change_of, change_rows};
 use crate::empty_store::EmptyStore;
-use crate::lines::Lines;
+use crate::lines::{Lines, RowLine};
 use crate::names::Names;
 use crate::refusals::answer_refusals;
-use crate::rows::Books;
+use crate::rows::{AsksOpenBooks, Books};
 use crate::shown_rows::shown_table;
 use crate::stops::answer_stops;
 use crate::trees::Trees;
@@ -55,6 +55,17 @@ impl Books for TreeBooks {
         Some(TreeBooks { trees, names })
     }
 
+    fn ask_open<A: AsksOpenBooks>(
+        self,
+        named: &Named,
+        asking: &mut A,
+        out: &mut Vec<u8>,
+    ) -> Result<(TreeBooks, bool), AllocError> {
+        let TreeBooks { trees, names } = self;
+        let (trees, is_read) = trees.ask(named, names, asking, out)?;
+        Ok((TreeBooks { trees, names }, is_read))
+    }
+
     fn answer(
         self,
         lines: &mut Lines,
@@ -69,7 +80,7 @@ impl Books for TreeBooks {
         let (trees, is_read) = match ask.verb {
             "stops" => answer_stops(named, trees, ask, out)?,
             "refuses" => answer_refusals(named, trees, ask, out)?,
-            _ => trees.ask(lines, named, names, ask, out)?,
+            _ => trees.ask(named, names, &mut RowLine { lines, ask }, out)?,
         };
         Ok((TreeBooks { trees, names }, is_read))
     }

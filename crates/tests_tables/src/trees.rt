@@ -3,7 +3,7 @@
 ghost use Rattle.sqlite_trees.specs.View.{IsClean};
 ghost use Rattle.tree_tables.specs.Holds.{HasShapes};
 
-use crate::lines::Lines;
+use crate::rows::AsksOpenBooks;
 use book_core::Naming;
 use program_output::ledger_refused;
 use sqlite_trees::error::StoreError;
@@ -12,7 +12,7 @@ use sqlite_value::keys::Order;
 use sqlite_value::row::Row;
 use std::alloc::{AllocError, Global};
 use table_ledger::TableLedger;
-use tests_scripts::{Ask, Named};
+use tests_scripts::Named;
 use tree_rows::{ReadRow, change_row, list_run};
 
 /// A store with the trees of books.
@@ -81,19 +81,18 @@ impl<S: Store + Drop> Trees<S> {
         self.store.commit().is_ok()
     }
 
-    /// Asks the books in the trees, opened for this line, and gives the trees back, with whether
-    /// the line was read. What is asked of books that can't be opened is answered by the fault.
-    pub(crate) fn ask<N: Naming + Drop>(
+    /// Asks the books in the trees, opened for this, and gives the trees back, with whether the line
+    /// that asks was read. What is asked of books that can't be opened is answered by the fault.
+    pub(crate) fn ask<N: Naming + Drop, A: AsksOpenBooks>(
         self,
-        lines: &mut Lines,
         named: &Named,
         naming: N,
-        ask: Ask<'_>,
+        asking: &mut A,
         out: &mut Vec<u8>,
     ) -> Result<(Trees<S>, bool), AllocError> {
         match TableLedger::open(named.alloc(), self.store, naming) {
             Ok(mut books) => {
-                let is_read = lines.ask(named, &mut books, ask, out)?;
+                let is_read = asking.ask(named, &mut books, out)?;
                 Ok((Trees::over(books.close_store()), is_read))
             }
             Err((fault, store)) => {

@@ -1,6 +1,6 @@
 //! A run that nothing stops, change by change.
 
-use crate::lines::Lines;
+use crate::lines::{Lines, RowLine};
 use crate::run::{Progress, Run, ask_of};
 use crate::shown_rows::{all_choices, all_rows};
 use crate::trees::Trees;
@@ -130,7 +130,12 @@ fn answered<S: Store + Drop>(
     ask: Ask<'_>,
 ) -> Result<(Trees<S>, Vec<u8>), AllocError> {
     let mut answers = Vec::new(run.named.alloc());
-    let (trees, _) = trees.ask(&mut Lines::new(), run.named, ShaNames, ask, &mut answers)?;
+    let mut lines = Lines::new();
+    let mut line = RowLine {
+        lines: &mut lines,
+        ask,
+    };
+    let (trees, _) = trees.ask(run.named, ShaNames, &mut line, &mut answers)?;
     Ok((trees, answers))
 }
 

@@ -1,0 +1,145 @@
+//! Clients of a script, and what goes over their connections.
+
+ghost use Rattle.std.specs.Prelude.{length};
+
+use book_core::Ledger;
+use book_http::Served;
+use chargectl::{Connections, Peer, answer_peer};
+use std::alloc::Global;
+use std::cell::{Cell, RefCell};
+use std::io;
+use std::io::{Read, Write};
+use tests_requests::ScriptedClient;
+use tests_scripts::{LimitedReader, LimitedWriter, LineFault, LineResult, push_line};
+
+/// How many reads are made of what a client still sends after its answer.
+const DRAINING_READS: u32 = 1_000;
+
+/// A client: what it still sends, what it took of its answer, and whether it was drained.
+#[derive(Drop)]
+pub(crate) struct Client<'a> {
+    reader: RefCell<LimitedReader<'a>>,
+    writer: RefCell<LimitedWriter>,
+    is_drained: Cell<bool>,
+}
+
+impl<'a> Client<'a> {
+    /// It has sent nothing yet.
+    pub(crate) fn new(alloc: Global, scripted: &'a ScriptedClient) -> Client<'a> {
+        let connection = scripted.connection;
+        Client {
+            reader: RefCell::new(connection.reader(&scripted.request)),
+            writer: RefCell::new(LimitedWriter::new(alloc, connection.writes)),
+            is_drained: Cell::new(false),
+        }
+    }
+
+    /// Adds the first line that it got, and whether it was drained.
+    pub(crate) fn push(&self, out: &mut Vec<u8>) -> LineResult {
+        let Ok(writer) = self.writer.try_borrow() else {
+            return Err(LineFault::NotUnderstood);
+        };
+        let Ok(text) = str::from_utf8(&writer.taken) else {
+            return Err(LineFault::NotUnderstood);
+        };
+        let got = text.lines().next().unwrap_or("NOTHING");
+        out.extend_from_slice(got.as_bytes())?;
+        push_line(
+            out,
+            if self.is_drained.get() {
+                ", DRAINED"
+            } else {
+                ""
+            },
+        )?;
+        Ok(())
+    }
+}
+
+/// The connection of a client.
+#[derive(Clone, Copy)]
+struct ScriptedPeer<'c, 'a> {
+    client: &'c Client<'a>,
+    is_drained: bool,
+}
+
+impl ScriptedPeer<'_, '_> {
+    /// Reads what the client still sends, up to its end or a failure.
+    fn read_rest(mut self) {
+        let mut piece = [0u8; 64];
+        for _ in 0..DRAINING_READS {
+            match self.read(&mut piece) {
+                Err(_) | Ok(0) => return,
+                Ok(_) => (),
+            }
+        }
+    }
+}
+
+impl Read for ScriptedPeer<'_, '_> {
+    fn read(&mut self, buffer: &mut [u8]) -> io::Result<usize> {
+        match self.client.reader.try_borrow_mut() {
+            Ok(mut guard) => {
+                let reader = &mut *guard;
+                reader.read(buffer)
+            }
+            Err(_) => Err(io::Error::other("it is read already")),
+        }
+    }
+}
+
+impl Write for ScriptedPeer<'_, '_> {
+    fn write(&mut self, bytes: &[u8]) -> io::Result<usize> {
+        match self.client.writer.try_borrow_mut() {
+            Ok(mut guard) => {
+                let writer = &mut *guard;
+                writer.write(bytes)
+            }
+            Err(_) => Err(io::Error::other("it is written already")),
+        }
+    }
+
+    fn flush(&mut self) -> io::Result<()> {
+        Ok(())
+    }
+}
+
+impl Peer for ScriptedPeer<'_, '_> {
+    ghost is_drained = { λ peer. peer.is_drained };
+
+    fn drain(mut self) -> Self {
+        self.read_rest();
+        self.client.is_drained.set(true);
+        self.is_drained = true;
+        self
+    }
+}
+
+/// Clients that are left, the next one first.
+#[derive(Drop)]
+pub(crate) struct Queue<'c, 'a> {
+    pub(crate) alloc: Global,
+    pub(crate) left: &'c [Client<'a>],
+}
+
+impl Connections for Queue<'_, '_> {
+    ghost left = { λ queue. length queue.left.now };
+
+    fn is_over(&self) -> bool {
+        self.left.is_empty()
+    }
+
+    fn next<L: Ledger>(&mut self, books: &mut L) -> io::Result<Served> {
+        let left = self.left;
+        let [client, later @ ..] = left else {
+            unreachable!()
+        };
+        self.left = later;
+        let peer = ScriptedPeer {
+            client,
+            is_drained: false,
+        };
+        let (served, _) = answer_peer(self.alloc, peer, books);
+        Ok(served)
+    }
+}

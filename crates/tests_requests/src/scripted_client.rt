@@ -1,0 +1,51 @@
+//! Clients that a script gives, a line each.
+
+use crate::connection::Connection;
+use crate::scripted_request::ScriptedRequest;
+use tests_scripts::{Ask, LineFault, LineResult, Named};
+
+/// A client: the request that it sends, and its connection.
+#[derive(Drop)]
+pub struct ScriptedClient {
+    pub request: Vec<u8>,
+    pub connection: Connection,
+}
+
+/// The bytes of the request that words give.
+fn request_of(named: &Named, connection: Connection, words: &[&str]) -> LineResult<Vec<u8>> {
+    let [verb, words @ ..] = words else {
+        return Err(LineFault::NotUnderstood);
+    };
+    let script_line = Ask {
+        verb,
+        words,
+        body: "",
+    };
+    ScriptedRequest {
+        named,
+        connection,
+        script_line,
+    }
+    .request()
+}
+
+/// The clients of a body, a line each, which gives its request. A line `connection ..` between them
+/// sets how those after it connect.
+pub fn read_clients(named: &Named, body: &str) -> LineResult<Vec<ScriptedClient>> {
+    let alloc = named.alloc();
+    let mut connection = Connection::whole();
+    let mut clients = Vec::new(alloc);
+    for line in body.lines() {
+        let words: Vec<&str> = line.split_whitespace().collect(alloc)?;
+        if let ["connection", limits @ ..] = words.as_slice() {
+            connection = Connection::of(limits)?;
+        } else {
+            let request = request_of(named, connection, &words)?;
+            clients.push(ScriptedClient {
+                request,
+                connection,
+            })?;
+        }
+    }
+    Ok(clients)
+}
