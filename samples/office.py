@@ -94,6 +94,11 @@ def fields_of(record):
         at += 1 + record[at]
 
 
+def is_name(text):
+    """It can name a centre or a shift."""
+    return re.fullmatch("[A-Z0-9-]{1,16}", text) is not None
+
+
 def fault_of(file):
     """The number of what is wrong with a tariff file, and the key, if it is one of these: no TOML, a key of its front
     that is not there, a price out of its range, a shift that has no name, shifts of one name with two percents."""
@@ -107,7 +112,7 @@ def fault_of(file):
         if not 0 <= terms["rates"].get(key, -1) <= 100000000:
             return "%d %s" % (3 if key in terms["rates"] else 2, key)
     shifts = [(shift["name"], shift["percent"]) for shift in terms.get("shift", ())]
-    if not all(re.fullmatch("[A-Z0-9-]{1,16}", name) for name, _ in shifts):
+    if not all(is_name(name) for name, _ in shifts):
         return "4"
     return "5" if len(dict(shifts)) < len(set(shifts)) else None
 
@@ -272,29 +277,33 @@ class Books:
     def before(self, period):
         return self.closes[period - 2] if period > 1 else datetime.date.min
 
-    def rows(self, period):
+    def rows(self, period, centre=None):
+        """The charge rows of a period: of all centres, or of one."""
         groups = {}
         for name in self.charged(period):
             record = self.held[name]
-            if record.day > self.before(period):
+            if record.day > self.before(period) and centre in (None, record.centre):
                 sums = groups.setdefault((str(record.day), record.centre, record.shift), [0, 0, 0, 0])
                 for at, more in enumerate((1, record.cpu, record.blocks, record.amount)):
                     sums[at] += more
         return sorted(groups.items())
 
-    def statement(self, period):
+    def title(self, report, period, centre):
+        return "%s%s PERIOD %d %s" % (report, " CENTRE " + centre if centre else "", period, self.head(period))
+
+    def statement(self, period, centre=None):
         def line(key, count, cpu, blocks, amount):
             return "%-10s %-16s %-16s %8s %19s %18s %21s" % (key + (count, cpu, blocks, amount))
-        yield "STATEMENT PERIOD %d %s" % (period, self.head(period))
+        yield self.title("STATEMENT", period, centre)
         yield line(("DAY", "CENTRE", "SHIFT"), "COUNT", "CPU", "BLOCKS", "AMOUNT")
-        rows = self.rows(period)
+        rows = self.rows(period, centre)
         total = ("TOTAL", "", ""), [sum(sums[at] for _, sums in rows) for at in range(4)]
         for key, (count, cpu, blocks, amount) in rows + [total]:
             yield line(key, count, decimals(cpu, 2), blocks, decimals(amount, 4))
 
-    def table(self, period):
+    def table(self, period, centre=None):
         yield "period,day,centre,shift,count,cpu,blocks,amount"
-        for key, (count, cpu, blocks, amount) in self.rows(period):
+        for key, (count, cpu, blocks, amount) in self.rows(period, centre):
             yield "%d,%s,%s,%s,%d,%s,%d,%s" % ((period,) + key + (count, decimals(cpu, 2), blocks, decimals(amount, 4)))
 
     def posted(self):
@@ -307,10 +316,11 @@ class Books:
         added = {name for name in self.charged(period) - before if self.held[name].day <= self.before(period)}
         return added, before - self.charged(period)
 
-    def adjustments(self, period):
+    def adjustments(self, period, centre=None):
         added, removed = self.changes(period)
         lines = [(1, self.held[name]) for name in added] + [(-1, self.held[name]) for name in removed]
-        yield "ADJUSTMENTS PERIOD %d %s" % (period, self.head(period))
+        lines = [line for line in lines if centre in (None, line[1].centre)]
+        yield self.title("ADJUSTMENTS", period, centre)
         for sign, one in sorted(lines, key=lambda line: (line[1].day, line[1].name)):
             yield "%-5s %s %-16s %-16s %21s %s %s" % ("PLUS" if sign > 0 else "MINUS", one.day, one.centre, one.shift,
                                                       decimals(sign * one.amount, 4), one.name, one.job)
@@ -321,9 +331,9 @@ class Books:
         for period in range(1, self.open + 1):
             yield "%d %s" % (period, self.head(period))
 
-    def of_period(self, report, period):
-        """A report of a period, if there is such a period."""
-        return list(report(period)) if 0 < period <= self.open else refused(NO_SUCH_PERIOD)
+    def of_period(self, report, period, centre=None):
+        """A report of a period, if there is such a period: of all centres, or of one."""
+        return list(report(period, centre)) if 0 < period <= self.open else refused(NO_SUCH_PERIOD)
 
     def disputes(self):
         groups = collections.defaultdict(list)

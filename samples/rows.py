@@ -185,7 +185,7 @@ class Rows:
         if any(self.is_refused() for _ in range(ASKS[verb])):
             return office.refused(office.MEMORY)
         if words:
-            return self.books.of_period(getattr(self.books, verb), int(words[0]))
+            return self.books.of_period(getattr(self.books, verb), int(words[0]), *words[1:])
         return list(getattr(self.books, verb)())
 
     def name_of(self, word):
@@ -233,6 +233,8 @@ class Rows:
         """The answer to a request for a report."""
         _, name, *words = path.split("/")
         verb, form = PATHS[name]
+        if len(words) > 2 or not all(office.is_name(centre) for centre in words[1:]):
+            return served(404, [])
         text = self.report(verb, words)
         if text == office.refused(office.MEMORY):
             return served(503, [])
@@ -299,14 +301,24 @@ class Rows:
         if verb != "chargectl" or words[1] != "@books":
             raise NotKnown
         books, (verb, _, *words) = self.books, words
+
+        def of_centre(report, period, options):
+            """A report of a period, of the centre that an option names. What is no name of a centre is a wrong word."""
+            words = [part for option in options for part in option.split("=")]
+            centre = words[words.index("--centre") + 1] if "--centre" in words else None
+            if centre is not None and not office.is_name(centre):
+                return ["chargectl: word"]
+            return books.of_period(report, int(period), centre)
+
         lines = {"init": lambda: [],
                  "tariff": lambda file: books.tariff(self.files[file]),
                  "import": lambda file: books.take(self.files[file]),
                  "adopt": lambda: books.adopt(2),
                  "disputes": lambda: list(books.disputes()),
                  "audit": lambda: list(Tables(books).audit()),
-                 "statement": lambda period: books.of_period(books.statement, int(period)),
-                 "adjustments": lambda period: books.of_period(books.adjustments, int(period))
+                 "statement": lambda period, *options: of_centre(
+                     books.table if "--csv" in options else books.statement, period, options),
+                 "adjustments": lambda period, *options: of_centre(books.adjustments, period, options)
                  }.get(verb, lambda *words: self.command(verb, words))(*words)
         return ["! " + lines[0], "STATUS 3"] if lines and lines[0].startswith("chargectl") else lines
 

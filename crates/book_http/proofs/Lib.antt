@@ -14,3 +14,4 @@ pub mod ReadLemmas
 pub mod RouteLemmas
 pub mod RouterLemmas
 pub mod ServeLemmas
+pub mod SlashLemmas

@@ -1,7 +1,7 @@
 -- A text that names a period is the number's own text, and no other.
 use Rattle.std.proofs.Common.{◌≡◌, ◌≢◌, ℕ, ◌<◌, ◌≤◌, ◌^◌, Bool, true, false, ◌&&◌, arith, rules}
 use Rattle.std.proofs.Common.{◌+◌, List, [], ◌∷◌, ◌++◌, length, map, take, drop, get_or, codes}
-use Rattle.std.proofs.Common.{Option, Some, None, IfSome, refl, sym, ap, ◌∙◌, take-append-drop}
+use Rattle.std.proofs.Common.{Option, Some, None, IfSome, refl, sym, ap, ◌∙◌, take-append-drop, Bor}
 use Rattle.std.proofs.lemmas.Bool.{true≢false}
 use Rattle.std.proofs.lemmas.Bool.Decides.{nat_tests}
 use Rattle.std.proofs.Math.Seq.{take-append_seam, drop-append_seam}
@@ -9,15 +9,20 @@ use Rattle.std.proofs.lemmas.Fmt.{decimal-digits_of, decimal-digits_value, decim
 use Rattle.std.proofs.lemmas.Fmt.{decimal_is_IsNumeral, digits_decimal, length-decimal-le}
 use Rattle.std.proofs.lemmas.Int.Digits.{first_digits_of}
 use Rattle.std.proofs.lemmas.Slice.Eq.{bytes_eq-Decides}
-use Rattle.std.proofs.lemmas.Str.Parse.{IsNumeralModel, digits_value_short, numerals_by_value}
+use Rattle.std.proofs.lemmas.Str.Parse.{IsNumeralModel, digit_at, digits_value_short}
+use Rattle.std.proofs.lemmas.Str.Parse.{numerals_by_value}
 use Rattle.std.specs.Char.{is_ascii_digit}
+use Rattle.std.specs.Int.{IsInRange}
 use Rattle.std.specs.List.{list_all, starts_with}
-use Rattle.std.specs.Prelude.{decimal, nat_eq, nat_lt, nat_le, cond}
+use Rattle.std.specs.Option.{MatchOption}
+use Rattle.std.specs.Prelude.{decimal, nat_eq, nat_lt, nat_le, cond, option_map}
 use Rattle.std.specs.Int.Digits.{digits_of}
 use Rattle.std.specs.Str.Parse.{IsNumeral, digits_value}
+use Rattle.std.specs.Str.Pattern.{FindsTextPrefix, StripsPrefix}
 use Rattle.book_http.specs.Numbers.{is_number, decimal_value}
 use Rattle.book_http.specs.Paths.{IsPathPeriod}
-use Rattle.book_http.specs.Routes.{period, path_period}
+use Rattle.book_http.specs.Routes.{path_rest, period}
+use Rattle.book_http.proofs.SlashLemmas.{HasNoSlash}
 
 -- the test of digits is std's
 pub are_digits : IsNumeralModel (λ text. list_all is_ascii_digit text ≡ true) (digits_value 10)
@@ -75,32 +80,20 @@ period_named text = by (starts_with nat_eq text (codes "0")) refl
     by true e = tt
     by false e = behind (is_number 4 text) refl e
 
--- a path that names a period after a prefix is that prefix and the number's text
-pub behind_named : (front path : List ℕ)
-    → IfSome (path_period front path) (λ n. (path ≡ front ++ decimal n) × IsPathPeriod n)
-unfolding path_period
-behind_named front path =
-    by (starts_with nat_eq path front) refl (period (drop (length front) path))
-    (period_named (drop (length front) path))
+-- a path that has something after a prefix is that prefix, and then it
+pub rest_named : (front path : List ℕ)
+    → IfSome (path_rest front path) (λ rest. path ≡ front ++ rest)
+unfolding path_rest
+rest_named front path = by (starts_with nat_eq path front) refl
   where
-    by : (starts : Bool) → starts_with nat_eq path front ≡ starts → (found : Option ℕ)
-        → IfSome found (λ n. (drop (length front) path ≡ decimal n) × IsPathPeriod n)
-        → IfSome (cond starts found None) (λ n. (path ≡ front ++ decimal n) × IsPathPeriod n)
-    by true e None h = tt
-    by true e (Some n) h =
+    by : (starts : Bool) → starts_with nat_eq path front ≡ starts
+        → IfSome (cond starts (Some (drop (length front) path)) None) (λ rest. path ≡ front ++ rest)
+    by true e =
         let begins : front ≡ take (length front) path =
         (bytes_eq-Decides front (take (length front) path)).0 e in
-        let whole : path ≡ front ++ drop (length front) path =
         sym (take-append-drop (length front) path)
-        ∙ ap (λ l. l ++ drop (length front) path) (sym begins) in
-        (whole ∙ ap (λ l. front ++ l) h.0, h.1)
-    by false e found h = tt
-
--- of two tests that pass, each passes
-pub two_pass : (a b : Bool) → (a && b) ≡ true → (a ≡ true) × (b ≡ true)
-two_pass true true e = (refl, refl)
-two_pass true false e = absurd (true≢false (sym e))
-two_pass false b e = absurd (true≢false (sym e))
+        ∙ ap (λ l. l ++ drop (length front) path) (sym begins)
+    by false e = tt
 
 -- digits, the first of which is above 0, do not begin with 0
 first_shown : (digits : List ℕ) → 0 < get_or digits 0 0
@@ -128,15 +121,37 @@ period_found n named =
     let high : nat_le (length (decimal n)) 4 ≡ true = grind (arith, nat_tests) in
     rw (first, low, high, digits, shown.1) refl
 
--- and so it does after a prefix
-pub behind_found : (front : List ℕ) (n : ℕ) → IsPathPeriod n
-    → path_period front (front ++ decimal n) ≡ Some n
-unfolding path_period
-behind_found front n named =
-    let starts : starts_with nat_eq (front ++ decimal n) front ≡ true =
-    (bytes_eq-Decides front (take (length front) (front ++ decimal n))).1
-    (sym (take-append_seam front (decimal n))) in
-    rw (starts, drop-append_seam front (decimal n)) (period_found n named)
+-- what comes after a prefix is found there
+pub rest_found : (front rest : List ℕ) → path_rest front (front ++ rest) ≡ Some rest
+unfolding path_rest
+rest_found front rest =
+    let starts : starts_with nat_eq (front ++ rest) front ≡ true =
+    (bytes_eq-Decides front (take (length front) (front ++ rest))).1
+    (sym (take-append_seam front rest)) in
+    rw (starts, drop-append_seam front rest) refl
+
+-- what `strip_prefix` leaves
+pub stripped : (front path : List ℕ) (left : Option (Bor (List ℕ)))
+    → MatchOption left (FindsTextPrefix front path None)
+    (λ rest. StripsPrefix (FindsTextPrefix front) path rest.now)
+    → option_map (λ rest. rest.now) left ≡ path_rest front path
+unfolding path_rest
+stripped front path None strips = by (starts_with nat_eq path front) refl
+  where
+    by : (starts : Bool) → starts_with nat_eq path front ≡ starts
+        → None ≡ cond starts (Some (drop (length front) path)) None
+    by true e =
+        let begins : front ≡ take (length front) path =
+        (bytes_eq-Decides front (take (length front) path)).0 e in
+        absurd (strips (drop (length front) path)
+        (sym (take-append-drop (length front) path)
+        ∙ ap (λ l. l ++ drop (length front) path) (sym begins)))
+    by false e = refl
+stripped front path (Some rest) strips =
+    let found = strips.1 in
+    let whole : path ≡ front ++ rest.now =
+    found.1 ∙ ap (λ l. front ++ l) (sym strips.2) in
+    sym (ap (path_rest front) whole ∙ rest_found front rest.now)
 
 -- a number's text is digits, one or more
 pub decimal_digits : (n : ℕ) → IsPathPeriod n
@@ -144,3 +159,10 @@ pub decimal_digits : (n : ℕ) → IsPathPeriod n
 decimal_digits n named =
     let fits : n < 2 ^ 64 = omega (arith, named.0, named.1) in
     ((decimal_is_IsNumeral n fits).0.0, digits_decimal are_digits n fits)
+
+-- which are no slashes
+pub decimal_has_no_slash : (n : ℕ) → IsPathPeriod n → HasNoSlash (decimal n)
+decimal_has_no_slash n named i within =
+    let range : IsInRange 48 57 (get_or (decimal n) i 0) =
+    digit_at (decimal n) i (are_digits.to (decimal n) (decimal_digits n named).1) within in
+    λ slash. absurd (omega arith)

@@ -6,12 +6,12 @@ use Rattle.std.specs.Char.{is_ascii_digit}
 use Rattle.std.specs.List.{list_all}
 use Rattle.std.specs.Prelude.{◌==◌, option_map}
 use Rattle.matchit.specs.Rows.{RowsOf, param_token, catch_all_token}
-use Rattle.matchit.specs.Seek.{own, step, or_else, seek, param_step, has_slash}
+use Rattle.matchit.specs.Seek.{step, or_else, seek, param_step, has_slash}
 use Rattle.std.proofs.lemmas.Bool.{true≢false}
 use Rattle.std.proofs.lemmas.Str.Parse.{digit_at}
 use Rattle.std.specs.Int.{IsInRange}
 use Rattle.book_http.specs.Routes.{page_of, route_rows}
-use Rattle.book_http.proofs.PeriodLemmas.{are_digits, three_pass, two_pass}
+use Rattle.book_http.proofs.PeriodLemmas.{are_digits, three_pass}
 use Rattle.book_http.proofs.RouterLemmas.{Key}
 
 -- a lookup in no rows finds nothing
@@ -35,14 +35,6 @@ seek_nothing zero (b ∷ path) =
 or_else_none : (a : Option Key) → or_else a None ≡ a
 or_else_none None = refl
 or_else_none (Some key) = refl
-
--- where a parameter takes the rest of the path, the route that ends there is found
-seek_end : (skip : ℕ) (rows : RowsOf Key) (path : List ℕ) → length path ≤ skip
-    → seek skip rows path ≡ own rows
-unfolding seek
-seek_end skip rows [] few = refl
-seek_end (suc skip) rows (b ∷ path) few = seek_end skip rows path (omega arith)
-seek_end zero rows (b ∷ path) few = absurd (omega arith)
 
 abbrev pub is_empty : RowsOf Key → Bool
 is_empty [] = true
@@ -83,47 +75,34 @@ walk (b ∷ front) path rows plain =
     plain_step rows b (front ++ path) (empty_is _ passed.0) (empty_is _ passed.1)
     ∙ walk front path (step b rows) passed.2
 
--- digits have no slash
-no_slash : (digits : List ℕ) → list_all is_ascii_digit digits ≡ true → has_slash digits ≡ false
-no_slash [] e = refl
-no_slash (d ∷ digits) e =
-    let passed = two_pass (is_ascii_digit d) (list_all is_ascii_digit digits) e in
-    let range : IsInRange 48 57 d =
-    digit_at (d ∷ digits) 0 (are_digits.to (d ∷ digits) e) (omega arith) in
-    let other : (d == 47) ≡ false = grind (arith, nat_tests) in
-    rw other (no_slash digits passed.1)
+step_lone : (key : Key) (b : ℕ) → b < 256 → step b ((catch_all_token ∷ [], key) ∷ []) ≡ []
+step_lone key b byte = let other : (257 == b) ≡ false = grind (arith, nat_tests) in rw other refl
 
-param_lone : (key : Key) (path : List ℕ) → has_slash path ≡ false
-    → param_step (([], key) ∷ []) path ≡ (length path, ([], key) ∷ [])
-unfolding param_step
-param_lone key path plain = rw plain refl
-
-step_lone : (key : Key) (d : ℕ) → d < 256 → step d ((param_token ∷ [], key) ∷ []) ≡ []
-step_lone key d byte = let other : (256 == d) ≡ false = grind (arith, nat_tests) in rw other refl
-
--- digits are found where a parameter is due
-lone_found : (key : Key) (text : List ℕ) → 0 < length text → list_all is_ascii_digit text ≡ true
-    → seek 0 ((param_token ∷ [], key) ∷ []) text ≡ Some key
+-- anything is found where the rest of a path is due
+lone_found : (key : Key) (b : ℕ) (rest : List ℕ) → b < 256
+    → seek 0 ((catch_all_token ∷ [], key) ∷ []) (b ∷ rest) ≡ Some key
 unfolding seek
-lone_found key [] some digits = absurd (omega arith)
-lone_found key (d ∷ rest) some digits =
-    let range : IsInRange 48 57 d =
-    digit_at (d ∷ rest) 0 (are_digits.to (d ∷ rest) digits) (omega arith) in
-    let byte : d < 256 = omega arith in
+lone_found key b rest byte =
+    let behind = (param_step {K = Key} [] (b ∷ rest)).0 in
     rw (
-      step_lone key d byte,
+      step_lone key b byte,
       seek_nothing 0 rest,
-      param_lone key (d ∷ rest) (no_slash (d ∷ rest) digits),
-      seek_end (length (d ∷ rest) - 1) (([], key) ∷ []) rest (omega arith),
+      param_nothing (b ∷ rest),
+      seek_nothing (behind - 1) rest,
     ) refl
 
--- a path with digits after a prefix is found by the one row there
-pub numbered_found : (front text : List ℕ) (key : Key) → is_plain_along front route_rows ≡ true
-    → rows_along front route_rows ≡ (param_token ∷ [], key) ∷ []
-    → 0 < length text → list_all is_ascii_digit text ≡ true
-    → page_of (front ++ text) ≡ Some key.value
+-- a path with digits after a prefix, and anything behind them, is found by the one row there
+pub numbered_found : (front digits rest : List ℕ) (key : Key)
+    → is_plain_along front route_rows ≡ true
+    → rows_along front route_rows ≡ (catch_all_token ∷ [], key) ∷ []
+    → 0 < length digits → list_all is_ascii_digit digits ≡ true
+    → page_of (front ++ (digits ++ rest)) ≡ Some key.value
 unfolding page_of
-numbered_found front text key plain ends some digits =
+numbered_found front [] rest key plain ends some are = absurd (omega arith)
+numbered_found front (d ∷ digits) rest key plain ends some are =
+    let range : IsInRange 48 57 d =
+    digit_at (d ∷ digits) 0 (are_digits.to (d ∷ digits) are) (omega arith) in
+    let text = d ∷ digits ++ rest in
     ap (option_map (λ row. row.value))
     (walk front text route_rows plain ∙ ap (λ rows. seek 0 rows text) ends
-    ∙ lone_found key text some digits)
+    ∙ lone_found key d (digits ++ rest) (omega arith))

@@ -1,8 +1,12 @@
 -- The paths that are served, as texts.
 use Rattle.std.specs.Prelude.{◌≡◌, ℕ, ◌≤◌, List, ◌++◌, codes, decimal, ⊤}
 use Rattle.smf_frames.specs.declared.dump.Layout.TheVariants.{Rdw, Bdw}
+use Rattle.book_model.specs.Words.{IsName}
+use Rattle.book_reports.specs.declared.report.PeriodReport.{PeriodReport}
+use Rattle.book_reports.specs.declared.report.PeriodReport.TheVariants as of_period
 use Rattle.book_reports.specs.declared.report.Report.TheVariants.{Statement, StatementTable}
-use Rattle.book_reports.specs.declared.report.Report.TheVariants.{AdjustmentList, DisputeList, PeriodList}
+use Rattle.book_reports.specs.declared.report.Report.TheVariants.{AdjustmentList, OfCentre}
+use Rattle.book_reports.specs.declared.report.Report.TheVariants.{DisputeList, PeriodList}
 use Rattle.book_http.specs.declared.route.Route.{Route}
 use Rattle.book_http.specs.declared.route.Route.TheVariants as route_to
 
@@ -10,21 +14,31 @@ use Rattle.book_http.specs.declared.route.Route.TheVariants as route_to
 abbrev pub IsPathPeriod : ℕ → Type 0
 IsPathPeriod n = (1 ≤ n) × (n ≤ 9999)
 
--- what is served: each report that names no period, and the others of such a period
+-- what is served: each report that names no period, and the others of such a period, of the whole
+-- office and of each centre
 abbrev pub IsServedRoute : Route → Type 0
 IsServedRoute (route_to.Report PeriodList) = ⊤
 IsServedRoute (route_to.Report (Statement n)) = IsPathPeriod n
 IsServedRoute (route_to.Report (StatementTable n)) = IsPathPeriod n
 IsServedRoute (route_to.Report (AdjustmentList n)) = IsPathPeriod n
+IsServedRoute (route_to.Report (OfCentre asked n centre)) = IsPathPeriod n × IsName centre
 IsServedRoute (route_to.Report DisputeList) = ⊤
 IsServedRoute (route_to.Import layout) = ⊤
+
+-- where what a period has is served
+abbrev pub period_path : PeriodReport → List ℕ
+period_path of_period.Statement = codes "/statement/"
+period_path of_period.StatementTable = codes "/statement-csv/"
+period_path of_period.AdjustmentList = codes "/adjustments/"
 
 -- the path of what is served
 abbrev pub path_text : Route → List ℕ
 path_text (route_to.Report PeriodList) = codes "/periods"
-path_text (route_to.Report (Statement n)) = codes "/statement/" ++ decimal n
-path_text (route_to.Report (StatementTable n)) = codes "/statement-csv/" ++ decimal n
-path_text (route_to.Report (AdjustmentList n)) = codes "/adjustments/" ++ decimal n
+path_text (route_to.Report (Statement n)) = period_path of_period.Statement ++ decimal n
+path_text (route_to.Report (StatementTable n)) = period_path of_period.StatementTable ++ decimal n
+path_text (route_to.Report (AdjustmentList n)) = period_path of_period.AdjustmentList ++ decimal n
+path_text (route_to.Report (OfCentre asked n centre)) =
+    period_path asked ++ decimal n ++ codes "/" ++ centre
 path_text (route_to.Report DisputeList) = codes "/disputes"
 path_text (route_to.Import Rdw) = codes "/import"
 path_text (route_to.Import Bdw) = codes "/import-bdw"

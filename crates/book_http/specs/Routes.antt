@@ -1,7 +1,7 @@
 -- How the route of a path is looked up, by matchit's reading of the seven route texts. That this
 -- finds what Paths says, and nothing else, is a clause of the function that looks it up.
-use Rattle.std.specs.Prelude.{ℕ, if◌then◌else◌, List, [], ◌==◌, codes, length, drop, nat_eq}
-use Rattle.std.specs.Prelude.{Option, Some, None, option_map, Result, Ok, Err}
+use Rattle.std.specs.Prelude.{ℕ, Bool, if◌then◌else◌, List, [], ◌∷◌, ◌==◌, codes, length, drop, nat_eq}
+use Rattle.std.specs.Prelude.{Option, Some, None, option_and_then, option_map, Result, Ok, Err}
 use Rattle.std.specs.List.{before_first, starts_with}
 use Rattle.matchit.specs.Order.{placed}
 use Rattle.matchit.specs.Route.{Scan, parse_route}
@@ -10,6 +10,9 @@ use Rattle.matchit.specs.Router.{RouteOf, route_from}
 use Rattle.matchit.specs.Seek.{first}
 use Rattle.matchit.specs.declared.error.InsertError.{InsertError}
 use Rattle.smf_frames.specs.declared.dump.Layout.TheVariants.{Rdw, Bdw}
+use Rattle.book_reports.specs.BookTexts.{centre_named, report_of_all}
+use Rattle.book_reports.specs.declared.report.PeriodReport.{PeriodReport}
+use Rattle.book_reports.specs.declared.report.PeriodReport.TheVariants as of_period
 use Rattle.book_reports.specs.declared.report.Report.{Report}
 use Rattle.book_reports.specs.declared.report.Report.TheVariants as report_of
 use Rattle.book_http.specs.declared.route.Page.{Page}
@@ -26,23 +29,52 @@ path_of target = before_first (λ b. b == 63) target
 unfoldable pub period : List ℕ → Option ℕ
 period text = if starts_with nat_eq text (codes "0") then None else decimal_value 4 text
 
--- the period that a path names after its prefix
-unfoldable pub path_period : List ℕ → List ℕ → Option ℕ
-path_period prefix path =
-    if starts_with nat_eq path prefix then period (drop (length prefix) path) else None
+-- what a path has after its prefix
+unfoldable pub path_rest : List ℕ → List ℕ → Option (List ℕ)
+path_rest prefix path =
+    if starts_with nat_eq path prefix then Some (drop (length prefix) path) else None
 
--- the report on the period that a path names after its prefix
-abbrev pub report_after : (ℕ → Report) → List ℕ → List ℕ → Option Route
-report_after report prefix path =
-    option_map (λ n. route_to.Report (report n)) (path_period prefix path)
+-- the slash, in ASCII
+abbrev pub is_slash : ℕ → Bool
+is_slash b = b == 47
+
+-- a text up to its first slash
+abbrev pub before_slash : List ℕ → List ℕ
+before_slash [] = []
+before_slash (b ∷ rest) = if is_slash b then [] else b ∷ before_slash rest
+
+-- what comes after that slash, if there is one
+abbrev pub after_slash : List ℕ → Option (List ℕ)
+after_slash [] = None
+after_slash (b ∷ rest) = if is_slash b then Some rest else after_slash rest
+
+-- what is asked of a period, if it is one: of the centre that has the name, if that is a name
+abbrev pub report_of_centre : PeriodReport → Option ℕ → Option (List ℕ) → Option Report
+report_of_centre asked (Some number) (Some centre) = Some (report_of.OfCentre asked number centre)
+report_of_centre asked number name = None
+
+-- of a centre where there is a name, and else of the whole office
+abbrev pub report_by : PeriodReport → Option ℕ → Option (List ℕ) → Option Report
+report_by asked number None = option_map (report_of_all asked) number
+report_by asked number (Some name) = report_of_centre asked number (centre_named name)
+
+-- what a text asks of a period, which it names; a centre is named after a slash
+unfoldable pub report_in : PeriodReport → List ℕ → Option Report
+report_in asked text = report_by asked (period (before_slash text)) (after_slash text)
+
+-- what a path asks of a period after its prefix
+abbrev pub report_after : PeriodReport → List ℕ → List ℕ → Option Route
+report_after asked prefix path =
+    option_map route_to.Report (option_and_then (report_in asked) (path_rest prefix path))
 
 -- what a page is for at a path
 unfoldable pub route_at : Page → List ℕ → Option Route
 route_at page.Periods path = Some (route_to.Report report_of.PeriodList)
-route_at page.Statement path = report_after report_of.Statement (codes "/statement/") path
+route_at page.Statement path = report_after of_period.Statement (codes "/statement/") path
 route_at page.StatementCsv path =
-    report_after report_of.StatementTable (codes "/statement-csv/") path
-route_at page.Adjustments path = report_after report_of.AdjustmentList (codes "/adjustments/") path
+    report_after of_period.StatementTable (codes "/statement-csv/") path
+route_at page.Adjustments path =
+    report_after of_period.AdjustmentList (codes "/adjustments/") path
 route_at page.Disputes path = Some (route_to.Report report_of.DisputeList)
 route_at page.Import path = Some (route_to.Import Rdw)
 route_at page.ImportBdw path = Some (route_to.Import Bdw)
@@ -62,9 +94,9 @@ route_rows =
     with_route (codes "/import-bdw") page.ImportBdw
     (with_route (codes "/import") page.Import
     (with_route (codes "/disputes") page.Disputes
-    (with_route (codes "/adjustments/{n}") page.Adjustments
-    (with_route (codes "/statement-csv/{n}") page.StatementCsv
-    (with_route (codes "/statement/{n}") page.Statement
+    (with_route (codes "/adjustments/{*rest}") page.Adjustments
+    (with_route (codes "/statement-csv/{*rest}") page.StatementCsv
+    (with_route (codes "/statement/{*rest}") page.Statement
     (with_route (codes "/periods") page.Periods []))))))
 
 -- the page of a path

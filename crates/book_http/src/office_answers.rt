@@ -11,16 +11,20 @@ use crate::answer::Answer;
 use crate::answer_head::BodyKind;
 use crate::status::Status;
 use book_core::{Ledger, LedgerFault};
-use office::{Asked, Report, ask_without_reader};
+use office::{Asked, PeriodReport, Report, ask_without_reader};
 use smf_frames::Layout;
 use std::alloc::Global;
 
 /// The form of a report.
-fn body_kind(report: Report) -> BodyKind
-    ensures { result ≡ spec.body_kind report }
+fn body_kind(report: &Report) -> BodyKind
+    ensures { result ≡ spec.body_kind report.now }
 {
     match report {
-        Report::StatementTable(_) => BodyKind::Csv,
+        Report::StatementTable(_)
+        | Report::OfCentre {
+            report: PeriodReport::StatementTable,
+            ..
+        } => BodyKind::Csv,
         _ => BodyKind::Text,
     }
 }
@@ -42,10 +46,9 @@ pub fn answer_report<L: Ledger>(alloc: Global, ledger: &mut L, report: Report) -
     ensures { IsTransition (L.seen ledger.old) (L.seen ledger.new)
         (AnswersReport (L.seen ledger.old).naming report (reply_of result)) }
 {
-    answer_of(
-        body_kind(report),
-        ask_without_reader(alloc, ledger, &Asked::Report(report)),
-    )
+    let kind = body_kind(&report);
+    let asked = Asked::Report(report);
+    answer_of(kind, ask_without_reader(alloc, ledger, &asked))
 }
 
 /// Answers the import of a body, which is a whole dump.

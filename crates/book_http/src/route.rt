@@ -1,6 +1,7 @@
 //! The paths that are served.
 
-ghost use Rattle.std.specs.Prelude.{◌≡◌, IfOk, IfSome, IsUtf8, Some};
+ghost use Rattle.std.specs.Prelude.{◌≡◌, IfOk, IfSome, IsUtf8, Some, option_map};
+ghost use Rattle.book_reports.specs.BookTexts.{report_of_all};
 ghost use Rattle.book_http.specs.Paths.{IsPathOf};
 ghost use Rattle.book_http.specs.declared.route.Route.{Route};
 ghost use Rattle.book_http.specs.Routes as spec;
@@ -8,8 +9,9 @@ ghost use Rattle.book_http.specs.Routes.{route_rows};
 
 use crate::decimal_value::decimal_value;
 use matchit::{InsertError, Router};
-use office::Report;
+use office::{PeriodReport, Report, centre_named, report_of_all};
 use smf_frames::Layout;
+use smf_text::Name;
 use std::alloc::{AllocError, Global};
 use std::str;
 
@@ -22,12 +24,12 @@ pub enum Route {
     Import(Layout),
 }
 
-/// A path of the server, whatever period it names.
+/// A path of the server, whatever period and centre it names.
 #[derive(Clone, Copy, Debug, PartialEq, Eq)]
 pub enum Page {
     /// The list of the periods.
     Periods,
-    /// A statement.
+    /// A statement, of the whole office or of one centre.
     Statement,
     /// A statement as rows with commas.
     StatementCsv,
@@ -57,9 +59,9 @@ fn pages(alloc: Global) -> Result<Router<Page>, InsertError>
     ensures { IfOk result (λ router. router ≡ route_rows) }
 {
     let router = with_page(Router::new(alloc), "/periods", Page::Periods)?;
-    let router = with_page(router, "/statement/{n}", Page::Statement)?;
-    let router = with_page(router, "/statement-csv/{n}", Page::StatementCsv)?;
-    let router = with_page(router, "/adjustments/{n}", Page::Adjustments)?;
+    let router = with_page(router, "/statement/{*rest}", Page::Statement)?;
+    let router = with_page(router, "/statement-csv/{*rest}", Page::StatementCsv)?;
+    let router = with_page(router, "/adjustments/{*rest}", Page::Adjustments)?;
     let router = with_page(router, "/disputes", Page::Disputes)?;
     let router = with_page(router, "/import", Page::Import)?;
     with_page(router, "/import-bdw", Page::ImportBdw)
@@ -91,36 +93,69 @@ fn period(text: &[u8]) -> Option<u16>
     }
 }
 
-/// The period that a path names after its prefix.
-#[tactic(auto, unfolding(crate::specs::Routes::path_period))]
-fn path_period(prefix: &[u8], path: &[u8]) -> Option<u16>
-    ensures { result ≡ spec.path_period prefix.now path.now }
+/// What a path has after its prefix.
+fn path_rest<'a>(prefix: &str, path: &'a str) -> Option<&'a str>
+    ensures { option_map (λ rest. rest.now) result ≡ spec.path_rest prefix.now path.now }
 {
-    if !path.starts_with(prefix) {
-        return None;
+    path.strip_prefix(prefix)
+}
+
+/// What is asked of a period of the whole office, if there is a period.
+fn report_on_all(asked: PeriodReport, number: Option<u16>) -> Option<Report>
+    ensures { result ≡ option_map (report_of_all asked) number }
+{
+    match number {
+        Some(period) => Some(report_of_all(asked, period)),
+        None => None,
     }
-    period(&path[prefix.len()..])
+}
+
+/// What is asked of a period of one centre, if there are both.
+fn report_on_centre(asked: PeriodReport, number: Option<u16>, name: Option<Name>) -> Option<Report>
+    ensures { result ≡ spec.report_of_centre asked number name }
+{
+    match (number, name) {
+        (Some(period), Some(centre)) => Some(Report::OfCentre {
+            report: asked,
+            period,
+            centre,
+        }),
+        _ => None,
+    }
+}
+
+/// What a text asks of a period, which it names: of the centre that it names after a slash, or of
+/// the whole office.
+fn report_in(asked: PeriodReport, text: &str) -> Option<Report>
+    ensures { result ≡ spec.report_in asked text.now }
+{
+    match text.split_once('/') {
+        None => report_on_all(asked, period(text.as_bytes())),
+        Some((number, name)) => {
+            report_on_centre(asked, period(number.as_bytes()), centre_named(name))
+        }
+    }
+}
+
+/// What a path asks of a period after its prefix.
+fn report_after(asked: PeriodReport, prefix: &str, path: &str) -> Option<Route>
+    ensures { result ≡ spec.report_after asked prefix.now path.now }
+{
+    let rest = path_rest(prefix, path)?;
+    let report = report_in(asked, rest)?;
+    Some(Route::Report(report))
 }
 
 /// What a page is for at a path.
 #[tactic(auto, unfolding(crate::specs::Routes::route_at))]
-fn route_at(page: Page, path: &[u8]) -> Option<Route>
+fn route_at(page: Page, path: &str) -> Option<Route>
     ensures { result ≡ spec.route_at page path.now }
 {
     match page {
         Page::Periods => Some(Route::Report(Report::PeriodList)),
-        Page::Statement => {
-            let period = path_period(b"/statement/", path)?;
-            Some(Route::Report(Report::Statement(period)))
-        }
-        Page::StatementCsv => {
-            let period = path_period(b"/statement-csv/", path)?;
-            Some(Route::Report(Report::StatementTable(period)))
-        }
-        Page::Adjustments => {
-            let period = path_period(b"/adjustments/", path)?;
-            Some(Route::Report(Report::AdjustmentList(period)))
-        }
+        Page::Statement => report_after(PeriodReport::Statement, "/statement/", path),
+        Page::StatementCsv => report_after(PeriodReport::StatementTable, "/statement-csv/", path),
+        Page::Adjustments => report_after(PeriodReport::AdjustmentList, "/adjustments/", path),
         Page::Disputes => Some(Route::Report(Report::DisputeList)),
         Page::Import => Some(Route::Import(Layout::Rdw)),
         Page::ImportBdw => Some(Route::Import(Layout::Bdw)),
@@ -154,7 +189,7 @@ pub fn find_route(alloc: Global, target: &[u8]) -> Result<Option<Route>, AllocEr
     };
     let path = path_of(target);
     match page_at(&router, path) {
-        Some(page) => Ok(route_at(page, path.as_bytes())),
+        Some(page) => Ok(route_at(page, path)),
         None => Ok(None),
     }
 }

@@ -2,6 +2,7 @@
 #![tactic(auto)]
 
 mod calls;
+mod centres;
 mod histories;
 mod runs;
 
@@ -9,6 +10,7 @@ pub use calls::{
     one_answer, one_book, one_prefix, one_receipt, one_refusal, one_refused_report, one_run,
     one_text, refusal_changes_nothing,
 };
+pub use centres::centres_add_up;
 pub use histories::{
     charged_once, closed_stays, conserved, conserved_in_sets, dated_right, lines_once, named_once,
     posted_once, wrong_periods_fail,

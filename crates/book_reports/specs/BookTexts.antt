@@ -1,8 +1,10 @@
 -- The texts about books: each is read from a book, which is no event.
-use Rattle.std.specs.Prelude.{◌≡◌, ℕ, ◌-◌, ℤ, List, slice_get, Option, None, Result, Ok, Err, IfOk, IfErr}
+use Rattle.std.specs.Prelude.{◌≡◌, ℕ, ◌-◌, ℤ, if◌then◌else◌, List, slice_get, Option, Some, None, Result}
+use Rattle.std.specs.Prelude.{Ok, Err, IfOk, IfErr}
 use Rattle.std.specs.Result.{MatchResult}
 use Rattle.std.specs.declared.alloc.AllocError.{AllocError}
 use Rattle.sha2.specs.Sha256.{sha256}
+use Rattle.smf_text.specs.Names.{is_name}
 use Rattle.book_model.specs.declared.fault.LedgerFault.{LedgerFault}
 use Rattle.book_model.specs.declared.fault.LedgerFault.TheVariants.{Memory}
 use Rattle.book_model.specs.Words.{Book, open_period, disputes_in, Outcome, no_event}
@@ -11,12 +13,16 @@ use Rattle.book_model.specs.Words.{periods_outcome, Naming, rows_for}
 use Rattle.report_texts.specs.Statements.{statement_text}
 use Rattle.report_texts.specs.StatementTables.{statement_table}
 use Rattle.report_texts.specs.AdjustmentLists.{adjustment_list_text}
+use Rattle.report_texts.specs.Centres.{centre_adjustments_text, centre_statement_table}
+use Rattle.report_texts.specs.Centres.{centre_statement_text}
 use Rattle.report_texts.specs.DisputeLists.{dispute_list_text}
 use Rattle.report_texts.specs.PeriodLists.{period_list_text}
+use Rattle.book_reports.specs.declared.report.PeriodReport.{PeriodReport}
+use Rattle.book_reports.specs.declared.report.PeriodReport.TheVariants as of_period
 use Rattle.book_reports.specs.declared.report.Report.{Report}
 use Rattle.book_reports.specs.declared.report.Report.TheVariants.{Statement, StatementTable}
-use Rattle.book_reports.specs.declared.report.Report.TheVariants.{AdjustmentList, DisputeList}
-use Rattle.book_reports.specs.declared.report.Report.TheVariants.{PeriodList}
+use Rattle.book_reports.specs.declared.report.Report.TheVariants.{AdjustmentList, OfCentre}
+use Rattle.book_reports.specs.declared.report.Report.TheVariants.{DisputeList, PeriodList}
 
 -- the answer with its value shown; a refusal stays one
 abbrev pub shown_by : {V A : Type 0} → (V → A) → Result V LedgerFault → Result A LedgerFault
@@ -31,6 +37,27 @@ closed_through book period = slice_get book.rulings.closes (period - 1)
 abbrev pub closed_through_outcome : ℕ → Book → Outcome (Option ℤ)
 closed_through_outcome period book = no_event (Ok (closed_through book period))
 
+-- what a period has of the whole office
+abbrev pub report_of_all : PeriodReport → ℕ → Report
+report_of_all of_period.Statement period = Statement period
+report_of_all of_period.StatementTable period = StatementTable period
+report_of_all of_period.AdjustmentList period = AdjustmentList period
+
+-- the centre that a text names, if it is a name
+abbrev pub centre_named : List ℕ → Option (List ℕ)
+centre_named text = if is_name text then Some text else None
+
+-- what a book answers about one centre in a period
+abbrev pub centre_answer : Naming → PeriodReport → ℕ → List ℕ → Book → Result (List ℕ) LedgerFault
+centre_answer naming of_period.Statement period centre book =
+    shown_by (centre_statement_text centre period (closed_through book period))
+    (charges_outcome period book).answer
+centre_answer naming of_period.StatementTable period centre book =
+    shown_by (centre_statement_table centre period) (charges_outcome period book).answer
+centre_answer naming of_period.AdjustmentList period centre book =
+    shown_by (centre_adjustments_text centre period (closed_through book period))
+    (adjustments_outcome naming period book).answer
+
 -- what a book answers to a report: its text, or the refusal of a period that is not there
 abbrev pub report_answer : Naming → Report → Book → Result (List ℕ) LedgerFault
 report_answer naming (Statement period) book =
@@ -40,9 +67,16 @@ report_answer naming (StatementTable period) book =
 report_answer naming (AdjustmentList period) book =
     shown_by (adjustment_list_text period (closed_through book period))
     (adjustments_outcome naming period book).answer
+report_answer naming (OfCentre report period centre) book =
+    centre_answer naming report period centre book
 report_answer naming DisputeList book =
     shown_by dispute_list_text (disputes_outcome naming book).answer
 report_answer naming PeriodList book = shown_by period_list_text (periods_outcome book).answer
+
+-- what a ledger is asked about one centre
+abbrev pub centre_outcome : Naming → PeriodReport → ℕ → List ℕ → Book → Outcome (List ℕ)
+centre_outcome naming report period centre book =
+    no_event (centre_answer naming report period centre book)
 
 -- a report, as a ledger is asked for it
 abbrev pub report_outcome : Naming → Report → Book → Outcome (List ℕ)

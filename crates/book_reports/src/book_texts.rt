@@ -7,11 +7,13 @@ ghost use Rattle.book_model.specs.Words.{IsDay};
 ghost use Rattle.book_core.specs.Calls.{IsCall};
 ghost use Rattle.book_reports.specs.BookTexts as spec;
 
-use crate::report::Report;
+use crate::report::{PeriodReport, Report};
 use book_core::{Ledger, LedgerFault};
 use report_texts::{
-    adjustment_list_text, dispute_list_text, period_list_text, statement_table, statement_text,
+    adjustment_list_text, centre_adjustments_text, centre_statement_table, centre_statement_text,
+    dispute_list_text, period_list_text, statement_table, statement_text,
 };
+use smf_text::Name;
 use std::alloc::{AllocError, Global};
 
 /// The day that a period was closed through, `None` if no such period is closed.
@@ -33,6 +35,37 @@ fn made_of<V, T, F: FnOnce(V) -> Result<T, AllocError>>(
     ensures { spec.IsMadeOf (F.post make) answer result }
 {
     Ok(make(answer?)?)
+}
+
+/// The text of a report on one centre.
+fn centre_text<L: Ledger>(
+    alloc: Global,
+    ledger: &mut L,
+    report: PeriodReport,
+    period: u16,
+    centre: Name,
+) -> Result<Vec<u8>, LedgerFault>
+    ensures { IsCall (λ text. text.items) (L.seen ledger.old) (L.seen ledger.new) result
+        (spec.centre_outcome (L.seen ledger.old).naming report period centre) }
+{
+    match report {
+        PeriodReport::Statement => {
+            let through = closed_through(ledger, period)?;
+            made_of(ledger.charges(period), |rows| {
+                Ok(centre_statement_text(alloc, centre, period, through, rows)?.into_bytes())
+            })
+        }
+        PeriodReport::StatementTable => made_of(
+            ledger.charges(period),
+            |rows| centre_statement_table(alloc, centre, period, rows),
+        ),
+        PeriodReport::AdjustmentList => {
+            let through = closed_through(ledger, period)?;
+            made_of(ledger.adjustments(period), |lines| {
+                Ok(centre_adjustments_text(alloc, centre, period, through, lines)?.into_bytes())
+            })
+        }
+    }
 }
 
 /// The text of a report.
@@ -63,6 +96,11 @@ pub fn report_text<L: Ledger>(
                 |lines| Ok(adjustment_list_text(alloc, period, through, &lines)?.into_bytes()),
             )
         }
+        Report::OfCentre {
+            report,
+            period,
+            centre,
+        } => centre_text(alloc, ledger, report, period, centre),
         Report::DisputeList => made_of(
             ledger.disputes(),
             |disputes| Ok(dispute_list_text(alloc, &disputes)?.into_bytes()),

@@ -15,9 +15,10 @@ pub use check_lists::{push_last_line, push_record_line};
 pub use fault::ReportFault;
 pub use output::{write_bytes, write_text};
 pub use receipt_lines::receipt_line_text;
-pub use report::Report;
+pub use report::{PeriodReport, Report, centre_named, report_of_all};
 pub use report_texts::{
-    adjustment_list_text, dispute_list_text, period_list_text, statement_table, statement_text,
+    adjustment_list_text, centre_adjustments_text, centre_statement_table, centre_statement_text,
+    dispute_list_text, period_list_text, statement_table, statement_text,
 };
 pub use reports::{
     adjustment_list, dispute_list, period_list, receipt_line, statement, statement_csv,

@@ -1,5 +1,21 @@
 //! The reports of an office, each under its one name.
 
+ghost use Rattle.std.specs.Prelude.{◌≡◌};
+ghost use Rattle.book_reports.specs.BookTexts as spec;
+
+use smf_text::Name;
+
+/// What a period has of the whole office, and of each centre.
+#[derive(Clone, Copy, Debug, PartialEq, Eq)]
+pub enum PeriodReport {
+    /// The statement.
+    Statement,
+    /// The statement as a table of comma-separated values.
+    StatementTable,
+    /// The adjustments.
+    AdjustmentList,
+}
+
 /// A report of the books.
 #[derive(Clone, Copy, Debug, PartialEq, Eq)]
 pub enum Report {
@@ -9,8 +25,32 @@ pub enum Report {
     StatementTable(u16),
     /// The adjustments of a period.
     AdjustmentList(u16),
+    /// What a period has of one centre.
+    OfCentre {
+        report: PeriodReport,
+        period: u16,
+        centre: Name,
+    },
     /// The disputes.
     DisputeList,
     /// The periods.
     PeriodList,
+}
+
+/// What a period has of the whole office.
+pub fn report_of_all(report: PeriodReport, period: u16) -> Report
+    ensures { result ≡ spec.report_of_all report period }
+{
+    match report {
+        PeriodReport::Statement => Report::Statement(period),
+        PeriodReport::StatementTable => Report::StatementTable(period),
+        PeriodReport::AdjustmentList => Report::AdjustmentList(period),
+    }
+}
+
+/// The centre that a text names, `None` where the text is no name.
+pub fn centre_named(text: &str) -> Option<Name>
+    ensures { result ≡ spec.centre_named text.now }
+{
+    Name::of(text)
 }

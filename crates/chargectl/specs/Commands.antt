@@ -1,6 +1,8 @@
 -- What each command on books asks of the office, what is written, and how it ends.
 use Rattle.std.specs.Prelude.{◌≡◌, ◌⊎◌, ⊤, Bool, true, false, ℕ, List, Option, Some, None, Result, Ok, Err}
 use Rattle.std.specs.Prelude.{take}
+use Rattle.std.specs.Borrow.{Bor}
+use Rattle.std.specs.Option.{option_map}
 use Rattle.std.specs.declared.io.ErrorKind.{ErrorKind}
 use Rattle.std.specs.Io.KnownBytes.{Appends}
 use Rattle.smf_text.specs.Day.{day_of_text_of}
@@ -11,6 +13,10 @@ use Rattle.book_model.specs.declared.fault.LedgerFault.TheVariants as ledger
 use Rattle.book_model.specs.Words.{Book, Event, Naming}
 use Rattle.book_core.specs.Follow.{MakesAnswered}
 use Rattle.book_core.specs.Transition.{Transition}
+use Rattle.book_reports.specs.declared.report.PeriodReport.{PeriodReport}
+use Rattle.book_reports.specs.declared.report.Report.{Report}
+use Rattle.book_reports.specs.declared.report.Report.TheVariants.{DisputeList, OfCentre}
+use Rattle.book_reports.specs.BookTexts.{centre_named, report_of_all}
 use Rattle.office.specs.declared.repository.RepositoryFault.{RepositoryFault}
 use Rattle.office.specs.declared.request.Asked.{Asked}
 use Rattle.office.specs.declared.request.Asked.TheVariants as asks
@@ -29,6 +35,12 @@ use Rattle.chargectl.specs.declared.ended.Answered.{Answered}
 use Rattle.chargectl.specs.declared.ended.Ended.{Ended}
 use Rattle.chargectl.specs.Faults.{end_of, io_fault, shelf_fault, without_log}
 
+-- what a period has of the whole office, or of the centre that is named, if that is a name
+abbrev pub period_report : PeriodReport → ℕ → Option (Bor (List ℕ)) → Option Report
+period_report report period None = Some (report_of_all report period)
+period_report report period (Some centre) =
+    option_map (OfCentre report period) (centre_named centre.now)
+
 -- The table: what a command asks of the office. The text of a tariff is what its file gave.
 abbrev pub IsAskedBy : BookRequest → Asked → Type 0
 IsAskedBy (book.Tariff file) (asks.Tariff text) = ⊤
@@ -37,7 +49,9 @@ IsAskedBy (book.Close period date) (asks.Close number through) =
     (number ≡ period) × (day_of_text_of date.now ≡ Some through)
 IsAskedBy (book.Choose name) (asks.Choose chosen) = name_in name.now ≡ Some chosen
 IsAskedBy book.Adopt (asks.Adopt rule) = rule ≡ 2
-IsAskedBy (book.Print report) (asks.Report printed) = printed ≡ report
+IsAskedBy (book.OfPeriod report period centre) (asks.Report printed) =
+    period_report report period centre ≡ Some printed
+IsAskedBy book.Disputes (asks.Report printed) = printed ≡ DisputeList
 IsAskedBy request asked = ⊥
 
 -- it may change the books
@@ -102,6 +116,8 @@ AsksNothing (book.Tariff file) why = IsShelfFault why ⊎ IsTextFault why
 AsksNothing (book.Import dump) why = IsShelfFault why ⊎ IsFileFault why
 AsksNothing (book.Close period date) why = IsWordFault (day_of_text_of date.now) why
 AsksNothing (book.Choose name) why = IsWordFault (name_in name.now) why
+AsksNothing (book.OfPeriod report period centre) why =
+    IsWordFault (period_report report period centre) why
 AsksNothing request why = IsShelfFault why
 
 -- a command asked what its words ask

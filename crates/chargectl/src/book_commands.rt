@@ -18,7 +18,8 @@ use crate::progress::{WatchedReader, clear_line};
 use book_core::{Ledger, LedgerFault, Sink, Source};
 use command_line::{BookRequest, DumpFile};
 use office::{
-    Answer, Asked, Opened, Report, Repository, RepositoryFault, Visit, ask, write_answer,
+    Answer, Asked, Opened, PeriodReport, Report, Repository, RepositoryFault, Visit, ask,
+    centre_named, report_of_all, write_answer,
 };
 use program_output::name_of_text;
 use smf_text::day_of_text;
@@ -299,17 +300,54 @@ pub(crate) fn import_dump<S: Repository>(
     Ok(answered)
 }
 
-/// Makes a report of the books.
-pub(crate) fn report<S: Repository>(
+/// Makes the list of disputes.
+pub(crate) fn report_disputes<S: Repository>(
     rt: &HostRuntime,
     repository: &mut S,
     book: &str,
-    report: Report,
 ) -> Result<Answered, CommandFault>
-    ensures { ComesOf (BookRequest.Print report) book.now
+    ensures { ComesOf BookRequest.Disputes book.now
         (S.shelf repository.old) (S.shelf repository.new) result }
 {
     repository.expect(book)?;
-    let asked = Asked::Report(report);
+    let asked = Asked::Report(Report::DisputeList);
     Ok(ask_books(rt, repository, book, asked, io::empty()))
+}
+
+/// Makes what a period has, of one centre or of the whole office.
+pub(crate) fn report_period<S: Repository>(
+    rt: &HostRuntime,
+    repository: &mut S,
+    book: &str,
+    report: PeriodReport,
+    period: u16,
+    centre: Option<&str>,
+) -> Result<Answered, CommandFault>
+    ensures { ComesOf (BookRequest.OfPeriod report period centre.entry) book.now
+        (S.shelf repository.old) (S.shelf repository.new) result }
+{
+    let made = match period_report(report, period, centre) {
+        Some(made) => made,
+        None => return Err(CommandFault::Argument),
+    };
+    repository.expect(book)?;
+    let asked = Asked::Report(made);
+    Ok(ask_books(rt, repository, book, asked, io::empty()))
+}
+
+/// The report, of the whole office where no centre is named. `None`: the text is no name.
+fn period_report(report: PeriodReport, period: u16, centre: Option<&str>) -> Option<Report>
+    ensures { result ≡ spec.period_report report period centre.entry }
+{
+    match centre {
+        Some(text) => match centre_named(text) {
+            Some(centre) => Some(Report::OfCentre {
+                report,
+                period,
+                centre,
+            }),
+            None => None,
+        },
+        None => Some(report_of_all(report, period)),
+    }
 }

@@ -28,7 +28,7 @@ pub(crate) enum CommandFault {
     Exists,
     /// Another program has the file of the books open.
     Busy,
-    /// A word is no date, or no name of a record.
+    /// A word is no date, or no name of a record or of a centre.
     Argument,
     Ledger(LedgerFault),
     Report(ReportFault),

@@ -8,7 +8,9 @@ ghost use Rattle.chargectl.specs.Reading.{Checks, TellsOf, TriesBy, check_end, t
 ghost use Rattle.chargectl.specs.Requests.{CommandsBy, Does, IsRefusedFor, Runs};
 
 use crate::audits::{audit, back_up};
-use crate::book_commands::{adopt, choose, close, import_dump, report, tariff, tell};
+use crate::book_commands::{
+    adopt, choose, close, import_dump, report_disputes, report_period, tariff, tell,
+};
 use crate::command_fault::{CommandFault, ended};
 use crate::ended::Ended;
 use crate::progress::WatchedReader;
@@ -109,7 +111,15 @@ fn run_on_books<S: AuditedRepository, O: Write + Drop>(
         }
         BookRequest::Choose { name } => tell(choose(rt, repository, book, name), output),
         BookRequest::Adopt => tell(adopt(rt, repository, book), output),
-        BookRequest::Print(asked) => tell(report(rt, repository, book, asked), output),
+        BookRequest::OfPeriod {
+            report,
+            period,
+            centre,
+        } => tell(
+            report_period(rt, repository, book, report, period, centre),
+            output,
+        ),
+        BookRequest::Disputes => tell(report_disputes(rt, repository, book), output),
         BookRequest::Audit { quiet } => {
             let audited = audit(rt, repository, book, quiet, &mut output);
             (Ended::settled(audited), output)

@@ -102,6 +102,7 @@ word_given s highest i (word.Optional valued text) words is own none =
     kind_given highest valued.kind valued.name.now (rows_after s.rules [] words)
     (value_given s t words own (valued_takes s.args_override_self t) none
     (default_row s t words (defaulted_has text.now [] t) is))
+word_given s highest i (word.Maybe valued) words is own none = tt
 
 words_given : (s : Shape) (highest : ℕ) (ws : List Argument) (i : ℕ) (words : List Text)
     → ((t : Rule) → In t (filled_from i (map (rule_for highest) ws ++ help_rule ∷ []))

@@ -4,7 +4,7 @@ use Rattle.std.proofs.Common.{◌∷◌, map, Option, Some, None, Result, Ok, Er
 use Rattle.std.specs.Borrow.{Bor}
 use Rattle.std.specs.List.{find, list_any}
 use Rattle.std.specs.Option.{option_map}
-use Rattle.std.specs.Prelude.{Box, IfSome, IsSome, IsSomeAnd, is_some, pos}
+use Rattle.std.specs.Prelude.{Box, IfSome, IsSome, IsSomeAnd, codes, is_some, pos}
 use Rattle.std.specs.Str.{bytes_eq}
 use Rattle.std.specs.Str.Parse.{IsNumeral, ParsesBool, ParsesUnsigned, digits_value, without_leading_plus}
 use Rattle.std.proofs.lemmas.Option.{same_Some}
@@ -19,7 +19,7 @@ use Rattle.clap.specs.declared.parser.matches.SubCommand.{SubCommand}
 use Rattle.clap.proofs.CallerReads.{signed_reads}
 use Rattle.std.specs.Box.{box_value}
 use Rattle.command_line.specs.Given.{HasNumber, HasRate, NoneIs}
-use Rattle.command_line.specs.Requests.{IsFlag, IsNumber, IsText, Writes}
+use Rattle.command_line.specs.Requests.{IsCentre, IsFlag, IsLeftOut, IsNumber, IsText, Writes}
 use Rattle.command_line.proofs.RowLemmas.{none_some, true_false}
 
 -- ---- a text
@@ -33,6 +33,21 @@ pub has_text : (rows : List Row) (name : Text) (o : Option (Bor Text))
     → option_map (λ s. s.now) o ≡ first_of name rows → IsSome (first_of name rows) → IsSome o
 has_text rows name None is some = absurd (true_false (sym some ∙ ap is_some (sym is)))
 has_text rows name (Some s) is some = refl
+
+-- where no text is read, none was given
+left_out : (rows : List Row) (name : Text)
+    → (IsSome (first_of name rows) → IsSome {T = Bor Text} None) → IsLeftOut rows name
+left_out rows name some = go (first_of name rows) some
+  where
+    go : (found : Option Text) → (IsSome found → IsSome {T = Bor Text} None) → found ≡ None
+    go None some = refl
+    go (Some text) some = absurd (true_false (sym (some refl)))
+
+-- the centre that is named, or none
+pub read_centre : (rows : List Row) (o : Option (Bor Text)) → IfSome o (IsText rows (codes "centre"))
+    → (IsSome (first_of (codes "centre") rows) → IsSome o) → IsCentre rows o
+read_centre rows (Some centre) text some = text
+read_centre rows None text some = left_out rows (codes "centre") some
 
 -- ---- a number
 

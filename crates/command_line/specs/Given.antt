@@ -1,4 +1,5 @@
--- That each word of a command has its value, so that its request can be read.
+-- That each word of a command has its value, so that its request can be read. What may be left out
+-- and has no default need not have one.
 use Rattle.std.specs.Prelude.{◌≡◌, ◌≢◌, ◌<◌, ◌^◌, ℕ, ℤ, pos, Bool, true, List, [], ◌∷◌, Some, IsSome, ⊤}
 use Rattle.std.specs.Prelude.{IsSomeAnd, bytes_eq, find}
 use Rattle.std.specs.List.{list_any}
@@ -36,6 +37,7 @@ HasWord rows (known.place name value) = HasValue rows name value
 HasWord rows (known.last name value text) = HasValue rows name value
 HasWord rows (known.named name value) = HasValue rows name value
 HasWord rows (known.optional name value text) = HasValue rows name value
+HasWord rows (known.maybe name value) = ⊤
 
 abbrev pub HasWords : List Row → List WordSeen → Type 0
 HasWords rows [] = ⊤

@@ -32,6 +32,7 @@ pub data WordSeen : Type 0 where
   last : Text → ValueSeen → Text → WordSeen
   named : Text → ValueSeen → WordSeen
   optional : Text → ValueSeen → Text → WordSeen
+  maybe : Text → ValueSeen → WordSeen
 
 abbrev pub value_seen : ValueKind → ValueSeen
 value_seen kind.Text = any
@@ -47,6 +48,7 @@ word_seen (word.Last valued text) = last valued.name.now (value_seen valued.kind
 word_seen (word.Named valued) = named valued.name.now (value_seen valued.kind)
 word_seen (word.Optional valued text) =
     optional valued.name.now (value_seen valued.kind) text.now
+word_seen (word.Maybe valued) = maybe valued.name.now (value_seen valued.kind)
 
 abbrev pub command_seen : KnownCommand → Text × List WordSeen
 command_seen known = (known.name.now, map word_seen known.words.now)
@@ -93,6 +95,9 @@ quiet = flag (codes "quiet")
 abbrev pub csv : WordSeen
 csv = flag (codes "csv")
 
+abbrev pub centre : WordSeen
+centre = maybe (codes "centre") any
+
 -- The table of the commands.
 unfoldable pub known_table : List (Text × List WordSeen)
 known_table = (
@@ -106,8 +111,8 @@ known_table = (
     (codes "close", book ∷ period ∷ date ∷ []) ∷
     (codes "choose", book ∷ digest ∷ []) ∷
     (codes "adopt", book ∷ []) ∷
-    (codes "statement", book ∷ period ∷ csv ∷ []) ∷
-    (codes "adjustments", book ∷ period ∷ []) ∷
+    (codes "statement", book ∷ period ∷ csv ∷ centre ∷ []) ∷
+    (codes "adjustments", book ∷ period ∷ centre ∷ []) ∷
     (codes "disputes", book ∷ []) ∷
     (codes "audit", book ∷ quiet ∷ []) ∷
     (codes "backup", book ∷ file ∷ quiet ∷ []) ∷

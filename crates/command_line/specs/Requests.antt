@@ -1,5 +1,5 @@
 -- Which request clap's matches are: the name of a command, and what was found for its arguments.
-use Rattle.std.specs.Prelude.{◌≡◌, ℕ, Bool, true, false, List, codes, Some, IsSomeAnd}
+use Rattle.std.specs.Prelude.{◌≡◌, ℕ, Bool, true, false, List, Option, codes, Some, None, IsSomeAnd}
 use Rattle.std.specs.Borrow.{Bor}
 use Rattle.std.specs.Str.Parse.{IsNumeral, digits_value, without_leading_plus}
 use Rattle.clap.specs.Matches.{found_of}
@@ -8,8 +8,8 @@ use Rattle.clap.specs.Walk.{Row, Text, first_of, one_of, rows_of}
 use Rattle.clap.specs.declared.parser.matches.ArgMatches.{ArgMatches}
 use Rattle.smf_frames.specs.declared.dump.Layout.{Layout}
 use Rattle.smf_frames.specs.declared.dump.Layout.TheVariants.{Rdw, Bdw}
-use Rattle.book_reports.specs.declared.report.Report.{Report}
-use Rattle.book_reports.specs.declared.report.Report.TheVariants as report
+use Rattle.book_reports.specs.declared.report.PeriodReport.{PeriodReport}
+use Rattle.book_reports.specs.declared.report.PeriodReport.TheVariants as of_period
 use Rattle.command_line.specs.declared.request.BookRequest.{BookRequest}
 use Rattle.command_line.specs.declared.request.BookRequest.TheVariants as book
 use Rattle.command_line.specs.declared.request.DumpFile.{DumpFile}
@@ -38,6 +38,10 @@ IsNumber rows name value = IsSomeAnd (one_of name rows) (λ text. Writes text va
 abbrev pub IsFlag : List Row → Text → Bool → Type 0
 IsFlag rows name flag = one_of name rows ≡ Some (bool_text flag)
 
+-- no text was given for an argument, and it has no default
+abbrev pub IsLeftOut : List Row → Text → Type 0
+IsLeftOut rows name = first_of name rows ≡ None
+
 -- the words for layouts and for kinds of numbers
 abbrev pub layout_text : Layout → Text
 layout_text Rdw = codes "rdw"
@@ -62,18 +66,21 @@ pub record IsDump (rows : List Row) (dump : DumpFile) : Type 0 where
   pub layout : IsLayout rows dump.layout
   pub quiet : IsFlag rows (codes "quiet") dump.quiet
 
--- which report is printed
-abbrev pub IsReport : Text → List Row → Report → Type 0
-IsReport name rows (report.Statement period) =
+-- what is printed of a period
+abbrev pub IsOfPeriod : Text → List Row → PeriodReport → ℕ → Type 0
+IsOfPeriod name rows of_period.Statement period =
     (name ≡ codes "statement") × IsNumber rows (codes "period") period
     × IsFlag rows (codes "csv") false
-IsReport name rows (report.StatementTable period) =
+IsOfPeriod name rows of_period.StatementTable period =
     (name ≡ codes "statement") × IsNumber rows (codes "period") period
     × IsFlag rows (codes "csv") true
-IsReport name rows (report.AdjustmentList period) =
+IsOfPeriod name rows of_period.AdjustmentList period =
     (name ≡ codes "adjustments") × IsNumber rows (codes "period") period
-IsReport name rows report.DisputeList = name ≡ codes "disputes"
-IsReport name rows report.PeriodList = ⊥
+
+-- of the centre that is named, or of the whole office where none is
+abbrev pub IsCentre : List Row → Option (Bor Text) → Type 0
+IsCentre rows (Some centre) = IsText rows (codes "centre") centre
+IsCentre rows None = IsLeftOut rows (codes "centre")
 
 -- what is asked of books
 abbrev pub IsOfBooks : Text → List Row → BookRequest → Type 0
@@ -87,7 +94,9 @@ IsOfBooks name rows (book.Close period date) =
 IsOfBooks name rows (book.Choose digest) =
     (name ≡ codes "choose") × IsText rows (codes "sha256") digest
 IsOfBooks name rows book.Adopt = name ≡ codes "adopt"
-IsOfBooks name rows (book.Print asked) = IsReport name rows asked
+IsOfBooks name rows (book.OfPeriod asked period centre) =
+    IsOfPeriod name rows asked period × IsCentre rows centre
+IsOfBooks name rows book.Disputes = name ≡ codes "disputes"
 IsOfBooks name rows (book.Audit quiet) =
     (name ≡ codes "audit") × IsFlag rows (codes "quiet") quiet
 IsOfBooks name rows (book.BackUp copy quiet) =

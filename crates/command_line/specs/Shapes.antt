@@ -43,6 +43,8 @@ rule_for highest (word.Named valued) =
     record (value_rule highest valued) { long = Some valued.name.now; required = true }
 rule_for highest (word.Optional valued text) =
     record (value_rule highest valued) { long = Some valued.name.now; defaults = text.now ∷ [] }
+rule_for highest (word.Maybe valued) =
+    record (value_rule highest valued) { long = Some valued.name.now }
 
 -- a command of the program
 abbrev pub shape_for : ℕ → KnownCommand → Shape

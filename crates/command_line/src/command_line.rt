@@ -61,6 +61,7 @@ fn clap_arg<'a>(alloc: Global, word: Argument, highest: u32) -> Arg<'a>
         Argument::Optional(valued, text) => value_arg(alloc, valued, highest)
             .long(valued.name)
             .default_value(text),
+        Argument::Maybe(valued) => value_arg(alloc, valued, highest).long(valued.name),
     }
 }
 

@@ -25,6 +25,8 @@ pub(crate) enum Argument {
     Named(ValuedArgument),
     /// A value after its name, and its default where it is left out.
     Optional(ValuedArgument, &'static str),
+    /// A value after its name, or none.
+    Maybe(ValuedArgument),
 }
 
 /// What has a value.
@@ -121,6 +123,13 @@ const CSV: Argument = Argument::Flag {
     name: "csv",
     help: "As comma-separated values, without the total",
 };
+
+const CENTRE: Argument = Argument::Maybe(ValuedArgument {
+    name: "centre",
+    shown: "CENTRE",
+    help: "Only what is charged to this centre",
+    kind: ValueKind::Text,
+});
 
 const CPU: Argument = Argument::Optional(
     ValuedArgument {
@@ -228,12 +237,12 @@ pub(crate) static KNOWN_COMMANDS: [KnownCommand; 15] = [
     KnownCommand {
         name: "statement",
         about: "Prints what a period charges",
-        words: &[BOOK, PERIOD, CSV],
+        words: &[BOOK, PERIOD, CSV, CENTRE],
     },
     KnownCommand {
         name: "adjustments",
         about: "Prints what a period adds to closed periods and reverses in them",
-        words: &[BOOK, PERIOD],
+        words: &[BOOK, PERIOD, CENTRE],
     },
     KnownCommand {
         name: "disputes",

@@ -7,10 +7,10 @@ ghost use Rattle.command_line.specs.Given.{HasNumber, HasRate, HasWord, HasWords
 ghost use Rattle.command_line.specs.Given.{NoneIs};
 ghost use Rattle.command_line.specs.Known as known;
 ghost use Rattle.command_line.specs.Requests.{IsDump, IsFlag, IsKind, IsLayout, IsNumber};
-ghost use Rattle.command_line.specs.Requests.{IsOfBooks, IsRequest, IsText, rows_in};
+ghost use Rattle.command_line.specs.Requests.{IsOfBooks, IsOfPeriod, IsRequest, IsText, rows_in};
 
 use crate::request::{BookRequest, DumpFile, NumberKind, Request};
-use book_reports::Report;
+use book_reports::PeriodReport;
 use clap::ArgMatches;
 use smf_frames::Layout;
 
@@ -66,7 +66,7 @@ fn service_in<'a>(name: &str, found: &ArgMatches<'a>) -> Option<Request<'a>>
     match name {
         "statement" => of_books_in(found, statement_in(found)),
         "adjustments" => of_books_in(found, adjustments_in(found)),
-        "disputes" => of_books_in(found, Some(BookRequest::Print(Report::DisputeList))),
+        "disputes" => of_books_in(found, Some(BookRequest::Disputes)),
         "audit" => of_books_in(found, audit_in(found)),
         "backup" => of_books_in(found, back_up_in(found)),
         "serve" => of_books_in(found, serve_in(found)),
@@ -194,24 +194,37 @@ fn choice_in<'a>(found: &ArgMatches<'a>) -> Option<BookRequest<'a>>
     Some(BookRequest::Choose { name })
 }
 
-fn adjustments_in<'a>(found: &ArgMatches<'_>) -> Option<BookRequest<'a>>
+/// What a period has of the centre that is named, or else of the whole office.
+fn of_period_in<'a>(found: &ArgMatches<'a>, report: PeriodReport, period: u16) -> BookRequest<'a>
+    ensures { (name : _) → IsOfPeriod name (rows_in found.now) report period
+        → IsOfBooks name (rows_in found.now) result }
+{
+    let centre = text_in(found, "centre");
+    BookRequest::OfPeriod {
+        report,
+        period,
+        centre,
+    }
+}
+
+fn adjustments_in<'a>(found: &ArgMatches<'a>) -> Option<BookRequest<'a>>
     ensures asked { IfSome result (IsOfBooks (codes "adjustments") (rows_in found.now)) }
     ensures some { HasWord (rows_in found.now) known.period → IsSome result }
 {
     let period = number_in(found, "period")?;
-    Some(BookRequest::Print(Report::AdjustmentList(period)))
+    Some(of_period_in(found, PeriodReport::AdjustmentList, period))
 }
 
-fn statement_in<'a>(found: &ArgMatches<'_>) -> Option<BookRequest<'a>>
+fn statement_in<'a>(found: &ArgMatches<'a>) -> Option<BookRequest<'a>>
     ensures asked { IfSome result (IsOfBooks (codes "statement") (rows_in found.now)) }
     ensures some { HasWord (rows_in found.now) known.period
         → HasWord (rows_in found.now) known.csv → IsSome result }
 {
     let period = number_in(found, "period")?;
     if flag_in(found, "csv")? {
-        Some(BookRequest::Print(Report::StatementTable(period)))
+        Some(of_period_in(found, PeriodReport::StatementTable, period))
     } else {
-        Some(BookRequest::Print(Report::Statement(period)))
+        Some(of_period_in(found, PeriodReport::Statement, period))
     }
 }
 

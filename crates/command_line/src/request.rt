@@ -1,4 +1,4 @@
-use book_reports::Report;
+use book_reports::PeriodReport;
 use smf_frames::Layout;
 
 /// What kind of thing a number stands for.
@@ -53,8 +53,16 @@ pub enum BookRequest<'a> {
     },
     /// Identity rule 2 adopted for good.
     Adopt,
-    /// A report printed.
-    Print(Report),
+    /// What a period has printed.
+    OfPeriod {
+        report: PeriodReport,
+        /// The number of the period.
+        period: u16,
+        /// The name of the one centre that it is of; None stands for the whole office.
+        centre: Option<&'a str>,
+    },
+    /// The list of disputes printed.
+    Disputes,
     /// The whole file audited.
     Audit {
         /// No progress is shown.

@@ -60,10 +60,15 @@ sum_line lines =
     action_columns (codes "TOTAL") [] [] []
     ++ signed_column (sum_by charged_amount lines) (sum_by reversed_amount lines) ++ newline
 
--- the adjustments of a period, by its number, the day that it was closed through, if it was, and
--- its lines
-abbrev pub adjustment_list_text : ℕ → Option ℤ → List Line → List ℕ
-adjustment_list_text period through lines =
-    title_line (codes "ADJUSTMENTS") period through
+-- adjustments under a title: of a period, by its number, the day that it was closed through, if it
+-- was, and lines
+abbrev pub titled_adjustments : List ℕ → ℕ → Option ℤ → List Line → List ℕ
+titled_adjustments title period through lines =
+    title_line title period through
     ++ flat_map adjustment_line lines
     ++ sum_line lines
+
+-- the adjustments of a period, with all its lines
+abbrev pub adjustment_list_text : ℕ → Option ℤ → List Line → List ℕ
+adjustment_list_text period through lines =
+    titled_adjustments (codes "ADJUSTMENTS") period through lines

@@ -52,11 +52,15 @@ sum_columns rows =
 abbrev pub total_line : List ChargeRow → List ℕ
 total_line rows = key_columns (codes "TOTAL") [] [] ++ sum_columns rows
 
--- the statement of a period, by its number, the day that it was closed through, if it was, and its
--- rows
-abbrev pub statement_text : ℕ → Option ℤ → List ChargeRow → List ℕ
-statement_text period through rows =
-    title_line (codes "STATEMENT") period through
+-- a statement under a title: of a period, by its number, the day that it was closed through, if it
+-- was, and rows
+abbrev pub titled_statement : List ℕ → ℕ → Option ℤ → List ChargeRow → List ℕ
+titled_statement title period through rows =
+    title_line title period through
     ++ heading
     ++ flat_map row_line rows
     ++ total_line rows
+
+-- the statement of a period, with all its rows
+abbrev pub statement_text : ℕ → Option ℤ → List ChargeRow → List ℕ
+statement_text period through rows = titled_statement (codes "STATEMENT") period through rows

@@ -151,6 +151,26 @@ fn push_sum(alloc: Global, out: &mut String, lines: &[Line]) -> Result<(), Alloc
     out.push('\n')
 }
 
+/// Adjustments under a title: of a period, by its number, the day that it was closed through, if it
+/// was, and lines in their order.
+pub(crate) fn titled_adjustments(
+    alloc: Global,
+    title: &str,
+    period: u16,
+    through: Option<i32>,
+    lines: &[Line],
+) -> Result<String, AllocError>
+    requires through { ForSome through IsDay }
+    requires lines { AreLines lines.now }
+    ensures { IfOk result (λ text.
+        string_bytes text ≡ spec.titled_adjustments title.now period through lines.now) }
+{
+    let mut out = title_text(alloc, title, period, through)?;
+    push_lines(alloc, &mut out, lines)?;
+    push_sum(alloc, &mut out, lines)?;
+    Ok(out)
+}
+
 /// The list of the adjustments of a period: by its number, the day that it was closed through, if
 /// it was, and its lines in the order in which the books give them.
 pub fn adjustment_list_text(
@@ -164,8 +184,5 @@ pub fn adjustment_list_text(
     ensures { IfOk result (λ text.
         string_bytes text ≡ spec.adjustment_list_text period through lines.now) }
 {
-    let mut out = title_text(alloc, "ADJUSTMENTS", period, through)?;
-    push_lines(alloc, &mut out, lines)?;
-    push_sum(alloc, &mut out, lines)?;
-    Ok(out)
+    titled_adjustments(alloc, "ADJUSTMENTS", period, through, lines)
 }

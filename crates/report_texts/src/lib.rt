@@ -2,6 +2,7 @@
 #![tactic(auto)]
 
 mod adjustment_lists;
+mod centres;
 mod columns;
 mod dispute_lists;
 mod parts;
@@ -11,6 +12,7 @@ mod statement_tables;
 mod statements;
 
 pub use adjustment_lists::adjustment_list_text;
+pub use centres::{centre_adjustments_text, centre_statement_table, centre_statement_text};
 pub use columns::push_number;
 pub use dispute_lists::dispute_list_text;
 pub use period_lists::period_list_text;

@@ -147,6 +147,27 @@ fn push_total(alloc: Global, out: &mut String, rows: &[ChargeRow]) -> Result<(),
     push_sums(alloc, out, rows)
 }
 
+/// A statement under a title: of a period, by its number, the day that it was closed through, if it
+/// was, and rows in their order.
+pub(crate) fn titled_statement(
+    alloc: Global,
+    title: &str,
+    period: u16,
+    through: Option<i32>,
+    rows: &[ChargeRow],
+) -> Result<String, AllocError>
+    requires through { ForSome through IsDay }
+    requires rows { AreRows rows.now }
+    ensures { IfOk result (λ text.
+        string_bytes text ≡ spec.titled_statement title.now period through rows.now) }
+{
+    let mut out = title_text(alloc, title, period, through)?;
+    push_heading(&mut out)?;
+    push_rows(alloc, &mut out, rows)?;
+    push_total(alloc, &mut out, rows)?;
+    Ok(out)
+}
+
 /// The statement of a period: by its number, the day that it was closed through, if it was, and its
 /// charge rows in the order in which the books give them.
 pub fn statement_text(
@@ -160,9 +181,5 @@ pub fn statement_text(
     ensures { IfOk result (λ text.
         string_bytes text ≡ spec.statement_text period through rows.now) }
 {
-    let mut out = title_text(alloc, "STATEMENT", period, through)?;
-    push_heading(&mut out)?;
-    push_rows(alloc, &mut out, rows)?;
-    push_total(alloc, &mut out, rows)?;
-    Ok(out)
+    titled_statement(alloc, "STATEMENT", period, through, rows)
 }

@@ -2,13 +2,12 @@
 //! turn: what was refused is asked again.
 
 use crate::rows::{ROWS, VARIANT_AFTER_CLOSE};
-use crate::runs::{Expected, Step, Steps, play};
+use crate::runs::{Expected, OfficeReport, Step, Steps, play};
 use crate::test_streams::{Page, has_lines};
 use book_core::{Ledger, PlainLedger, ShaNames, Sink};
 use book_reports::{
     ReportFault, adjustment_list, dispute_list, period_list, statement, statement_csv, write_report,
 };
-use office::Report;
 use std::alloc::Global;
 use std::process::Abort;
 use std::test::Fail;
@@ -32,24 +31,29 @@ fn rows_are_played_over_books_in_memory(rt: HostRuntime) -> Result<(), Fail> {
 fn written<L: Ledger>(
     alloc: Global,
     ledger: &mut L,
-    report: Report,
+    report: OfficeReport,
     by_name: bool,
 ) -> (Result<(), ReportFault>, Page) {
     let mut sink = Sink::new(Page::new());
     let answer = match report {
-        _ if !by_name => write_report(alloc, ledger, report, &mut sink),
-        Report::Statement(period) => statement(alloc, ledger, period, &mut sink),
-        Report::StatementTable(period) => statement_csv(alloc, ledger, period, &mut sink),
-        Report::AdjustmentList(period) => adjustment_list(alloc, ledger, period, &mut sink),
-        Report::DisputeList => dispute_list(alloc, ledger, &mut sink),
-        Report::PeriodList => period_list(alloc, ledger, &mut sink),
+        _ if !by_name => write_report(alloc, ledger, report.report(), &mut sink),
+        OfficeReport::Statement(period) => statement(alloc, ledger, period, &mut sink),
+        OfficeReport::StatementTable(period) => statement_csv(alloc, ledger, period, &mut sink),
+        OfficeReport::AdjustmentList(period) => adjustment_list(alloc, ledger, period, &mut sink),
+        OfficeReport::DisputeList => dispute_list(alloc, ledger, &mut sink),
+        OfficeReport::PeriodList => period_list(alloc, ledger, &mut sink),
     };
     (answer, sink.into_inner())
 }
 
 /// A report has these lines, by either call. Where memory was refused nothing was written, and it
 /// is asked for once more.
-fn is_written<L: Ledger>(alloc: Global, ledger: &mut L, report: Report, lines: &[&str]) -> bool {
+fn is_written<L: Ledger>(
+    alloc: Global,
+    ledger: &mut L,
+    report: OfficeReport,
+    lines: &[&str],
+) -> bool {
     for by_name in [false, true] {
         let (first, page) = written(alloc, ledger, report, by_name);
         let (answer, page) = if first == Err(ReportFault::Memory) && page.text().is_empty() {

@@ -7,11 +7,10 @@ use crate::lines::{
     SUM_OF_MINUS, SUM_OF_NONE, SUM_OF_PLUS, SUM_OF_THE_CHOICE, TABLE_HEADING, TOTAL_OF_BOTH_RUNS,
     TOTAL_OF_NONE, TOTAL_OF_ONE,
 };
-use crate::runs::{Expected, Step, Steps};
+use crate::runs::{Expected, OfficeReport, Step, Steps};
 use crate::sample::Record;
 use crate::tariffs::{DECEMBER, JANUARY, JANUARY_AGAIN};
 use book_core::LedgerFault;
-use office::Report;
 
 const TARIFF: (Step, Expected) = (Step::Tariff(JANUARY), Expected::Done);
 
@@ -25,25 +24,25 @@ const CLOSE: (Step, Expected) = (Step::Close(1, "2024-01-31"), Expected::Done);
 
 /// The sample and the variant are in dispute.
 const DISPUTE: (Step, Expected) = (
-    Step::Report(Report::DisputeList),
+    Step::Report(OfficeReport::DisputeList),
     Expected::Lines(&["DISPUTES 1", IDENTITY, MEMBER_1201, SAMPLE_MEMBER]),
 );
 
 /// Nothing is in dispute.
 const NO_DISPUTE: (Step, Expected) = (
-    Step::Report(Report::DisputeList),
+    Step::Report(OfficeReport::DisputeList),
     Expected::Lines(&["DISPUTES 0"]),
 );
 
 /// Nothing is charged in the first period, which is open.
 const NO_CHARGES: (Step, Expected) = (
-    Step::Report(Report::Statement(1)),
+    Step::Report(OfficeReport::Statement(1)),
     Expected::Lines(&["STATEMENT PERIOD 1 OPEN", HEADING, TOTAL_OF_NONE]),
 );
 
 /// The sample is charged in the first period, which is closed.
 const CLOSED_CHARGES: (Step, Expected) = (
-    Step::Report(Report::Statement(1)),
+    Step::Report(OfficeReport::Statement(1)),
     Expected::Lines(&[
         "STATEMENT PERIOD 1 CLOSED THROUGH 2024-01-31",
         HEADING,
@@ -54,7 +53,7 @@ const CLOSED_CHARGES: (Step, Expected) = (
 
 /// The sample is taken out of the bill in the second period, which is open.
 const REVERSED: (Step, Expected) = (
-    Step::Report(Report::AdjustmentList(2)),
+    Step::Report(OfficeReport::AdjustmentList(2)),
     Expected::Lines(&["ADJUSTMENTS PERIOD 2 OPEN", SAMPLE_MINUS, SUM_OF_MINUS]),
 );
 
@@ -70,7 +69,7 @@ pub(crate) const VARIANT_AFTER_CLOSE: Steps = &[
     VARIANT,
     CLOSED_CHARGES,
     (
-        Step::Report(Report::StatementTable(1)),
+        Step::Report(OfficeReport::StatementTable(1)),
         Expected::Lines(&[
             TABLE_HEADING,
             "1,2024-01-31,UNASSIGNED,BASE,1,12.34,5000,24.9300",
@@ -79,7 +78,7 @@ pub(crate) const VARIANT_AFTER_CLOSE: Steps = &[
     REVERSED,
     DISPUTE,
     (
-        Step::Report(Report::PeriodList),
+        Step::Report(OfficeReport::PeriodList),
         Expected::Lines(&["PERIODS 2", "1 CLOSED THROUGH 2024-01-31", "2 OPEN"]),
     ),
 ];
@@ -89,12 +88,12 @@ const LATE_RECORD_THEN_VARIANT: Steps = &[
     CLOSE,
     SAMPLE,
     (
-        Step::Report(Report::AdjustmentList(2)),
+        Step::Report(OfficeReport::AdjustmentList(2)),
         Expected::Lines(&["ADJUSTMENTS PERIOD 2 OPEN", SAMPLE_PLUS, SUM_OF_PLUS]),
     ),
     VARIANT,
     (
-        Step::Report(Report::AdjustmentList(2)),
+        Step::Report(OfficeReport::AdjustmentList(2)),
         Expected::Lines(&["ADJUSTMENTS PERIOD 2 OPEN", SUM_OF_NONE]),
     ),
     DISPUTE,
@@ -114,11 +113,11 @@ const THIRD_VARIANT: Steps = &[
         Expected::Known(3),
     ),
     (
-        Step::Report(Report::AdjustmentList(3)),
+        Step::Report(OfficeReport::AdjustmentList(3)),
         Expected::Lines(&["ADJUSTMENTS PERIOD 3 OPEN", SUM_OF_NONE]),
     ),
     (
-        Step::Report(Report::DisputeList),
+        Step::Report(OfficeReport::DisputeList),
         Expected::Lines(&[
             "DISPUTES 1",
             IDENTITY,
@@ -134,7 +133,7 @@ const DATED_AFTER_CLOSE: Steps = &[
     (Step::Import(&[Record::February1]), Expected::Kept),
     CLOSE,
     (
-        Step::Report(Report::Statement(2)),
+        Step::Report(OfficeReport::Statement(2)),
         Expected::Lines(&[
             "STATEMENT PERIOD 2 OPEN",
             HEADING,
@@ -152,7 +151,7 @@ const DATED_AFTER_CLOSE: Steps = &[
         Expected::Refused(LedgerFault::NotLater),
     ),
     (
-        Step::Report(Report::Statement(3)),
+        Step::Report(OfficeReport::Statement(3)),
         Expected::Refused(LedgerFault::NoSuchPeriod),
     ),
 ];
@@ -171,7 +170,7 @@ const TARIFFS_IN_ORDER: Steps = &[
         Expected::Refused(LedgerFault::TariffDate),
     ),
     (
-        Step::Report(Report::Statement(1)),
+        Step::Report(OfficeReport::Statement(1)),
         Expected::Lines(&["STATEMENT PERIOD 1 OPEN", HEADING, SAMPLE_ROW, TOTAL_OF_ONE]),
     ),
 ];
@@ -185,7 +184,7 @@ const VARIANT_AFTER_CLOSE_AND_CHOICES: Steps = &[
     DISPUTE,
     (Step::Choose(Record::Sample), Expected::Done),
     (
-        Step::Report(Report::AdjustmentList(2)),
+        Step::Report(OfficeReport::AdjustmentList(2)),
         Expected::Lines(&["ADJUSTMENTS PERIOD 2 OPEN", SUM_OF_NONE]),
     ),
     (Step::Choose(Record::Variant1201), Expected::Done),
@@ -196,7 +195,7 @@ const VARIANT_AFTER_CLOSE_AND_CHOICES: Steps = &[
     ),
     NO_DISPUTE,
     (
-        Step::Report(Report::AdjustmentList(2)),
+        Step::Report(OfficeReport::AdjustmentList(2)),
         Expected::Lines(&[
             "ADJUSTMENTS PERIOD 2 OPEN",
             PLUS_1201,
@@ -214,7 +213,7 @@ const SECOND_RUN_AFTER_CLOSE: Steps = &[
     LATER_START,
     REVERSED,
     (
-        Step::Report(Report::DisputeList),
+        Step::Report(OfficeReport::DisputeList),
         Expected::Lines(&["DISPUTES 1", IDENTITY, LATER_START_MEMBER, SAMPLE_MEMBER]),
     ),
     (Step::Adopt(2), Expected::Done),
@@ -226,7 +225,7 @@ const SECOND_RUN_AFTER_CLOSE: Steps = &[
     ),
     NO_DISPUTE,
     (
-        Step::Report(Report::AdjustmentList(2)),
+        Step::Report(OfficeReport::AdjustmentList(2)),
         Expected::Lines(&["ADJUSTMENTS PERIOD 2 OPEN", LATER_START_PLUS, SUM_OF_PLUS]),
     ),
 ];
@@ -242,7 +241,7 @@ const AN_OLDER_CHOICE_COMES_BACK: Steps = &[
     (Step::Adopt(2), Expected::Done),
     NO_DISPUTE,
     (
-        Step::Report(Report::Statement(1)),
+        Step::Report(OfficeReport::Statement(1)),
         Expected::Lines(&[
             "STATEMENT PERIOD 1 OPEN",
             HEADING,

@@ -17,6 +17,29 @@ use std::alloc::{AllocError, Global};
 use std::process::Abort;
 use std::test::Fail;
 
+/// A report of the whole office. The rows are constants, which can't hold a `Report`: it may name a
+/// centre.
+#[derive(Clone, Copy)]
+pub(crate) enum OfficeReport {
+    Statement(u16),
+    StatementTable(u16),
+    AdjustmentList(u16),
+    DisputeList,
+    PeriodList,
+}
+
+impl OfficeReport {
+    pub(crate) fn report(self) -> Report {
+        match self {
+            OfficeReport::Statement(period) => Report::Statement(period),
+            OfficeReport::StatementTable(period) => Report::StatementTable(period),
+            OfficeReport::AdjustmentList(period) => Report::AdjustmentList(period),
+            OfficeReport::DisputeList => Report::DisputeList,
+            OfficeReport::PeriodList => Report::PeriodList,
+        }
+    }
+}
+
 /// A request of a row.
 #[derive(Clone, Copy)]
 pub(crate) enum Step {
@@ -26,7 +49,7 @@ pub(crate) enum Step {
     Close(u16, &'static str),
     Choose(Record),
     Adopt(u8),
-    Report(Report),
+    Report(OfficeReport),
 }
 
 /// What a request is answered.
@@ -69,7 +92,7 @@ fn request_of(alloc: Global, step: Step) -> Option<Asked>
         }
         Step::Choose(record) => Some(Asked::Choose(record.name())),
         Step::Adopt(rule) => Some(Asked::Adopt(rule)),
-        Step::Report(report) => Some(Asked::Report(report)),
+        Step::Report(report) => Some(Asked::Report(report.report())),
     }
 }
 

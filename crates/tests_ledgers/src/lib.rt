@@ -15,6 +15,7 @@
 //! | `list`, with a body of `tariff`, `import`, `close`, `choose`, `adopt` | the answer to each |
 //! | `list TIMES`, with such a body, all of it that many times in one list | the same |
 //! | `statement PERIOD`, `table PERIOD`, `adjustments PERIOD`, `disputes`, `periods` | the text |
+//! | the first three with `PERIOD CENTRE` | the text of the centre |
 //! | `changes` | each text, but for tables, that is not as at the last `changes` of the row |
 //!
 //! | A line that needs no books | Is answered with |

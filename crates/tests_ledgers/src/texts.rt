@@ -3,7 +3,10 @@
 use crate::text_writing::{Writes, Written};
 use book_core::{Ledger, Sink};
 use book_import::Stop;
-use book_reports::{adjustment_list, dispute_list, period_list, statement, statement_csv};
+use book_reports::{
+    PeriodReport, Report, adjustment_list, centre_named, dispute_list, period_list, statement,
+    statement_csv, write_report,
+};
 use std::alloc::Global;
 use tests_scripts::{LimitedWriter, Limits, LineFault, LineResult};
 
@@ -13,6 +16,8 @@ pub(crate) enum BookText {
     Statement(u16),
     Table(u16),
     Adjustments(u16),
+    /// What a period has of one centre.
+    OfCentre(Report),
     Disputes,
     Periods,
 }
@@ -24,11 +29,25 @@ impl BookText {
             ("statement", [period]) => Ok(BookText::Statement(period.parse::<u16>()?)),
             ("table", [period]) => Ok(BookText::Table(period.parse::<u16>()?)),
             ("adjustments", [period]) => Ok(BookText::Adjustments(period.parse::<u16>()?)),
+            ("statement", [period, centre]) => of_centre(PeriodReport::Statement, period, centre),
+            ("table", [period, centre]) => of_centre(PeriodReport::StatementTable, period, centre),
+            ("adjustments", [period, centre]) => {
+                of_centre(PeriodReport::AdjustmentList, period, centre)
+            }
             ("disputes", []) => Ok(BookText::Disputes),
             ("periods", []) => Ok(BookText::Periods),
             _ => Err(LineFault::NotUnderstood),
         }
     }
+}
+
+/// What a period has of a centre.
+fn of_centre(report: PeriodReport, period: &str, centre: &str) -> LineResult<BookText> {
+    Ok(BookText::OfCentre(Report::OfCentre {
+        report,
+        period: period.parse::<u16>()?,
+        centre: centre_named(centre).ok_or(LineFault::NotUnderstood)?,
+    }))
 }
 
 /// A text of these books.
@@ -42,10 +61,11 @@ impl<L: Ledger> Writes for TextOf<'_, L> {
     fn write_to(&mut self, alloc: Global, limits: Limits) -> LineResult<Written> {
         let mut sink = Sink::new(LimitedWriter::new(alloc, limits));
         let ledger = &mut *self.ledger;
-        let answer = match self.text {
-            BookText::Statement(period) => statement(alloc, ledger, period, &mut sink),
-            BookText::Table(period) => statement_csv(alloc, ledger, period, &mut sink),
-            BookText::Adjustments(period) => adjustment_list(alloc, ledger, period, &mut sink),
+        let answer = match &self.text {
+            BookText::Statement(period) => statement(alloc, ledger, *period, &mut sink),
+            BookText::Table(period) => statement_csv(alloc, ledger, *period, &mut sink),
+            BookText::Adjustments(period) => adjustment_list(alloc, ledger, *period, &mut sink),
+            BookText::OfCentre(report) => write_report(alloc, ledger, *report, &mut sink),
             BookText::Disputes => dispute_list(alloc, ledger, &mut sink),
             BookText::Periods => period_list(alloc, ledger, &mut sink),
         };

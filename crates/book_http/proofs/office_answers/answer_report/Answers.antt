@@ -14,6 +14,6 @@ returns g c =
     (λ was before events is asked. record {
       told = told;
       made = asked;
-      replied = c.answer_of.ensures ∙ ap (λ kind. office_reply kind told) c.body_kind.ensures;
+      replied = c.answer_of.ensures ∙ ap (λ kind. office_reply kind told) c.body_kind-kind.ensures;
     })
     c.ask_without_reader.ensures

@@ -10,9 +10,9 @@ returns c =
     c.in_ok-router-6.ensures
     ∙ ap (with_route (codes "/import") page.Import) (c.in_ok-router-5.ensures
     ∙ ap (with_route (codes "/disputes") page.Disputes) (c.in_ok-router-4.ensures
-    ∙ ap (with_route (codes "/adjustments/{n}") page.Adjustments) (c.in_ok-router-3.ensures
-    ∙ ap (with_route (codes "/statement-csv/{n}") page.StatementCsv) (c.in_ok-router-2.ensures
-    ∙ ap (with_route (codes "/statement/{n}") page.Statement) (c.in_ok-router.ensures
+    ∙ ap (with_route (codes "/adjustments/{*rest}") page.Adjustments) (c.in_ok-router-3.ensures
+    ∙ ap (with_route (codes "/statement-csv/{*rest}") page.StatementCsv) (c.in_ok-router-2.ensures
+    ∙ ap (with_route (codes "/statement/{*rest}") page.Statement) (c.in_ok-router.ensures
     ∙ ap (with_route (codes "/periods") page.Periods) c.new.ensures))))) in
     subst (λ rows. IfOk c.with_page-7.result
     (λ router. router ≡ with_route (codes "/import-bdw") page.ImportBdw rows)) six

@@ -49,3 +49,7 @@ pub returns-in-PeriodList : goal.returns-in-PeriodList
 returns-in-PeriodList g c =
     rw c.in-PeriodList.is (call_made period_list_text (λ book. refl) c.periods.ensures.days
     c.made_of-in-PeriodList.ensures λ closes text made. search rules)
+
+-- a report on one centre is a text of its own
+pub returns-in-OfCentre : goal.returns-in-OfCentre
+returns-in-OfCentre g c = rw c.in-OfCentre.is c.centre_text.ensures

@@ -1,0 +1,26 @@
+-- Laws of the reports on single centres.
+use Rattle.std.specs.Prelude.{◌≡◌, ℕ, List, map, sum_by}
+use Rattle.book_model.specs.declared.line.Line.{Line}
+use Rattle.book_model.specs.declared.row.ChargeRow.{ChargeRow}
+use Rattle.book_model.specs.Words.{by_bytes, members, set_of}
+use Rattle.report_texts.specs.Centres.{lines_of_centre, rows_of_centre}
+
+-- the centres that rows are charged to, each once and in order
+abbrev pub row_centres : List ChargeRow → List (List ℕ)
+row_centres rows = members (set_of by_bytes (map (λ row. row.centre) rows))
+
+-- the centres of lines
+abbrev pub line_centres : List Line → List (List ℕ)
+line_centres lines = members (set_of by_bytes (map (λ line. line.priced.centre) lines))
+
+-- The statements of all centres add up to the statement of the period, whatever is summed (counts,
+-- CPU times, blocks, amounts); and so do the adjustments.
+pub record CentresAddUp : Type 0 where
+  pub rows :
+      (part : ChargeRow → ℕ) (rows : List ChargeRow)
+      → sum_by (λ centre. sum_by part (rows_of_centre centre rows)) (row_centres rows)
+      ≡ sum_by part rows
+  pub lines :
+      (part : Line → ℕ) (lines : List Line)
+      → sum_by (λ centre. sum_by part (lines_of_centre centre lines)) (line_centres lines)
+      ≡ sum_by part lines

@@ -1,0 +1,33 @@
+-- What one centre has of a period can be shown, where all that the period has can.
+use Rattle.std.proofs.Common.{◌≡◌, ◌+◌, ◌<◌, ◌^◌, ℕ, Bool, List, arith, refl}
+use Rattle.std.specs.Prelude.{filter, not, sum_by}
+use Rattle.std.proofs.lemmas.List.Elements.{All-filter}
+use Rattle.std.proofs.lemmas.List.Filters.{sum_by-filter_both}
+use Rattle.book_model.specs.declared.line.Line.{Line}
+use Rattle.book_model.specs.declared.row.ChargeRow.{ChargeRow}
+use Rattle.book_model.specs.Words.{AreLines, AreRows, IsDay}
+
+-- a sum over some is within the sum over all
+filter_within : {X : Type 0} (p : X → Bool) (f : X → ℕ) (xs : List X) (most : ℕ)
+    → sum_by f xs < most → sum_by f (filter p xs) < most
+filter_within p f xs most fits =
+    let both : sum_by f (filter p xs) + sum_by f (filter (λ x. not (p x)) xs) ≡ sum_by f xs =
+    sum_by-filter_both p (λ x. not (p x)) (λ x. refl) f xs in
+    omega arith
+
+pub filtered_rows : (p : ChargeRow → Bool) (rows : List ChargeRow) → AreRows rows
+    → AreRows (filter p rows)
+filtered_rows p rows are = record {
+  days = All-filter p (λ row. IsDay row.day) rows are.days;
+  count = filter_within p (λ row. row.count) rows (2 ^ 64) are.count;
+  cpu = filter_within p (λ row. row.cpu) rows (2 ^ 64) are.cpu;
+  blocks = filter_within p (λ row. row.blocks) rows (2 ^ 64) are.blocks;
+  amount = filter_within p (λ row. row.amount) rows (2 ^ 64) are.amount;
+}
+
+pub filtered_lines : (p : Line → Bool) (lines : List Line) → AreLines lines
+    → AreLines (filter p lines)
+filtered_lines p lines are = record {
+  days = All-filter p (λ line. IsDay line.priced.day) lines are.days;
+  amount = filter_within p (λ line. line.priced.amount) lines (2 ^ 63) are.amount;
+}

@@ -1,0 +1,93 @@
+//! Reports on one centre: of what a period has, what is charged to the centre.
+
+ghost use Rattle.std.specs.Prelude.{◌≡◌, IfOk, string_bytes};
+ghost use Rattle.std.specs.Option.{ForSome};
+ghost use Rattle.book_model.specs.Words.{AreLines, AreRows, IsDay};
+ghost use Rattle.report_texts.specs.Centres as spec;
+
+use crate::adjustment_lists::titled_adjustments;
+use crate::statement_tables::statement_table;
+use crate::statements::titled_statement;
+use book_model::{ChargeRow, Line};
+use smf_text::Name;
+use std::alloc::{AllocError, Global};
+
+/// Keeps the rows of the centre, in their order.
+fn keep_rows(rows: &mut Vec<ChargeRow>, centre: Name)
+    requires { AreRows rows.old.items }
+    ensures kept { rows.new.items ≡ spec.rows_of_centre centre rows.old.items }
+    ensures rows { AreRows rows.new.items }
+{
+    rows.retain(|row| row.centre == centre);
+}
+
+/// Keeps the lines of the centre, in their order.
+fn keep_lines(lines: &mut Vec<Line>, centre: Name)
+    requires { AreLines lines.old.items }
+    ensures kept { lines.new.items ≡ spec.lines_of_centre centre lines.old.items }
+    ensures lines { AreLines lines.new.items }
+{
+    lines.retain(|line| line.priced.centre == centre);
+}
+
+/// The title of a report on the centre.
+#[tactic(auto, unfolding(crate::specs::Centres::centre_title))]
+fn centre_title(alloc: Global, report: &str, centre: Name) -> Result<String, AllocError>
+    ensures { IfOk result (λ title. string_bytes title ≡ spec.centre_title report.now centre) }
+{
+    let mut title = String::from_str(alloc, report)?;
+    title.push_str(" CENTRE ")?;
+    title.push_str(centre.text())?;
+    Ok(title)
+}
+
+/// The statement of a centre for a period: by all charge rows of the period.
+pub fn centre_statement_text(
+    alloc: Global,
+    centre: Name,
+    period: u16,
+    through: Option<i32>,
+    mut rows: Vec<ChargeRow>,
+) -> Result<String, AllocError>
+    requires through { ForSome through IsDay }
+    requires rows { AreRows rows.items }
+    ensures { IfOk result (λ text.
+        string_bytes text ≡ spec.centre_statement_text centre period through rows.items) }
+{
+    let title = centre_title(alloc, "STATEMENT", centre)?;
+    keep_rows(&mut rows, centre);
+    titled_statement(alloc, title.as_str(), period, through, &rows)
+}
+
+/// The same as a table: a heading, and a row for each charge row of the centre.
+pub fn centre_statement_table(
+    alloc: Global,
+    centre: Name,
+    period: u16,
+    mut rows: Vec<ChargeRow>,
+) -> Result<Vec<u8>, AllocError>
+    requires { AreRows rows.items }
+    ensures { IfOk result (λ table.
+        table.items ≡ spec.centre_statement_table centre period rows.items) }
+{
+    keep_rows(&mut rows, centre);
+    statement_table(alloc, period, &rows)
+}
+
+/// The adjustments of a centre in a period: by all lines of the period.
+pub fn centre_adjustments_text(
+    alloc: Global,
+    centre: Name,
+    period: u16,
+    through: Option<i32>,
+    mut lines: Vec<Line>,
+) -> Result<String, AllocError>
+    requires through { ForSome through IsDay }
+    requires lines { AreLines lines.items }
+    ensures { IfOk result (λ text.
+        string_bytes text ≡ spec.centre_adjustments_text centre period through lines.items) }
+{
+    let title = centre_title(alloc, "ADJUSTMENTS", centre)?;
+    keep_lines(&mut lines, centre);
+    titled_adjustments(alloc, title.as_str(), period, through, &lines)
+}
