@@ -10,7 +10,8 @@ use Rattle.book_model.specs.Words.{Book, Event, Naming, accept_outcome, accept_a
 use Rattle.book_model.specs.Words.{after_all}
 use Rattle.book_core.specs.Calls.{Calls, listed}
 use Rattle.book_core.specs.Submissions.{Accepts, KeepsFirst, Takes, first_of, records_in}
-use Rattle.book_core.proofs.TransitionLemmas.{wanting, failed, to_reopen, refused, fails}
+use Rattle.book_core.proofs.ThenLemmas.{nothing_more}
+use Rattle.book_core.proofs.TransitionLemmas.{Implies, wanting, failed, to_reopen, refused, fails}
 
 -- ---- the first of them
 
@@ -30,19 +31,13 @@ some_in (one ∷ rest) some = omega arith
 
 -- one record was accepted
 pub accepts_one : (naming : Naming) (records : List (List ℕ)) (answer : Accepted)
-    → 0 < length records → (was : Bool) (before : Book) (events : List Event) (is : Bool)
-    → Calls (λ (accepted : Accepted). accepted) (accept_outcome naming (first_of records))
-    (Ok answer) was before events is
-    → Accepts naming records (answer ∷ []) was before events is
+    → 0 < length records
+    → Implies (Calls (λ (accepted : Accepted). accepted) (accept_outcome naming (first_of records))
+    (Ok answer)) (Accepts naming records (answer ∷ []))
 accepts_one naming [] answer some was before events is called = absurd (omega arith)
-accepts_one naming (bytes ∷ rest) answer some was before events is called = record {
-  between = is;
-  early = events;
-  late = [];
-  first = called;
-  next = record { none = refl; same = refl };
-  all = refl;
-}
+accepts_one naming (bytes ∷ rest) answer some was before events is called =
+    nothing_more (Calls (λ (accepted : Accepted). accepted) (accept_outcome naming bytes)
+    (Ok answer)) was before events is called
 
 -- the store failed, and the event of the first record was made, if its answer makes one
 first_kept : (naming : Naming) (records : List (List ℕ)) (before : Book) (events : List Event)
@@ -87,10 +82,9 @@ store_keeps naming records was before events is some opened closed (inr made) =
 
 -- the first record was refused in a call of its own
 pub refused_one : (naming : Naming) (records : List (List ℕ)) (fault : LedgerFault)
-    → 0 < length records → (was : Bool) (before : Book) (events : List Event) (is : Bool)
-    → Calls (λ (accepted : Accepted). accepted) (accept_outcome naming (first_of records))
-    (Err fault) was before events is
-    → Takes naming records (Err fault) was before events is
+    → 0 < length records
+    → Implies (Calls (λ (accepted : Accepted). accepted) (accept_outcome naming (first_of records))
+    (Err fault)) (Takes naming records (Err fault))
 refused_one naming records Store some was before events is called =
     elim (fails (λ (accepted : Accepted). accepted) (accept_outcome naming (first_of records)) Store
     was before events is called) [
@@ -107,9 +101,7 @@ refused_one naming records fault some was before events is called = called
 
 -- what was accepted of the first records was accepted of all
 accepts_further : (naming : Naming) (early later : List (List ℕ)) (answers : List Accepted)
-    (was : Bool) (before : Book) (events : List Event) (is : Bool)
-    → Accepts naming early answers was before events is
-    → Accepts naming (early ++ later) answers was before events is
+    → Implies (Accepts naming early answers) (Accepts naming (early ++ later) answers)
 accepts_further naming early later [] was before events is accepts = accepts
 accepts_further naming [] later (answer ∷ rest) was before events is accepts = absurd accepts
 accepts_further naming (bytes ∷ early) later (answer ∷ rest) was before events is accepts = record {
@@ -130,10 +122,8 @@ first_further (bytes ∷ rest) later some = refl
 
 -- what the change took of the first records it took of all
 takes_further : (naming : Naming) (early later : List (List ℕ))
-    (result : Result (Vec Accepted Global) LedgerFault) → 0 < length early → (was : Bool)
-    (before : Book) (events : List Event) (is : Bool)
-    → Takes naming early result was before events is
-    → Takes naming (early ++ later) result was before events is
+    (result : Result (Vec Accepted Global) LedgerFault) → 0 < length early
+    → Implies (Takes naming early result) (Takes naming (early ++ later) result)
 takes_further naming early later (Ok answers) some was before events is takes =
     accepts_further naming early later answers.items was before events is takes
 takes_further naming early later (Err Store) some was before events is takes = record {
@@ -149,10 +139,8 @@ takes_further naming early later (Err fault) some was before events is takes =
 -- So a change that is handed the first of some records takes some first of all.
 pub takes_part : (naming : Naming) (records : List (Vec ℕ Global)) (count : ℕ)
     (part : List (Vec ℕ Global)) (result : Result (Vec Accepted Global) LedgerFault)
-    → part ≡ take count records → 0 < length part → (was : Bool) (before : Book)
-    (events : List Event) (is : Bool)
-    → Takes naming (records_in part) result was before events is
-    → Takes naming (records_in records) result was before events is
+    → part ≡ take count records → 0 < length part
+    → Implies (Takes naming (records_in part) result) (Takes naming (records_in records) result)
 takes_part naming records count part result is_part some was before events is takes =
     subst (λ all. Takes naming all result was before events is)
     (sym (map-append (λ (one : Vec ℕ Global). one.items) part (drop count records))

@@ -1,15 +1,13 @@
 -- Work of several parts, one after another.
-use Rattle.std.proofs.Common.{◌∙◌, Bool, List, [], ◌++◌, refl, sym, ap, subst, append_assoc}
-use Rattle.std.proofs.Common.{append-nil}
-use Rattle.book_model.specs.Words.{Book, Event, after_all}
+use Rattle.std.proofs.Common.{◌∙◌, [], ◌++◌, refl, sym, ap, subst, append_assoc, append-nil}
+use Rattle.book_model.specs.Words.{after_all}
 use Rattle.book_core.specs.Transition.{Transition, NoEvent, Then}
-use Rattle.book_core.proofs.TransitionLemmas.{after_all-append}
+use Rattle.book_core.proofs.TransitionLemmas.{Implies, after_all-append}
 
 -- the first two of three parts, seen as one
-pub first_two : (First Next Last : Transition) (was : Bool) (before : Book) (events : List Event)
-    (is : Bool) → Then First (Then Next Last) was before events is
-    → Then (Then First Next) Last was before events is
-first_two First Next Last was before events is both =
+pub first_two : {First Next Last : Transition}
+    → Implies (Then First (Then Next Last)) (Then (Then First Next) Last)
+first_two {First} {Next} {Last} was before events is both =
     let inner = both.next in
     record {
       between = inner.between;
@@ -30,10 +28,9 @@ first_two First Next Last was before events is both =
     }
 
 -- the last two of three parts, seen as one
-pub last_two : (First Next Last : Transition) (was : Bool) (before : Book) (events : List Event)
-    (is : Bool) → Then (Then First Next) Last was before events is
-    → Then First (Then Next Last) was before events is
-last_two First Next Last was before events is both =
+pub last_two : {First Next Last : Transition}
+    → Implies (Then (Then First Next) Last) (Then First (Then Next Last))
+last_two {First} {Next} {Last} was before events is both =
     let inner = both.first in
     record {
       between = inner.between;
@@ -55,12 +52,9 @@ last_two First Next Last was before events is both =
     }
 
 -- the later part, seen as other work
-pub next_as : (First Next Other : Transition)
-    → ((was : Bool) (before : Book) (events : List Event) (is : Bool) → Next was before events is
-    → Other was before events is)
-    → (was : Bool) (before : Book) (events : List Event) (is : Bool)
-    → Then First Next was before events is → Then First Other was before events is
-next_as First Next Other implies was before events is both = record {
+pub next_as : {First Next Other : Transition} → Implies Next Other
+    → Implies (Then First Next) (Then First Other)
+next_as implies was before events is both = record {
   between = both.between;
   early = both.early;
   late = both.late;
@@ -70,12 +64,9 @@ next_as First Next Other implies was before events is both = record {
 }
 
 -- the earlier part, seen as other work
-pub first_as : (First Other Next : Transition)
-    → ((was : Bool) (before : Book) (events : List Event) (is : Bool) → First was before events is
-    → Other was before events is)
-    → (was : Bool) (before : Book) (events : List Event) (is : Bool)
-    → Then First Next was before events is → Then Other Next was before events is
-first_as First Other Next implies was before events is both = record {
+pub first_as : {First Other Next : Transition} → Implies First Other
+    → Implies (Then First Next) (Then Other Next)
+first_as implies was before events is both = record {
   between = both.between;
   early = both.early;
   late = both.late;
@@ -85,16 +76,14 @@ first_as First Other Next implies was before events is both = record {
 }
 
 -- work that nothing came after
-pub then_nothing : (First : Transition) (was : Bool) (before : Book) (events : List Event) (is : Bool)
-    → Then First NoEvent was before events is → First was before events is
+pub then_nothing : (First : Transition) → Implies (Then First NoEvent) First
 then_nothing First was before events is both =
     subst (λ events. First was before events is)
     (sym (both.all ∙ ap (λ late. late ++ both.early) both.next.none))
     (subst (λ now. First was before both.early now) (sym both.next.same) both.first)
 
 -- work that nothing came before
-pub nothing_then : (Next : Transition) (was : Bool) (before : Book) (events : List Event) (is : Bool)
-    → Then NoEvent Next was before events is → Next was before events is
+pub nothing_then : (Next : Transition) → Implies (Then NoEvent Next) Next
 nothing_then Next was before events is both =
     subst (λ events. Next was before events is)
     (sym (both.all ∙ ap (λ early. both.late ++ early) both.first.none ∙ append-nil both.late))
@@ -103,8 +92,7 @@ nothing_then Next was before events is both =
     both.next))
 
 -- work, and then nothing
-pub nothing_more : (First : Transition) (was : Bool) (before : Book) (events : List Event) (is : Bool)
-    → First was before events is → Then First NoEvent was before events is
+pub nothing_more : (First : Transition) → Implies First (Then First NoEvent)
 nothing_more First was before events is first = record {
   between = is;
   early = events;
@@ -113,14 +101,3 @@ nothing_more First was before events is first = record {
   next = record { none = refl; same = refl };
   all = refl;
 }
-
--- the earlier part with nothing after it, seen as other work
-pub first_and_nothing_as : (First Middle Next : Transition)
-    → ((was : Bool) (before : Book) (events : List Event) (is : Bool)
-    → Then First NoEvent was before events is → Middle was before events is)
-    → (was : Bool) (before : Book) (events : List Event) (is : Bool)
-    → Then First Next was before events is → Then Middle Next was before events is
-first_and_nothing_as First Middle Next implies =
-    first_as First Middle Next
-    (λ was before events is first. implies was before events is
-    (nothing_more First was before events is first))

@@ -65,10 +65,14 @@ work_then one two three First Next first next = record {
       };
 }
 
+-- whatever is work of the one kind is also work of the other
+abbrev pub Implies : Transition → Transition → Type 0
+Implies One Other =
+    (was : Bool) (before : Book) (events : List Event) (is : Bool) → One was before events is
+    → Other was before events is
+
 -- work, seen as other work
-pub work_as : (old new : Seen) (Made Other : Transition)
-    → ((was : Bool) (before : Book) (events : List Event) (is : Bool) → Made was before events is
-    → Other was before events is)
+pub work_as : (old new : Seen) (Made Other : Transition) → Implies Made Other
     → IsTransition old new Made → IsTransition old new Other
 work_as old new Made Other implies work = record {
   naming = work.naming;

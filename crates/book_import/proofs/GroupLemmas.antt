@@ -2,29 +2,28 @@
 use Rattle.std.proofs.Common.{◌≡◌, ◌∙◌, ℕ, Bool, false, List, [], ◌∷◌, ◌++◌}
 use Rattle.std.proofs.Common.{length, take, refl, sym, ap, subst, arith, Ok, Err}
 use Rattle.std.proofs.Common.{append_assoc, append-nil, length-append}
-use Rattle.std.proofs.lemmas.List.{take_at}
 use Rattle.smf_type30.specs.declared.record_class.Class.{Class}
 use Rattle.smf_type30.specs.declared.record_class.Class.TheVariants.{Usage}
-use Rattle.book_model.specs.Words.{class_of, Naming, Book, Event, accept_outcome}
+use Rattle.book_model.specs.Words.{class_of, Naming, Book, Event}
 use Rattle.book_model.specs.declared.answer.Accepted.{Accepted}
 use Rattle.book_model.specs.declared.fault.LedgerFault.{LedgerFault}
 use Rattle.book_model.specs.declared.fault.LedgerFault.TheVariants.{Store}
-use Rattle.book_core.specs.Transition.{Transition, NoEvent, Then}
-use Rattle.book_core.specs.Calls.{Calls}
+use Rattle.book_core.specs.Transition.{Transition, Then}
 use Rattle.book_core.specs.Submissions.{Accepts, KeepsFirst, Takes}
 use Rattle.book_core.proofs.ThenLemmas.{first_two, last_two, next_as, first_as, then_nothing}
-use Rattle.book_core.proofs.ThenLemmas.{nothing_then, first_and_nothing_as}
+use Rattle.book_core.proofs.ThenLemmas.{nothing_then}
+use Rattle.book_core.proofs.TransitionLemmas.{Implies}
 use Rattle.book_import.specs.declared.receipt.Receipt.{Receipt}
 use Rattle.book_import.specs.declared.receipt.Stop.{Stop}
 use Rattle.book_import.specs.declared.receipt.Stop.TheVariants.{Ledger}
 use Rattle.book_import.specs.Receipts.{count_accepted, count_class}
-use Rattle.book_import.specs.Handled.{Imported, answers_of, handle_all, nothing_imported, with_stop}
-use Rattle.book_import.specs.Imports.{CountsRecord, Handles, store_failed}
-use Rattle.book_import.specs.Pieces.{LeadsTo, imported_with}
+use Rattle.book_import.specs.Handled.{Imported, answers_of, handle_all, nothing_imported}
+use Rattle.book_import.specs.Imports.{Handles, store_failed}
+use Rattle.book_import.specs.Pieces.{LeadsTo}
 use Rattle.book_import.specs.Groups.{usage_by, usage_of, Asks, StopsAmong}
 use Rattle.book_import.proofs.GatheringLemmas.{usage_one}
-use Rattle.book_import.proofs.ImportLemmas.{usage_counts, other_counts}
-use Rattle.book_import.proofs.PieceLemmas.{leads_on, stopped_behind}
+use Rattle.book_import.proofs.ImportLemmas.{usage_more, other_more, first_told}
+use Rattle.book_import.proofs.StopLemmas.{stopped_at}
 
 -- ---- records that wait for their answers
 
@@ -37,42 +36,26 @@ Ahead naming front waiting pending receipt =
 pub other_ahead : (naming : Naming) (front waiting : List (List ℕ)) (pending : List Accepted)
     (receipt next : Receipt) (bytes : List ℕ) (class : Class) → class_of bytes ≡ class
     → (class ≡ Usage → ⊥) → next ≡ count_class class receipt
-    → (was : Bool) (before : Book) (events : List Event) (is : Bool)
-    → Ahead naming front waiting pending receipt was before events is
-    → Ahead naming (front ++ bytes ∷ []) waiting pending next was before events is
+    → Implies (Ahead naming front waiting pending receipt)
+    (Ahead naming (front ++ bytes ∷ []) waiting pending next)
 other_ahead naming front waiting pending receipt next bytes class of other counted =
-    first_and_nothing_as (LeadsTo naming front receipt) (LeadsTo naming (front ++ bytes ∷ []) next)
-    (Accepts naming waiting pending)
-    (λ was before events is both. leads_on naming front bytes receipt next was before events is
-    (next_as (LeadsTo naming front receipt) NoEvent (CountsRecord naming bytes receipt next (Ok tt))
-    (λ was before events is none. other_counts naming bytes receipt next class was before events is
-    of other counted none) was before events is both))
+    first_as (other_more naming front bytes receipt next class of other counted)
 
 -- a usage record that was answered is counted
 pub usage_ahead : (naming : Naming) (front rest : List (List ℕ)) (pending : List Accepted)
     (receipt next : Receipt) (bytes : List ℕ) (answer : Accepted) → class_of bytes ≡ Usage
     → next ≡ count_accepted answer receipt
-    → (was : Bool) (before : Book) (events : List Event) (is : Bool)
-    → Ahead naming front (bytes ∷ rest) (answer ∷ pending) receipt was before events is
-    → Ahead naming (front ++ bytes ∷ []) rest pending next was before events is
+    → Implies (Ahead naming front (bytes ∷ rest) (answer ∷ pending) receipt)
+    (Ahead naming (front ++ bytes ∷ []) rest pending next)
 usage_ahead naming front rest pending receipt next bytes answer usage counted was before events is ahead =
-    let Called : Transition = Calls (λ (a : Accepted). a) (accept_outcome naming bytes) (Ok answer) in
-    first_as (Then (LeadsTo naming front receipt) Called) (LeadsTo naming (front ++ bytes ∷ []) next)
-    (Accepts naming rest pending)
-    (λ was before events is both. leads_on naming front bytes receipt next was before events is
-    (next_as (LeadsTo naming front receipt) Called (CountsRecord naming bytes receipt next (Ok tt))
-    (λ was before events is called. usage_counts naming bytes receipt next (Ok tt) was before events
-    is usage (Ok answer) called (counted, refl)) was before events is both))
-    was before events is
-    (first_two (LeadsTo naming front receipt) Called (Accepts naming rest pending) was before
-    events is ahead)
+    first_as (usage_more naming front bytes receipt next answer usage counted) was before events is
+    (first_two was before events is ahead)
 
 -- the first that waits was answered: then that answer is left
 answer_left : (naming : Naming) (waiting : List (List ℕ)) (pending left : List Accepted)
-    (answer : Accepted) (was : Bool) (before : Book) (events : List Event) (is : Bool)
-    → Then (Accepts naming waiting pending) (Asks naming waiting pending (Ok answer) left) was before
-    events is
-    → Accepts naming waiting (answer ∷ left) was before events is
+    (answer : Accepted)
+    → Implies (Then (Accepts naming waiting pending) (Asks naming waiting pending (Ok answer) left))
+    (Accepts naming waiting (answer ∷ left))
 answer_left naming waiting [] left answer was before events is both =
     nothing_then (Accepts naming waiting (answer ∷ left)) was before events is both
 answer_left naming waiting (first ∷ later) left answer was before events is both =
@@ -89,25 +72,19 @@ answer_left naming waiting (first ∷ later) left answer was before events is bo
 
 -- so it is ahead of those that wait
 pub asked_ahead : (naming : Naming) (front waiting : List (List ℕ)) (pending left : List Accepted)
-    (receipt : Receipt) (answer : Accepted) (was : Bool) (before : Book) (events : List Event)
-    (is : Bool)
-    → Then (Ahead naming front waiting pending receipt) (Asks naming waiting pending (Ok answer) left)
-    was before events is
-    → Ahead naming front waiting (answer ∷ left) receipt was before events is
+    (receipt : Receipt) (answer : Accepted)
+    → Implies (Then (Ahead naming front waiting pending receipt)
+    (Asks naming waiting pending (Ok answer) left))
+    (Ahead naming front waiting (answer ∷ left) receipt)
 asked_ahead naming front waiting pending left receipt answer was before events is both =
-    next_as (LeadsTo naming front receipt)
-    (Then (Accepts naming waiting pending) (Asks naming waiting pending (Ok answer) left))
-    (Accepts naming waiting (answer ∷ left))
-    (answer_left naming waiting pending left answer) was before events is
-    (last_two (LeadsTo naming front receipt) (Accepts naming waiting pending)
-    (Asks naming waiting pending (Ok answer) left) was before events is both)
+    next_as (answer_left naming waiting pending left answer) was before events is
+    (last_two was before events is both)
 
 -- none was left, and the books refused it
 fault_left : (naming : Naming) (waiting : List (List ℕ)) (pending left : List Accepted)
-    (fault : LedgerFault) (was : Bool) (before : Book) (events : List Event) (is : Bool)
-    → Then (Accepts naming waiting pending) (Asks naming waiting pending (Err fault) left) was before
-    events is
-    → Takes naming waiting (Err fault) was before events is
+    (fault : LedgerFault)
+    → Implies (Then (Accepts naming waiting pending) (Asks naming waiting pending (Err fault) left))
+    (Takes naming waiting (Err fault))
 fault_left naming waiting [] left fault was before events is both =
     nothing_then (Takes naming waiting (Err fault)) was before events is both
 fault_left naming waiting (first ∷ later) left fault was before events is both =
@@ -125,10 +102,9 @@ record AreCounted (naming : Naming) (front records : List (List ℕ)) (was : Boo
   leads : LeadsTo naming (front ++ first) receipt was before events is
 
 -- one more record before them
-counted_more : (naming : Naming) (front records : List (List ℕ)) (bytes : List ℕ) (was : Bool)
-    (before : Book) (events : List Event) (is : Bool)
-    → AreCounted naming (front ++ bytes ∷ []) records was before events is
-    → AreCounted naming front (bytes ∷ records) was before events is
+counted_more : (naming : Naming) (front records : List (List ℕ)) (bytes : List ℕ)
+    → Implies (AreCounted naming (front ++ bytes ∷ []) records)
+    (AreCounted naming front (bytes ∷ records))
 counted_more naming front records bytes was before events is counted = record {
   first = bytes ∷ counted.first;
   rest = counted.rest;
@@ -140,31 +116,29 @@ counted_more naming front records bytes was before events is counted = record {
 
 -- the next record is counted by its class, and those after it likewise
 counts_by_class : (naming : Naming) (bytes : List ℕ) (records front : List (List ℕ))
-    (answer : Accepted) (pending : List Accepted) (receipt : Receipt) (was : Bool) (before : Book)
-    (events : List Event) (is : Bool)
+    (answer : Accepted) (pending : List Accepted) (receipt : Receipt)
     → ((front : List (List ℕ)) (pending : List Accepted) (receipt : Receipt)
-    → Ahead naming front (usage_of records) pending receipt was before events is
-    → AreCounted naming front records was before events is)
+    → Implies (Ahead naming front (usage_of records) pending receipt)
+    (AreCounted naming front records))
     → (class : Class) → class_of bytes ≡ class
-    → Ahead naming front (usage_by class bytes (usage_of records)) (answer ∷ pending) receipt was
-    before events is
-    → AreCounted naming front (bytes ∷ records) was before events is
-counts_by_class naming bytes records front answer pending receipt was before events is others Usage of ahead =
+    → Implies (Ahead naming front (usage_by class bytes (usage_of records)) (answer ∷ pending) receipt)
+    (AreCounted naming front (bytes ∷ records))
+counts_by_class naming bytes records front answer pending receipt others Usage of was before events is ahead =
     counted_more naming front records bytes was before events is
-    (others (front ++ bytes ∷ []) pending (count_accepted answer receipt)
+    (others (front ++ bytes ∷ []) pending (count_accepted answer receipt) was before events is
     (usage_ahead naming front (usage_of records) pending receipt (count_accepted answer receipt) bytes
     answer of refl was before events is ahead))
-counts_by_class naming bytes records front answer pending receipt was before events is others class of ahead =
+counts_by_class naming bytes records front answer pending receipt others class of was before events is ahead =
     counted_more naming front records bytes was before events is
-    (others (front ++ bytes ∷ []) (answer ∷ pending) (count_class class receipt)
+    (others (front ++ bytes ∷ []) (answer ∷ pending) (count_class class receipt) was before events is
     (other_ahead naming front (usage_of records) (answer ∷ pending) receipt (count_class class receipt)
     bytes class of (λ is. cc) refl was before events is ahead))
 
 -- all records to which answers were given are counted
 counts_all : (naming : Naming) (records front : List (List ℕ)) (pending : List Accepted)
-    (receipt : Receipt) (was : Bool) (before : Book) (events : List Event) (is : Bool)
-    → Ahead naming front (usage_of records) pending receipt was before events is
-    → AreCounted naming front records was before events is
+    (receipt : Receipt)
+    → Implies (Ahead naming front (usage_of records) pending receipt)
+    (AreCounted naming front records)
 counts_all naming records front [] receipt was before events is ahead = record {
   first = [];
   rest = records;
@@ -175,31 +149,16 @@ counts_all naming records front [] receipt was before events is ahead = record {
 }
 counts_all naming [] front (answer ∷ pending) receipt was before events is ahead = absurd ahead.next
 counts_all naming (bytes ∷ records) front (answer ∷ pending) receipt was before events is ahead =
-    counts_by_class naming bytes records front answer pending receipt was before events is
-    (λ front pending receipt ahead. counts_all naming records front pending receipt was before events
-    is ahead) (class_of bytes) refl ahead
-
--- what records that were counted lead to, with a stop after them
-stopped_there : (naming : Naming) (first later : List (List ℕ)) (receipt : Receipt) (stop : Stop)
-    (before : Book) (events : List Event)
-    → LeadsTo naming first receipt false before events false
-    → handle_all (answers_of false naming) stop (take (length first) (first ++ later))
-    (nothing_imported before)
-    ≡ with_stop stop (imported_with receipt before events)
-stopped_there naming first later receipt stop before events leads =
-    ap (λ those. handle_all (answers_of false naming) stop those (nothing_imported before))
-    (take_at first later (length first) refl ∙ sym (append-nil first))
-    ∙ leads.leads stop []
+    counts_by_class naming bytes records front answer pending receipt
+    (λ front pending receipt. counts_all naming records front pending receipt) (class_of bytes) refl
+    was before events is ahead
 
 -- The store failed: the records so far were counted, and some after them may have been kept.
 store_among : (naming : Naming) (front : List (List ℕ)) (bytes : List ℕ) (rest later : List (List ℕ))
-    (receipt : Receipt) (stop : Stop) (was : Bool) (before : Book) (events : List Event) (is : Bool)
-    → class_of bytes ≡ Usage
-    → Then (LeadsTo naming front receipt) (KeepsFirst naming (bytes ∷ usage_of rest)) was before events
-    is
-    → Handles naming stop (front ++ ((bytes ∷ rest) ++ later)) (record receipt { stop = Ledger Store })
-    was before events is
-store_among naming front bytes rest later receipt stop was before events is usage both =
+    (receipt : Receipt) (stop : Stop) → class_of bytes ≡ Usage
+    → Implies (Then (LeadsTo naming front receipt) (KeepsFirst naming (bytes ∷ usage_of rest)))
+    (Handles naming stop (front ++ ((bytes ∷ rest) ++ later)) (record receipt { stop = Ledger Store }))
+store_among naming front bytes rest later receipt stop usage was before events is both =
     let keeps = both.next in
     let open_before : was ≡ false = sym both.first.same ∙ keeps.was_open in
     let first : LeadsTo naming front receipt false before both.early false =
@@ -225,10 +184,10 @@ store_among naming front bytes rest later receipt stop was before events is usag
     append_assoc front counted.first (counted.rest ++ later)
     ∙ ap (λ those. front ++ those) (sym (append_assoc counted.first counted.rest later)
     ∙ ap (λ those. those ++ later) counted.parts) in
-    let told = stopped_there naming front ((bytes ∷ rest) ++ later) receipt (Ledger Store) before
-    both.early first in
-    let made = stopped_there naming kept (counted.rest ++ later) counted.receipt (Ledger Store) before
-    events counted.leads in
+    let told = first_told naming front ((bytes ∷ rest) ++ later) receipt (Ledger Store) false before
+    both.early false first in
+    let made = first_told naming kept (counted.rest ++ later) counted.receipt (Ledger Store) false
+    before events false counted.leads in
     store_failed (length front) (length kept) open_before keeps.closed
     (omega (arith, length-append front ((bytes ∷ rest) ++ later))) (
       omega (arith, length-append front counted.first),
@@ -240,59 +199,32 @@ store_among naming front bytes rest later receipt stop was before events is usag
     (nothing_imported before)).events ≡ events) parts
     (ap (λ (one : Imported). one.events) made))
 
--- The books refused the record, and nothing was done.
-refused_among : (naming : Naming) (front : List (List ℕ)) (bytes : List ℕ) (rest later : List (List ℕ))
-    (receipt : Receipt) (stop : Stop) (fault : LedgerFault) (was : Bool) (before : Book)
-    (events : List Event) (is : Bool) → class_of bytes ≡ Usage
-    → Then (LeadsTo naming front receipt) (Calls (λ (a : Accepted). a) (accept_outcome naming bytes)
-    (Err fault)) was before events is
-    → Handles naming stop (front ++ ((bytes ∷ rest) ++ later)) (record receipt { stop = Ledger fault })
-    was before events is
-refused_among naming front bytes rest later receipt stop fault was before events is usage both =
-    stopped_behind naming front (rest ++ later) bytes receipt receipt
-    (record receipt { stop = Ledger fault }) stop fault refl refl was before events is
-    (next_as (LeadsTo naming front receipt)
-    (Calls (λ (a : Accepted). a) (accept_outcome naming bytes) (Err fault))
-    (CountsRecord naming bytes receipt receipt (Err fault))
-    (λ was before events is called. usage_counts naming bytes receipt receipt (Err fault) was before
-    events is usage (Err fault) called (refl, refl)) was before events is both)
-
 -- the books took none of those that wait, by the fault
 taken_among : (naming : Naming) (front : List (List ℕ)) (bytes : List ℕ) (rest later : List (List ℕ))
-    (receipt : Receipt) (stop : Stop) (fault : LedgerFault) (was : Bool) (before : Book)
-    (events : List Event) (is : Bool) → class_of bytes ≡ Usage
-    → Then (LeadsTo naming front receipt) (Takes naming (bytes ∷ usage_of rest) (Err fault)) was before
-    events is
-    → Handles naming stop (front ++ ((bytes ∷ rest) ++ later)) (record receipt { stop = Ledger fault })
-    was before events is
-taken_among naming front bytes rest later receipt stop Store was before events is usage both =
-    store_among naming front bytes rest later receipt stop was before events is usage both
-taken_among naming front bytes rest later receipt stop fault was before events is usage both =
-    refused_among naming front bytes rest later receipt stop fault was before events is usage both
+    (receipt : Receipt) (stop : Stop) (fault : LedgerFault) → class_of bytes ≡ Usage
+    → Implies (Then (LeadsTo naming front receipt) (Takes naming (bytes ∷ usage_of rest) (Err fault)))
+    (Handles naming stop (front ++ ((bytes ∷ rest) ++ later)) (record receipt { stop = Ledger fault }))
+taken_among naming front bytes rest later receipt stop Store usage was before events is both =
+    store_among naming front bytes rest later receipt stop usage was before events is both
+taken_among naming front bytes rest later receipt stop fault usage was before events is both =
+    stopped_at naming front (rest ++ later) bytes receipt stop fault usage was before events is both
 
 -- The first record that waits was refused: the import is stopped there.
 pub stopped_among : (naming : Naming) (front : List (List ℕ)) (bytes : List ℕ)
     (rest : List (List ℕ)) (pending left : List Accepted) (receipt : Receipt) (fault : LedgerFault)
-    → class_of bytes ≡ Usage → (was : Bool) (before : Book) (events : List Event) (is : Bool)
-    → Then (Ahead naming front (bytes ∷ usage_of rest) pending receipt)
-    (Asks naming (bytes ∷ usage_of rest) pending (Err fault) left) was before events is
-    → StopsAmong naming front (bytes ∷ rest) (record receipt { stop = Ledger fault }) was before
-    events is
+    → class_of bytes ≡ Usage
+    → Implies (Then (Ahead naming front (bytes ∷ usage_of rest) pending receipt)
+    (Asks naming (bytes ∷ usage_of rest) pending (Err fault) left))
+    (StopsAmong naming front (bytes ∷ rest) (record receipt { stop = Ledger fault }))
 stopped_among naming front bytes rest pending left receipt fault usage was before events is both stop later =
-    let waiting = bytes ∷ usage_of rest in
-    taken_among naming front bytes rest later receipt stop fault was before events is usage
-    (next_as (LeadsTo naming front receipt)
-    (Then (Accepts naming waiting pending) (Asks naming waiting pending (Err fault) left))
-    (Takes naming waiting (Err fault))
-    (fault_left naming waiting pending left fault) was before events is
-    (last_two (LeadsTo naming front receipt) (Accepts naming waiting pending)
-    (Asks naming waiting pending (Err fault) left) was before events is both))
+    taken_among naming front bytes rest later receipt stop fault usage was before events is
+    (next_as (fault_left naming (bytes ∷ usage_of rest) pending left fault) was before events is
+    (last_two was before events is both))
 
 -- All were counted, and no answer is left.
 pub ahead_done : (naming : Naming) (front : List (List ℕ)) (pending : List Accepted)
-    (receipt : Receipt) (was : Bool) (before : Book) (events : List Event) (is : Bool)
-    → Ahead naming front [] pending receipt was before events is
-    → LeadsTo naming front receipt was before events is
+    (receipt : Receipt)
+    → Implies (Ahead naming front [] pending receipt) (LeadsTo naming front receipt)
 ahead_done naming front [] receipt was before events is ahead =
     then_nothing (LeadsTo naming front receipt) was before events is ahead
 ahead_done naming front (answer ∷ later) receipt was before events is ahead = absurd ahead.next

@@ -1,8 +1,7 @@
 -- What an import has done with the records that a piece of a dump completes.
-use Rattle.std.proofs.Common.{◌≡◌, ◌∙◌, List, [], ◌++◌, ℕ, length, take, refl, sym, ap, subst}
+use Rattle.std.proofs.Common.{◌≡◌, ◌∙◌, List, [], ◌++◌, ℕ, length, refl, sym, ap, subst}
 use Rattle.std.proofs.Common.{Ok, Err, Option, Some, None, append_assoc, append-nil}
 use Rattle.std.specs.Prelude.{IfSome}
-use Rattle.std.proofs.lemmas.List.{take_at}
 use Rattle.smf_frames.specs.declared.dump.Layout.{Layout}
 use Rattle.smf_frames.specs.declared.fault.FrameFault.{FrameFault}
 use Rattle.book_model.specs.Words.{Front, front, Joining, HasTaken}
@@ -15,13 +14,12 @@ use Rattle.book_import.specs.declared.group.Group.{Group}
 use Rattle.book_import.specs.declared.receipt.Receipt.{Receipt}
 use Rattle.book_import.specs.declared.receipt.Stop.TheVariants.{Frame, Ledger}
 use Rattle.book_import.specs.Dumps.{stop_after}
-use Rattle.book_import.specs.Handled.{Imported, answers_of, handle_all, nothing_imported, with_stop}
+use Rattle.book_import.specs.Handled.{Imported}
 use Rattle.book_import.specs.Imports.{Handles, out_of_memory}
 use Rattle.book_import.specs.Pieces.{LeadsTo, FollowsRecords, StopsAt, HandlesPiece, TakesAll}
-use Rattle.book_import.specs.Pieces.{imported_with}
 use Rattle.book_import.specs.Groups.{Breaks, Gathers, HandlesGroup}
 use Rattle.book_import.proofs.FeedLemmas.{records_after}
-use Rattle.book_import.proofs.PieceLemmas.{ends_behind}
+use Rattle.book_import.proofs.ImportLemmas.{all_handled, first_told}
 
 -- after the records that a piece completes come those of what follows
 pub records_follow : {old new : Joining} {piece : List ℕ} (broken : Option FrameFault)
@@ -66,7 +64,7 @@ module _ (begins now : Seen) (layout : Layout) (text piece : List ℕ) (before a
       (λ was book events is behind begun early book_is leads more cut.
       subst (λ (f : Front). Handles begins.naming (stop_after cut f) f.records told was begun
       (events ++ early) is) (sym (breaks more))
-      (ends_behind begins.naming found after told (Frame fault) refl was begun (events ++ early) is
+      (all_handled begins.naming found after told (Frame fault) refl was begun (events ++ early) is
       (behind begun early book_is leads)))
       (piece_led work)
 
@@ -109,12 +107,7 @@ piece_unhandled begins old text piece receipt stood =
     let all = front old.layout ((text ++ piece) ++ more) in
     let parts : first ++ later.0 ≡ all.records =
     sym later.1 ∙ ap (λ bytes. (front old.layout bytes).records) (sym (append_assoc text piece more)) in
-    let handled : handle_all (answers_of was naming) (Ledger Memory)
-    (take (length first) (first ++ later.0)) (nothing_imported begun)
-    ≡ with_stop (Ledger Memory) (imported_with receipt begun early) =
-    ap (λ those. handle_all (answers_of was naming) (Ledger Memory) those (nothing_imported begun))
-    (take_at first later.0 (length first) refl ∙ sym (append-nil first))
-    ∙ leads.leads (Ledger Memory) [] in
+    let handled = first_told naming first later.0 receipt (Ledger Memory) was begun early was leads in
     subst (λ records. Handles naming (stop_after cut all) records told was begun (events ++ early) is)
     parts
     (out_of_memory (length first) none.same (record {

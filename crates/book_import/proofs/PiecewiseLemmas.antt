@@ -16,9 +16,9 @@ use Rattle.book_import.specs.Dumps.{stop_after, frame_stop}
 use Rattle.book_import.specs.Receipts.{receipt_stopped}
 use Rattle.book_import.specs.Imports.{Imports}
 use Rattle.book_import.specs.Pieces.{LeadsTo, FollowsRecords, StopsAt, HandlesPiece, TakesAll}
-use Rattle.book_import.proofs.ImportLemmas.{none_yet}
+use Rattle.book_import.proofs.ImportLemmas.{all_handled, none_yet}
 use Rattle.book_import.proofs.FeedLemmas.{HasPassed, holds_here, passed_more, stop_is}
-use Rattle.book_import.proofs.PieceLemmas.{ends_behind, behind_done}
+use Rattle.book_import.proofs.PieceLemmas.{behind_done}
 
 -- the records were handled, leading to this receipt
 abbrev pub LeadsFrom : Seen → Seen → Receipt → List (List ℕ) → Type 0
@@ -111,6 +111,6 @@ module _ (begins now : Seen) (receipt : Receipt) {layout : Layout} {bytes : List
       let found = front layout bytes in
       work_as begins now (LeadsTo begins.naming found.records receipt)
       (Imports begins.naming layout cut bytes told)
-      (ends_behind begins.naming found.records receipt told (stop_after cut found)
+      (all_handled begins.naming found.records receipt told (stop_after cut found)
       (so ∙ ap (λ stop. record receipt { stop = stop }) (stop_is joins cut stopped)))
       joins.done

@@ -1,7 +1,6 @@
 -- How far an import reads: what it has counted, and how it ends.
-use Rattle.std.proofs.Common.{◌≡◌, ◌∙◌, ℕ, ◌+◌, ◌≤◌, Bool, true, false, List, [], ◌∷◌, ◌++◌}
-use Rattle.std.proofs.Common.{length, refl, sym, ap, subst, arith, append-nil, length-append}
-use Rattle.std.proofs.Common.{true≢false}
+use Rattle.std.proofs.Common.{◌≡◌, ◌∙◌, ℕ, ◌+◌, ◌≤◌, Bool, true, false, List, [], ◌++◌}
+use Rattle.std.proofs.Common.{length, refl, sym, ap, subst, arith, append-nil, true≢false}
 use Rattle.std.specs.Prelude.{◌||◌}
 use Rattle.std.specs.Io.KnownBytes.{Consumes}
 use Rattle.std.proofs.KnownBytes.{Consumes-nil}
@@ -14,18 +13,6 @@ use Rattle.book_import.specs.declared.receipt.Stop.{Stop}
 use Rattle.book_import.specs.ReadLimits.{piece_length}
 use Rattle.book_import.specs.Receipts.{counted, is_stop_of_books}
 use Rattle.book_import.specs.Reach.{is_early_stop, EndsBy, IsNoFurther, IsReadFor}
-use Rattle.book_import.proofs.FeedLemmas.{Doing}
-
--- from this many counted records before a piece to this many now: each that was found was counted
-abbrev pub CountsOver : ℕ → ℕ → Doing
-CountsOver before now first found = length found + before ≤ length first + now
-
--- one more was counted
-pub counts_further : (before now next : ℕ) (one : List ℕ) → next ≡ now + 1
-    → (first found : List (List ℕ)) → CountsOver before now first found
-    → CountsOver before next first (found ++ one ∷ [])
-counts_further before now next one more first found over =
-    omega (arith, more, over, length-append found (one ∷ []))
 
 -- the reading ended with the input, a failure, or the last read
 pub ends_late : {allowed : ℕ} {input : Input} {early : Bool} → early ≡ false

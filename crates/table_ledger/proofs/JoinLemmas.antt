@@ -116,10 +116,6 @@ joined_show before behind row is shown all =
     (All-from_recursion IsDispute (join_last before row)
     (last_shows before row shown (recursion_from_All IsDispute before all)))
 
--- no disputes can be shown
-pub none_show : AreDisputes []
-none_show = All-from_recursion IsDispute [] tt
-
 -- ---- groups of the rows that pass a test, one row after the other
 
 module _ (keeps : NamedRow → Bool) (rows : List StoredRecord) (at : ℕ) (one : StoredRecord) where

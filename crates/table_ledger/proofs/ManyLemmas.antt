@@ -1,5 +1,5 @@
 -- Records that are staged one after another.
-use Rattle.std.proofs.Common.{◌≡◌, ◌∙◌, ◌<◌, ◌+◌, ℕ, List, [], ◌∷◌, ◌++◌, Result, Ok, Err, Option, Some}
+use Rattle.std.proofs.Common.{◌≡◌, ◌∙◌, ◌<◌, ◌+◌, ℕ, List, [], ◌∷◌, ◌++◌, Result, Ok, Err}
 use Rattle.std.proofs.Common.{refl, sym, ap, subst, false, true, true≢false, Vec, Global, drop}
 use Rattle.std.proofs.Common.{get_or, length, append-nil, append_assoc, arith, add-one, drop-cons}
 use Rattle.std.proofs.lemmas.Bool.{eqb-true}
@@ -19,11 +19,11 @@ use Rattle.table_model.specs.Tables.{Tables}
 use Rattle.tree_tables.specs.States.{State, HasCleanDisk, Survives}
 use Rattle.tree_tables.proofs.Looking.{only_both}
 use Rattle.table_ledger.specs.Attempts.{LeavesOpen}
-use Rattle.table_ledger.specs.Stages.{IsAtAs, IsStaged, StagesAs, StagesFirst, StagesMany}
-use Rattle.table_ledger.specs.Stages.{AreStaged}
-use Rattle.table_ledger.specs.Stages.{LeavesOne, MakesOf, RefusesNext}
+use Rattle.table_ledger.specs.Stages.{AnswersFirst, IsAtAs, IsStaged, LeavesFirst, LeavesOne, MakesOf}
+use Rattle.table_ledger.specs.Stages.{RefusesNext, StagesAs, StagesFirst, StagesMany}
 use Rattle.table_ledger.specs.declared.summary.Summary.{Summary}
 use Rattle.table_ledger.proofs.Remembered.{remembers_as}
+use Rattle.table_ledger.proofs.StageLemmas.{unstaged}
 use Rattle.table_ledger.proofs.StepLemmas.{stands_only}
 use Rattle.table_ledger.proofs.SurvivalLemmas.{clean_before, survives_then}
 use Rattle.table_ledger.proofs.UnchangedStores.{stands_then}
@@ -99,20 +99,32 @@ more_taken {written} {naming} {records} {rest} {bytes} {was} {is} {old} {middle}
       (record { kept = staged.kept; remembers = staged.remembers is refl });
 }
 
+-- the first of the records are staged: these answers were given, and if there are none, this is why
+abbrev pub AreStaged : (Tables → Tables) → Naming → List (List ℕ) → Summary → View → View → Book
+    → List Accepted → Result (Unit {0}) LedgerFault → Type 0
+AreStaged written naming records is old new book answers told =
+    IsStaged written (AnswersFirst naming records answers told) (LeavesFirst naming records) naming
+    (λ summary. summary ≡ is) old new book
+
 -- the records that were taken are staged, and nothing more is
 pub all_taken : {written : Tables → Tables} {naming : Naming} {records rest : List (List ℕ)}
     {is : Summary} {old new : View} {book : Book} {answers : List Accepted}
-    {refusal : Option LedgerFault} (taken : AreTaken written naming records rest is old new book answers)
-    → (answers ≡ [] → RefusesNext naming records book refusal)
-    → AreStaged written naming records is old new book answers refusal
-all_taken {naming = naming} {records = records} {book = book} {answers = answers} taken none = record {
-  events = taken.events;
-  accepts = subst (λ all. Accepts naming records all false book taken.events false)
-      (append-nil answers) (taken.leads [] [] (record { none = refl; same = refl }));
-  none = none;
-  only = taken.only;
-  at = taken.at;
-}
+    {told : Result (Unit {0}) LedgerFault} (taken : AreTaken written naming records rest is old new book answers)
+    → (Accepts naming records answers false book taken.events false → answers ≡ []
+    → RefusesNext naming records book told)
+    → AreStaged written naming records is old new book answers told
+all_taken {naming = naming} {records = records} {book = book} {answers = answers} taken why =
+    let accepts : Accepts naming records answers false book taken.events false =
+    subst (λ all. Accepts naming records all false book taken.events false)
+    (append-nil answers) (taken.leads [] [] (record { none = refl; same = refl })) in
+    record {
+      events = taken.events;
+      made = record { accepts = accepts; none = why accepts };
+      leaves = record { answers = answers; accepts = accepts };
+      only = taken.only;
+      kept = taken.at.kept;
+      remembers = λ summary same. remembers_as taken.at.remembers same;
+    }
 
 -- the next record was refused, and those before it are staged
 pub refused_next : {written : Tables → Tables} {naming : Naming} {records rest : List (List ℕ)}
@@ -122,34 +134,31 @@ pub refused_next : {written : Tables → Tables} {naming : Naming} {records rest
     → LeavesOpen {V = Accepted} (Err fault)
     → IsAnswered written naming bytes (Err fault) is middle new (after_all taken.events book)
     → (answers ≡ [] → records ≡ bytes ∷ rest)
-    → AreStaged written naming records is old new book answers (Some fault)
+    → AreStaged written naming records is old new book answers (Err fault)
 refused_next {written} {naming} {records} {rest} {bytes} {was} {is} {old} {middle} {new} {book} {answers} fault taken plain staged all =
     let outcome = accept_outcome naming bytes (after_all taken.events book) in
     let none : staged.events ≡ [] = refused_none (λ (accepted : Accepted). accepted) outcome fault
     staged.events plain staged.made in
-    let accepts : Accepts naming records answers false book taken.events false =
-    subst (λ all. Accepts naming records all false book taken.events false)
-    (append-nil answers) (taken.leads [] [] (record { none = refl; same = refl })) in
-    record {
+    let still : AreTaken written naming records (bytes ∷ rest) is old new book answers = record {
       events = taken.events;
-      accepts = accepts;
-      none = λ empty.
-          let nothing : NoEvent false book taken.events false =
-          subst (λ answers. Accepts naming records answers false book taken.events false) empty accepts in
-          subst (λ records. Calls (λ (accepted : Accepted). accepted)
-          (accept_outcome naming (first_of records)) (Err fault) false book [] false)
-          (sym (all empty)) (record {
-            makes = subst (λ events. Makes (λ (accepted : Accepted). accepted)
-                (accept_outcome naming bytes (after_all events book)) (Err fault) [])
-                nothing.none
-                (subst (λ events. Makes (λ (accepted : Accepted). accepted) outcome (Err fault) events)
-                none staged.made);
-            reopens = record { reopen = plain.served; store = sym plain.stored };
-          });
+      leads = taken.leads;
       only = only_both old taken.only staged.only;
       at = subst (λ events. IsAtAs written naming is new (after_all events (after_all taken.events book))) none
           (record { kept = staged.kept; remembers = staged.remembers is refl });
-    }
+    } in
+    all_taken still (λ accepts empty.
+    let nothing : NoEvent false book taken.events false =
+    subst (λ answers. Accepts naming records answers false book taken.events false) empty accepts in
+    subst (λ records. Calls (λ (accepted : Accepted). accepted)
+    (accept_outcome naming (first_of records)) (Err fault) false book [] false)
+    (sym (all empty)) (record {
+      makes = subst (λ events. Makes (λ (accepted : Accepted). accepted)
+          (accept_outcome naming bytes (after_all events book)) (Err fault) [])
+          nothing.none
+          (subst (λ events. Makes (λ (accepted : Accepted). accepted) outcome (Err fault) events)
+          none staged.made);
+      reopens = record { reopen = plain.served; store = sym plain.stored };
+    }))
 
 -- whether an error leaves the books open does not depend on what the call would return
 pub open_as : {V W : Type 0} (fault : LedgerFault) → LeavesOpen {V = V} (Err fault)
@@ -204,12 +213,12 @@ module _ {written : Tables → Tables} {naming : Naming} (records : List (Vec �
       → given ≡ Err fault → length answers ≡ i
       → StagesAs written (λ (accepted : Accepted). accepted) naming is next middle new
       (accept_outcome naming bytes) (Ok given)
-      → StagesMany written naming (records_in records) was next old new answers (Ok (Some fault))
+      → StagesMany written naming (records_in records) was next old new answers (Ok (Err fault))
   step_refused {next = next} {given = given} fault given_is count stages =
       let plain : LeavesOpen {V = Accepted} (Err fault) =
       subst (λ (given : Result Accepted LedgerFault). LeavesOpen given) given_is stages.plain in
       record {
-        plain = open_as {V = Accepted} {W = Vec Accepted Global} fault plain;
+        plain = open_as {V = Accepted} {W = Unit {0}} fault plain;
         survives = survives_then early stages.survives;
         found = λ clean book at.
             let before = before_it (clean_before stages.survives clean) book at in
@@ -223,40 +232,32 @@ module _ {written : Tables → Tables} {naming : Naming} (records : List (Vec �
 
   -- the store refused it
   pub step_failed : {next : Summary} {error : StoreError} (late : List Accepted)
-      (tried : Result (Option LedgerFault) StoreError) → IsErr tried
+      (tried : Result (Result (Unit {0}) LedgerFault) StoreError) → IsErr tried
       → StagesAs written (λ (accepted : Accepted). accepted) naming is next middle new
       (accept_outcome naming bytes) (Err error)
       → StagesMany written naming (records_in records) was next old new late tried
-  step_failed late (Err other) failed stages = record {
-    plain = tt;
-    survives = survives_then early stages.survives;
-    found = λ clean book at.
-        let before = before_it (clean_before stages.survives clean) book at in
-        stands_then (stands_only old.view middle.view before.only)
-        (stages.found clean (after_all before.events book) before.at);
-  }
-  step_failed late (Ok other) failed stages = absurd (true≢false (sym failed))
+  step_failed late tried failed stages =
+      unstaged tried failed (survives_then early stages.survives) (λ clean book at.
+      let before = before_it (clean_before stages.survives clean) book at in
+      stands_then (stands_only old.view middle.view before.only)
+      (stages.found clean (after_all before.events book) before.at))
 
   -- it was answered, and there is no memory for the answer
   pub step_untold : {next : Summary} {given : Result Accepted LedgerFault} (late : List Accepted)
-      (tried : Result (Option LedgerFault) StoreError) → IsErr tried
+      (tried : Result (Result (Unit {0}) LedgerFault) StoreError) → IsErr tried
       → StagesAs written (λ (accepted : Accepted). accepted) naming is next middle new
       (accept_outcome naming bytes) (Ok given)
       → StagesMany written naming (records_in records) was next old new late tried
-  step_untold late (Err other) failed stages = record {
-    plain = tt;
-    survives = survives_then early stages.survives;
-    found = λ clean book at.
-        let before = before_it (clean_before stages.survives clean) book at in
-        stands_only old.view new.view (only_both old.view before.only
-        (stages.found clean (after_all before.events book) before.at).only);
-  }
-  step_untold late (Ok other) failed stages = absurd (true≢false (sym failed))
+  step_untold late tried failed stages =
+      unstaged tried failed (survives_then early stages.survives) (λ clean book at.
+      let before = before_it (clean_before stages.survives clean) book at in
+      stands_only old.view new.view (only_both old.view before.only
+      (stages.found clean (after_all before.events book) before.at).only))
 
 -- Records that were staged one after another are staged as one: those that were taken,
 pub many_staged : {naming : Naming} {records : List (List ℕ)} {was is : Summary}
-    {old new : State} {refusal : Option LedgerFault} (answers : Vec Accepted Global)
-    → StagesMany (λ tables. tables) naming records was is old new answers.items (Ok refusal)
+    {old new : State} {told : Result (Unit {0}) LedgerFault} (answers : Vec Accepted Global)
+    → StagesMany (λ tables. tables) naming records was is old new answers.items (Ok told)
     → StagesFirst naming records was is old new (Ok (Ok answers))
 many_staged answers stages = record {
   plain = record { stored = refl; served = refl };
@@ -265,11 +266,11 @@ many_staged answers stages = record {
       let staged = stages.found clean book at in
       record {
         events = staged.events;
-        made = staged.accepts;
-        leaves = record { answers = answers.items; accepts = staged.accepts };
+        made = staged.made.accepts;
+        leaves = staged.leaves;
         only = staged.only;
-        kept = staged.at.kept;
-        remembers = λ summary same. remembers_as staged.at.remembers same;
+        kept = staged.kept;
+        remembers = staged.remembers;
       };
 }
 
@@ -277,25 +278,25 @@ many_staged answers stages = record {
 pub none_staged : {naming : Naming} {records : List (List ℕ)} {was is : Summary}
     {old new : State} (fault : LedgerFault) {answers : List Accepted} → answers ≡ []
     → 0 < length records
-    → StagesMany (λ tables. tables) naming records was is old new answers (Ok (Some fault))
+    → StagesMany (λ tables. tables) naming records was is old new answers (Ok (Err fault))
     → StagesFirst naming records was is old new (Ok (Err fault))
 none_staged {naming} {records} fault {answers} empty some stages = record {
-  plain = stages.plain;
+  plain = open_as {V = Unit {0}} {W = Vec Accepted Global} fault stages.plain;
   survives = stages.survives;
   found = λ clean book at.
       let staged = stages.found clean book at in
       let nothing : NoEvent false book staged.events false =
       subst (λ answers. Accepts naming records answers false book staged.events false) empty
-      staged.accepts in
+      staged.made.accepts in
       record {
         events = staged.events;
         made = subst (λ events. Takes naming records (Err fault) false book events false)
             (sym nothing.none)
-            (refused_one naming records fault some false book [] false (staged.none empty));
-        leaves = record { answers = []; accepts = nothing };
+            (refused_one naming records fault some false book [] false (staged.made.none empty));
+        leaves = staged.leaves;
         only = staged.only;
-        kept = staged.at.kept;
-        remembers = λ summary same. remembers_as staged.at.remembers same;
+        kept = staged.kept;
+        remembers = staged.remembers;
       };
 }
 

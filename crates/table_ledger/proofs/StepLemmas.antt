@@ -122,12 +122,6 @@ makes_none survives = record {
   made = λ clean rest none. tt;
 }
 
--- the row of new books was not written after a look
-pub makes_refused : {T U : Type 0} {first old new : State} {Known : Tables → Type 0}
-    {error : StoreError} → Saw first old Known → Makes {T = U} (Err error) old new
-    → MakesNew {T = T} (Err error) first new
-makes_refused saw makes = makes_none (survives_then saw.survives makes.survives)
-
 -- it was written after a look, and committed
 pub makes_all : {T U : Type 0} {first old middle last : State} {Known : Tables → Type 0} {made : U}
     (result : Result T StoreError) → Saw first old Known

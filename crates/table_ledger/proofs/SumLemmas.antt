@@ -1,9 +1,8 @@
 -- The sums in the row of the book, which are written once, after the records that change them.
-use Rattle.std.proofs.Common.{◌≡◌, ◌∙◌, ℕ, List, Result, Ok, Err, Option, refl, sym, subst, true≢false}
+use Rattle.std.proofs.Common.{◌≡◌, ℕ, List, Result, Ok, Err, refl, sym, subst}
 use Rattle.std.specs.Prelude.{IsErr}
 use Rattle.sqlite_trees.specs.View.{View}
 use Rattle.sqlite_trees.specs.declared.error.StoreError.{StoreError}
-use Rattle.book_model.specs.declared.answer.Accepted.{Accepted}
 use Rattle.book_model.specs.declared.fault.LedgerFault.{LedgerFault}
 use Rattle.book_model.specs.Words.{Book, Event, Naming}
 use Rattle.table_model.specs.Steps.{set_sums}
@@ -14,11 +13,12 @@ use Rattle.tree_tables.specs.States.{State}
 use Rattle.tree_tables.specs.Steps.{Changes, Does}
 use Rattle.tree_tables.proofs.Looking.{only_both}
 use Rattle.table_ledger.specs.RecordWrites.{HaveSums}
-use Rattle.table_ledger.specs.Stages.{IsAt, IsAtAs, StagesBy, StagesMany}
+use Rattle.table_ledger.specs.Stages.{IsAt, IsAtAs, StagesBy}
 use Rattle.table_ledger.specs.declared.summary.Summary.{Summary}
 use Rattle.table_ledger.proofs.Remembered.{remembers_as}
+use Rattle.table_ledger.proofs.StageLemmas.{unstaged}
 use Rattle.table_ledger.proofs.StepLemmas.{stands_only}
-use Rattle.table_ledger.proofs.SurvivalLemmas.{clean_before, survives_none, survives_then}
+use Rattle.table_ledger.proofs.SurvivalLemmas.{clean_before, survives_then}
 use Rattle.table_ledger.proofs.UnchangedStores.{stands_kept, stands_then}
 
 -- sums that are these already are not written again
@@ -59,119 +59,47 @@ sums_written {naming = naming} {is = is} {middle = middle} {new = new} {book = b
   remembers = at.remembers;
 }
 
--- sums that were these before are not written
-pub sums_stay : {T : Type 0} {now : State} {done : T} {held amount count cost : ℕ} → count ≡ held
-    → cost ≡ amount → Does (Ok done) now now (HaveSums held amount) (set_sums count cost)
-sums_stay {now = now} {count = count} {cost = cost} held_is amount_is = record {
-  survives = survives_none;
-  done = λ clean. record {
-    only = refl;
-    made = λ tables holds have. subst (Holds now.view.trees)
-        (sums_there count cost tables (record {
-          held_is = have.held_is ∙ sym held_is;
-          amount_is = have.amount_is ∙ sym amount_is;
-        })) holds;
-  };
-  refused = λ clean. tt;
-}
-
--- ---- the records of a commit
-
-module _ {naming : Naming} {records : List (List ℕ)} {was is : Summary} {old middle : State}
-    {answers : List Accepted} where
-  -- the store refused one of them
-  pub many_failed : {error : StoreError} (tried : Result (Option LedgerFault) StoreError)
-      → IsErr tried
-      → StagesMany (set_sums was.held was.total) naming records was is old middle answers (Err error)
-      → StagesMany (λ tables. tables) naming records was is old middle answers tried
-  many_failed (Err other) failed stages = record {
-    plain = tt;
-    survives = stages.survives;
-    found = λ clean book at. stages.found clean book (sums_remembered at);
-  }
-  many_failed (Ok refusal) failed stages = absurd (true≢false (sym failed))
-
-  -- it refused the sums
-  pub many_unsummed : {T : Type 0} {new : State} {refusal : Option LedgerFault} {error : StoreError}
-      (tried : Result (Option LedgerFault) StoreError) → IsErr tried
-      → StagesMany (set_sums was.held was.total) naming records was is old middle answers (Ok refusal)
-      → Does {T = T} (Err error) middle new (HaveSums was.held was.total)
-      (set_sums is.held is.total)
-      → StagesMany (λ tables. tables) naming records was is old new answers tried
-  many_unsummed (Err other) failed stages does = record {
-    plain = tt;
-    survives = survives_then stages.survives does.survives;
-    found = λ clean book at.
-        let staged = stages.found (clean_before does.survives clean) book (sums_remembered at) in
-        stands_then (stands_only old.view middle.view staged.only) (stands_kept (does.refused clean));
-  }
-  many_unsummed (Ok refusal) failed stages does = absurd (true≢false (sym failed))
-
-  -- the sums are written
-  pub many_summed : {T : Type 0} {done : T} {new : State} {refusal : Option LedgerFault}
-      → StagesMany (set_sums was.held was.total) naming records was is old middle answers (Ok refusal)
-      → Does (Ok done) middle new (HaveSums was.held was.total) (set_sums is.held is.total)
-      → StagesMany (λ tables. tables) naming records was is old new answers (Ok refusal)
-  many_summed stages does = record {
-    plain = stages.plain;
-    survives = survives_then stages.survives does.survives;
-    found = λ clean book at.
-        let staged = stages.found (clean_before does.survives clean) book (sums_remembered at) in
-        let changes = does.done clean in
-        record {
-          events = staged.events;
-          accepts = staged.accepts;
-          none = staged.none;
-          only = only_both old.view staged.only changes.only;
-          at = sums_written was.held was.total changes staged.at;
-        };
-  }
-
--- ---- one record
+-- ---- what is staged before the sums are written
 
 module _ {V : Type 0} {Made : Result V LedgerFault → Book → List Event → Type 0}
     {Leaves : Book → List Event → Type 0} {naming : Naming} {was is : Summary}
     {old middle : State} where
-  -- the store refused it
-  pub one_failed : {error : StoreError} (staged : Result (Result V LedgerFault) StoreError)
-      → IsErr staged
+  -- the store refused some of it
+  pub sums_unreached : {U T : Type 0} {answered : T → Result U LedgerFault}
+      {Other : Result U LedgerFault → Book → List Event → Type 0}
+      {Left : Book → List Event → Type 0} {Is : Summary → Type 0} {error : StoreError}
+      (staged : Result T StoreError) → IsErr staged
       → StagesBy (set_sums was.held was.total) (λ answer. answer) Made Leaves naming was
       (λ summary. summary ≡ is) old middle (Err error)
-      → StagesBy (λ tables. tables) (λ answer. answer) Made Leaves naming was
-      (λ summary. summary ≡ is) old middle staged
-  one_failed (Err other) failed stages = record {
-    plain = tt;
-    survives = stages.survives;
-    found = λ clean book at. stages.found clean book (sums_remembered at);
-  }
-  one_failed (Ok answer) failed stages = absurd (true≢false (sym failed))
+      → StagesBy (λ tables. tables) answered Other Left naming was Is old middle staged
+  sums_unreached staged failed stages =
+      unstaged staged failed stages.survives
+      (λ clean book at. stages.found clean book (sums_remembered at))
 
   -- it refused the sums
-  pub one_unsummed : {T : Type 0} {new : State} {answer : Result V LedgerFault}
-      {error : StoreError} (staged : Result (Result V LedgerFault) StoreError) → IsErr staged
+  pub sums_refused : {U T R : Type 0} {answered : T → Result U LedgerFault}
+      {Other : Result U LedgerFault → Book → List Event → Type 0}
+      {Left : Book → List Event → Type 0} {Is : Summary → Type 0} {new : State}
+      {answer : Result V LedgerFault} {error : StoreError} (staged : Result T StoreError)
+      → IsErr staged
       → StagesBy (set_sums was.held was.total) (λ answer. answer) Made Leaves naming was
       (λ summary. summary ≡ is) old middle (Ok answer)
-      → Does {T = T} (Err error) middle new (HaveSums was.held was.total)
+      → Does {T = R} (Err error) middle new (HaveSums was.held was.total)
       (set_sums is.held is.total)
-      → StagesBy (λ tables. tables) (λ answer. answer) Made Leaves naming was
-      (λ summary. summary ≡ is) old new staged
-  one_unsummed (Err other) failed stages does = record {
-    plain = tt;
-    survives = survives_then stages.survives does.survives;
-    found = λ clean book at.
-        let staged = stages.found (clean_before does.survives clean) book (sums_remembered at) in
-        stands_then (stands_only old.view middle.view staged.only) (stands_kept (does.refused clean));
-  }
-  one_unsummed (Ok answer) failed stages does = absurd (true≢false (sym failed))
+      → StagesBy (λ tables. tables) answered Other Left naming was Is old new staged
+  sums_refused staged failed stages does =
+      unstaged staged failed (survives_then stages.survives does.survives) (λ clean book at.
+      let staged = stages.found (clean_before does.survives clean) book (sums_remembered at) in
+      stands_then (stands_only old.view middle.view staged.only) (stands_kept (does.refused clean)))
 
-  -- the sums are written
-  pub one_summed : {T : Type 0} {done : T} {new : State} {answer : Result V LedgerFault}
+  -- they are written
+  pub sums_staged : {T : Type 0} {done : T} {new : State} {answer : Result V LedgerFault}
       → StagesBy (set_sums was.held was.total) (λ answer. answer) Made Leaves naming was
       (λ summary. summary ≡ is) old middle (Ok answer)
       → Does (Ok done) middle new (HaveSums was.held was.total) (set_sums is.held is.total)
       → StagesBy (λ tables. tables) (λ answer. answer) Made Leaves naming was
       (λ summary. summary ≡ is) old new (Ok answer)
-  one_summed stages does = record {
+  sums_staged stages does = record {
     plain = stages.plain;
     survives = survives_then stages.survives does.survives;
     found = λ clean book at.

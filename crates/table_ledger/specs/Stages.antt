@@ -1,6 +1,5 @@
 -- Calls that are staged inside a transaction, and work that one commit makes of them.
-use Rattle.std.specs.Prelude.{◌≡◌, false, List, [], Option, Some, None, Result, Ok, Err}
-use Rattle.std.specs.Prelude.{◌⊎◌, ℕ, IfOk, Vec}
+use Rattle.std.specs.Prelude.{◌≡◌, false, List, [], Result, Ok, Err, ◌⊎◌, ℕ, IfOk, Vec}
 use Rattle.std.specs.Global.{Global}
 use Rattle.sqlite_trees.specs.Tree.{Trees}
 use Rattle.sqlite_trees.specs.View.{View, OnlyWrites}
@@ -79,43 +78,30 @@ pub record StagesBy {V T : Type 0} (written : Tables → Tables) (answered : T �
 -- ---- records, one after another
 
 -- the first of these records was refused with this fault, if any was
-abbrev pub RefusesNext : Naming → List (List ℕ) → Book → Option LedgerFault → Type 0
-RefusesNext naming rest book None = Unit {0}
-RefusesNext naming rest book (Some fault) =
+abbrev pub RefusesNext : Naming → List (List ℕ) → Book → Result (Unit {0}) LedgerFault → Type 0
+RefusesNext naming rest book (Ok done) = Unit {0}
+RefusesNext naming rest book (Err fault) =
     Calls (λ (accepted : Accepted). accepted) (accept_outcome naming (first_of rest)) (Err fault)
     false book [] false
 
--- a refusal leaves the books open
-abbrev pub RefusesOpen : Option LedgerFault → Type 0
-RefusesOpen None = Unit {0}
-RefusesOpen (Some fault) = LeavesOpen {V = Vec Accepted Global} (Err fault)
-
--- the first of the records were answered and written, with no commit; and if none was, this is why
-pub record AreStaged (written : Tables → Tables) (naming : Naming) (records : List (List ℕ))
-    (is : Summary) (old new : View) (book : Book) (answers : List Accepted)
-    (refusal : Option LedgerFault) : Type 0 where
-  pub events : List Event
+-- the first of the records were answered, each in turn; and if none was, this is why
+pub record AnswersFirst (naming : Naming) (records : List (List ℕ)) (answers : List Accepted)
+    (told : Result (Unit {0}) LedgerFault) (book : Book) (events : List Event) : Type 0 where
   pub accepts : Accepts naming records answers false book events false
-  pub none : answers ≡ [] → RefusesNext naming records book refusal
-  pub only : OnlyWrites old new
-  pub at : IsAtAs written naming is new (after_all events book)
+  pub none : answers ≡ [] → RefusesNext naming records book told
 
--- they were answered and written, or the store refused, and its last commit stays
-abbrev pub AreStagedOrRefused : (Tables → Tables) → Naming → List (List ℕ) → Summary → View → View
-    → Book → List Accepted → Result (Option LedgerFault) StoreError → Type 0
-AreStagedOrRefused written naming records is old new book answers (Ok refusal) =
-    AreStaged written naming records is old new book answers refusal
-AreStagedOrRefused written naming records is old new book answers (Err error) =
-    KeepsLastCommit old new
+-- some first of them, or none, are accepted
+pub record LeavesFirst (naming : Naming) (records : List (List ℕ)) (book : Book)
+    (events : List Event) : Type 0 where
+  pub answers : List Accepted
+  pub accepts : Accepts naming records answers false book events false
 
--- Records are tried inside a transaction, up to the first refusal.
-pub record StagesMany (written : Tables → Tables) (naming : Naming) (records : List (List ℕ))
-    (was is : Summary) (old new : State) (answers : List Accepted)
-    (tried : Result (Option LedgerFault) StoreError) : Type 0 where
-  pub plain : IfOk tried RefusesOpen
-  pub survives : Survives old new (λ trees. ⊥)
-  pub found : HasCleanDisk new → (book : Book) → IsAtAs written naming was old.view book
-      → AreStagedOrRefused written naming records is old.view new.view book answers tried
+-- Records are staged, so far, up to the first refusal, and this summary remembers the book then.
+abbrev pub StagesMany : (Tables → Tables) → Naming → List (List ℕ) → Summary → Summary → State
+    → State → List Accepted → Result (Result (Unit {0}) LedgerFault) StoreError → Type 0
+StagesMany written naming records was is old new answers staged =
+    StagesBy written (λ told. told) (AnswersFirst naming records answers)
+    (LeavesFirst naming records) naming was (λ summary. summary ≡ is) old new staged
 
 -- ---- work that is one commit, whatever events it makes
 
@@ -172,18 +158,12 @@ pub record ServesBy {V : Type 0} (Made : Result V LedgerFault → Book → List 
 abbrev pub most_in_commit : ℕ
 most_in_commit = 1000
 
--- what their commit may leave: the first of them, some or none
-pub record LeavesFirst (naming : Naming) (records : List (List ℕ)) (book : Book)
-    (events : List Event) : Type 0 where
-  pub answers : List Accepted
-  pub accepts : Accepts naming records answers false book events false
-
 -- what they make of a book, by what is answered
 abbrev pub TakesOf : Naming → List (List ℕ) → Result (Vec Accepted Global) LedgerFault → Book
     → List Event → Type 0
 TakesOf naming records answer book events = Takes naming records answer false book events false
 
--- they are staged, and this summary remembers the book then
+-- they are staged as one, and this summary remembers the book then
 abbrev pub StagesFirst : Naming → List (List ℕ) → Summary → Summary → State → State
     → Result (Result (Vec Accepted Global) LedgerFault) StoreError → Type 0
 StagesFirst naming records was is old new staged =

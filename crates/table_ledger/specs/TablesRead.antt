@@ -61,15 +61,9 @@ of_entries : {K V : Type 0} {R : K → K → Ordering} → IsTotalOrder R → Is
 of_entries total exact m = same_map total exact (from_entries (entries m)) m (λ q.
     get-from_entries total (entries m) q ∙ sym (get-entries m q))
 
--- a charge row at a place, whatever place it says,
+-- a charge row at a place, whatever place it says
 at_place : ℕ × RowKey → ChargeRow → ChargeRow
 at_place key row = record row { day = key.1.day; centre = key.1.centre; shift = key.1.shift }
-
--- so each charge row is read back
-day_back : (entry : (ℕ × RowKey) × ChargeRow)
-    → day_in (day_columns entry) ≡ (entry.0, at_place entry.0 entry.1)
-unfolding at_place
-day_back entry = refl
 
 -- what is looked up of rows at their places
 find_placed : (q : ℕ × RowKey) (es : List ((ℕ × RowKey) × ChargeRow))

@@ -1,7 +1,6 @@
 //! Records that are submitted.
 
-ghost use Rattle.std.specs.Prelude.{◌≡◌, ◌<◌, Ok, Err, [], false, if◌then◌else◌, All, IfOk, length};
-ghost use Rattle.std.specs.Prelude.{None, ℕ};
+ghost use Rattle.std.specs.Prelude.{◌≡◌, ◌<◌, Ok, Err, [], false, if◌then◌else◌, All, IfOk, length, ℕ};
 ghost use Rattle.tree_tables.specs.States.{state};
 ghost use Rattle.book_model.specs.Words.{data_of, IsPriced, accept_outcome, IsUsageRecord};
 ghost use Rattle.book_model.specs.Words.{same_bytes};
@@ -12,8 +11,7 @@ ghost use Rattle.tree_tables.specs.Steps.{Does};
 ghost use Rattle.table_ledger.specs.RecordWrites.{AreRemembered, IsNew};
 ghost use Rattle.table_ledger.specs.NewRecords.{with_unsummed};
 ghost use Rattle.table_ledger.specs.Stages.{AttemptsMany, AttemptsOne, KeepsRulings, Stages};
-ghost use Rattle.table_ledger.specs.Stages.{StagesAs};
-ghost use Rattle.table_ledger.specs.Stages.{StagesFirst, StagesMany};
+ghost use Rattle.table_ledger.specs.Stages.{StagesAs, StagesFirst, StagesMany};
 
 use crate::commits::{Entry, commit_written, write_entry, write_sums};
 use crate::day_write::look_for_day;
@@ -157,7 +155,7 @@ fn stage_each<S: Store, N: Naming>(
     summary: &mut Summary,
     records: &[Vec<u8>],
     answers: &mut Vec<Accepted>,
-) -> Result<Option<LedgerFault>, StoreError>
+) -> Result<Result<(), LedgerFault>, StoreError>
     requires usage { All (λ one. IsUsageRecord one.items) records.now }
     requires none { answers.old.items ≡ [] }
     ensures stages { StagesMany (set_sums summary.old.held summary.old.total)
@@ -165,45 +163,20 @@ fn stage_each<S: Store, N: Naming>(
         summary.old summary.new (state S.Store tables.old.store) (state S.Store tables.new.store)
         answers.new.items result }
     ensures ruled { KeepsRulings summary.old summary.new }
-    ensures all { IfOk result (λ refusal. refusal ≡ None
+    ensures all { IfOk result (λ told. told ≡ Ok tt
         → length answers.new.items ≡ length records.now) }
 {
     for one in records {
         match stage_one(tables, alloc, naming, summary, one)? {
-            Err(fault) => return Ok(Some(fault)),
+            Err(fault) => return Ok(Err(fault)),
             Ok(accepted) => answers.push(accepted)?,
         }
     }
-    Ok(None)
-}
-
-/// Answers records inside the transaction, in order, up to the first that is refused, and says why
-/// that one is. The sums are written once, after the last.
-fn stage_records<S: Store, N: Naming>(
-    tables: &mut TreeTables<S>,
-    alloc: Global,
-    naming: &N,
-    summary: &mut Summary,
-    records: &[Vec<u8>],
-    answers: &mut Vec<Accepted>,
-) -> Result<Option<LedgerFault>, StoreError>
-    requires usage { All (λ one. IsUsageRecord one.items) records.now }
-    requires none { answers.old.items ≡ [] }
-    ensures stages { StagesMany (λ tables. tables) (N.name_of naming.now) (records_in records.now)
-        summary.old summary.new (state S.Store tables.old.store) (state S.Store tables.new.store)
-        answers.new.items result }
-    ensures ruled { KeepsRulings summary.old summary.new }
-    ensures all { IfOk result (λ refusal. refusal ≡ None
-        → length answers.new.items ≡ length records.now) }
-{
-    let (held, total) = (summary.held, summary.total);
-    let refusal = stage_each(tables, alloc, naming, summary, records, answers)?;
-    write_sums(tables, held, total, summary)?;
-    Ok(refusal)
+    Ok(Ok(()))
 }
 
 /// Answers records inside the transaction, in order, up to the first that is refused: those before
-/// it, or why the first one is.
+/// it, or why the first one is. The sums are written once, after the last.
 fn stage_many<S: Store, N: Naming>(
     tables: &mut TreeTables<S>,
     alloc: Global,
@@ -219,9 +192,11 @@ fn stage_many<S: Store, N: Naming>(
     ensures ruled { KeepsRulings summary.old summary.new }
     ensures some { IfOk result (λ answer. IfOk answer (λ answers. 0 < length answers.items)) }
 {
+    let (held, total) = (summary.held, summary.total);
     let mut answers = Vec::with_capacity(alloc, records.len())?;
-    let refusal = stage_records(tables, alloc, naming, summary, records, &mut answers)?;
-    let Some(fault) = refusal else {
+    let told = stage_each(tables, alloc, naming, summary, records, &mut answers)?;
+    write_sums(tables, held, total, summary)?;
+    let Err(fault) = told else {
         return Ok(Ok(answers));
     };
     if answers.is_empty() {

@@ -73,7 +73,7 @@ returns-in_err-push-in-Ok-clause-stages g c =
 
 pub returns-clause-stages : goal.returns-clause-stages
 returns-clause-stages g c = record {
-  plain = tt;
+  plain = record { stored = refl; served = refl };
   survives = c.loop-one.invariant.survives;
-  found = λ clean book at. all_taken (c.loop-one.invariant.taken clean book at) (λ empty. tt);
+  found = λ clean book at. all_taken (c.loop-one.invariant.taken clean book at) (λ accepts empty. tt);
 }
