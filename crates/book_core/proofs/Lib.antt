@@ -1,6 +1,7 @@
 -- Work on a ledger, and on the books of a history; entries of a map, and what those of a plain
 -- ledger hold, charge and dispute.
 pub mod RulingLemmas
+pub mod ListedLemmas
 pub mod TransitionLemmas
 pub mod ThenLemmas
 pub mod NamedLemmas

@@ -1,6 +1,6 @@
 ghost use Rattle.std.specs.Prelude.{◌≡◌, take};
 ghost use Rattle.std.specs.Rc.{rc_slice_items};
-ghost use Rattle.book_model.specs.Words.{identity_length, identity_of, identity2_of};
+ghost use Rattle.book_model.specs.Words.{identity_length, identity_of, identity2_of, IsUsageRecord};
 
 use crate::held::HeldRecord;
 use crate::identity::Identity;
@@ -15,6 +15,7 @@ pub(crate) struct ChosenRecord {
     /// Which work it measures, by the second rule. By the first rule it is a prefix of this.
     pub(crate) identity: [u8; 32],
     pub(crate) period: u16,
+    ghost is_usage: { IsUsageRecord (rc_slice_items bytes) },
     ghost first: { take identity_length identity ≡ identity_of (rc_slice_items bytes) },
     ghost second: { identity ≡ identity2_of (rc_slice_items bytes) },
 }

@@ -1,15 +1,15 @@
-ghost use Rattle.std.specs.Prelude.{◌<◌, All, IfOk, length, map};
+ghost use Rattle.std.specs.Prelude.{◌<◌, All, IfOk, length, map, option_map};
 ghost use Rattle.book_model.specs.Words.{IsDay, IsUsageRecord, AreRows, AreLines, AreDisputes};
 ghost use Rattle.book_model.specs.Words.{dispute_shown, accept_outcome, close_outcome};
 ghost use Rattle.book_model.specs.Words.{tariff_outcome, adjustments_outcome, charges_outcome};
 ghost use Rattle.book_model.specs.Words.{choose_outcome, disputes_outcome, periods_outcome};
-ghost use Rattle.book_model.specs.Words.{adopt_outcome};
+ghost use Rattle.book_model.specs.Words.{adopt_outcome, ruling_outcome, ruling_shown, ShowsDays};
 ghost use Rattle.book_core.specs.Ledgers.{StopIsHarmless, Seen};
 ghost use Rattle.book_core.specs.Calls.{IsCall};
 ghost use Rattle.book_core.specs.Submissions.{Takes, records_in};
 ghost use Rattle.book_core.specs.Transition.{IsTransition};
 
-use book_model::{Accepted, ChargeRow, Dispute, LedgerFault, Line, Ruled};
+use book_model::{Accepted, ChargeRow, Dispute, LedgerFault, Line, ListedRuling, Ruled};
 
 /// The books of an office, however they are kept. Each call is at most one change of them: it is
 /// made whole, or not at all. After `Store` every call answers `Reopen`, and only the next open of
@@ -88,6 +88,15 @@ pub trait Ledger {
         ensures days { IsCall (λ days. days.items) (seen self.old) (seen self.new) result
             periods_outcome }
         ensures shown { IfOk result (λ days. All IsDay days.items) };
+
+    /// The ruling of a number, from 0, in the list of the office's rulings: the tariffs that came
+    /// as texts, the closes, the choices, the adoption of the second rule of identity. `None` where
+    /// there are no more.
+    fn ruling(&mut self, number: u64) -> Result<Option<ListedRuling>, LedgerFault>
+        ensures ruling { IsCall (λ found. option_map ruling_shown found)
+            (seen self.old) (seen self.new) result
+            (ruling_outcome (seen self.old).naming number) }
+        ensures shown { IfOk result ShowsDays };
 
     /// While the books are open, a stop leaves them as they are.
     ghost settled: { (ledger : Self) → (seen ledger).is_honest → (seen ledger).is_books

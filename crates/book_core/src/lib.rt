@@ -14,6 +14,7 @@ mod identity;
 mod ledger;
 mod limits;
 mod lines;
+mod listed_rulings;
 mod period;
 mod period_end;
 mod plain;
@@ -25,7 +26,8 @@ mod treatment;
 mod variant;
 
 pub use book_model::{
-    Accepted, ChargeRow, Dispute, LedgerFault, Line, Naming, RowKey, Ruled, ShaNames, Variant,
+    Accepted, ChargeRow, Dispute, LedgerFault, Line, ListedRuling, Naming, RowKey, Ruled, ShaNames,
+    Variant,
 };
 // What a ledger of another crate needs to keep the same books.
 pub use acceptance::{is_full, name_of};
@@ -36,6 +38,7 @@ pub use effects::{
 pub use ledger::Ledger;
 pub use limits::{LAST_PERIOD, MAX_CHOICES, MAX_COST, MAX_HELD};
 pub use lines::sort_lines;
+pub use listed_rulings::ListedAt;
 pub use period_end::is_after;
 pub use plain::PlainLedger;
 pub use pricing::price_in;

@@ -1,8 +1,8 @@
-ghost use Rattle.std.specs.Prelude.{◌≡◌, length};
+ghost use Rattle.std.specs.Prelude.{◌≡◌, ◌≤◌, length};
 ghost use Rattle.std.specs.List.Sorted.{IsStrictlySortedBy};
 ghost use Rattle.std.specs.Map.{keys_of};
 ghost use Rattle.std.proofs.Props.{props};
-ghost use Rattle.book_model.specs.Words.{by_bytes};
+ghost use Rattle.book_model.specs.Words.{by_bytes, most_choices};
 ghost use Rattle.book_core.specs.OfficeRulings.{ruled_in};
 ghost use Rattle.book_core.specs.Plain.{AreBooked, CacheIsHeld, ruled_by};
 ghost use Rattle.book_core.specs.Treatments.{AreNamed};
@@ -11,6 +11,7 @@ mod adoption;
 mod choices;
 mod lists;
 mod records;
+mod ruling_list;
 mod rulings;
 
 use crate::accepted_tariff::AcceptedTariff;
@@ -20,7 +21,7 @@ use crate::held::HeldRecord;
 use crate::ledger::Ledger;
 use crate::record_cache::RecordCache;
 use crate::rulings::Rulings;
-use book_model::{Accepted, ChargeRow, Dispute, LedgerFault, Line, Naming, Ruled};
+use book_model::{Accepted, ChargeRow, Dispute, LedgerFault, Line, ListedRuling, Naming, Ruled};
 use std::alloc::{AllocError, Global};
 use std::collections::{BTreeMap, BTreeSet};
 use tariff_rules::Tariff;
@@ -46,6 +47,7 @@ pub struct PlainLedger<N: Naming + Drop> {
     ghost recalls: { CacheIsHeld held.entries cache },
     ghost named: { AreNamed held.entries posted closed.items },
     ghost counted: { length closed.items ≡ length (ruled_in rulings).closes },
+    ghost few: { length choices.items ≤ most_choices },
 }
 
 impl<N: Naming + Drop> PlainLedger<N> {
@@ -139,6 +141,10 @@ impl<N: Naming + Drop> Ledger for PlainLedger<N> {
 
     fn periods(&mut self) -> Result<Vec<i32>, LedgerFault> {
         self.close_days()
+    }
+
+    fn ruling(&mut self, number: u64) -> Result<Option<ListedRuling>, LedgerFault> {
+        self.ruling_listed(number)
     }
 
     ghost settled = { λ ledger honest books is_open book left. absurd left };

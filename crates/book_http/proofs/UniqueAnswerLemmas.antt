@@ -5,7 +5,7 @@ use Rattle.httparse.specs.Grammar.{RequestHead}
 use Rattle.smf_frames.specs.declared.dump.Layout.{Layout}
 use Rattle.book_model.specs.Words.{front, Book, Event, Outcome, Naming}
 use Rattle.book_model.specs.declared.fault.LedgerFault.{LedgerFault}
-use Rattle.book_model.specs.declared.fault.LedgerFault.TheVariants.{NoSuchPeriod}
+use Rattle.book_model.specs.declared.fault.LedgerFault.TheVariants.{NoSuchPeriod, NoSuchTariff}
 use Rattle.book_core.specs.Calls.{Calls}
 use Rattle.book_import.specs.declared.receipt.Receipt.{Receipt}
 use Rattle.book_import.specs.declared.receipt.Stop.{Stop}
@@ -48,6 +48,7 @@ reply_tells : (kind : BodyKind) (outcome : Book → Outcome Response) (told : Re
     → (office_reply kind told).status ≢ Unavailable → (outcome before).answer ≡ told
 reply_tells kind outcome (Ok told) was before events is called served = called.makes.0
 reply_tells kind outcome (Err NoSuchPeriod) was before events is called served = called.makes.0
+reply_tells kind outcome (Err NoSuchTariff) was before events is called served = called.makes.0
 reply_tells kind outcome (Err fault) was before events is called served = absurd (served refl)
 
 reports_same : (naming : Naming) (wanted : Report) (one other : Reply) (was : Bool) (before : Book)

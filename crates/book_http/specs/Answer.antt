@@ -5,7 +5,7 @@ use Rattle.std.specs.Prelude.{Result, Ok, Err}
 use Rattle.httparse.specs.Grammar.{RequestHead}
 use Rattle.smf_frames.specs.declared.dump.Layout.{Layout}
 use Rattle.book_model.specs.declared.fault.LedgerFault.{LedgerFault}
-use Rattle.book_model.specs.declared.fault.LedgerFault.TheVariants.{NoSuchPeriod}
+use Rattle.book_model.specs.declared.fault.LedgerFault.TheVariants.{NoSuchPeriod, NoSuchTariff}
 use Rattle.book_model.specs.Words.{Naming, Book, Event}
 use Rattle.book_core.specs.Transition.{Transition, NoEvent}
 use Rattle.book_reports.specs.declared.report.PeriodReport.TheVariants.{StatementTable}
@@ -33,6 +33,7 @@ abbrev pub office_reply : BodyKind → Result Response LedgerFault → Reply
 office_reply kind (Ok (tells.Text text)) = success kind text
 office_reply kind (Ok (tells.Count receipt)) = receipt_reply receipt
 office_reply kind (Err NoSuchPeriod) = refusal NotFound
+office_reply kind (Err NoSuchTariff) = refusal NotFound
 office_reply kind told = refusal Unavailable
 
 -- the office was asked, and its answer is the reply

@@ -37,6 +37,7 @@ fn answer_of(kind: BodyKind, told: Result<office::Answer, LedgerFault>) -> Answe
         Ok(office::Answer::Text(text)) => Answer::Report(kind, text),
         Ok(office::Answer::Receipt(receipt)) => Answer::Receipt(receipt),
         Err(LedgerFault::NoSuchPeriod) => Answer::Refusal(Status::NotFound),
+        Err(LedgerFault::NoSuchTariff) => Answer::Refusal(Status::NotFound),
         Ok(office::Answer::Ruled(_)) | Err(_) => Answer::Refusal(Status::Unavailable),
     }
 }

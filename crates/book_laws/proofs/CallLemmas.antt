@@ -1,10 +1,12 @@
 -- Calls on one ledger, one after another: their work, and the events that they make.
 use Rattle.std.proofs.Common.{◌≡◌, ◌∙◌, Bool, false, List, [], ◌∷◌, ◌++◌, Result, refl, sym, subst}
 use Rattle.std.proofs.Common.{ap, map, append-nil, append_assoc}
+use Rattle.std.specs.Option.{option_map}
 use Rattle.book_model.specs.Words.{accept_answer, IsMadeByCalls, Book, new_book, dispute_shown}
 use Rattle.book_model.specs.Words.{Event, after_all}
 use Rattle.book_model.specs.Words.{book_after, Outcome, accept_outcome, charges_outcome}
 use Rattle.book_model.specs.Words.{adjustments_outcome, disputes_outcome, periods_outcome, Naming}
+use Rattle.book_model.specs.Words.{ruling_outcome, ruling_shown}
 use Rattle.book_model.specs.declared.fault.LedgerFault.{LedgerFault}
 use Rattle.book_core.specs.Calls.{Calls, listed}
 use Rattle.book_core.specs.Ledgers.{Seen, IsOpenAt}
@@ -20,7 +22,8 @@ use Rattle.office.proofs.RunLemmas.{runs_answered}
 use Rattle.book_http.proofs.LawLemmas.{requests_make_history}
 use Rattle.book_laws.specs.CallLaws.{CallsFollowHistory}
 use Rattle.book_laws.specs.Calls.{Call, Request, RunRequests, AcceptRecord, ReadCharges}
-use Rattle.book_laws.specs.Calls.{HttpRequest, ReadAdjustments, ReadDisputes, ReadPeriods, Step}
+use Rattle.book_laws.specs.Calls.{HttpRequest, ReadAdjustments, ReadDisputes, ReadPeriods}
+use Rattle.book_laws.specs.Calls.{ReadRuling, Step}
 use Rattle.book_laws.specs.Calls.{AreDone, SomeCalls, calls_of, ledger_after_calls, work_of, works_of}
 
 -- what is read makes none
@@ -52,6 +55,9 @@ call_answered naming (ReadDisputes answer) =
     answer (λ book. refl)
 call_answered naming (ReadPeriods answer) =
     readings_answered naming (λ days. days.items) periods_outcome answer (λ book. refl)
+call_answered naming (ReadRuling number answer) =
+    readings_answered naming (λ found. option_map ruling_shown found) (ruling_outcome naming number)
+    answer (λ book. refl)
 
 -- so do all of them
 pub calls_are_answered : (naming : Naming) (calls : List Call)

@@ -23,6 +23,7 @@ pub mod PricingLemmas
 pub mod LatestLemmas
 pub mod AnswerLemmas
 pub mod CallLemmas
+pub mod ListedLemmas
 pub mod SoundLemmas
 pub mod SamePriceLemmas
 pub mod MadeByCallsLemmas

@@ -1,7 +1,7 @@
 -- Read in this order: sets and records; what the office ruled, and what a record costs by it; which
 -- records are undisputed and charged; what a period is, and the rows, lines and disputes that are
--- read; the book, and the events that change it; what is answered to a record and to a ruling, and
--- what each call is; what a whole history defines, which histories calls make, and how a history
+-- read; the book, and the events that change it; what is answered to a record and to a ruling, how
+-- the rulings are listed, and what each call is; what a whole history defines, which histories calls make, and how a history
 -- is cut at its rulings; what is always true of a book; and laws. Then the answers and the faults
 -- of a ledger.
 pub mod Sets
@@ -17,6 +17,7 @@ pub mod Books
 pub mod Events
 pub mod Accept
 pub mod RulingAnswers
+pub mod RulingLists
 pub mod Outcomes
 pub mod History
 pub mod MadeByCalls

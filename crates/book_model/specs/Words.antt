@@ -50,11 +50,16 @@ pub use Rattle.book_model.specs.RulingAnswers.{close_answer, first_rule, has_tex
 pub use Rattle.book_model.specs.RulingAnswers.{is_early, is_effective, is_later, is_too_dear}
 pub use Rattle.book_model.specs.RulingAnswers.{record_named, rule_by, second_rule, tariff_answer}
 pub use Rattle.book_model.specs.RulingAnswers.{IsRule, terms_answer}
+pub use Rattle.book_model.specs.RulingLists.{HasDays, RulingSeen, TariffSeen, CloseSeen, ChoiceSeen}
+pub use Rattle.book_model.specs.RulingLists.{AdoptionSeen, ShowsDays, ruling_shown, rulings_listed}
+pub use Rattle.book_model.specs.RulingLists.{adoption_seen, choice_seen, choices_seen, closes_seen}
+pub use Rattle.book_model.specs.RulingLists.{tariff_seen, tariff_text_on, tariffs_seen, text_on}
 pub use Rattle.book_model.specs.Outcomes.{Outcome, accept_event, accept_outcome}
 pub use Rattle.book_model.specs.Outcomes.{adjustments_outcome, adopt_event, adopt_outcome}
 pub use Rattle.book_model.specs.Outcomes.{charges_outcome, choose_event, choose_outcome}
 pub use Rattle.book_model.specs.Outcomes.{close_event, close_outcome, disputes_outcome}
-pub use Rattle.book_model.specs.Outcomes.{periods_outcome, no_event, tariff_event, tariff_outcome}
+pub use Rattle.book_model.specs.Outcomes.{periods_outcome, no_event, ruling_outcome, tariff_event}
+pub use Rattle.book_model.specs.Outcomes.{tariff_outcome}
 pub use Rattle.book_model.specs.History.{book_after, book_of, charged_in, closes, day_of_close}
 pub use Rattle.book_model.specs.History.{held_before, period_after, periods, rulings}
 pub use Rattle.book_model.specs.MadeByCalls.{IsMadeByCalls}

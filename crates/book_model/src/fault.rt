@@ -58,6 +58,9 @@ pub enum LedgerFault {
     /// The database holds no books.
     #[error("no books")]
     NotBooks,
+    /// No tariff that came as a text begins on that day.
+    #[error("no tariff begins on that day")]
+    NoSuchTariff,
 }
 
 impl LedgerFault {
@@ -82,6 +85,8 @@ impl LedgerFault {
             LedgerFault::OldRule => 14,
             LedgerFault::TariffRefused(_) => 15,
             LedgerFault::NotBooks => 16,
+            // 17 and 18 are kept for forms of files.
+            LedgerFault::NoSuchTariff => 19,
         }
     }
 }

@@ -3,7 +3,7 @@
 
 ghost use Rattle.office.specs.Away.{away};
 
-use book_core::{Accepted, ChargeRow, Dispute, Ledger, LedgerFault, Line, Ruled};
+use book_core::{Accepted, ChargeRow, Dispute, Ledger, LedgerFault, Line, ListedRuling, Ruled};
 
 /// Answers to each call that the books are to be opened again.
 #[derive(Drop)]
@@ -50,6 +50,10 @@ impl Ledger for AwayBooks {
     }
 
     fn periods(&mut self) -> Result<Vec<i32>, LedgerFault> {
+        Err(LedgerFault::Reopen)
+    }
+
+    fn ruling(&mut self, _number: u64) -> Result<Option<ListedRuling>, LedgerFault> {
         Err(LedgerFault::Reopen)
     }
 

@@ -145,6 +145,21 @@ ledger_texts =
       codes "The file holds no books.",
       codes "Name another file, or make new books with init.",
     ) ∷
+    -- 17 is kept for files of an older form: no fault has it
+    (
+      codes "The file has an older form.",
+      codes "There is nothing to do.",
+    ) ∷
+    -- 18 is kept for files of a newer form: no fault has it
+    (
+      codes "The file has a newer form.",
+      codes "There is nothing to do.",
+    ) ∷
+    -- 19 NoSuchTariff
+    (
+      codes "No tariff begins on that day.",
+      codes "Take a tariff's first day from the list of rulings.",
+    ) ∷
     []
 
 -- the faults of a tariff file, from number 1 on

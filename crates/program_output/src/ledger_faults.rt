@@ -30,6 +30,7 @@ fn of_number(number: u16) -> Option<LedgerFault>
         14 => Some(LedgerFault::OldRule),
         15 => Some(LedgerFault::TariffRefused(TariffFault::Syntax)),
         16 => Some(LedgerFault::NotBooks),
+        19 => Some(LedgerFault::NoSuchTariff),
         _ => None,
     }
 }
@@ -111,6 +112,10 @@ fn explanation_of(fault: LedgerFault) -> Explanation
         LedgerFault::NotBooks => Explanation {
             meaning: "The file holds no books.",
             advice: "Name another file, or make new books with init.",
+        },
+        LedgerFault::NoSuchTariff => Explanation {
+            meaning: "No tariff begins on that day.",
+            advice: "Take a tariff's first day from the list of rulings.",
         },
     }
 }

@@ -1,7 +1,7 @@
 -- Read in this order: texts, lists in order, what is found in a table, and sets that are made from
 -- lists; records that have rivals; books that calls made, what their calls passed, and that they
--- can be read back; the rulings, the records, the choices and the lines that are read, and the
--- book; the rows of an identity; the answers to records, choices and other rulings, and the lists
+-- can be read back; the rulings, the records, the choices, their list, and the lines that are
+-- read, and the book; the rows of an identity; the answers to records, choices and other rulings, and the lists
 -- of a period; rows in groups and in order, and the disputes; the numbers that fit; how long an
 -- identity is; the tables under the second rule of it; and the lists that can be shown.
 pub mod Texts
@@ -17,6 +17,7 @@ pub mod ReadableLemmas
 pub mod RulingsReading
 pub mod RecordReading
 pub mod ChoiceReading
+pub mod ListedChoices
 pub mod LineSides
 pub mod BookLemmas
 pub mod IdentityRows

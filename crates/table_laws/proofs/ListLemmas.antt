@@ -1,4 +1,4 @@
--- The lists of a period are answered from the tables.
+-- The lists of a period, and the list of rulings, are answered from the tables.
 use Rattle.std.proofs.Common.{◌≡◌, ℕ, ◌-◌, length, refl, sym, ap, ◌∙◌, true, false, true≢false}
 use Rattle.std.proofs.Common.{Bool, not, ◌&&◌, Option, Some, None, Result, Ok, Err, get_or, arith}
 use Rattle.std.specs.Prelude.{◌<◌, ◌≤◌, ◌==◌, nat_le, if◌then◌else◌, slice_get}
@@ -15,6 +15,7 @@ use Rattle.table_model.proofs.LineReading.{lines_follow}
 use Rattle.table_model.proofs.RowReading.{rows_follow}
 use Rattle.table_laws.specs.ListLaws.{ListsFollow}
 use Rattle.table_laws.specs.ListsRead.{is_period, of_period}
+use Rattle.table_laws.proofs.ListedChoices.{choice_listed, rulings_listed-read}
 use Rattle.table_laws.proofs.RulingsReading.{closes_back}
 
 module _ (book : Book) (closed : length book.past ≡ length book.rulings.closes) (number : ℕ) where
@@ -95,4 +96,7 @@ lists_follow = record {
       (λ period is. lines_follow naming book number period whole.sound whole.lines is));
   periods = λ naming book whole.
       ap (λ days. no_event (Ok days)) (sym (closes_back book.rulings.closes));
+  rulings = λ naming book number whole.
+      ap (λ list. no_event (Ok (slice_get list number))) (rulings_listed-read naming book);
+  choices = λ naming book place whole. choice_listed naming book place;
 }

@@ -1,19 +1,23 @@
--- The laws of lists: what is answered for a period and for disputes is what the tables say, and can
--- be shown.
-use Rattle.std.specs.Prelude.{◌≡◌, ℕ, filter, List, [], ◌∷◌, ◌++◌, Ok, true}
+-- The laws of lists: what is answered for a period, for rulings and for disputes is what the tables
+-- say, and can be shown.
+use Rattle.std.specs.Prelude.{◌≡◌, ◌+◌, ℕ, filter, List, [], ◌∷◌, ◌++◌, Ok, slice_get, true}
 use Rattle.std.specs.FinMap.{values}
 use Rattle.std.specs.List.Sorted.{IsPermutation, IsStrictlySortedBy}
+use Rattle.std.specs.Option.{option_map}
 use Rattle.book_model.specs.Words.{Book, charges_outcome, adjustments_outcome, disputes_outcome}
 use Rattle.book_model.specs.Words.{periods_outcome, no_event, Naming, AreDisputes, AreLines, AreRows}
+use Rattle.book_model.specs.Words.{choice_seen, ruling_outcome}
 use Rattle.table_model.specs.TablesOf.{tables_of}
 use Rattle.table_laws.specs.DisputesRead.{NamedRow, by_identity, disputed_among, disputed_rows}
 use Rattle.table_laws.specs.DisputesRead.{disputes_read, grouped, has_none_charged, join_last}
 use Rattle.table_laws.specs.DisputesRead.{uncharged_among}
-use Rattle.table_laws.specs.ListsRead.{charges_read, adjustments_read, is_period}
+use Rattle.table_laws.specs.ListsRead.{charges_read, adjustments_read, choice_read_at, is_period}
+use Rattle.table_laws.specs.ListsRead.{rulings_read}
 use Rattle.table_laws.specs.Readable.{IsReadable}
 use Rattle.table_model.specs.PeriodLists.{rows_read, lines_read}
 
--- the lists of a period, and the days of the closes
+-- The lists of a period, the days of the closes, and the list of rulings: its choices are those of
+-- the table, each under the number that is one more than its place.
 pub record ListsFollow : Type 0 where
   pub charges :
       (naming : Naming) (book : Book) (number : ℕ) → IsReadable naming book
@@ -26,6 +30,14 @@ pub record ListsFollow : Type 0 where
   pub periods :
       (naming : Naming) (book : Book) → IsReadable naming book
       → periods_outcome book ≡ no_event (Ok (values (tables_of naming book).closes))
+  pub rulings :
+      (naming : Naming) (book : Book) (number : ℕ) → IsReadable naming book
+      → ruling_outcome naming number book
+      ≡ no_event (Ok (slice_get (rulings_read book.rulings (tables_of naming book)) number))
+  pub choices :
+      (naming : Naming) (book : Book) (place : ℕ) → IsReadable naming book
+      → option_map (choice_seen naming (place + 1)) (slice_get book.rulings.choices place)
+      ≡ choice_read_at (place + 1) (tables_of naming book).choices
 
 -- The disputes are the rows of identities that have no charged row, in groups; rows that are in
 -- order are these if they are the same rows; so the rows that are not charged, in order, are

@@ -67,8 +67,8 @@ pub fn closing_follows()
     ensures { ClosingFollows }
 {}
 
-/// The charge rows and the adjustment lines of each period, and the days of the closes, are
-/// answered from the tables.
+/// The charge rows and the adjustment lines of each period, the days of the closes, and the list of
+/// rulings are answered from the tables.
 pub fn lists_follow()
     ensures { ListsFollow }
 {}

@@ -37,4 +37,5 @@ mod OwnBooks
 mod RowTold
 mod BookRows
 mod BookLists
+mod RulingReads
 mod FinishedLists

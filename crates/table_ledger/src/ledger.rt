@@ -14,10 +14,13 @@ use crate::choices::try_choose;
 use crate::close::try_close;
 use crate::disputes::try_disputes;
 use crate::finish::finish;
+use crate::listed_rulings::try_ruling;
 use crate::periods::try_periods;
 use crate::summary::Summary;
 use crate::tariff::try_tariff;
-use book_core::{Accepted, ChargeRow, Dispute, Ledger, LedgerFault, Line, Naming, Ruled};
+use book_core::{
+    Accepted, ChargeRow, Dispute, Ledger, LedgerFault, Line, ListedRuling, Naming, Ruled,
+};
 use sqlite_trees::store::Store;
 use std::alloc::Global;
 use tree_tables::{Close, TreeTables};
@@ -49,10 +52,11 @@ fn first_records(records: &[Vec<u8>]) -> &[Vec<u8>]
 }
 
 impl<S: Store, N: Naming + Drop> Ledger for TableLedger<S, N> {
-    ghost use Rattle.std.specs.Prelude.{All, IfOk, map};
+    ghost use Rattle.std.specs.Prelude.{All, IfOk, map, option_map};
     ghost use Rattle.book_model.specs.Words.{AreDisputes, AreLines, AreRows, IsDay};
     ghost use Rattle.book_model.specs.Words.{adjustments_outcome, charges_outcome, dispute_shown};
     ghost use Rattle.book_model.specs.Words.{disputes_outcome, periods_outcome, IsUsageRecord};
+    ghost use Rattle.book_model.specs.Words.{ShowsDays, ruling_outcome, ruling_shown};
     ghost use Rattle.book_core.specs.Calls.{IsCall};
     ghost use Rattle.book_core.specs.Submissions.{Takes, records_in};
     ghost use Rattle.book_core.specs.Transition.{IsTransition};
@@ -196,6 +200,21 @@ impl<S: Store, N: Naming + Drop> Ledger for TableLedger<S, N> {
             return Err(LedgerFault::Reopen);
         }
         let tried = try_periods(&self.tables, &self.summary, self.alloc);
+        finish(&mut self.tables, &mut self.must_reopen, tried)
+    }
+
+    fn ruling(&mut self, number: u64) -> Result<Option<ListedRuling>, LedgerFault>
+        ensures ruling { IsCall (λ found. option_map ruling_shown found)
+            (seen_in S.Store N.name_of self.old) (seen_in S.Store N.name_of self.new) result
+            (ruling_outcome (N.name_of self.old.naming) number) }
+        ensures shown { IfOk result ShowsDays }
+        ensures own { FailsAsItsOwn result (ledger_state S.Store N.name_of self.old)
+            (ledger_state S.Store N.name_of self.new) }
+    {
+        if self.must_reopen {
+            return Err(LedgerFault::Reopen);
+        }
+        let tried = try_ruling(&mut self.tables, &self.summary, self.alloc, number);
         finish(&mut self.tables, &mut self.must_reopen, tried)
     }
 

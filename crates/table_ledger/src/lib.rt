@@ -16,6 +16,7 @@ mod disputes;
 mod effects;
 mod finish;
 mod ledger;
+mod listed_rulings;
 mod load;
 mod periods;
 mod repricing;

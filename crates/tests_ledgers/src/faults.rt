@@ -69,7 +69,7 @@ fn tariff_fault(words: &[&str]) -> LineResult<TariffFault> {
 }
 
 /// The faults of books that are a word alone.
-const LEDGER_FAULTS: [(&str, LedgerFault); 14] = [
+const LEDGER_FAULTS: [(&str, LedgerFault); 15] = [
     ("memory", LedgerFault::Memory),
     ("store", LedgerFault::Store),
     ("reopen", LedgerFault::Reopen),
@@ -84,6 +84,7 @@ const LEDGER_FAULTS: [(&str, LedgerFault); 14] = [
     ("not_disputed", LedgerFault::NotDisputed),
     ("old_rule", LedgerFault::OldRule),
     ("not_books", LedgerFault::NotBooks),
+    ("no_such_tariff", LedgerFault::NoSuchTariff),
 ];
 
 /// The fault of books: `tariff` with a tariff's fault, `wrong_period` with the open period, or a

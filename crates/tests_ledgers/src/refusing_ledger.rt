@@ -4,7 +4,7 @@ ghost use Rattle.std.specs.Prelude.{◌≡◌, ◌<◌, length, take, List, ℤ,
 ghost use Rattle.book_model.specs.Words.{periods_outcome};
 ghost use Rattle.book_core.specs.Calls.{IsCall};
 
-use book_core::{Accepted, ChargeRow, Dispute, Ledger, LedgerFault, Line, Ruled};
+use book_core::{Accepted, ChargeRow, Dispute, Ledger, LedgerFault, Line, ListedRuling, Ruled};
 
 /// Passes a given number of calls on to a ledger, answers the next that memory ran out, with
 /// nothing done, and passes on all after that.
@@ -138,6 +138,13 @@ impl<L: Ledger> Ledger for RefusingLedger<'_, L> {
             return Err(refusal(&mut *self.inner));
         }
         self.inner.periods()
+    }
+
+    fn ruling(&mut self, number: u64) -> Result<Option<ListedRuling>, LedgerFault> {
+        if is_due(&mut self.calls_left) {
+            return Err(refusal(&mut *self.inner));
+        }
+        self.inner.ruling(number)
     }
 
     ghost settled = { λ ledger. L.settled ledger.inner.now };

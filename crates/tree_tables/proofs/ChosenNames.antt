@@ -1,11 +1,12 @@
 -- Whether a choice names a record, as the tree of chosen names shows it; and the choices as they
--- are listed.
+-- are looked up and listed.
 use Rattle.std.proofs.Common.{◌≡◌, ◌∙◌, ℕ, ◌||◌, List, [], ◌∷◌, Bool, true, false, cond, map, pos}
-use Rattle.std.proofs.Common.{refl, sym, ap, subst}
+use Rattle.std.proofs.Common.{Some, None, refl, sym, ap, subst}
 use Rattle.std.specs.Prelude.{filter}
 use Rattle.std.specs.Cmp.Lexicographic.{nat_list_cmp_total}
-use Rattle.std.specs.FinMap.{entries, values}
+use Rattle.std.specs.FinMap.{entries, get, values}
 use Rattle.std.specs.List.{AllZip, list_any}
+use Rattle.std.specs.Option.{option_map}
 use Rattle.std.specs.Ordering.{eq_by_cmp, is_eq, nat_cmp}
 use Rattle.std.proofs.lemmas.Map.Views.{tells_apart}
 use Rattle.sqlite_value.specs.Order.{Row}
@@ -14,19 +15,22 @@ use Rattle.book_model.proofs.SetLemmas.{same_bytes-by_cmp}
 use Rattle.table_model.specs.Tables.{ChoiceRow, ChoiceTable, Tables}
 use Rattle.table_model.specs.Views.{has_choice}
 use Rattle.tree_rows.specs.Indexes.{by_bytes, indexed_by}
+use Rattle.tree_rows.specs.Layouts.{Answers}
 use Rattle.tree_rows.specs.Rows.{Finds, IsFirst}
 use Rattle.tree_rows.specs.Runs.{run_of}
 use Rattle.tree_rows.proofs.IndexLists.{index_in_order}
 use Rattle.tree_rows.proofs.IndexOrders.{by_bytes_exact}
+use Rattle.tree_rows.proofs.Keyed.{row_found}
 use Rattle.tree_rows.proofs.Runs.{finds_run, run_named}
-use Rattle.tree_tables.specs.Answers.{HasChoice}
+use Rattle.tree_tables.specs.Answers.{FindsChoice, HasChoice}
 use Rattle.tree_tables.specs.Columns.{choice_columns, choice_name_columns}
+use Rattle.tree_tables.specs.Fits.{ChoiceFits, IsNumbered, NumberedFits}
 use Rattle.tree_tables.specs.Holds.{choice_name_key, choice_name_index}
 use Rattle.tree_tables.specs.Stored.{SaysChoice, choice_entry}
 use Rattle.tree_tables.specs.declared.choice_rows.StoredChoice.{StoredChoice}
 use Rattle.tree_tables.proofs.ChoiceRows.{chosen_named}
 use Rattle.tree_tables.proofs.RowsRead.{told_of_each}
-use Rattle.tree_tables.proofs.Layouts.{choice_name_layout}
+use Rattle.tree_tables.proofs.Layouts.{choice_layout, choice_name_layout}
 
 -- a choice under its number
 abbrev Entry : Type 0
@@ -140,3 +144,48 @@ choice_said choice stored says =
 pub choices_said : (choices : List Entry) (list : List StoredChoice)
     → AllZip SaysChoice (map choice_columns choices) list → map choice_entry list ≡ choices
 choices_said = told_of_each choice_columns SaysChoice choice_entry choice_said
+
+-- A choice is looked up by its number.
+module _ (number : ℕ) (tables : Tables) {rows : List Row} {key row : Row} {hit : Bool}
+    (held : rows ≡ map choice_columns (entries tables.choices)) (key_is : key ≡ Int (pos number) ∷ [])
+    (finds : Finds key rows row hit) where
+  -- one that is not found is not there,
+  pub choice_missing : hit ≡ false → FindsChoice number tables None
+  choice_missing missing =
+      ap (option_map (λ (one : ChoiceRow). (number, one)))
+      (sym (subst (Answers choice_layout tables.choices number row) missing
+      (row_found choice_layout tables.choices number finds held key_is)))
+
+  -- one that is found is there, and the row is its own,
+  pub choice_there : hit ≡ true
+      → (found : ChoiceRow) × (get tables.choices number ≡ Some found)
+      × (row ≡ choice_columns (number, found))
+  choice_there there =
+      subst (Answers choice_layout tables.choices number row) there
+      (row_found choice_layout tables.choices number finds held key_is)
+
+  -- and what is read of the row is the choice
+  pub choice_found : (stored : StoredChoice) → hit ≡ true → SaysChoice row stored
+      → FindsChoice number tables (Some stored)
+  choice_found stored there says =
+      let found = choice_there there in
+      ap Some (choice_said (number, found.0) stored
+      (subst (λ columns. SaysChoice columns stored) found.2 says))
+      ∙ ap (option_map (λ (one : ChoiceRow). (number, one))) (sym found.1)
+
+-- The choice of a number that has one fits,
+pub numbered_fits : (number : ℕ) (tables : Tables) → IsNumbered number tables
+    → NumberedFits number tables
+numbered_fits number tables numbered row there =
+    subst (λ (row : ChoiceRow). ChoiceFits (choice_columns (number, row)))
+    (same_some numbered.0 row (sym numbered.1 ∙ there)) numbered.2
+  where
+    same_some : (one other : ChoiceRow) → Some one ≡ Some other → one ≡ other
+    same_some one other same = cc
+
+-- and is not missed
+pub choice_stays : (number : ℕ) (tables : Tables) → IsNumbered number tables
+    → FindsChoice number tables None → ⊥
+choice_stays number tables numbered missed =
+    let both = missed ∙ ap (option_map (λ (row : ChoiceRow). (number, row))) numbered.1 in
+    absurd (let e = both in cc)

@@ -12,7 +12,7 @@ use Rattle.book_model.specs.declared.row.ChargeRow.{ChargeRow}
 use Rattle.book_model.specs.declared.row.RowKey.{RowKey}
 use Rattle.table_model.specs.PeriodRows.{rows_under}
 use Rattle.table_model.specs.PeriodLists.{rows_read}
-use Rattle.table_model.specs.Tables.{ChoiceTable, RecordRow, RecordTable, Tables}
+use Rattle.table_model.specs.Tables.{ChoiceRow, ChoiceTable, RecordRow, RecordTable, Tables}
 use Rattle.table_model.specs.Views.{has_choice, rows_with}
 use Rattle.tree_rows.specs.Changes.{above}
 use Rattle.tree_tables.specs.Stored.{book_entry, choice_entry, close_entry, signed_name, stored_entry}
@@ -92,6 +92,12 @@ FindsCharged identity tables found =
 -- the number of the last choice, or 0 where there is none
 abbrev pub last_number : ChoiceTable → ℕ
 last_number choices = unwrap_or (last_or None (keys choices)) 0
+
+-- the choice of a number, if there is one
+abbrev pub FindsChoice : ℕ → Tables → Option StoredChoice → Type 0
+FindsChoice number tables found =
+    option_map choice_entry found
+    ≡ option_map (λ (row : ChoiceRow). (number, row)) (get tables.choices number)
 
 -- whether some choice names the record
 abbrev pub HasChoice : List ℕ → Tables → Bool → Type 0

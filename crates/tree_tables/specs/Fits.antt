@@ -8,7 +8,7 @@ use Rattle.sqlite_value.specs.declared.value.Value.{Value}
 use Rattle.sqlite_value.specs.declared.value.Value.TheVariants.{Blob, Int, Text}
 use Rattle.book_model.specs.Words.{IsDay, IsName}
 use Rattle.table_model.specs.PeriodRows.{rows_under}
-use Rattle.table_model.specs.Tables.{RecordRow, Tables}
+use Rattle.table_model.specs.Tables.{ChoiceRow, RecordRow, Tables}
 use Rattle.tree_tables.specs.Columns.{choice_columns, day_columns, flag, line_columns}
 use Rattle.tree_tables.specs.Columns.{record_columns}
 use Rattle.tree_tables.specs.declared.found_names.FoundName.{FoundName}
@@ -117,6 +117,16 @@ pub record RowsFit (Fits : Row → Type 0) (rows : List Row) : Type 0 where
 -- the choices fit
 abbrev pub ChoicesFit : Tables → Type 0
 ChoicesFit tables = RowsFit ChoiceFits (map choice_columns (entries tables.choices))
+
+-- a number is that of a choice, which fits
+abbrev pub IsNumbered : ℕ → Tables → Type 0
+IsNumbered number tables =
+    (row : ChoiceRow) × (get tables.choices number ≡ Some row) × ChoiceFits (choice_columns (number, row))
+
+-- the choice of a number, if there is one, fits
+abbrev pub NumberedFits : ℕ → Tables → Type 0
+NumberedFits number tables =
+    (row : ChoiceRow) → get tables.choices number ≡ Some row → ChoiceFits (choice_columns (number, row))
 
 -- the charge rows of a period fit
 abbrev pub DaysFit : ℕ → Tables → Type 0

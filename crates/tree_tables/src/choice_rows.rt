@@ -1,6 +1,6 @@
 //! Choices by their numbers, and the tree that finds them by the names of the records.
 
-ghost use Rattle.std.specs.Prelude.{◌≡◌, OnOk};
+ghost use Rattle.std.specs.Prelude.{◌≡◌, IfErr, IfOk, OnOk};
 ghost use Rattle.tree_tables.specs.Columns.{choice_columns, choice_name_columns};
 ghost use Rattle.tree_tables.specs.Fits.{ChoiceFits};
 ghost use Rattle.tree_tables.specs.Stored.{SaysChoice};
@@ -49,17 +49,25 @@ fn choice_name_row(row: &mut Row, name: &[u8], number: u32) -> Result<(), StoreE
     Ok(())
 }
 
+/// What the row of a choice says.
+fn read_choice(row: &Row) -> Result<StoredChoice, StoreError>
+    ensures says { IfOk result (SaysChoice row.now) }
+    ensures taken { IfErr result (λ error. ¬ ChoiceFits row.now) }
+{
+    Ok(StoredChoice {
+        number: number_at(row, 0)?,
+        name: hash_at(row, 1)?,
+        period: period_at(row, 2)?,
+    })
+}
+
 impl ReadRow for StoredChoice {
     ghost says = { SaysChoice };
 
     ghost fits = { ChoiceFits };
 
     fn read(row: &Row, _alloc: Global) -> Result<StoredChoice, StoreError> {
-        Ok(StoredChoice {
-            number: number_at(row, 0)?,
-            name: hash_at(row, 1)?,
-            period: period_at(row, 2)?,
-        })
+        read_choice(row)
     }
 }
 
@@ -67,8 +75,8 @@ impl<S: Store> TreeTables<S> {
     ghost use Rattle.std.specs.Prelude.{◌≡◌, ◌<◌, ◌^◌, None};
     ghost use Rattle.std.specs.FinMap.{get};
     ghost use Rattle.table_model.specs.Steps as step;
-    ghost use Rattle.tree_tables.specs.Answers.{HasChoice, ListsChoices, last_number};
-    ghost use Rattle.tree_tables.specs.Fits.{ChoicesFit};
+    ghost use Rattle.tree_tables.specs.Answers.{FindsChoice, HasChoice, ListsChoices, last_number};
+    ghost use Rattle.tree_tables.specs.Fits.{ChoicesFit, NumberedFits};
     ghost use Rattle.tree_tables.specs.States.{state};
     ghost use Rattle.tree_tables.specs.Steps.{Always, Does, FailsByStore, Looks};
 
@@ -96,6 +104,21 @@ impl<S: Store> TreeTables<S> {
     {
         bytes_key(&mut self.key, name)?;
         find_row(&mut self.store, CHOICE_NAMES, &self.key, &mut self.row)
+    }
+
+    /// The choice of a number, if there is one: one look, however many there are.
+    #[tactic(auto, using(crate::proofs::Looking::caused_memory))]
+    pub fn find_choice(&mut self, number: u32) -> Result<Option<StoredChoice>, StoreError>
+        ensures looks { Looks result (state S.Store self.old.store) (state S.Store self.new.store)
+            (FindsChoice number) }
+        ensures cause { FailsByStore result (state S.Store self.old.store)
+            (state S.Store self.new.store) (NumberedFits number) }
+    {
+        choice_key(&mut self.key, number)?;
+        if !find_row(&mut self.store, CHOICES, &self.key, &mut self.row)? {
+            return Ok(None);
+        }
+        Ok(Some(read_choice(&self.row)?))
     }
 
     /// All choices, by their numbers.

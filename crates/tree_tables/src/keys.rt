@@ -34,7 +34,8 @@ pub(crate) fn period_key(key: &mut Row, period: u16) -> Result<(), StoreError>
 
 /// The number of a choice as a key.
 pub(crate) fn choice_key(key: &mut Row, number: u32) -> Result<(), StoreError>
-    ensures { OnOk result (key.new ≡ Int (pos number) ∷ []) }
+    ensures made { OnOk result (key.new ≡ Int (pos number) ∷ []) }
+    ensures memory { IfErr result (λ error. error ≡ StoreError.OutOfMemory) }
 {
     number_key(key, i64::from(number))
 }

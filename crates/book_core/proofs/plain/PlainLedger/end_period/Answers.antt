@@ -55,6 +55,7 @@ invariant_of-self-2 g c =
           (λ entry. treatment_at period_end (has_name_in ledger.posted entry) entry.1) ledger.held.entries
           ledger.posted c.in_ok-posted.posted closed _ c.push.new.self.items
           pushed ledger.named c.in_ok-posted.ensures c.in_ok-treatments.ensures;
+      few = ledger.few;
       counted = ap length pushed ∙ length-append closed _
           ∙ ap (λ n. n + 1) ledger.counted
           ∙ sym (length-append (book_in ledger).rulings.closes (c.args.through ∷ []))

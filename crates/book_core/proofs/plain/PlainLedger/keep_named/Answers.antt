@@ -109,6 +109,7 @@ invariant_of-self-2 g c =
           (sym c.in_default.ensures.value) ledger.posted ledger.closed.items ledger.named
           (λ other. ap (under_name other) (sym c.in_ok-insert.ensures.entries)
           ∙ c.in_ok-insert.ensures.updates.0 other));
+      few = ledger.few;
       counted = ledger.counted;
     }
 

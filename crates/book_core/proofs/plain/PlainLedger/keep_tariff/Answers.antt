@@ -59,5 +59,6 @@ invariant_of-self-2 g c =
       recalls = subst (λ held. AllPass (has held) ledger.cache)
           (sym (held_stay c.reprice.ensures)) ledger.recalls;
       named = still_named-anew c.reprice.ensures ledger.posted ledger.closed.items ledger.named;
+      few = ledger.few;
       counted = ledger.counted ∙ ap (λ (rulings : Rulings). length rulings.closes) rulings;
     }

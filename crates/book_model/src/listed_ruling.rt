@@ -1,0 +1,24 @@
+/// A ruling of the office, as the list of rulings shows it.
+#[derive(Debug, Drop)]
+pub enum ListedRuling {
+    /// A tariff that came as a text: its first day, and the text of its file.
+    Tariff {
+        day: i32,
+        text: String,
+    },
+    /// A close: the number of the period, and the day through which it was closed.
+    Close {
+        period: u16,
+        through: i32,
+    },
+    /// A choice: its number, from 1, the period that was open then, and the name of the record.
+    Choice {
+        number: u32,
+        period: u16,
+        name: [u8; 32],
+    },
+    /// The second rule of identity was adopted while this period was open.
+    Adoption {
+        period: u16,
+    },
+}
