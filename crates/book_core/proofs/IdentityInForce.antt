@@ -3,10 +3,8 @@ use Rattle.std.proofs.Common.{◌≡◌, ◌∙◌, ℕ, ◌-◌, List, [], ◌+
 use Rattle.std.proofs.Common.{true, false, true≢false, Option, Some, None, is_some, replicate}
 use Rattle.std.proofs.Common.{append-nil}
 use Rattle.std.proofs.Math.Seq.{take-append_seam}
-use Rattle.smf_type30.specs.Layout.{initiation}
-use Rattle.smf_type30.specs.Usage.{identity_of, identity2_of}
-use Rattle.book_model.specs.Words.{Rulings, identification, identity_by, identity_length}
-use Rattle.book_model.specs.Words.{identity2_length, part_in}
+use Rattle.smf_type30.specs.Usage.{identity_of, identity2_of, initiation_of}
+use Rattle.book_model.specs.Words.{Rulings, identity_by, identity_length, identity2_length}
 use Rattle.book_core.specs.Identities.{IsPaddedIdentity, identity_in, padded_identity}
 
 -- what is at the start
@@ -55,7 +53,7 @@ pub first_in_second : (bytes second : List ℕ) → second ≡ identity2_of byte
 unfolding identity2_of
 first_in_second bytes second is long =
     ap (take identity_length) is
-    ∙ ap (λ n. take n (identity_of bytes ++ part_in bytes identification initiation)) (sym long)
+    ∙ ap (λ n. take n (identity_of bytes ++ initiation_of bytes)) (sym long)
     ∙ take-append_seam (identity_of bytes) _
 
 -- so the identity in force is that of the record

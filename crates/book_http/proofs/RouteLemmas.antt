@@ -15,8 +15,9 @@ use Rattle.book_reports.specs.declared.report.PeriodReport.{PeriodReport}
 use Rattle.book_reports.specs.declared.report.PeriodReport.TheVariants as of_period
 use Rattle.book_reports.specs.declared.report.Report.{Report}
 use Rattle.book_reports.specs.declared.report.Report.TheVariants.{Statement, StatementTable}
-use Rattle.book_reports.specs.declared.report.Report.TheVariants.{AdjustmentList, OfCentre}
-use Rattle.book_reports.specs.declared.report.Report.TheVariants.{DisputeList, PeriodList}
+use Rattle.book_reports.specs.declared.report.Report.TheVariants.{AdjustmentList, AdjustmentTable}
+use Rattle.book_reports.specs.declared.report.Report.TheVariants.{DisputeList, DisputeTable}
+use Rattle.book_reports.specs.declared.report.Report.TheVariants.{OfCentre, PeriodList}
 use Rattle.book_http.specs.declared.route.Route.{Route}
 use Rattle.book_http.specs.declared.route.Route.TheVariants as route_to
 use Rattle.book_http.specs.Paths.{IsPathPeriod, IsPathOf, IsServedRoute, path_text, period_path}
@@ -38,6 +39,7 @@ served_of_all : (asked : PeriodReport) (path : List ℕ) (n : ℕ) → IsPathPer
 served_of_all of_period.Statement path n named is = (named, is)
 served_of_all of_period.StatementTable path n named is = (named, is)
 served_of_all of_period.AdjustmentList path n named is = (named, is)
+served_of_all of_period.AdjustmentTable path n named is = (named, is)
 
 -- the path of one on a centre
 centre_path : (front number name : List ℕ)
@@ -106,7 +108,9 @@ page_route page.Periods path h = (tt, h)
 page_route page.Statement path h = after_served of_period.Statement path
 page_route page.StatementCsv path h = after_served of_period.StatementTable path
 page_route page.Adjustments path h = after_served of_period.AdjustmentList path
+page_route page.AdjustmentsCsv path h = after_served of_period.AdjustmentTable path
 page_route page.Disputes path h = (tt, h)
+page_route page.DisputesCsv path h = (tt, h)
 page_route page.Import path h = (tt, h)
 page_route page.ImportBdw path h = (tt, h)
 
@@ -126,6 +130,7 @@ abbrev page_for : PeriodReport → Page
 page_for of_period.Statement = page.Statement
 page_for of_period.StatementTable = page.StatementCsv
 page_for of_period.AdjustmentList = page.Adjustments
+page_for of_period.AdjustmentTable = page.AdjustmentsCsv
 
 at_page : (asked : PeriodReport) (path : List ℕ)
     → route_at (page_for asked) path ≡ report_after asked (period_path asked) path
@@ -133,6 +138,7 @@ unfolding route_at
 at_page of_period.Statement path = refl
 at_page of_period.StatementTable path = refl
 at_page of_period.AdjustmentList path = refl
+at_page of_period.AdjustmentTable path = refl
 
 -- a path with a period's number after the prefix is found there, whatever follows
 page_numbered : (front rest : List ℕ) (n : ℕ) (key : RouteOf Page)
@@ -152,6 +158,8 @@ period_page of_period.StatementTable rest n named =
     page_numbered (codes "/statement-csv/") rest n _ refl refl named
 period_page of_period.AdjustmentList rest n named =
     page_numbered (codes "/adjustments/") rest n _ refl refl named
+period_page of_period.AdjustmentTable rest n named =
+    page_numbered (codes "/adjustments-csv/") rest n _ refl refl named
 
 periods_found : page_of (codes "/periods") ≡ Some page.Periods
 unfolding matchit_on_literals route_rows page_of
@@ -160,6 +168,10 @@ periods_found = refl
 disputes_found : page_of (codes "/disputes") ≡ Some page.Disputes
 unfolding matchit_on_literals route_rows page_of
 disputes_found = refl
+
+disputes_csv_found : page_of (codes "/disputes-csv") ≡ Some page.DisputesCsv
+unfolding matchit_on_literals route_rows page_of
+disputes_csv_found = refl
 
 import_found : page_of (codes "/import") ≡ Some page.Import
 unfolding matchit_on_literals route_rows page_of
@@ -230,11 +242,15 @@ served_found (route_to.Report (StatementTable n)) served =
     all_found of_period.StatementTable n served
 served_found (route_to.Report (AdjustmentList n)) served =
     all_found of_period.AdjustmentList n served
+served_found (route_to.Report (AdjustmentTable n)) served =
+    all_found of_period.AdjustmentTable n served
 served_found (route_to.Report (OfCentre asked n centre)) served =
     subst (λ path. route path ≡ Some (route_to.Report (OfCentre asked n centre)))
     (centre_path (period_path asked) (decimal n) centre)
     (own_found asked n centre served.0 served.1)
 served_found (route_to.Report DisputeList) served = on_page page.Disputes _ _ disputes_found refl
+served_found (route_to.Report DisputeTable) served =
+    on_page page.DisputesCsv _ _ disputes_csv_found refl
 served_found (route_to.Import Rdw) served = on_page page.Import _ _ import_found refl
 served_found (route_to.Import Bdw) served = on_page page.ImportBdw _ _ import_bdw_found refl
 

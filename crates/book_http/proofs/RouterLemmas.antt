@@ -188,7 +188,9 @@ plain_path page.Periods = Some (codes "/periods")
 plain_path page.Statement = None
 plain_path page.StatementCsv = None
 plain_path page.Adjustments = None
+plain_path page.AdjustmentsCsv = None
 plain_path page.Disputes = Some (codes "/disputes")
+plain_path page.DisputesCsv = Some (codes "/disputes-csv")
 plain_path page.Import = Some (codes "/import")
 plain_path page.ImportBdw = Some (codes "/import-bdw")
 
@@ -199,12 +201,14 @@ IsPlain key =
 
 rows_are_plain : OfKeys IsPlain route_rows
 unfolding matchit_on_literals route_rows
-rows_are_plain =
-    (tt, ((refl, refl), ((refl, refl), ((refl, refl), ((refl, refl), (tt, (tt, tt)))))))
+rows_are_plain = (
+  tt,
+  (tt, ((refl, refl), ((refl, refl), ((refl, refl), ((refl, refl), ((refl, refl), (tt, (tt, tt)))))))),
+)
 
 rows_stand : StandAt [] route_rows
 unfolding matchit_on_literals route_rows
-rows_stand = (refl, (refl, (refl, (refl, (refl, (refl, (refl, tt)))))))
+rows_stand = (refl, (refl, (refl, (refl, (refl, (refl, (refl, (refl, (refl, tt)))))))))
 
 -- where both hold of a key, the path is the one of its page
 path_of_key : (path pattern : List ℕ) (text : Option (List ℕ))

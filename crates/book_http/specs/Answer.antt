@@ -8,6 +8,7 @@ use Rattle.book_model.specs.declared.fault.LedgerFault.{LedgerFault}
 use Rattle.book_model.specs.declared.fault.LedgerFault.TheVariants.{NoSuchPeriod, NoSuchTariff}
 use Rattle.book_model.specs.Words.{Naming, Book, Event}
 use Rattle.book_core.specs.Transition.{Transition, NoEvent}
+use Rattle.book_reports.specs.declared.report.PeriodReport.TheVariants.{AdjustmentTable}
 use Rattle.book_reports.specs.declared.report.PeriodReport.TheVariants.{StatementTable}
 use Rattle.book_reports.specs.declared.report.Report.{Report}
 use Rattle.book_reports.specs.declared.report.Report.TheVariants as report
@@ -25,7 +26,10 @@ use Rattle.book_http.specs.Replies.{Reply, success, refusal, other_method, recei
 
 abbrev pub body_kind : Report → BodyKind
 body_kind (report.StatementTable period) = Csv
+body_kind (report.AdjustmentTable period) = Csv
+body_kind report.DisputeTable = Csv
 body_kind (report.OfCentre StatementTable period centre) = Csv
+body_kind (report.OfCentre AdjustmentTable period centre) = Csv
 body_kind report = Text
 
 -- What the office answered, as a reply. No ruling is asked over HTTP.

@@ -5,8 +5,9 @@ use Rattle.book_model.specs.Words.{IsName}
 use Rattle.book_reports.specs.declared.report.PeriodReport.{PeriodReport}
 use Rattle.book_reports.specs.declared.report.PeriodReport.TheVariants as of_period
 use Rattle.book_reports.specs.declared.report.Report.TheVariants.{Statement, StatementTable}
-use Rattle.book_reports.specs.declared.report.Report.TheVariants.{AdjustmentList, OfCentre}
-use Rattle.book_reports.specs.declared.report.Report.TheVariants.{DisputeList, PeriodList}
+use Rattle.book_reports.specs.declared.report.Report.TheVariants.{AdjustmentList, AdjustmentTable}
+use Rattle.book_reports.specs.declared.report.Report.TheVariants.{DisputeList, DisputeTable}
+use Rattle.book_reports.specs.declared.report.Report.TheVariants.{OfCentre, PeriodList}
 use Rattle.book_http.specs.declared.route.Route.{Route}
 use Rattle.book_http.specs.declared.route.Route.TheVariants as route_to
 
@@ -21,8 +22,10 @@ IsServedRoute (route_to.Report PeriodList) = ⊤
 IsServedRoute (route_to.Report (Statement n)) = IsPathPeriod n
 IsServedRoute (route_to.Report (StatementTable n)) = IsPathPeriod n
 IsServedRoute (route_to.Report (AdjustmentList n)) = IsPathPeriod n
+IsServedRoute (route_to.Report (AdjustmentTable n)) = IsPathPeriod n
 IsServedRoute (route_to.Report (OfCentre asked n centre)) = IsPathPeriod n × IsName centre
 IsServedRoute (route_to.Report DisputeList) = ⊤
+IsServedRoute (route_to.Report DisputeTable) = ⊤
 IsServedRoute (route_to.Import layout) = ⊤
 
 -- where what a period has is served
@@ -30,6 +33,7 @@ abbrev pub period_path : PeriodReport → List ℕ
 period_path of_period.Statement = codes "/statement/"
 period_path of_period.StatementTable = codes "/statement-csv/"
 period_path of_period.AdjustmentList = codes "/adjustments/"
+period_path of_period.AdjustmentTable = codes "/adjustments-csv/"
 
 -- the path of what is served
 abbrev pub path_text : Route → List ℕ
@@ -37,9 +41,11 @@ path_text (route_to.Report PeriodList) = codes "/periods"
 path_text (route_to.Report (Statement n)) = period_path of_period.Statement ++ decimal n
 path_text (route_to.Report (StatementTable n)) = period_path of_period.StatementTable ++ decimal n
 path_text (route_to.Report (AdjustmentList n)) = period_path of_period.AdjustmentList ++ decimal n
+path_text (route_to.Report (AdjustmentTable n)) = period_path of_period.AdjustmentTable ++ decimal n
 path_text (route_to.Report (OfCentre asked n centre)) =
     period_path asked ++ decimal n ++ codes "/" ++ centre
 path_text (route_to.Report DisputeList) = codes "/disputes"
+path_text (route_to.Report DisputeTable) = codes "/disputes-csv"
 path_text (route_to.Import Rdw) = codes "/import"
 path_text (route_to.Import Bdw) = codes "/import-bdw"
 

@@ -1,4 +1,4 @@
--- How the route of a path is looked up, by matchit's reading of the seven route texts. That this
+-- How the route of a path is looked up, by matchit's reading of the nine route texts. That this
 -- finds what Paths says, and nothing else, is a clause of the function that looks it up.
 use Rattle.std.specs.Prelude.{ℕ, Bool, if◌then◌else◌, List, [], ◌∷◌, ◌==◌, codes, length, drop, nat_eq}
 use Rattle.std.specs.Prelude.{Option, Some, None, option_and_then, option_map, Result, Ok, Err}
@@ -75,7 +75,10 @@ route_at page.StatementCsv path =
     report_after of_period.StatementTable (codes "/statement-csv/") path
 route_at page.Adjustments path =
     report_after of_period.AdjustmentList (codes "/adjustments/") path
+route_at page.AdjustmentsCsv path =
+    report_after of_period.AdjustmentTable (codes "/adjustments-csv/") path
 route_at page.Disputes path = Some (route_to.Report report_of.DisputeList)
+route_at page.DisputesCsv path = Some (route_to.Report report_of.DisputeTable)
 route_at page.Import path = Some (route_to.Import Rdw)
 route_at page.ImportBdw path = Some (route_to.Import Bdw)
 
@@ -88,16 +91,18 @@ with_scan (Err error) value rows = rows
 abbrev pub with_route : List ℕ → Page → RowsOf (RouteOf Page) → RowsOf (RouteOf Page)
 with_route text value rows = with_scan (parse_route text) value rows
 
--- the seven routes
+-- the nine routes
 unfoldable pub route_rows : RowsOf (RouteOf Page)
 route_rows =
     with_route (codes "/import-bdw") page.ImportBdw
     (with_route (codes "/import") page.Import
+    (with_route (codes "/disputes-csv") page.DisputesCsv
     (with_route (codes "/disputes") page.Disputes
+    (with_route (codes "/adjustments-csv/{*rest}") page.AdjustmentsCsv
     (with_route (codes "/adjustments/{*rest}") page.Adjustments
     (with_route (codes "/statement-csv/{*rest}") page.StatementCsv
     (with_route (codes "/statement/{*rest}") page.Statement
-    (with_route (codes "/periods") page.Periods []))))))
+    (with_route (codes "/periods") page.Periods []))))))))
 
 -- the page of a path
 unfoldable pub page_of : List ℕ → Option Page

@@ -21,8 +21,10 @@ fn body_kind(report: &Report) -> BodyKind
 {
     match report {
         Report::StatementTable(_)
+        | Report::AdjustmentTable(_)
+        | Report::DisputeTable
         | Report::OfCentre {
-            report: PeriodReport::StatementTable,
+            report: PeriodReport::StatementTable | PeriodReport::AdjustmentTable,
             ..
         } => BodyKind::Csv,
         _ => BodyKind::Text,

@@ -35,8 +35,12 @@ pub enum Page {
     StatementCsv,
     /// The adjustments of a period.
     Adjustments,
+    /// The adjustments of a period as rows with commas.
+    AdjustmentsCsv,
     /// The list of the disputes.
     Disputes,
+    /// The records in dispute as rows with commas.
+    DisputesCsv,
     /// Dumps of segments are submitted.
     Import,
     /// Dumps of blocks are submitted.
@@ -62,7 +66,9 @@ fn pages(alloc: Global) -> Result<Router<Page>, InsertError>
     let router = with_page(router, "/statement/{*rest}", Page::Statement)?;
     let router = with_page(router, "/statement-csv/{*rest}", Page::StatementCsv)?;
     let router = with_page(router, "/adjustments/{*rest}", Page::Adjustments)?;
+    let router = with_page(router, "/adjustments-csv/{*rest}", Page::AdjustmentsCsv)?;
     let router = with_page(router, "/disputes", Page::Disputes)?;
+    let router = with_page(router, "/disputes-csv", Page::DisputesCsv)?;
     let router = with_page(router, "/import", Page::Import)?;
     with_page(router, "/import-bdw", Page::ImportBdw)
 }
@@ -156,7 +162,11 @@ fn route_at(page: Page, path: &str) -> Option<Route>
         Page::Statement => report_after(PeriodReport::Statement, "/statement/", path),
         Page::StatementCsv => report_after(PeriodReport::StatementTable, "/statement-csv/", path),
         Page::Adjustments => report_after(PeriodReport::AdjustmentList, "/adjustments/", path),
+        Page::AdjustmentsCsv => {
+            report_after(PeriodReport::AdjustmentTable, "/adjustments-csv/", path)
+        }
         Page::Disputes => Some(Route::Report(Report::DisputeList)),
+        Page::DisputesCsv => Some(Route::Report(Report::DisputeTable)),
         Page::Import => Some(Route::Import(Layout::Rdw)),
         Page::ImportBdw => Some(Route::Import(Layout::Bdw)),
     }

@@ -10,9 +10,7 @@ use Rattle.std.proofs.lemmas.Map.Lookups.{exact_bytes}
 use Rattle.std.proofs.lemmas.Map.Views.{tells_apart}
 use Rattle.std.proofs.Math.Seq.{take-append_seam}
 use Rattle.smf_type30.specs.Class.{IsUsage}
-use Rattle.smf_type30.specs.Layout.{identification, initiation}
-use Rattle.smf_type30.specs.Section.{part_in}
-use Rattle.smf_type30.specs.Usage.{identity_of, identity2_of}
+use Rattle.smf_type30.specs.Usage.{identity_of, identity2_of, initiation_of}
 use Rattle.smf_type30.proofs.IdentityLength.{identity-long}
 use Rattle.book_model.specs.Charged.{share_identity, conflict, is_unrivalled, is_chosen}
 use Rattle.book_model.specs.Charged.{last_chosen, is_undisputed, charged_now}
@@ -132,7 +130,7 @@ pub identities_split : (a b : List ℕ) → IsUsage a → IsUsage b
     → same_bytes (identity_of a) (identity_of b) ≡ true
 unfolding identity2_of
 identities_split a b usage_a usage_b same =
-    let behind : List ℕ → List ℕ = λ bytes. part_in bytes identification initiation in
+    let behind : List ℕ → List ℕ = λ bytes. initiation_of bytes in
     let both : identity_of a ++ behind a ≡ identity_of b ++ behind b =
     tells_apart exact_bytes (identity_of a ++ behind a) (identity_of b ++ behind b)
     (sym (λ i. same_bytes-by_cmp i (identity_of a ++ behind a) (identity_of b ++ behind b))

@@ -1,6 +1,7 @@
 -- The words of the standard, the tariffs and the books, from one place, for the crates above. Read
 -- in the order of `specs/Lib.antt` of each crate: it says what each word means.
 pub use Rattle.smf_text.specs.Day.{IsDay, date_of, day_text_of}
+pub use Rattle.smf_text.specs.PackedDate.{packed_day_of}
 pub use Rattle.smf_text.specs.Names.{IsName, is_name_character}
 pub use Rattle.smf_text.specs.CodePage.{show_text}
 pub use Rattle.smf_frames.specs.Number.{number, part}
@@ -11,11 +12,11 @@ pub use Rattle.smf_frames.specs.Joining.{Joining, HasTaken, broken_by, released,
 pub use Rattle.smf_frames.specs.Joining.{nothing_joined}
 pub use Rattle.smf_frames.specs.Feeding.{Feeds}
 pub use Rattle.smf_frames.specs.Texts.{texts}
-pub use Rattle.smf_type30.specs.Layout.{identification, job_end, step_number}
+pub use Rattle.smf_type30.specs.Layout.{hundredths_per_day, identification, job_end, step_number}
 pub use Rattle.smf_type30.specs.Section.{offset_of, part_in}
 pub use Rattle.smf_type30.specs.Usage.{completion_of, day_of, identity2_length, identity2_of}
 pub use Rattle.smf_type30.specs.Usage.{identity_length, identity_of, job_id_of, job_of, program_of}
-pub use Rattle.smf_type30.specs.Usage.{step_of, subtype_of}
+pub use Rattle.smf_type30.specs.Usage.{initiation_of, step_of, subtype_of}
 pub use Rattle.smf_type30.specs.Class.{IsUsage, class_of, type_of}
 pub use Rattle.smf_type30.specs.Damage.{damage_number}
 pub use Rattle.tariff_rules.specs.Terms.{Terms}

@@ -13,16 +13,19 @@ use Rattle.book_model.specs.Words.{periods_outcome, Naming, rows_for}
 use Rattle.report_texts.specs.Statements.{statement_text}
 use Rattle.report_texts.specs.StatementTables.{statement_table}
 use Rattle.report_texts.specs.AdjustmentLists.{adjustment_list_text}
-use Rattle.report_texts.specs.Centres.{centre_adjustments_text, centre_statement_table}
-use Rattle.report_texts.specs.Centres.{centre_statement_text}
+use Rattle.report_texts.specs.AdjustmentTables.{adjustment_table}
+use Rattle.report_texts.specs.Centres.{centre_adjustment_table, centre_adjustments_text}
+use Rattle.report_texts.specs.Centres.{centre_statement_table, centre_statement_text}
 use Rattle.report_texts.specs.DisputeLists.{dispute_list_text}
+use Rattle.report_texts.specs.DisputeTables.{dispute_table}
 use Rattle.report_texts.specs.PeriodLists.{period_list_text}
 use Rattle.book_reports.specs.declared.report.PeriodReport.{PeriodReport}
 use Rattle.book_reports.specs.declared.report.PeriodReport.TheVariants as of_period
 use Rattle.book_reports.specs.declared.report.Report.{Report}
 use Rattle.book_reports.specs.declared.report.Report.TheVariants.{Statement, StatementTable}
-use Rattle.book_reports.specs.declared.report.Report.TheVariants.{AdjustmentList, OfCentre}
-use Rattle.book_reports.specs.declared.report.Report.TheVariants.{DisputeList, PeriodList}
+use Rattle.book_reports.specs.declared.report.Report.TheVariants.{AdjustmentList, AdjustmentTable}
+use Rattle.book_reports.specs.declared.report.Report.TheVariants.{DisputeList, DisputeTable}
+use Rattle.book_reports.specs.declared.report.Report.TheVariants.{OfCentre, PeriodList}
 
 -- the answer with its value shown; a refusal stays one
 abbrev pub shown_by : {V A : Type 0} → (V → A) → Result V LedgerFault → Result A LedgerFault
@@ -42,6 +45,7 @@ abbrev pub report_of_all : PeriodReport → ℕ → Report
 report_of_all of_period.Statement period = Statement period
 report_of_all of_period.StatementTable period = StatementTable period
 report_of_all of_period.AdjustmentList period = AdjustmentList period
+report_of_all of_period.AdjustmentTable period = AdjustmentTable period
 
 -- the centre that a text names, if it is a name
 abbrev pub centre_named : List ℕ → Option (List ℕ)
@@ -57,6 +61,8 @@ centre_answer naming of_period.StatementTable period centre book =
 centre_answer naming of_period.AdjustmentList period centre book =
     shown_by (centre_adjustments_text centre period (closed_through book period))
     (adjustments_outcome naming period book).answer
+centre_answer naming of_period.AdjustmentTable period centre book =
+    shown_by (centre_adjustment_table centre period) (adjustments_outcome naming period book).answer
 
 -- what a book answers to a report: its text, or the refusal of a period that is not there
 abbrev pub report_answer : Naming → Report → Book → Result (List ℕ) LedgerFault
@@ -67,10 +73,14 @@ report_answer naming (StatementTable period) book =
 report_answer naming (AdjustmentList period) book =
     shown_by (adjustment_list_text period (closed_through book period))
     (adjustments_outcome naming period book).answer
+report_answer naming (AdjustmentTable period) book =
+    shown_by (adjustment_table period) (adjustments_outcome naming period book).answer
 report_answer naming (OfCentre report period centre) book =
     centre_answer naming report period centre book
 report_answer naming DisputeList book =
     shown_by dispute_list_text (disputes_outcome naming book).answer
+report_answer naming DisputeTable book =
+    shown_by dispute_table (disputes_outcome naming book).answer
 report_answer naming PeriodList book = shown_by period_list_text (periods_outcome book).answer
 
 -- what a ledger is asked about one centre

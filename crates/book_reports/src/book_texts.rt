@@ -10,8 +10,9 @@ ghost use Rattle.book_reports.specs.BookTexts as spec;
 use crate::report::{PeriodReport, Report};
 use book_core::{Ledger, LedgerFault};
 use report_texts::{
-    adjustment_list_text, centre_adjustments_text, centre_statement_table, centre_statement_text,
-    dispute_list_text, period_list_text, statement_table, statement_text,
+    adjustment_list_text, adjustment_table, centre_adjustment_table, centre_adjustments_text,
+    centre_statement_table, centre_statement_text, dispute_list_text, dispute_table,
+    period_list_text, statement_table, statement_text,
 };
 use smf_text::Name;
 use std::alloc::{AllocError, Global};
@@ -65,6 +66,10 @@ fn centre_text<L: Ledger>(
                 Ok(centre_adjustments_text(alloc, centre, period, through, lines)?.into_bytes())
             })
         }
+        PeriodReport::AdjustmentTable => made_of(
+            ledger.adjustments(period),
+            |lines| centre_adjustment_table(alloc, centre, period, lines),
+        ),
     }
 }
 
@@ -96,6 +101,10 @@ pub fn report_text<L: Ledger>(
                 |lines| Ok(adjustment_list_text(alloc, period, through, &lines)?.into_bytes()),
             )
         }
+        Report::AdjustmentTable(period) => made_of(
+            ledger.adjustments(period),
+            |lines| adjustment_table(alloc, period, &lines),
+        ),
         Report::OfCentre {
             report,
             period,
@@ -104,6 +113,10 @@ pub fn report_text<L: Ledger>(
         Report::DisputeList => made_of(
             ledger.disputes(),
             |disputes| Ok(dispute_list_text(alloc, &disputes)?.into_bytes()),
+        ),
+        Report::DisputeTable => made_of(
+            ledger.disputes(),
+            |disputes| dispute_table(alloc, &disputes),
         ),
         Report::PeriodList => made_of(
             ledger.periods(),

@@ -14,6 +14,8 @@ pub enum PeriodReport {
     StatementTable,
     /// The adjustments.
     AdjustmentList,
+    /// The adjustments as a table of comma-separated values.
+    AdjustmentTable,
 }
 
 /// A report of the books.
@@ -25,6 +27,8 @@ pub enum Report {
     StatementTable(u16),
     /// The adjustments of a period.
     AdjustmentList(u16),
+    /// The adjustments of a period as a table of comma-separated values.
+    AdjustmentTable(u16),
     /// What a period has of one centre.
     OfCentre {
         report: PeriodReport,
@@ -33,6 +37,8 @@ pub enum Report {
     },
     /// The disputes.
     DisputeList,
+    /// The records in dispute as a table of comma-separated values.
+    DisputeTable,
     /// The periods.
     PeriodList,
 }
@@ -45,6 +51,7 @@ pub fn report_of_all(report: PeriodReport, period: u16) -> Report
         PeriodReport::Statement => Report::Statement(period),
         PeriodReport::StatementTable => Report::StatementTable(period),
         PeriodReport::AdjustmentList => Report::AdjustmentList(period),
+        PeriodReport::AdjustmentTable => Report::AdjustmentTable(period),
     }
 }
 

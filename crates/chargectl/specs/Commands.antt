@@ -1,6 +1,6 @@
 -- What each command on books asks of the office, what is written, and how it ends.
 use Rattle.std.specs.Prelude.{◌≡◌, ◌⊎◌, ⊤, Bool, true, false, ℕ, List, Option, Some, None, Result, Ok, Err}
-use Rattle.std.specs.Prelude.{take}
+use Rattle.std.specs.Prelude.{take, if◌then◌else◌}
 use Rattle.std.specs.Borrow.{Bor}
 use Rattle.std.specs.Option.{option_map}
 use Rattle.std.specs.declared.io.ErrorKind.{ErrorKind}
@@ -15,7 +15,8 @@ use Rattle.book_core.specs.Follow.{MakesAnswered}
 use Rattle.book_core.specs.Transition.{Transition}
 use Rattle.book_reports.specs.declared.report.PeriodReport.{PeriodReport}
 use Rattle.book_reports.specs.declared.report.Report.{Report}
-use Rattle.book_reports.specs.declared.report.Report.TheVariants.{DisputeList, OfCentre}
+use Rattle.book_reports.specs.declared.report.Report.TheVariants.{DisputeList, DisputeTable}
+use Rattle.book_reports.specs.declared.report.Report.TheVariants.{OfCentre}
 use Rattle.book_reports.specs.BookTexts.{centre_named, report_of_all}
 use Rattle.office.specs.declared.repository.RepositoryFault.{RepositoryFault}
 use Rattle.office.specs.declared.request.Asked.{Asked}
@@ -41,6 +42,10 @@ period_report report period None = Some (report_of_all report period)
 period_report report period (Some centre) =
     option_map (OfCentre report period) (centre_named centre.now)
 
+-- the disputes, as a list or as a table
+abbrev pub dispute_report : Bool → Report
+dispute_report csv = if csv then DisputeTable else DisputeList
+
 -- The table: what a command asks of the office. The text of a tariff is what its file gave.
 abbrev pub IsAskedBy : BookRequest → Asked → Type 0
 IsAskedBy (book.Tariff file) (asks.Tariff text) = ⊤
@@ -51,7 +56,7 @@ IsAskedBy (book.Choose name) (asks.Choose chosen) = name_in name.now ≡ Some ch
 IsAskedBy book.Adopt (asks.Adopt rule) = rule ≡ 2
 IsAskedBy (book.OfPeriod report period centre) (asks.Report printed) =
     period_report report period centre ≡ Some printed
-IsAskedBy book.Disputes (asks.Report printed) = printed ≡ DisputeList
+IsAskedBy (book.Disputes csv) (asks.Report printed) = printed ≡ dispute_report csv
 IsAskedBy request asked = ⊥
 
 -- it may change the books

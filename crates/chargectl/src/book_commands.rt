@@ -300,17 +300,29 @@ pub(crate) fn import_dump<S: Repository>(
     Ok(answered)
 }
 
-/// Makes the list of disputes.
+/// The disputes, as a list or as a table.
+fn dispute_report(csv: bool) -> Report
+    ensures { result ≡ spec.dispute_report csv }
+{
+    if csv {
+        Report::DisputeTable
+    } else {
+        Report::DisputeList
+    }
+}
+
+/// Makes the list of disputes, or their table.
 pub(crate) fn report_disputes<S: Repository>(
     rt: &HostRuntime,
     repository: &mut S,
     book: &str,
+    csv: bool,
 ) -> Result<Answered, CommandFault>
-    ensures { ComesOf BookRequest.Disputes book.now
+    ensures { ComesOf (BookRequest.Disputes csv) book.now
         (S.shelf repository.old) (S.shelf repository.new) result }
 {
     repository.expect(book)?;
-    let asked = Asked::Report(Report::DisputeList);
+    let asked = Asked::Report(dispute_report(csv));
     Ok(ask_books(rt, repository, book, asked, io::empty()))
 }
 

@@ -119,7 +119,9 @@ fn run_on_books<S: AuditedRepository, O: Write + Drop>(
             report_period(rt, repository, book, report, period, centre),
             output,
         ),
-        BookRequest::Disputes => tell(report_disputes(rt, repository, book), output),
+        BookRequest::Disputes { csv } => {
+            tell(report_disputes(rt, repository, book, csv), output)
+        }
         BookRequest::Audit { quiet } => {
             let audited = audit(rt, repository, book, quiet, &mut output);
             (Ended::settled(audited), output)

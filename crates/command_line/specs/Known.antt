@@ -112,8 +112,8 @@ known_table = (
     (codes "choose", book ∷ digest ∷ []) ∷
     (codes "adopt", book ∷ []) ∷
     (codes "statement", book ∷ period ∷ csv ∷ centre ∷ []) ∷
-    (codes "adjustments", book ∷ period ∷ centre ∷ []) ∷
-    (codes "disputes", book ∷ []) ∷
+    (codes "adjustments", book ∷ period ∷ csv ∷ centre ∷ []) ∷
+    (codes "disputes", book ∷ csv ∷ []) ∷
     (codes "audit", book ∷ quiet ∷ []) ∷
     (codes "backup", book ∷ file ∷ quiet ∷ []) ∷
     (codes "serve", book ∷ port ∷ requests ∷ []) ∷

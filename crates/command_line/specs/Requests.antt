@@ -76,6 +76,10 @@ IsOfPeriod name rows of_period.StatementTable period =
     × IsFlag rows (codes "csv") true
 IsOfPeriod name rows of_period.AdjustmentList period =
     (name ≡ codes "adjustments") × IsNumber rows (codes "period") period
+    × IsFlag rows (codes "csv") false
+IsOfPeriod name rows of_period.AdjustmentTable period =
+    (name ≡ codes "adjustments") × IsNumber rows (codes "period") period
+    × IsFlag rows (codes "csv") true
 
 -- of the centre that is named, or of the whole office where none is
 abbrev pub IsCentre : List Row → Option (Bor Text) → Type 0
@@ -96,7 +100,8 @@ IsOfBooks name rows (book.Choose digest) =
 IsOfBooks name rows book.Adopt = name ≡ codes "adopt"
 IsOfBooks name rows (book.OfPeriod asked period centre) =
     IsOfPeriod name rows asked period × IsCentre rows centre
-IsOfBooks name rows book.Disputes = name ≡ codes "disputes"
+IsOfBooks name rows (book.Disputes csv) =
+    (name ≡ codes "disputes") × IsFlag rows (codes "csv") csv
 IsOfBooks name rows (book.Audit quiet) =
     (name ≡ codes "audit") × IsFlag rows (codes "quiet") quiet
 IsOfBooks name rows (book.BackUp copy quiet) =

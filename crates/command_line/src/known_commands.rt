@@ -124,6 +124,11 @@ const CSV: Argument = Argument::Flag {
     help: "As comma-separated values, without the total",
 };
 
+const DISPUTE_CSV: Argument = Argument::Flag {
+    name: "csv",
+    help: "As comma-separated values, a line for each record",
+};
+
 const CENTRE: Argument = Argument::Maybe(ValuedArgument {
     name: "centre",
     shown: "CENTRE",
@@ -242,12 +247,12 @@ pub(crate) static KNOWN_COMMANDS: [KnownCommand; 15] = [
     KnownCommand {
         name: "adjustments",
         about: "Prints what a period adds to closed periods and reverses in them",
-        words: &[BOOK, PERIOD, CENTRE],
+        words: &[BOOK, PERIOD, CSV, CENTRE],
     },
     KnownCommand {
         name: "disputes",
         about: "Prints the records in dispute",
-        words: &[BOOK],
+        words: &[BOOK, DISPUTE_CSV],
     },
     KnownCommand {
         name: "audit",

@@ -66,7 +66,7 @@ fn service_in<'a>(name: &str, found: &ArgMatches<'a>) -> Option<Request<'a>>
     match name {
         "statement" => of_books_in(found, statement_in(found)),
         "adjustments" => of_books_in(found, adjustments_in(found)),
-        "disputes" => of_books_in(found, Some(BookRequest::Disputes)),
+        "disputes" => of_books_in(found, disputes_in(found)),
         "audit" => of_books_in(found, audit_in(found)),
         "backup" => of_books_in(found, back_up_in(found)),
         "serve" => of_books_in(found, serve_in(found)),
@@ -209,10 +209,15 @@ fn of_period_in<'a>(found: &ArgMatches<'a>, report: PeriodReport, period: u16) -
 
 fn adjustments_in<'a>(found: &ArgMatches<'a>) -> Option<BookRequest<'a>>
     ensures asked { IfSome result (IsOfBooks (codes "adjustments") (rows_in found.now)) }
-    ensures some { HasWord (rows_in found.now) known.period → IsSome result }
+    ensures some { HasWord (rows_in found.now) known.period
+        → HasWord (rows_in found.now) known.csv → IsSome result }
 {
     let period = number_in(found, "period")?;
-    Some(of_period_in(found, PeriodReport::AdjustmentList, period))
+    if flag_in(found, "csv")? {
+        Some(of_period_in(found, PeriodReport::AdjustmentTable, period))
+    } else {
+        Some(of_period_in(found, PeriodReport::AdjustmentList, period))
+    }
 }
 
 fn statement_in<'a>(found: &ArgMatches<'a>) -> Option<BookRequest<'a>>
@@ -226,6 +231,14 @@ fn statement_in<'a>(found: &ArgMatches<'a>) -> Option<BookRequest<'a>>
     } else {
         Some(of_period_in(found, PeriodReport::Statement, period))
     }
+}
+
+fn disputes_in<'a>(found: &ArgMatches<'_>) -> Option<BookRequest<'a>>
+    ensures asked { IfSome result (IsOfBooks (codes "disputes") (rows_in found.now)) }
+    ensures some { HasWord (rows_in found.now) known.csv → IsSome result }
+{
+    let csv = flag_in(found, "csv")?;
+    Some(BookRequest::Disputes { csv })
 }
 
 fn audit_in<'a>(found: &ArgMatches<'_>) -> Option<BookRequest<'a>>

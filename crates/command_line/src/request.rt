@@ -61,8 +61,11 @@ pub enum BookRequest<'a> {
         /// The name of the one centre that it is of; None stands for the whole office.
         centre: Option<&'a str>,
     },
-    /// The list of disputes printed.
-    Disputes,
+    /// The disputes printed.
+    Disputes {
+        /// As a table of comma-separated values.
+        csv: bool,
+    },
     /// The whole file audited.
     Audit {
         /// No progress is shown.

@@ -10,12 +10,12 @@ abbrev zeros_before : ℕ → ℕ → List ℕ
 zeros_before width n = padded_integral (format_spec 32 0 4 width (2 ^ 64 - 1)) false [] (decimal n)
 
 -- that is the number in that many digits
-zeros_before-digits_in : (width n : ℕ) → zeros_before width n ≡ digits_in width n
-zeros_before-digits_in width n =
+pub digits_written : (width n : ℕ) → zeros_before width n ≡ digits_in width n
+digits_written width n =
     padded_integral_zeros (format_spec 32 0 4 width (2 ^ 64 - 1)) (decimal n) refl refl
 
 -- what `{whole}.{rest:0width}` writes
 pub places_written : (whole width rest : ℕ)
     → decimal whole ++ (46 ∷ zeros_before width rest)
     ≡ decimal whole ++ codes "." ++ digits_in width rest
-places_written whole width rest = rw (zeros_before-digits_in width rest) (simp append_assoc)
+places_written whole width rest = rw (digits_written width rest) (simp append_assoc)

@@ -6,6 +6,7 @@ use Rattle.book_model.specs.Words.{same_bytes}
 use Rattle.report_texts.specs.Statements.{titled_statement}
 use Rattle.report_texts.specs.StatementTables.{statement_table}
 use Rattle.report_texts.specs.AdjustmentLists.{titled_adjustments}
+use Rattle.report_texts.specs.AdjustmentTables.{adjustment_table}
 
 -- of charge rows, those of the centre
 abbrev pub rows_of_centre : List ℕ → List ChargeRow → List ChargeRow
@@ -34,3 +35,8 @@ abbrev pub centre_adjustments_text : List ℕ → ℕ → Option ℤ → List Li
 centre_adjustments_text centre period through lines =
     titled_adjustments (centre_title (codes "ADJUSTMENTS") centre) period through
     (lines_of_centre centre lines)
+
+-- the same as a table
+abbrev pub centre_adjustment_table : List ℕ → ℕ → List Line → List ℕ
+centre_adjustment_table centre period lines =
+    adjustment_table period (lines_of_centre centre lines)

@@ -1,11 +1,14 @@
 -- Read in this order: columns and numbers, how a period is named, each text of a whole period, those
--- of one centre, and the lists of disputes and of periods.
+-- of one centre, the disputes as a list and as a table, and the list of periods.
 pub mod Columns
 pub mod Periods
 pub mod Statements
 pub mod StatementTables
 pub mod Tables
 pub mod AdjustmentLists
+pub mod AdjustmentTables
 pub mod Centres
 pub mod DisputeLists
+pub mod Moments
+pub mod DisputeTables
 pub mod PeriodLists

@@ -16,7 +16,7 @@ use std::alloc::{AllocError, Global};
 /// What is charged less what is reversed, in units: a minus sign comes before what is below
 /// zero.
 #[tactic(auto, unfolding(crate::specs::AdjustmentLists::signed_text))]
-fn signed_text(alloc: Global, charged: u64, taken: u64) -> Result<String, AllocError>
+pub(crate) fn signed_text(alloc: Global, charged: u64, taken: u64) -> Result<String, AllocError>
     ensures { IfOk result (λ text. string_bytes text ≡ spec.signed_text charged taken) }
 {
     if charged >= taken {
@@ -53,14 +53,14 @@ fn push_action(
 }
 
 /// What a line charges.
-fn charged_amount(line: &Line) -> u64
+pub(crate) fn charged_amount(line: &Line) -> u64
     ensures { result ≡ spec.charged_amount line.now }
 {
     if line.plus { line.priced.amount } else { 0 }
 }
 
 /// What a line reverses.
-fn reversed_amount(line: &Line) -> u64
+pub(crate) fn reversed_amount(line: &Line) -> u64
     ensures { result ≡ spec.reversed_amount line.now }
 {
     if line.plus { 0 } else { line.priced.amount }
@@ -80,7 +80,7 @@ fn push_record(alloc: Global, out: &mut String, line: &Line) -> Result<(), Alloc
 }
 
 /// The word for whether a line charges its record, or takes the charge back.
-fn word_of(line: &Line) -> &'static str
+pub(crate) fn word_of(line: &Line) -> &'static str
     ensures { result.now ≡ spec.word_of line.now.plus }
 {
     if line.plus { "PLUS" } else { "MINUS" }

@@ -6,6 +6,7 @@ ghost use Rattle.book_model.specs.Words.{AreLines, AreRows, IsDay};
 ghost use Rattle.report_texts.specs.Centres as spec;
 
 use crate::adjustment_lists::titled_adjustments;
+use crate::adjustment_tables::adjustment_table;
 use crate::statement_tables::statement_table;
 use crate::statements::titled_statement;
 use book_model::{ChargeRow, Line};
@@ -90,4 +91,19 @@ pub fn centre_adjustments_text(
     let title = centre_title(alloc, "ADJUSTMENTS", centre)?;
     keep_lines(&mut lines, centre);
     titled_adjustments(alloc, title.as_str(), period, through, &lines)
+}
+
+/// The same as a table: a heading, and a row for each line of the centre.
+pub fn centre_adjustment_table(
+    alloc: Global,
+    centre: Name,
+    period: u16,
+    mut lines: Vec<Line>,
+) -> Result<Vec<u8>, AllocError>
+    requires { AreLines lines.items }
+    ensures { IfOk result (λ table.
+        table.items ≡ spec.centre_adjustment_table centre period lines.items) }
+{
+    keep_lines(&mut lines, centre);
+    adjustment_table(alloc, period, &lines)
 }

@@ -17,7 +17,7 @@ use std::alloc::{AllocError, Global};
 const SECOND_LENGTH: usize = 32;
 
 /// The given number of bytes at an offset.
-fn part(bytes: &[u8], at: usize, count: usize) -> &[u8]
+pub(crate) fn part(bytes: &[u8], at: usize, count: usize) -> &[u8]
     requires { at + count ≤ length bytes.now }
     ensures { result.now ≡ numbers.part bytes.now at count }
 {
@@ -38,7 +38,7 @@ fn push_job(alloc: Global, out: &mut String, identity: &[u8]) -> Result<(), Allo
 
 /// Appends a word, then the time and the date that stand at an offset of an identity.
 #[tactic(auto, unfolding(crate::specs::DisputeLists::moment_text))]
-fn push_moment(
+pub(crate) fn push_moment(
     alloc: Global,
     out: &mut String,
     word: &str,
@@ -86,7 +86,7 @@ fn push_identity(alloc: Global, out: &mut String, identity: &[u8]) -> Result<(),
 
 /// Appends a completion code and a termination indicator.
 #[tactic(auto, unfolding(crate::specs::DisputeLists::completion_text))]
-fn push_completion(
+pub(crate) fn push_completion(
     alloc: Global,
     out: &mut String,
     completion: Option<[u8; 4]>,

@@ -2,19 +2,28 @@
 #![tactic(auto)]
 
 mod adjustment_lists;
+mod adjustment_tables;
 mod centres;
 mod columns;
 mod dispute_lists;
+mod dispute_tables;
+mod fields;
+mod moments;
 mod parts;
 mod period_lists;
 mod periods;
 mod statement_tables;
 mod statements;
+mod tables;
 
 pub use adjustment_lists::adjustment_list_text;
-pub use centres::{centre_adjustments_text, centre_statement_table, centre_statement_text};
+pub use adjustment_tables::adjustment_table;
+pub use centres::{
+    centre_adjustment_table, centre_adjustments_text, centre_statement_table, centre_statement_text,
+};
 pub use columns::push_number;
 pub use dispute_lists::dispute_list_text;
+pub use dispute_tables::dispute_table;
 pub use period_lists::period_list_text;
 pub use statement_tables::statement_table;
 pub use statements::statement_text;

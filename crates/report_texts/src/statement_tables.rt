@@ -1,28 +1,16 @@
 //! Statements as tables of comma-separated values.
 
-ghost use Rattle.std.specs.Prelude.{◌≡◌, ◌++◌, ℕ, List, [], All, IfOk, OnOk, map};
+ghost use Rattle.std.specs.Prelude.{◌≡◌, ◌++◌, ℕ, List, [], All, IfOk, OnOk};
 ghost use Rattle.book_model.specs.Words.{AreRows, IsDay};
-ghost use Rattle.csv.specs.Writing.{row_text, default_writer};
 ghost use Rattle.report_texts.specs.StatementTables as spec;
 ghost use Rattle.report_texts.specs.Tables.{IsBetweenRows};
 
 use crate::columns::{amount_text, seconds_text};
+use crate::tables::{into_bytes, new_table, write_fields};
 use book_model::ChargeRow;
-use csv::{Writer, WriterBuilder};
+use csv::Writer;
 use smf_text::day_text;
 use std::alloc::{AllocError, Global};
-
-/// Writes fields as one row. Nothing but a lack of memory keeps a row from a vector.
-fn write_fields(table: &mut Writer<Vec<u8>>, fields: &[&[u8]]) -> Result<(), AllocError>
-    ensures { OnOk result ((bytes : List ℕ) → IsBetweenRows table.old bytes
-        → IsBetweenRows table.new
-        (bytes ++ row_text default_writer (map (λ field. field.now) fields.now))) }
-{
-    match table.write_fields(fields) {
-        Ok(()) => Ok(()),
-        Err(_) => Err(AllocError),
-    }
-}
 
 /// Writes the names of the columns.
 fn write_heading(table: &mut Writer<Vec<u8>>) -> Result<(), AllocError>
@@ -77,13 +65,10 @@ pub fn statement_table(
     requires { AreRows rows.now }
     ensures { IfOk result (λ table. table.items ≡ spec.statement_table period rows.now) }
 {
-    let mut table = WriterBuilder::new().from_writer(Vec::new(alloc));
+    let mut table = new_table(alloc);
     write_heading(&mut table)?;
     for row in rows {
         write_row(alloc, &mut table, period, *row)?;
     }
-    match table.into_inner() {
-        Ok(bytes) => Ok(bytes),
-        Err(_) => Err(AllocError),
-    }
+    into_bytes(table)
 }

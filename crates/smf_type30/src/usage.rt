@@ -1,6 +1,6 @@
 ghost use Rattle.std.specs.Prelude.{◌≡◌, ◌≤◌, ◌<◌, ◌+◌, ◌-◌, ◌^◌, ◌↔◌, ◌⊎◌, ◌++◌, length, take, IsTrue, IsOk, IfOk, IfErr, Some, option_copied};
 ghost use Rattle.smf_text.specs.Day.{IsDay};
-ghost use Rattle.smf_type30.specs.Layout.{hundredths_per_day, identification, job_end, job_id, job_name, program_name, step_end, step_number, triplets_end};
+ghost use Rattle.smf_type30.specs.Layout.{hundredths_per_day, identification, initiation, job_end, job_id, job_name, program_name, step_end, step_number, triplets_end};
 ghost use Rattle.smf_type30.specs.Accounts.{IsAccount};
 ghost use Rattle.smf_type30.specs.Section.{part_in};
 ghost use Rattle.smf_type30.specs.Usage as spec;
@@ -111,8 +111,17 @@ impl<'a> Type30<'a> {
         let first = self.identity();
         let mut identity = [0; 32];
         put(&mut identity, 0..24, &first);
-        put(&mut identity, 24..32, self.identified(INITIATION));
+        put(&mut identity, 24..32, self.initiation());
         identity
+    }
+
+    /// When the work was initiated: time and date, as in the record.
+    #[tactic(auto, unfolding(crate::specs::Usage::initiation_of))]
+    pub fn initiation(&self) -> &'a [u8]
+        ensures value { result.now ≡ spec.initiation_of self.now }
+        ensures len { length result.now ≡ initiation.len }
+    {
+        self.identified(INITIATION)
     }
 
     /// When the record was moved into the SMF buffer, by its header.

@@ -13,7 +13,8 @@ use Rattle.std.proofs.Math.Bool.{or-true}
 use Rattle.std.proofs.lemmas.Cmp.{nat_list_cmp_total, nat_list_eq_equiv}
 use Rattle.std.proofs.lemmas.List.Sorted.{IsPermutation-sym, IsPermutation-trans}
 use Rattle.std.proofs.lemmas.Map.Lookups.{exact_bytes}
-use Rattle.book_model.specs.Words.{job_id_of, program_of, completion_of, Book, charged_of}
+use Rattle.book_model.specs.Words.{job_id_of, program_of, completion_of, initiation_of}
+use Rattle.book_model.specs.Words.{Book, charged_of}
 use Rattle.book_model.specs.Words.{variant_of, Naming, name_of, by_bytes, price_in, identity_by}
 use Rattle.book_model.specs.Words.{set_of, members, has, those, IsSound, Records, is_undisputed}
 use Rattle.book_model.specs.Words.{same_bytes, share_identity}
@@ -246,6 +247,7 @@ module _ (naming : Naming) (book : Book) (sound : IsSound naming book) where
           job_id = job_id_of bytes;
           program = program_of bytes;
           completion = completion_of bytes;
+          initiation = initiation_of bytes;
         }) price
     one_shown bytes there None none = refl
     one_shown bytes there (Some priced) some = λ i. Some (record {
@@ -254,6 +256,7 @@ module _ (naming : Naming) (book : Book) (sound : IsSound naming book) where
       job_id = job_id_of (sym (framed bytes there).is i);
       program = program_of (sym (framed bytes there).is i);
       completion = completion_of (sym (framed bytes there).is i);
+      initiation = initiation_of (sym (framed bytes there).is i);
     })
 
     -- so do all of them

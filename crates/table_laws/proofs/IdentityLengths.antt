@@ -6,7 +6,7 @@ use Rattle.std.proofs.lemmas.List.{length-take, length-drop, length-append}
 use Rattle.smf_type30.specs.Class.{IsUsage}
 use Rattle.smf_type30.specs.Layout.{identification}
 use Rattle.smf_type30.specs.Section.{offset_of}
-use Rattle.smf_type30.specs.Usage.{identity_of, identity2_of, identity_length}
+use Rattle.smf_type30.specs.Usage.{identity_of, identity2_of, identity_length, initiation_of}
 use Rattle.smf_type30.specs.Usage.{identity2_length}
 use Rattle.smf_type30.proofs.IdentityLength.{identity-long}
 use Rattle.smf_type30.proofs.SectionLemmas.{fits_there}
@@ -26,7 +26,7 @@ both_long first behind one other = simp length-append (omega arith)
 -- by the second rule the time and date of the initiation come after the first identity
 pub identity2-long : (bytes : List ℕ) → IsUsage bytes
     → length (identity2_of bytes) ≡ identity2_length
-unfolding identity2_of
+unfolding identity2_of initiation_of
 identity2-long bytes usage =
     let there = fits_there bytes identification (usage_identified bytes usage)
     (usage_identification bytes usage) in

@@ -5,7 +5,7 @@ use Rattle.std.specs.List.{list_any}
 use Rattle.std.specs.Ordering.{ordering_then}
 use Rattle.std.specs.declared.cmp.Ordering.{Ordering}
 use Rattle.book_model.specs.Words.{record_with, job_id_of, program_of, completion_of, Disputed}
-use Rattle.book_model.specs.Words.{by_bytes, same_bytes, set_of, members}
+use Rattle.book_model.specs.Words.{by_bytes, initiation_of, same_bytes, set_of, members}
 use Rattle.book_model.specs.declared.dispute.Variant.{Variant}
 use Rattle.table_model.specs.Tables.{RecordRow, RecordTable, Tables}
 use Rattle.table_model.specs.Views.{rows_with}
@@ -27,6 +27,7 @@ variant_read row = record {
   job_id = job_id_of (record_with row.1.data_bytes);
   program = program_of (record_with row.1.data_bytes);
   completion = completion_of (record_with row.1.data_bytes);
+  initiation = initiation_of (record_with row.1.data_bytes);
 }
 
 -- a dispute of one row

@@ -60,6 +60,7 @@ fn variant(alloc: Global, stored: &StoredRecord) -> Result<Variant, StoreError>
         job_id: copied(usage.job_id()),
         program: copied(usage.program()),
         completion: usage.completion(),
+        initiation: copied(usage.initiation()),
     })
 }
 

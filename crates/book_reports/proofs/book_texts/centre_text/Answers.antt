@@ -1,6 +1,6 @@
 use Rattle.std.proofs.Common.{refl, rules}
-use Rattle.report_texts.specs.Centres.{centre_adjustments_text, centre_statement_table}
-use Rattle.report_texts.specs.Centres.{centre_statement_text}
+use Rattle.report_texts.specs.Centres.{centre_adjustment_table, centre_adjustments_text}
+use Rattle.report_texts.specs.Centres.{centre_statement_table, centre_statement_text}
 use Rattle.book_reports.proofs.ReadingLemmas.{call_failed, call_made, period_made}
 use Rattle.book_reports.proofs.book_texts.centre_text.Goals as goal
 
@@ -37,3 +37,9 @@ returns-in_ok-through-in-AdjustmentList g c =
     (period_made _ (centre_adjustments_text c.args.centre c.args.period) (λ book. refl) day
     (rw day.work.naming at c.adjustments.ensures.lines) c.made_of-in-AdjustmentList.ensures
     λ lines text made. search rules)
+
+pub returns-in-AdjustmentTable : goal.returns-in-AdjustmentTable
+returns-in-AdjustmentTable g c =
+    rw c.in-AdjustmentTable.is (call_made (centre_adjustment_table c.args.centre c.args.period)
+    (λ book. refl) c.adjustments-in-AdjustmentTable.ensures.lines
+    c.made_of-in-AdjustmentTable.ensures λ lines table made. search rules)

@@ -2,7 +2,9 @@ use Rattle.std.proofs.Common.{refl, rules}
 use Rattle.report_texts.specs.Statements.{statement_text}
 use Rattle.report_texts.specs.StatementTables.{statement_table}
 use Rattle.report_texts.specs.AdjustmentLists.{adjustment_list_text}
+use Rattle.report_texts.specs.AdjustmentTables.{adjustment_table}
 use Rattle.report_texts.specs.DisputeLists.{dispute_list_text}
+use Rattle.report_texts.specs.DisputeTables.{dispute_table}
 use Rattle.report_texts.specs.PeriodLists.{period_list_text}
 use Rattle.book_reports.proofs.ReadingLemmas.{call_failed, call_made, period_made}
 use Rattle.book_reports.proofs.book_texts.report_text.Goals as goal
@@ -39,6 +41,18 @@ returns-in_ok-through-in-AdjustmentList g c =
     rw c.in-AdjustmentList.is (period_made _ (adjustment_list_text c.in-AdjustmentList.period)
     (λ book. refl) day (rw day.work.naming at c.adjustments.ensures.lines)
     c.made_of-in-AdjustmentList.ensures λ lines text made. search rules)
+
+pub returns-in-AdjustmentTable : goal.returns-in-AdjustmentTable
+returns-in-AdjustmentTable g c =
+    rw c.in-AdjustmentTable.is (call_made (adjustment_table c.in-AdjustmentTable.period)
+    (λ book. refl) c.adjustments-in-AdjustmentTable.ensures.lines
+    c.made_of-in-AdjustmentTable.ensures λ lines table made. search rules)
+
+pub returns-in-DisputeTable : goal.returns-in-DisputeTable
+returns-in-DisputeTable g c =
+    rw c.in-DisputeTable.is (call_made dispute_table (λ book. refl)
+    c.disputes-in-DisputeTable.ensures.disputes c.made_of-in-DisputeTable.ensures
+    λ disputes table made. search rules)
 
 pub returns-in-DisputeList : goal.returns-in-DisputeList
 returns-in-DisputeList g c =

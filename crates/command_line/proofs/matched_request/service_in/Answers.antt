@@ -1,4 +1,4 @@
-use Rattle.std.proofs.Common.{subst, sym, refl}
+use Rattle.std.proofs.Common.{subst, sym}
 use Rattle.std.specs.Prelude.{IfSome}
 use Rattle.command_line.specs.Given.{HasWords, HasWordsOf}
 use Rattle.command_line.specs.Known.{known_table}
@@ -30,14 +30,21 @@ unfolding known_table
 returns-in-adjustments-clause-some c =
     λ has others.
     let words = subst (λ n. HasWordsOf n (rows_in c.args.found.now)) c.in-adjustments.is has in
-    c.of_books_in-in-adjustments.ensures.some words.0 (c.adjustments_in.ensures.some words.1.0)
+    c.of_books_in-in-adjustments.ensures.some words.0
+    (c.adjustments_in.ensures.some words.1.0 words.1.1.0)
+
+pub returns-in-disputes-clause-request : goal.returns-in-disputes-clause-request
+returns-in-disputes-clause-request c =
+    c.of_books_in-in-disputes.ensures.request c.args.name.now
+    (subst (λ n. IfSome c.disputes_in.result (IsOfBooks n (rows_in c.args.found.now)))
+    (sym c.in-disputes.is) c.disputes_in.ensures.asked)
 
 pub returns-in-disputes-clause-some : goal.returns-in-disputes-clause-some
 unfolding known_table
 returns-in-disputes-clause-some c =
     λ has others.
     let words = subst (λ n. HasWordsOf n (rows_in c.args.found.now)) c.in-disputes.is has in
-    c.of_books_in-in-disputes.ensures.some words.0 refl
+    c.of_books_in-in-disputes.ensures.some words.0 (c.disputes_in.ensures.some words.1.0)
 
 pub returns-in-audit-clause-request : goal.returns-in-audit-clause-request
 returns-in-audit-clause-request c =
