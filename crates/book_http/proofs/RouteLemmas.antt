@@ -1,13 +1,15 @@
 -- What a path is found to be for is what has that path, and what has it is found.
-use Rattle.std.proofs.Common.{◌≡◌, ℕ, Bool, true, false, cond, List, [], ◌∷◌, ◌++◌, codes, refl, sym}
-use Rattle.std.proofs.Common.{ap, ap₂, subst, ◌∙◌, Option, Some, None, IfSome, append_assoc, append-nil}
+use Rattle.std.proofs.Common.{◌≡◌, ◌<◌, ℕ, Bool, true, false, cond, List, [], ◌∷◌, ◌++◌, codes, refl, sym}
+use Rattle.std.proofs.Common.{ap, ap₂, subst, ◌∙◌, Option, Some, None, IfSome, append_assoc, append-nil, ℤ}
 use Rattle.std.specs.Option.{option_and_then}
 use Rattle.std.specs.Prelude.{decimal, option_map}
 use Rattle.matchit.proofs.OnLiterals.{matchit_on_literals}
 use Rattle.matchit.specs.Router.{RouteOf}
 use Rattle.matchit.specs.Rows.{catch_all_token}
 use Rattle.smf_frames.specs.declared.dump.Layout.TheVariants.{Rdw, Bdw}
+use Rattle.smf_text.specs.Day.{IsDay, day_of_text_of, day_text_of}
 use Rattle.smf_text.specs.Names.{IsName, is_name}
+use Rattle.smf_text.proofs.DayOfTextLemmas.{day_found, day_named, day_text_begins}
 use Rattle.book_http.specs.declared.route.Page.{Page}
 use Rattle.book_http.specs.declared.route.Page.TheVariants as page
 use Rattle.book_reports.specs.BookTexts.{report_of_all}
@@ -18,13 +20,14 @@ use Rattle.book_reports.specs.declared.report.Report.TheVariants.{Statement, Sta
 use Rattle.book_reports.specs.declared.report.Report.TheVariants.{AdjustmentList, AdjustmentTable}
 use Rattle.book_reports.specs.declared.report.Report.TheVariants.{DisputeList, DisputeTable}
 use Rattle.book_reports.specs.declared.report.Report.TheVariants.{OfCentre, PeriodList}
+use Rattle.book_reports.specs.declared.report.Report.TheVariants.{RulingList, TariffText}
 use Rattle.book_http.specs.declared.route.Route.{Route}
 use Rattle.book_http.specs.declared.route.Route.TheVariants as route_to
 use Rattle.book_http.specs.Paths.{IsPathPeriod, IsPathOf, IsServedRoute, path_text, period_path}
 use Rattle.book_http.specs.Routes.{after_slash, before_slash, page_of, path_rest, period, report_after}
 use Rattle.book_http.specs.Routes.{report_by, report_in, report_of_centre, route, route_at, route_on}
-use Rattle.book_http.specs.Routes.{route_rows}
-use Rattle.book_http.proofs.ServedPathLemmas.{is_plain_along, numbered_found, rows_along}
+use Rattle.book_http.specs.Routes.{route_rows, tariff_after}
+use Rattle.book_http.proofs.ServedPathLemmas.{begun_found, is_plain_along, numbered_found, rows_along}
 use Rattle.book_http.proofs.PeriodLemmas.{decimal_digits, decimal_has_no_slash, period_found}
 use Rattle.book_http.proofs.PeriodLemmas.{period_named, rest_found, rest_named}
 use Rattle.book_http.proofs.RouterLemmas.{page_found, plain_path}
@@ -101,6 +104,24 @@ after_served asked path =
     by None is = tt
     by (Some rest) is = found_served path (report_in asked rest) (rest_served asked path rest is)
 
+-- a tariff
+day_served : (path rest : List ℕ) (found : Option ℤ) → path ≡ codes "/tariff/" ++ rest
+    → IfSome found (λ day. (rest ≡ day_text_of day) × IsDay day)
+    → IfSome (option_map (λ day. route_to.Report (TariffText day)) found) (IsPathOf path)
+day_served path rest None is named = tt
+day_served path rest (Some day) is named =
+    (named.1, is ∙ ap (λ text. codes "/tariff/" ++ text) named.0)
+
+tariff_served : (path : List ℕ) → IfSome (tariff_after (codes "/tariff/") path) (IsPathOf path)
+tariff_served path =
+    by (path_rest (codes "/tariff/") path) (rest_named (codes "/tariff/") path)
+  where
+    by : (rest : Option (List ℕ)) → IfSome rest (λ rest. path ≡ codes "/tariff/" ++ rest)
+        → IfSome (option_map (λ day. route_to.Report (TariffText day))
+        (option_and_then day_of_text_of rest)) (IsPathOf path)
+    by None is = tt
+    by (Some rest) is = day_served path rest (day_of_text_of rest) is (day_named rest)
+
 page_route : (found : Page) (path : List ℕ) → IfSome (plain_path found) (λ text. path ≡ text)
     → IfSome (route_at found path) (IsPathOf path)
 unfolding route_at
@@ -111,6 +132,8 @@ page_route page.Adjustments path h = after_served of_period.AdjustmentList path
 page_route page.AdjustmentsCsv path h = after_served of_period.AdjustmentTable path
 page_route page.Disputes path h = (tt, h)
 page_route page.DisputesCsv path h = (tt, h)
+page_route page.Rulings path h = (tt, h)
+page_route page.Tariff path h = tariff_served path
 page_route page.Import path h = (tt, h)
 page_route page.ImportBdw path h = (tt, h)
 
@@ -173,6 +196,15 @@ disputes_csv_found : page_of (codes "/disputes-csv") ≡ Some page.DisputesCsv
 unfolding matchit_on_literals route_rows page_of
 disputes_csv_found = refl
 
+rulings_found : page_of (codes "/rulings") ≡ Some page.Rulings
+unfolding matchit_on_literals route_rows page_of
+rulings_found = refl
+
+tariff_page : (digit : ℕ) (rest : List ℕ) → digit < 256
+    → page_of (codes "/tariff/" ++ digit ∷ rest) ≡ Some page.Tariff
+unfolding matchit_on_literals route_rows
+tariff_page digit rest byte = begun_found (codes "/tariff/") digit rest _ refl refl byte
+
 import_found : page_of (codes "/import") ≡ Some page.Import
 unfolding matchit_on_literals route_rows page_of
 import_found = refl
@@ -233,6 +265,20 @@ own_found asked n centre named is_one =
     on_rest asked (decimal n ++ 47 ∷ centre) (OfCentre asked n centre)
     (period_page asked (47 ∷ centre) n named) (own_asked asked n centre named is_one)
 
+-- a day asks for its tariff
+tariff_found : (day : ℤ) → IsDay day
+    → route (codes "/tariff/" ++ day_text_of day) ≡ Some (route_to.Report (TariffText day))
+unfolding route_at
+tariff_found day named =
+    let text = day_text_of day in
+    let begins = day_text_begins day named in
+    on_page page.Tariff (codes "/tariff/" ++ text) (route_to.Report (TariffText day))
+    (ap (λ text. page_of (codes "/tariff/" ++ text)) begins.3
+    ∙ tariff_page begins.0 begins.1 begins.2)
+    (ap (λ rest. option_map (λ day. route_to.Report (TariffText day))
+    (option_and_then day_of_text_of rest)) (rest_found (codes "/tariff/") text)
+    ∙ ap (option_map (λ day. route_to.Report (TariffText day))) (day_found day named))
+
 -- what is served is found at its path
 pub served_found : (asked : Route) → IsServedRoute asked → route (path_text asked) ≡ Some asked
 unfolding route_at
@@ -251,6 +297,8 @@ served_found (route_to.Report (OfCentre asked n centre)) served =
 served_found (route_to.Report DisputeList) served = on_page page.Disputes _ _ disputes_found refl
 served_found (route_to.Report DisputeTable) served =
     on_page page.DisputesCsv _ _ disputes_csv_found refl
+served_found (route_to.Report RulingList) served = on_page page.Rulings _ _ rulings_found refl
+served_found (route_to.Report (TariffText day)) served = tariff_found day served
 served_found (route_to.Import Rdw) served = on_page page.Import _ _ import_found refl
 served_found (route_to.Import Bdw) served = on_page page.ImportBdw _ _ import_bdw_found refl
 

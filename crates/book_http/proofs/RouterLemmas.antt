@@ -182,7 +182,7 @@ seek_at walked rows (b ∷ path) h =
     moved key (inl e) = inl (e ∙ append_assoc walked (b ∷ []) path)
     moved key (inr wild) = inr wild
 
--- the path of a page that names no period
+-- the path of a page that names no period and no day
 abbrev pub plain_path : Page → Option (List ℕ)
 plain_path page.Periods = Some (codes "/periods")
 plain_path page.Statement = None
@@ -191,6 +191,8 @@ plain_path page.Adjustments = None
 plain_path page.AdjustmentsCsv = None
 plain_path page.Disputes = Some (codes "/disputes")
 plain_path page.DisputesCsv = Some (codes "/disputes-csv")
+plain_path page.Rulings = Some (codes "/rulings")
+plain_path page.Tariff = None
 plain_path page.Import = Some (codes "/import")
 plain_path page.ImportBdw = Some (codes "/import-bdw")
 
@@ -203,12 +205,15 @@ rows_are_plain : OfKeys IsPlain route_rows
 unfolding matchit_on_literals route_rows
 rows_are_plain = (
   tt,
-  (tt, ((refl, refl), ((refl, refl), ((refl, refl), ((refl, refl), ((refl, refl), (tt, (tt, tt)))))))),
+  (
+    tt,
+    ((refl, refl), ((refl, refl), ((refl, refl), ((refl, refl), ((refl, refl), ((refl, refl), (tt, (tt, (tt, tt))))))))),
+  ),
 )
 
 rows_stand : StandAt [] route_rows
 unfolding matchit_on_literals route_rows
-rows_stand = (refl, (refl, (refl, (refl, (refl, (refl, (refl, (refl, (refl, tt)))))))))
+rows_stand = (refl, (refl, (refl, (refl, (refl, (refl, (refl, (refl, (refl, (refl, (refl, tt)))))))))))
 
 -- where both hold of a key, the path is the one of its page
 path_of_key : (path pattern : List ℕ) (text : Option (List ℕ))

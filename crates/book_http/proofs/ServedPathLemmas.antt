@@ -91,18 +91,25 @@ lone_found key b rest byte =
       seek_nothing (behind - 1) rest,
     ) refl
 
--- a path with digits after a prefix, and anything behind them, is found by the one row there
+-- a path with a prefix, and anything behind it, is found by the one row there
+pub begun_found : (front : List ℕ) (b : ℕ) (rest : List ℕ) (key : Key)
+    → is_plain_along front route_rows ≡ true
+    → rows_along front route_rows ≡ (catch_all_token ∷ [], key) ∷ [] → b < 256
+    → page_of (front ++ b ∷ rest) ≡ Some key.value
+unfolding page_of
+begun_found front b rest key plain ends byte =
+    ap (option_map (λ row. row.value))
+    (walk front (b ∷ rest) route_rows plain ∙ ap (λ rows. seek 0 rows (b ∷ rest)) ends
+    ∙ lone_found key b rest byte)
+
+-- so is one with digits after a prefix, and anything behind them
 pub numbered_found : (front digits rest : List ℕ) (key : Key)
     → is_plain_along front route_rows ≡ true
     → rows_along front route_rows ≡ (catch_all_token ∷ [], key) ∷ []
     → 0 < length digits → list_all is_ascii_digit digits ≡ true
     → page_of (front ++ (digits ++ rest)) ≡ Some key.value
-unfolding page_of
 numbered_found front [] rest key plain ends some are = absurd (omega arith)
 numbered_found front (d ∷ digits) rest key plain ends some are =
     let range : IsInRange 48 57 d =
     digit_at (d ∷ digits) 0 (are_digits.to (d ∷ digits) are) (omega arith) in
-    let text = d ∷ digits ++ rest in
-    ap (option_map (λ row. row.value))
-    (walk front text route_rows plain ∙ ap (λ rows. seek 0 rows text) ends
-    ∙ lone_found key d (digits ++ rest) (omega arith))
+    begun_found front d (digits ++ rest) key plain ends (omega arith)

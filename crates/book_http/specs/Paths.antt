@@ -1,13 +1,14 @@
 -- The paths that are served, as texts.
 use Rattle.std.specs.Prelude.{◌≡◌, ℕ, ◌≤◌, List, ◌++◌, codes, decimal, ⊤}
 use Rattle.smf_frames.specs.declared.dump.Layout.TheVariants.{Rdw, Bdw}
-use Rattle.book_model.specs.Words.{IsName}
+use Rattle.book_model.specs.Words.{IsDay, IsName, day_text_of}
 use Rattle.book_reports.specs.declared.report.PeriodReport.{PeriodReport}
 use Rattle.book_reports.specs.declared.report.PeriodReport.TheVariants as of_period
 use Rattle.book_reports.specs.declared.report.Report.TheVariants.{Statement, StatementTable}
 use Rattle.book_reports.specs.declared.report.Report.TheVariants.{AdjustmentList, AdjustmentTable}
 use Rattle.book_reports.specs.declared.report.Report.TheVariants.{DisputeList, DisputeTable}
 use Rattle.book_reports.specs.declared.report.Report.TheVariants.{OfCentre, PeriodList}
+use Rattle.book_reports.specs.declared.report.Report.TheVariants.{RulingList, TariffText}
 use Rattle.book_http.specs.declared.route.Route.{Route}
 use Rattle.book_http.specs.declared.route.Route.TheVariants as route_to
 
@@ -15,8 +16,8 @@ use Rattle.book_http.specs.declared.route.Route.TheVariants as route_to
 abbrev pub IsPathPeriod : ℕ → Type 0
 IsPathPeriod n = (1 ≤ n) × (n ≤ 9999)
 
--- what is served: each report that names no period, and the others of such a period, of the whole
--- office and of each centre
+-- what is served: each report that names no period, the tariff of each day, and the other reports of
+-- such a period, of the whole office and of each centre
 abbrev pub IsServedRoute : Route → Type 0
 IsServedRoute (route_to.Report PeriodList) = ⊤
 IsServedRoute (route_to.Report (Statement n)) = IsPathPeriod n
@@ -26,6 +27,8 @@ IsServedRoute (route_to.Report (AdjustmentTable n)) = IsPathPeriod n
 IsServedRoute (route_to.Report (OfCentre asked n centre)) = IsPathPeriod n × IsName centre
 IsServedRoute (route_to.Report DisputeList) = ⊤
 IsServedRoute (route_to.Report DisputeTable) = ⊤
+IsServedRoute (route_to.Report RulingList) = ⊤
+IsServedRoute (route_to.Report (TariffText day)) = IsDay day
 IsServedRoute (route_to.Import layout) = ⊤
 
 -- where what a period has is served
@@ -46,6 +49,8 @@ path_text (route_to.Report (OfCentre asked n centre)) =
     period_path asked ++ decimal n ++ codes "/" ++ centre
 path_text (route_to.Report DisputeList) = codes "/disputes"
 path_text (route_to.Report DisputeTable) = codes "/disputes-csv"
+path_text (route_to.Report RulingList) = codes "/rulings"
+path_text (route_to.Report (TariffText day)) = codes "/tariff/" ++ day_text_of day
 path_text (route_to.Import Rdw) = codes "/import"
 path_text (route_to.Import Bdw) = codes "/import-bdw"
 

@@ -10,6 +10,7 @@ use Rattle.matchit.specs.Router.{RouteOf, route_from}
 use Rattle.matchit.specs.Seek.{first}
 use Rattle.matchit.specs.declared.error.InsertError.{InsertError}
 use Rattle.smf_frames.specs.declared.dump.Layout.TheVariants.{Rdw, Bdw}
+use Rattle.smf_text.specs.Day.{day_of_text_of}
 use Rattle.book_reports.specs.BookTexts.{centre_named, report_of_all}
 use Rattle.book_reports.specs.declared.report.PeriodReport.{PeriodReport}
 use Rattle.book_reports.specs.declared.report.PeriodReport.TheVariants as of_period
@@ -67,6 +68,12 @@ abbrev pub report_after : PeriodReport → List ℕ → List ℕ → Option Rout
 report_after asked prefix path =
     option_map route_to.Report (option_and_then (report_in asked) (path_rest prefix path))
 
+-- the tariff of the day that a path names after its prefix
+abbrev pub tariff_after : List ℕ → List ℕ → Option Route
+tariff_after prefix path =
+    option_map (λ day. route_to.Report (report_of.TariffText day))
+    (option_and_then day_of_text_of (path_rest prefix path))
+
 -- what a page is for at a path
 unfoldable pub route_at : Page → List ℕ → Option Route
 route_at page.Periods path = Some (route_to.Report report_of.PeriodList)
@@ -79,6 +86,8 @@ route_at page.AdjustmentsCsv path =
     report_after of_period.AdjustmentTable (codes "/adjustments-csv/") path
 route_at page.Disputes path = Some (route_to.Report report_of.DisputeList)
 route_at page.DisputesCsv path = Some (route_to.Report report_of.DisputeTable)
+route_at page.Rulings path = Some (route_to.Report report_of.RulingList)
+route_at page.Tariff path = tariff_after (codes "/tariff/") path
 route_at page.Import path = Some (route_to.Import Rdw)
 route_at page.ImportBdw path = Some (route_to.Import Bdw)
 
@@ -91,18 +100,20 @@ with_scan (Err error) value rows = rows
 abbrev pub with_route : List ℕ → Page → RowsOf (RouteOf Page) → RowsOf (RouteOf Page)
 with_route text value rows = with_scan (parse_route text) value rows
 
--- the nine routes
+-- the eleven routes
 unfoldable pub route_rows : RowsOf (RouteOf Page)
 route_rows =
     with_route (codes "/import-bdw") page.ImportBdw
     (with_route (codes "/import") page.Import
+    (with_route (codes "/tariff/{*rest}") page.Tariff
+    (with_route (codes "/rulings") page.Rulings
     (with_route (codes "/disputes-csv") page.DisputesCsv
     (with_route (codes "/disputes") page.Disputes
     (with_route (codes "/adjustments-csv/{*rest}") page.AdjustmentsCsv
     (with_route (codes "/adjustments/{*rest}") page.Adjustments
     (with_route (codes "/statement-csv/{*rest}") page.StatementCsv
     (with_route (codes "/statement/{*rest}") page.Statement
-    (with_route (codes "/periods") page.Periods []))))))))
+    (with_route (codes "/periods") page.Periods []))))))))))
 
 -- the page of a path
 unfoldable pub page_of : List ℕ → Option Page

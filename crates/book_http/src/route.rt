@@ -11,7 +11,7 @@ use crate::decimal_value::decimal_value;
 use matchit::{InsertError, Router};
 use office::{PeriodReport, Report, centre_named, report_of_all};
 use smf_frames::Layout;
-use smf_text::Name;
+use smf_text::{Name, day_of_text};
 use std::alloc::{AllocError, Global};
 use std::str;
 
@@ -24,7 +24,7 @@ pub enum Route {
     Import(Layout),
 }
 
-/// A path of the server, whatever period and centre it names.
+/// A path of the server, whatever period, centre and day it names.
 #[derive(Clone, Copy, Debug, PartialEq, Eq)]
 pub enum Page {
     /// The list of the periods.
@@ -41,6 +41,10 @@ pub enum Page {
     Disputes,
     /// The records in dispute as rows with commas.
     DisputesCsv,
+    /// The list of the rulings.
+    Rulings,
+    /// The file of a tariff.
+    Tariff,
     /// Dumps of segments are submitted.
     Import,
     /// Dumps of blocks are submitted.
@@ -69,6 +73,8 @@ fn pages(alloc: Global) -> Result<Router<Page>, InsertError>
     let router = with_page(router, "/adjustments-csv/{*rest}", Page::AdjustmentsCsv)?;
     let router = with_page(router, "/disputes", Page::Disputes)?;
     let router = with_page(router, "/disputes-csv", Page::DisputesCsv)?;
+    let router = with_page(router, "/rulings", Page::Rulings)?;
+    let router = with_page(router, "/tariff/{*rest}", Page::Tariff)?;
     let router = with_page(router, "/import", Page::Import)?;
     with_page(router, "/import-bdw", Page::ImportBdw)
 }
@@ -152,6 +158,15 @@ fn report_after(asked: PeriodReport, prefix: &str, path: &str) -> Option<Route>
     Some(Route::Report(report))
 }
 
+/// The tariff of the day that a path names after its prefix.
+fn tariff_after(prefix: &str, path: &str) -> Option<Route>
+    ensures { result ≡ spec.tariff_after prefix.now path.now }
+{
+    let rest = path_rest(prefix, path)?;
+    let day = day_of_text(rest)?;
+    Some(Route::Report(Report::TariffText(day)))
+}
+
 /// What a page is for at a path.
 #[tactic(auto, unfolding(crate::specs::Routes::route_at))]
 fn route_at(page: Page, path: &str) -> Option<Route>
@@ -167,6 +182,8 @@ fn route_at(page: Page, path: &str) -> Option<Route>
         }
         Page::Disputes => Some(Route::Report(Report::DisputeList)),
         Page::DisputesCsv => Some(Route::Report(Report::DisputeTable)),
+        Page::Rulings => Some(Route::Report(Report::RulingList)),
+        Page::Tariff => tariff_after("/tariff/", path),
         Page::Import => Some(Route::Import(Layout::Rdw)),
         Page::ImportBdw => Some(Route::Import(Layout::Bdw)),
     }

@@ -4,3 +4,7 @@ pub mod WritingLemmas
 pub mod BookLemmas
 pub mod ReadingLemmas
 pub mod ReportLemmas
+pub mod RulingReading
+pub mod StreamedLemmas
+pub mod RulingLemmas
+pub mod TariffLemmas

@@ -51,7 +51,7 @@ pub record IsAlike {V U : Type 0} (one : Result V LedgerFault) (other : Result U
   pub store : is_store one ≡ is_store other
 
 -- so a ledger that one of them reopens is reopened by the other
-reopens_alike : {V U : Type 0} (one : Result V LedgerFault) (other : Result U LedgerFault)
+pub reopens_alike : {V U : Type 0} (one : Result V LedgerFault) (other : Result U LedgerFault)
     (was is : Bool) → IsAlike one other → Reopens one was is → Reopens other was is
 reopens_alike one other was is alike reopens = record {
   reopen = sym alike.reopen ∙ reopens.reopen;
@@ -83,7 +83,7 @@ module _ {V A U B : Type 0} {view : V → A} {show : U → B} {result : Result V
   }
 
 -- what was read first leaves the ledger as it was
-goes_on : {V : Type 0} (value : V) (was between : Bool)
+pub goes_on : {V : Type 0} (value : V) (was between : Bool)
     → Reopens {V = V} (Ok value) was between → between ≡ was
 goes_on value was between reopens =
     reopens.store ∙ ap (λ b. b || false) (sym reopens.reopen) ∙ reopens.reopen

@@ -1,5 +1,5 @@
-//! The texts that a ledger answers about its books: each is one call of the ledger, which changes
-//! nothing.
+//! The texts that a ledger answers about its books, by calls of the ledger that change nothing: each
+//! is as one call.
 
 ghost use Rattle.std.specs.Prelude.{IfOk};
 ghost use Rattle.std.specs.Option.{ForSome};
@@ -8,6 +8,7 @@ ghost use Rattle.book_core.specs.Calls.{IsCall};
 ghost use Rattle.book_reports.specs.BookTexts as spec;
 
 use crate::report::{PeriodReport, Report};
+use crate::ruling_texts::{ruling_list, tariff_text};
 use book_core::{Ledger, LedgerFault};
 use report_texts::{
     adjustment_list_text, adjustment_table, centre_adjustment_table, centre_adjustments_text,
@@ -122,5 +123,7 @@ pub fn report_text<L: Ledger>(
             ledger.periods(),
             |closes| Ok(period_list_text(alloc, &closes)?.into_bytes()),
         ),
+        Report::RulingList => ruling_list(alloc, ledger),
+        Report::TariffText(day) => tariff_text(ledger, day),
     }
 }

@@ -9,6 +9,8 @@ mod output;
 mod receipt_lines;
 mod report;
 mod reports;
+mod ruling_texts;
+mod streamed_rulings;
 
 pub use book_texts::report_text;
 pub use check_lists::{push_last_line, push_record_line};
@@ -25,3 +27,4 @@ pub use reports::{
     adjustment_list, dispute_list, period_list, receipt_line, statement, statement_csv,
     write_report,
 };
+pub use streamed_rulings::write_rulings;

@@ -41,6 +41,10 @@ pub enum Report {
     DisputeTable,
     /// The periods.
     PeriodList,
+    /// The rulings.
+    RulingList,
+    /// The text of the tariff that begins on a day, counted from 1970-01-01.
+    TariffText(i32),
 }
 
 /// What a period has of the whole office.

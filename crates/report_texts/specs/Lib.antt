@@ -1,5 +1,5 @@
 -- Read in this order: columns and numbers, how a period is named, each text of a whole period, those
--- of one centre, the disputes as a list and as a table, and the list of periods.
+-- of one centre, the disputes as a list and as a table, and the lists of periods and of rulings.
 pub mod Columns
 pub mod Periods
 pub mod Statements
@@ -12,3 +12,4 @@ pub mod DisputeLists
 pub mod Moments
 pub mod DisputeTables
 pub mod PeriodLists
+pub mod RulingLists

@@ -1,5 +1,5 @@
 -- The digits of a day's text spell the day.
-use Rattle.std.proofs.Common.{◌≡◌, ℕ, ◌+◌, ◌-◌, ◌*◌, ◌/◌, ◌%◌, ◌&&◌, ◌↔◌, Bool, true, false, List, refl, sym, ap, ◌∙◌, arith, inl, inr, Option, None, Some, IfSome, ℤ, ◌≤ℤ◌}
+use Rattle.std.proofs.Common.{◌≡◌, ℕ, ◌+◌, ◌-◌, ◌*◌, ◌/◌, ◌%◌, ◌<◌, ◌∷◌, ◌&&◌, ◌↔◌, if◌then◌else◌, Bool, true, false, List, refl, sym, ap, ◌∙◌, arith, inl, inr, Option, None, Some, IfSome, ℤ, ◌≤ℤ◌}
 use Rattle.std.proofs.lemmas.Bool.{and_parts, cases_Bool}
 use Rattle.std.proofs.lemmas.Slice.Eq.{bytes_eq-Decides}
 use Rattle.std.specs.Int.Signed.{le_z}
@@ -76,3 +76,31 @@ the_day_found text r exact is_day_of = go r refl where
             cc
         | inr fails ↦ rw fails refl
       ]
+
+-- a day is read from its text
+pub day_found : (day : ℤ) → IsDay day → day_of_text_of (day_text_of day) ≡ Some day
+day_found day h = sym (day_of_text_of-some (day_text_of day) day h refl)
+
+-- and what is read from a text is the day that has this text
+pub day_named : (text : List ℕ)
+    → IfSome (day_of_text_of text) (λ day. (text ≡ day_text_of day) × IsDay day)
+unfolding day_of_text_of
+day_named text = go (is_day day && bytes_eq (day_text_of day) text) refl
+  where
+    day : ℤ
+    day = day_spelled_by text
+
+    go : (passes : Bool) → (is_day day && bytes_eq (day_text_of day) text) ≡ passes
+        → IfSome (if passes then Some day else None) (λ day. (text ≡ day_text_of day) × IsDay day)
+    go true is =
+        let parts = and_parts (is_day day) (bytes_eq (day_text_of day) text) is in
+        (sym ((bytes_eq-Decides (day_text_of day) text).0 parts.1), is_day-holds day parts.0)
+    go false is = tt
+
+-- the text of a day begins with a digit
+pub day_text_begins : (day : ℤ) → IsDay day
+    → (digit : ℕ) × (rest : List ℕ) × (digit < 256) × (day_text_of day ≡ digit ∷ rest)
+unfolding day_text_of
+day_text_begins day h =
+    let year = (date_of_found day h).civil.0 in
+    (48 + (date_of day).year / 100 / 10, _, omega (arith, signed_arith, year), refl)

@@ -1,4 +1,5 @@
-use Rattle.std.proofs.Common.{refl, rules}
+use Rattle.std.proofs.Common.{SFits, refl, rules, w32}
+use Rattle.std.proofs.lemmas.Int.{to_z-of_z}
 use Rattle.report_texts.specs.Statements.{statement_text}
 use Rattle.report_texts.specs.StatementTables.{statement_table}
 use Rattle.report_texts.specs.AdjustmentLists.{adjustment_list_text}
@@ -67,3 +68,13 @@ returns-in-PeriodList g c =
 -- a report on one centre is a text of its own
 pub returns-in-OfCentre : goal.returns-in-OfCentre
 returns-in-OfCentre g c = rw c.in-OfCentre.is c.centre_text.ensures
+
+-- the rulings are texts of their own
+pub returns-in-RulingList : goal.returns-in-RulingList
+returns-in-RulingList g c = rw c.in-RulingList.is c.ruling_list.ensures
+
+pub returns-in-TariffText : goal.returns-in-TariffText
+returns-in-TariffText g c =
+    let fits : SFits w32 c.in-TariffText.day = search rules in
+    let day = to_z-of_z w32 c.in-TariffText.day fits in
+    rw c.in-TariffText.is (rw day at c.tariff_text.ensures)

@@ -1,0 +1,344 @@
+-- The list of rulings, which is written as it is read.
+use Rattle.std.proofs.Common.{◌≡◌, ◌∙◌, ℕ, ◌+◌, Bool, true, false, true≢false, List, [], ◌∷◌, ◌++◌}
+use Rattle.std.proofs.Common.{take, drop, refl, sym, ap, subst, append_assoc, append-nil}
+use Rattle.std.proofs.Common.{Option, Some, None, Result, Ok, Err, Vec, Global, inl, inr, ◌⊎◌}
+use Rattle.std.specs.Prelude.{IfErr, flat_map, option_map, slice_get}
+use Rattle.std.specs.Io.KnownBytes.{Appends}
+use Rattle.std.proofs.KnownBytes.{Appends-nil}
+use Rattle.std.proofs.lemmas.Grind.{flat_map-append}
+use Rattle.std.proofs.lemmas.List.{take-append-drop}
+use Rattle.book_model.specs.declared.fault.LedgerFault.{LedgerFault}
+use Rattle.book_model.specs.declared.fault.LedgerFault.TheVariants as ledger
+use Rattle.book_model.specs.declared.listed_ruling.ListedRuling.{ListedRuling}
+use Rattle.book_model.specs.Words.{Book, Event, Naming, Outcome, RulingSeen, after_all, ruling_outcome}
+use Rattle.book_model.specs.Words.{ruling_shown, rulings_listed}
+use Rattle.book_core.specs.Ledgers.{Seen}
+use Rattle.book_core.specs.Calls.{Calls, IsCall, Makes, Reopens, listed}
+use Rattle.book_core.specs.Transition.{IsTransition, Then}
+use Rattle.book_core.proofs.TransitionLemmas.{work_as, work_then}
+use Rattle.report_texts.specs.RulingLists.{ruling_line, ruling_list_head, ruling_list_text}
+use Rattle.book_reports.specs.declared.fault.ReportFault.{ReportFault}
+use Rattle.book_reports.specs.declared.fault.ReportFault.TheVariants as report
+use Rattle.book_reports.specs.declared.report.Report.TheVariants.{RulingList}
+use Rattle.book_reports.specs.BookTexts.{report_outcome}
+use Rattle.book_reports.specs.Faults.{report_fault_of}
+use Rattle.book_reports.specs.StreamedRulings.{WritesFirst, WritesRulings, is_hindrance, refusal_in}
+use Rattle.book_reports.specs.StreamedRulings.{WritesSomeRulings, text_by}
+use Rattle.book_reports.specs.Writing.{WritesPrefix, is_write_or_memory}
+use Rattle.book_reports.proofs.ReadingLemmas.{IsAlike, goes_on, reopens_alike}
+use Rattle.book_reports.proofs.RulingReading.{HasRead, all_taken, first_read, first_rulings}
+use Rattle.book_reports.proofs.RulingReading.{next_taken, one_more_read, read_and, read_parts}
+use Rattle.book_reports.proofs.StreamedLemmas.{is_prefix, none_written, rest_written, then_written}
+use Rattle.book_reports.proofs.StreamedLemmas.{written_as, written_of_more}
+use Rattle.book_reports.proofs.WritingLemmas.{same_value}
+
+-- ---- texts
+
+-- what stands before the lines of others
+abbrev pub so_far : List RulingSeen → List ℕ
+so_far read = ruling_list_head ++ flat_map ruling_line read
+
+-- the text before a ruling, and from there on
+list_parts : (all : List RulingSeen) (count : ℕ) (read : List RulingSeen) → take count all ≡ read
+    → so_far read ++ flat_map ruling_line (drop count all) ≡ ruling_list_text all
+list_parts all count read is =
+    ap (λ read. so_far read ++ flat_map ruling_line (drop count all)) (sym is)
+    ∙ append_assoc ruling_list_head (flat_map ruling_line (take count all))
+    (flat_map ruling_line (drop count all))
+    ∙ ap (λ lines. ruling_list_head ++ lines)
+    (sym (flat_map-append ruling_line (take count all) (drop count all))
+    ∙ ap (flat_map ruling_line) (take-append-drop count all))
+
+-- if the first bytes of what stands before a ruling were written, a prefix of the list was
+pub cut_before : (all : List RulingSeen) (count : ℕ) (read : List RulingSeen) (left : List ℕ)
+    (held holds : Option (List ℕ)) → take count all ≡ read → WritesFirst (so_far read) left held holds
+    → (prefix : ℕ) × Appends held holds (take prefix (ruling_list_text all))
+cut_before all count read left held holds is written =
+    let more = flat_map ruling_line (drop count all) in
+    is_prefix (ruling_list_text all) (left ++ more) held holds
+    (written_as (so_far read ++ more) (ruling_list_text all) (left ++ more) held holds
+    (list_parts all count read is)
+    (written_of_more (so_far read) left more held holds written))
+
+-- one line more
+so_far_with : (read : List RulingSeen) (ruling : RulingSeen)
+    → so_far read ++ ruling_line ruling ≡ so_far (read ++ ruling ∷ [])
+so_far_with read ruling =
+    append_assoc ruling_list_head (flat_map ruling_line read) (ruling_line ruling)
+    ∙ ap (λ lines. ruling_list_head ++ lines)
+    (ap (λ line. flat_map ruling_line read ++ line) (sym (append-nil (ruling_line ruling)))
+    ∙ sym (flat_map-append ruling_line read (ruling ∷ [])))
+
+-- the lines so far were written but for what waits, and then of one more line too
+pub line_written : (read : List RulingSeen) (ruling : RulingSeen) (waits left : List ℕ)
+    (held had has : Option (List ℕ)) → WritesFirst (so_far read) waits held had
+    → WritesFirst (waits ++ ruling_line ruling) left had has
+    → WritesFirst (so_far (read ++ ruling ∷ [])) left held has
+line_written read ruling waits left held had has lines line =
+    let line_text = ruling_line ruling in
+    written_as (so_far read ++ line_text) (so_far (read ++ ruling ∷ [])) left held has
+    (so_far_with read ruling)
+    (then_written (so_far read ++ line_text) (waits ++ line_text) left held had has
+    (written_of_more (so_far read) waits line_text held had lines) line)
+
+-- ---- what the calls did
+
+-- a result that is no refusal of the ledger is like an answer of it
+unrefused : {V : Type 0} (value : V) (result : Result (Unit {0}) ReportFault)
+    → IfErr result (λ fault. is_write_or_memory fault ≡ true)
+    → IsAlike (Ok value) (refusal_in result)
+unrefused value (Ok done) plain = record { reopen = refl; store = refl }
+unrefused value (Err report.Write) plain = record { reopen = refl; store = refl }
+unrefused value (Err report.Memory) plain = record { reopen = refl; store = refl }
+unrefused value (Err (report.Ledger fault)) plain = cc
+
+unrefused_hinders : (result : Result (Unit {0}) ReportFault)
+    → IfErr result (λ fault. is_write_or_memory fault ≡ true)
+    → IfErr result (λ fault. is_hindrance fault ≡ true)
+unrefused_hinders (Ok done) plain = tt
+unrefused_hinders (Err report.Write) plain = refl
+unrefused_hinders (Err report.Memory) plain = refl
+unrefused_hinders (Err (report.Ledger fault)) plain = cc
+
+-- books that answered were open
+was_open : {P : Type 0} (was : Bool) → false ≡ was → was ≡ true → P
+was_open was is reopen = absurd (true≢false (sym reopen ∙ sym is))
+
+module _ {old new : Seen} {count : ℕ} {read : List RulingSeen} {next : Option ListedRuling}
+    (far : HasRead old new count read next) (held holds : Option (List ℕ))
+    (result : Result (Unit {0}) ReportFault)
+    (plain : IfErr result (λ fault. is_write_or_memory fault ≡ true))
+  where
+    -- rulings were read, and so much of their list was written
+    pub read_written : ((all : List RulingSeen) → take count all ≡ read
+        → slice_get all count ≡ option_map ruling_shown next
+        → WritesPrefix (ruling_list_text all) held holds result)
+        → IsTransition old new (WritesRulings old.naming held holds result)
+    read_written writes =
+        work_as old new (Calls (read_and read) (first_rulings old.naming count) (Ok next))
+        (WritesRulings old.naming held holds result)
+        (λ was before events is called.
+        let all = rulings_listed old.naming before.rulings in
+        let parts = read_parts all read count next called.makes.0 in
+        record {
+          none = called.makes.1;
+          written = writes all parts.0 parts.1;
+          unread = was_open was called.reopens.reopen;
+          reopens = reopens_alike (Ok next) (refusal_in result) was is (unrefused next result plain)
+              called.reopens;
+          hindered = unrefused_hinders result plain;
+        })
+        far.call.work
+
+-- a refusal, as a report passes it on
+alike_refusal : {V : Type 0} (fault : LedgerFault)
+    → IsAlike {V = V} (Err fault) (refusal_in (Err (report_fault_of fault)))
+alike_refusal ledger.Memory = record { reopen = refl; store = refl }
+alike_refusal ledger.Store = record { reopen = refl; store = refl }
+alike_refusal ledger.Reopen = record { reopen = refl; store = refl }
+alike_refusal fault = record { reopen = refl; store = refl }
+
+-- where a ruling is not read, memory or the store hindered it, and no event was made
+hindered_by : (naming : Naming) (number : ℕ) (before : Book) (fault : LedgerFault) (events : List Event)
+    → Makes (option_map ruling_shown) (ruling_outcome naming number before) (Err fault) events
+    → (events ≡ []) × (is_hindrance (report_fault_of fault) ≡ true)
+hindered_by naming number before ledger.Memory events makes = (makes, refl)
+hindered_by naming number before ledger.Store events (inl makes) = (makes, refl)
+hindered_by naming number before ledger.Store events (inr makes) = (makes, refl)
+hindered_by naming number before ledger.Reopen events makes = (makes, refl)
+hindered_by naming number before fault events makes = absurd (cc makes.0)
+
+module _ {old new : Seen} (fault : LedgerFault)
+    (call : IsCall (option_map ruling_shown) old new (Err fault) (ruling_outcome old.naming 0))
+    (held : Option (List ℕ))
+  where
+    -- no ruling was read, and nothing was written
+    pub none_read : IsTransition old new (WritesRulings old.naming held held (Err (report_fault_of fault)))
+    none_read =
+        work_as old new (Calls (option_map ruling_shown) (ruling_outcome old.naming 0) (Err fault))
+        (WritesRulings old.naming held held (Err (report_fault_of fault)))
+        (λ was before events is called.
+        let said = hindered_by old.naming 0 before fault events called.makes in
+        record {
+          none = said.0;
+          written = (0, Appends-nil held);
+          unread = λ reopen. refl;
+          reopens = reopens_alike (Err fault) (refusal_in (Err (report_fault_of fault))) was is
+              (alike_refusal fault) called.reopens;
+          hindered = said.1;
+        })
+        call.work
+
+module _ {old mid new : Seen} {count : ℕ} {read : List RulingSeen} {next : Option ListedRuling}
+    (far : HasRead old mid count read next) (number : ℕ) (fault : LedgerFault)
+    (call : IsCall (option_map ruling_shown) mid new (Err fault) (ruling_outcome mid.naming number))
+    (held holds : Option (List ℕ))
+  where
+    -- rulings were read, and the ledger refused the next call
+    pub refused_written : ((all : List RulingSeen) → take count all ≡ read
+        → slice_get all count ≡ option_map ruling_shown next
+        → (prefix : ℕ) × Appends held holds (take prefix (ruling_list_text all)))
+        → IsTransition old new (WritesRulings old.naming held holds (Err (report_fault_of fault)))
+    refused_written writes =
+        work_as old new
+        (Then (Calls (read_and read) (first_rulings old.naming count) (Ok next))
+        (Calls (option_map ruling_shown) (ruling_outcome mid.naming number) (Err fault)))
+        (WritesRulings old.naming held holds (Err (report_fault_of fault)))
+        (λ was before events is both.
+        let all = rulings_listed old.naming before.rulings in
+        let parts = read_parts all read count next both.first.makes.0 in
+        let late = hindered_by mid.naming number (after_all both.early before) fault both.late
+        both.next.makes in
+        record {
+          none = both.all ∙ ap (λ events. events ++ both.early) late.0 ∙ both.first.makes.1;
+          written = writes all parts.0 parts.1;
+          unread = was_open was both.first.reopens.reopen;
+          reopens = reopens_alike (Err fault) (refusal_in (Err (report_fault_of fault))) was is
+              (alike_refusal fault)
+              (subst (λ between. Reopens (Err fault) between is)
+              (goes_on next was both.between both.first.reopens) both.next.reopens);
+          hindered = late.1;
+        })
+        (work_then old mid new (Calls (read_and read) (first_rulings old.naming count) (Ok next))
+        (Calls (option_map ruling_shown) (ruling_outcome mid.naming number) (Err fault))
+        far.call.work call.work)
+
+-- ---- the list, line by line
+
+-- rulings were read, and their lines were written but for what waits
+pub record WritesSoFar (old new : Seen) (count : ℕ) (next : Option ListedRuling) (waits : List ℕ)
+    (held holds : Option (List ℕ)) : Type 0 where
+  pub read : List RulingSeen
+  pub far : HasRead old new count read next
+  pub lines : WritesFirst (so_far read) waits held holds
+
+-- the first call was made, and its line waits with the head
+pub list_begun : (old new : Seen) (next : Option ListedRuling) (waits : List ℕ)
+    (held : Option (List ℕ)) → waits ≡ ruling_list_head
+    → IsCall (option_map ruling_shown) old new (Ok next) (ruling_outcome old.naming 0)
+    → WritesSoFar old new 0 next waits held held
+list_begun old new next waits held is call = record {
+  read = [];
+  far = first_read old new next call;
+  lines = subst (λ waits. WritesFirst (so_far []) waits held held) (sym is) (none_written (so_far []) held);
+}
+
+module _ {old mid : Seen} {count : ℕ} {next : Option ListedRuling} {waits : List ℕ}
+    {held had : Option (List ℕ)} (it : WritesSoFar old mid count next waits held had)
+  where
+    -- it went no further
+    pub list_stopped : (fault : ReportFault) → is_write_or_memory fault ≡ true
+        → IsTransition old mid (WritesRulings old.naming held had (Err fault))
+    list_stopped fault plain =
+        read_written it.far held had (Err fault) plain
+        (λ all front found. cut_before all count it.read waits held had front it.lines)
+
+    pub some_stopped : (fault : ReportFault) → WritesSomeRulings held had (Err fault)
+    some_stopped fault = (it.read, is_prefix (so_far it.read) waits held had it.lines)
+
+    -- it has ended, and what waits was written, or a prefix of that
+    pub list_ended : (has : Option (List ℕ)) (result : Result (Unit {0}) ReportFault) → next ≡ None
+        → IfErr result (λ fault. is_write_or_memory fault ≡ true) → WritesPrefix waits had has result
+        → IsTransition old mid (WritesRulings old.naming held has result)
+    list_ended has result last plain flushed =
+        read_written it.far held has result plain
+        (λ all front found.
+        subst (λ text. WritesPrefix text held has result)
+        (ap so_far (sym front ∙ all_taken all count (found ∙ ap (option_map ruling_shown) last)))
+        (rest_written (so_far it.read) waits held had has result it.lines flushed))
+
+    pub some_ended : (has : Option (List ℕ)) (result : Result (Unit {0}) ReportFault)
+        → WritesPrefix waits had has result → WritesSomeRulings held has result
+    some_ended has result flushed =
+        (it.read, rest_written (so_far it.read) waits held had has result it.lines flushed)
+
+    module _ (ruling : ListedRuling) (is : next ≡ Some ruling) (left : List ℕ) (has : Option (List ℕ))
+        (line : WritesFirst (waits ++ ruling_line (ruling_shown ruling)) left had has)
+      where
+        abbrev more : List RulingSeen
+        more = it.read ++ ruling_shown ruling ∷ []
+
+        more_lines : WritesFirst (so_far more) left held has
+        more_lines = line_written it.read (ruling_shown ruling) waits left held had has it.lines line
+
+        more_cut : (all : List RulingSeen) → take count all ≡ it.read
+            → slice_get all count ≡ option_map ruling_shown next
+            → (prefix : ℕ) × Appends held has (take prefix (ruling_list_text all))
+        more_cut all front found =
+            cut_before all (count + 1) more left held has
+            (next_taken all count (ruling_shown ruling) (found ∙ ap (option_map ruling_shown) is)
+            ∙ ap (λ front. front ++ ruling_shown ruling ∷ []) front)
+            more_lines
+
+        -- a line was not written, or not whole
+        pub list_cut : (fault : ReportFault) → is_write_or_memory fault ≡ true
+            → IsTransition old mid (WritesRulings old.naming held has (Err fault))
+        list_cut fault plain = read_written it.far held has (Err fault) plain more_cut
+
+        pub some_cut : (fault : ReportFault) → WritesSomeRulings held has (Err fault)
+        some_cut fault = (more, is_prefix (so_far more) left held has more_lines)
+
+        -- the ledger refused the next call
+        pub list_refused : (new : Seen) (fault : LedgerFault)
+            → IsCall (option_map ruling_shown) mid new (Err fault) (ruling_outcome mid.naming (count + 1))
+            → IsTransition old new (WritesRulings old.naming held has (Err (report_fault_of fault)))
+        list_refused new fault call = refused_written it.far (count + 1) fault call held has more_cut
+
+        -- or it goes on
+        pub list_more : (new : Seen) (after : Option ListedRuling)
+            → IsCall (option_map ruling_shown) mid new (Ok after) (ruling_outcome mid.naming (count + 1))
+            → WritesSoFar old new (count + 1) after left held has
+        list_more new after call = record {
+          read = more;
+          far = one_more_read old mid new count it.read (ruling_shown ruling) next after
+              (ap (option_map ruling_shown) is) it.far call;
+          lines = more_lines;
+        }
+
+-- ---- the list as one text
+
+text_alike : {T : Type 0} (text : T) (written : Result (Unit {0}) ReportFault)
+    → IsAlike (refusal_in written) (text_by text written)
+text_alike text (Ok done) = record { reopen = refl; store = refl }
+text_alike text (Err report.Write) = record { reopen = refl; store = refl }
+text_alike text (Err report.Memory) = record { reopen = refl; store = refl }
+text_alike text (Err (report.Ledger fault)) = record { reopen = refl; store = refl }
+
+text_refused : (outcome : Outcome (List ℕ)) (fault : LedgerFault) (events : List Event) → events ≡ []
+    → is_hindrance (report.Ledger fault) ≡ true
+    → Makes (λ (text : Vec ℕ Global). text.items) outcome (Err fault) events
+text_refused outcome ledger.Memory events none hindered = none
+text_refused outcome ledger.Store events none hindered = inl none
+text_refused outcome ledger.Reopen events none hindered = none
+text_refused outcome fault events none hindered = absurd (cc hindered)
+
+text_makes : (naming : Naming) (text : Vec ℕ Global) (written : Result (Unit {0}) ReportFault)
+    (was : Bool) (before : Book) (events : List Event) (is : Bool)
+    → WritesRulings naming (Some []) (Some text.items) written was before events is
+    → Makes (λ (text : Vec ℕ Global). text.items) (report_outcome naming RulingList before)
+    (text_by text written) events
+text_makes naming text (Ok done) was before events is it = (ap Ok (sym it.written), it.none)
+text_makes naming text (Err report.Write) was before events is it = it.none
+text_makes naming text (Err report.Memory) was before events is it = it.none
+text_makes naming text (Err (report.Ledger fault)) was before events is it =
+    text_refused (report_outcome naming RulingList before) fault events it.none it.hindered
+
+-- a list that was written into memory is the report
+pub list_in_memory : {old new : Seen} (text : Vec ℕ Global) (written : Result (Unit {0}) ReportFault)
+    → IsTransition old new (WritesRulings old.naming (Some []) (Some text.items) written)
+    → Reopens (refusal_in written) old.must_reopen new.must_reopen
+    → IsCall (λ (text : Vec ℕ Global). text.items) old new (text_by text written)
+    (report_outcome old.naming RulingList)
+list_in_memory {old} {new} text written work reopens = record {
+  work = work_as old new (WritesRulings old.naming (Some []) (Some text.items) written)
+      (Calls (λ (text : Vec ℕ Global). text.items) (report_outcome old.naming RulingList)
+      (text_by text written))
+      (λ was before events is it. record {
+        makes = text_makes old.naming text written was before events is it;
+        reopens = reopens_alike (refusal_in written) (text_by text written) was is
+            (text_alike text written) it.reopens;
+      })
+      work;
+  reopens = reopens_alike (refusal_in written) (text_by text written) old.must_reopen new.must_reopen
+      (text_alike text written) reopens;
+}

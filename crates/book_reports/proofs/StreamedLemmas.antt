@@ -1,0 +1,68 @@
+-- Texts that are written in part.
+use Rattle.std.proofs.Common.{◌≡◌, ◌∙◌, ℕ, List, [], ◌++◌, length, take, drop}
+use Rattle.std.proofs.Common.{refl, sym, ap, subst, append_assoc, append-nil, Option, Result, Ok, Err}
+use Rattle.std.proofs.lemmas.List.{take-append-drop}
+use Rattle.std.proofs.Math.Seq.{take-append_seam}
+use Rattle.std.specs.Io.KnownBytes.{Appends}
+use Rattle.std.proofs.KnownBytes.{Appends-nil, Appends-trans}
+use Rattle.book_reports.specs.declared.fault.ReportFault.{ReportFault}
+use Rattle.book_reports.specs.StreamedRulings.{WritesFirst}
+use Rattle.book_reports.specs.Writing.{WritesPrefix}
+
+-- nothing was written
+pub none_written : (text : List ℕ) (held : Option (List ℕ)) → WritesFirst text text held held
+none_written text held = record { first = []; grown = Appends-nil held; parts = refl }
+
+-- a prefix was written, and the rest of the text was not
+pub first_written : (text : List ℕ) (count : ℕ) (held holds : Option (List ℕ))
+    → Appends held holds (take count text) → (left : List ℕ) × WritesFirst text left held holds
+first_written text count held holds grown = (
+  drop count text,
+  record { first = take count text; grown = grown; parts = sym (take-append-drop count text) },
+)
+
+-- what was written is a prefix of the text
+pub is_prefix : (text left : List ℕ) (held holds : Option (List ℕ)) → WritesFirst text left held holds
+    → (count : ℕ) × Appends held holds (take count text)
+is_prefix text left held holds written = (
+  length written.first,
+  subst (Appends held holds)
+      (sym (ap (take (length written.first)) written.parts
+      ∙ take-append_seam written.first left)) written.grown,
+)
+
+-- a text goes on with what was not written of it
+pub written_of_more : (text left more : List ℕ) (held holds : Option (List ℕ))
+    → WritesFirst text left held holds → WritesFirst (text ++ more) (left ++ more) held holds
+written_of_more text left more held holds written = record {
+  first = written.first;
+  grown = written.grown;
+  parts = ap (λ b. b ++ more) written.parts ∙ append_assoc written.first left more;
+}
+
+-- and then a part of the rest was written too
+pub then_written : (text rest left : List ℕ) (held had has : Option (List ℕ))
+    → WritesFirst text rest held had → WritesFirst rest left had has → WritesFirst text left held has
+then_written text rest left held had has written next = record {
+  first = written.first ++ next.first;
+  grown = Appends-trans held had has written.first next.first written.grown next.grown;
+  parts = written.parts ∙ ap (λ b. written.first ++ b) next.parts
+      ∙ sym (append_assoc written.first next.first left);
+}
+
+-- the same for another text that is equal
+pub written_as : (text other left : List ℕ) (held holds : Option (List ℕ)) → text ≡ other
+    → WritesFirst text left held holds → WritesFirst other left held holds
+written_as text other left held holds same written =
+    subst (λ b. WritesFirst b left held holds) same written
+
+-- the rest of a text was written, or a prefix of the rest
+pub rest_written : (text rest : List ℕ) (held had has : Option (List ℕ))
+    (result : Result (Unit {0}) ReportFault) → WritesFirst text rest held had
+    → WritesPrefix rest had has result → WritesPrefix text held has result
+rest_written text rest held had has (Ok done) written grown =
+    subst (Appends held has) (sym written.parts)
+    (Appends-trans held had has written.first rest written.grown grown)
+rest_written text rest held had has (Err fault) written cut =
+    let part = first_written rest cut.0 had has cut.1 in
+    is_prefix text part.0 held has (then_written text rest part.0 held had has written part.1)

@@ -1,0 +1,60 @@
+-- A text that is written while it is made; and the list of a ledger's rulings, which is written so.
+use Rattle.std.specs.Prelude.{◌≡◌, Bool, true, false, ℕ, List, [], ◌++◌, Option, IfErr, Result, Ok, Err}
+use Rattle.std.specs.Io.KnownBytes.{Appends}
+use Rattle.book_model.specs.declared.fault.LedgerFault.{LedgerFault}
+use Rattle.book_model.specs.declared.fault.LedgerFault.TheVariants as ledger
+use Rattle.book_model.specs.Words.{Book, Event, Naming, RulingSeen}
+use Rattle.book_core.specs.Calls.{Reopens}
+use Rattle.report_texts.specs.RulingLists.{ruling_list_text}
+use Rattle.book_reports.specs.declared.fault.ReportFault.{ReportFault}
+use Rattle.book_reports.specs.declared.fault.ReportFault.TheVariants.{Write, Memory, Ledger}
+use Rattle.book_reports.specs.BookTexts.{ruling_text}
+use Rattle.book_reports.specs.Writing.{WritesPrefix}
+
+-- the first bytes of a text were written, where what the writer holds is known, and this rest was
+-- not
+pub record WritesFirst (text rest : List ℕ) (held holds : Option (List ℕ)) : Type 0 where
+  pub first : List ℕ
+  pub grown : Appends held holds first
+  pub parts : text ≡ first ++ rest
+
+-- a text was written but for this rest, or before a fault but for some rest
+abbrev pub WritesAllBut : List ℕ → List ℕ → Option (List ℕ) → Option (List ℕ)
+    → Result (Unit {0}) ReportFault → Type 0
+WritesAllBut text rest held holds (Ok done) = WritesFirst text rest held holds
+WritesAllBut text rest held holds (Err fault) = (left : List ℕ) × WritesFirst text left held holds
+
+-- what the ledger answered at the end of a report: that it refused a call, or nothing of the kind
+abbrev pub refusal_in : Result (Unit {0}) ReportFault → Result (Unit {0}) LedgerFault
+refusal_in (Err (Ledger fault)) = Err fault
+refusal_in result = Ok tt
+
+-- a fault of the writer, a lack of memory, or one of the ledger's store: what may hinder any report
+abbrev pub is_hindrance : ReportFault → Bool
+is_hindrance Write = true
+is_hindrance Memory = true
+is_hindrance (Ledger ledger.Store) = true
+is_hindrance (Ledger ledger.Reopen) = true
+is_hindrance (Ledger fault) = false
+
+-- The list of the book's rulings was written, or a prefix of it before such a fault, and no event was
+-- made. Of books that are to be opened again nothing is written.
+pub record WritesRulings (naming : Naming) (held holds : Option (List ℕ))
+    (result : Result (Unit {0}) ReportFault) (was : Bool) (before : Book) (events : List Event)
+    (is : Bool) : Type 0 where
+  pub none : events ≡ []
+  pub written : WritesPrefix (ruling_text naming before) held holds result
+  pub unread : was ≡ true → holds ≡ held
+  pub reopens : Reopens (refusal_in result) was is
+  pub hindered : IfErr result (λ fault. is_hindrance fault ≡ true)
+
+-- whatever the book is, what was written is the list of some rulings, or a prefix of one
+abbrev pub WritesSomeRulings : Option (List ℕ) → Option (List ℕ) → Result (Unit {0}) ReportFault → Type 0
+WritesSomeRulings held holds result =
+    (rulings : List RulingSeen) × WritesPrefix (ruling_list_text rulings) held holds result
+
+-- the text that was written into memory, or why it was not: a lack of memory has one form there
+abbrev pub text_by : {T : Type 0} → T → Result (Unit {0}) ReportFault → Result T LedgerFault
+text_by text (Ok done) = Ok text
+text_by text (Err (Ledger fault)) = Err fault
+text_by text (Err fault) = Err ledger.Memory

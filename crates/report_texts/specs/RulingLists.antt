@@ -1,0 +1,36 @@
+-- Lists of rulings: the tariffs, the closes, the choices and the adoption of the second rule, a line
+-- for each. A tariff is shown by the SHA-256 of its file and by how many bytes that has.
+use Rattle.std.specs.Prelude.{ℕ, List, ◌++◌, codes, flat_map, length}
+use Rattle.std.specs.Fmt.{decimal}
+use Rattle.hex.specs.Hex.{encode_lower}
+use Rattle.sha2.specs.Sha256.{sha256}
+use Rattle.book_model.specs.Words.{day_text_of}
+use Rattle.book_model.specs.Words.{RulingSeen, TariffSeen, CloseSeen, ChoiceSeen, AdoptionSeen}
+use Rattle.report_texts.specs.Columns.{newline}
+
+-- the file of a tariff, by its text
+unfoldable pub file_columns : List ℕ → List ℕ
+file_columns text = encode_lower (sha256 text) ++ codes " " ++ decimal (length text)
+
+-- the period that was open when something was ruled
+unfoldable pub period_column : ℕ → List ℕ
+period_column period = codes "PERIOD " ++ decimal period
+
+-- the line of a ruling
+unfoldable pub ruling_line : RulingSeen → List ℕ
+ruling_line (TariffSeen day text) =
+    codes "TARIFF " ++ day_text_of day ++ codes " " ++ file_columns text ++ newline
+ruling_line (CloseSeen period through) =
+    codes "CLOSE " ++ decimal period ++ codes " " ++ day_text_of through ++ newline
+ruling_line (ChoiceSeen number period name) =
+    codes "CHOICE " ++ decimal number ++ codes " " ++ period_column period
+    ++ codes " " ++ encode_lower name ++ newline
+ruling_line (AdoptionSeen period) = codes "ADOPTED " ++ period_column period ++ newline
+
+-- what stands above the lines
+abbrev pub ruling_list_head : List ℕ
+ruling_list_head = codes "RULINGS\n"
+
+-- the list of rulings, in their order
+abbrev pub ruling_list_text : List RulingSeen → List ℕ
+ruling_list_text rulings = ruling_list_head ++ flat_map ruling_line rulings
