@@ -2,6 +2,7 @@
 use Rattle.std.proofs.Common.{◌≡◌, ◌≢◌, ◌∙◌, ◌⊎◌, Bool, true, false, true≢false, ℕ, List, [], ◌∷◌}
 use Rattle.std.proofs.Common.{◌++◌, Option, Result, Ok, Err, ap, inl, inr, refl, subst, sym}
 use Rattle.std.specs.Cmp.Lexicographic.{bytes_decides}
+use Rattle.std.specs.declared.alloc.AllocError.{AllocError}
 use Rattle.book_audit.specs.Copies.{IsCopied}
 use Rattle.book_model.specs.Records.{same_bytes}
 use Rattle.book_model.specs.declared.fault.LedgerFault.{LedgerFault}
@@ -9,12 +10,19 @@ use Rattle.book_model.specs.Words.{Event, IsMadeByCalls, Naming, book_after, boo
 use Rattle.book_model.proofs.StepLemmas.{books_follow_history}
 use Rattle.book_core.specs.Follow.{MakesAnswered}
 use Rattle.book_core.specs.Transition.{Transition, NoEvent}
+use Rattle.book_reports.specs.declared.fault.ReportFault.{ReportFault}
+use Rattle.book_reports.specs.BookTexts.{ruling_text}
+use Rattle.book_reports.specs.StreamedRulings.{WritesRulings, WritesSomeRulings}
+use Rattle.book_reports.specs.Writing.{WritesPrefix}
+use Rattle.book_core.proofs.FollowLemmas.{none_answered}
+use Rattle.office.specs.declared.choosing.Chosen.{Chosen}
 use Rattle.office.specs.declared.repository.RepositoryFault.{RepositoryFault}
 use Rattle.office.specs.declared.repository.RepositoryFault.TheVariants.{Unseen}
 use Rattle.office.specs.declared.request.Answer.{Answer}
 use Rattle.office.specs.declared.request.Asked.{Asked}
 use Rattle.office.specs.Requests.{Asks, response_by}
-use Rattle.office.specs.Shelves.{Shelf, HoldsMore, IsDoneTo, IsOpened, IsUntouched}
+use Rattle.office.specs.Shelves.{ComesBy, Shelf, HoldsMore, IsDoneTo, IsOpened, IsUntouched}
+use Rattle.office.proofs.ChoiceLemmas.{choices_done}
 use Rattle.office.proofs.LawLemmas.{asks_done}
 use Rattle.command_line.specs.declared.request.BookRequest.{BookRequest}
 use Rattle.command_line.specs.declared.request.BookRequest.TheVariants as asks
@@ -22,15 +30,20 @@ use Rattle.command_line.specs.declared.request.Request.{Request}
 use Rattle.command_line.specs.declared.request.Request.TheVariants as request
 use Rattle.command_line.specs.declared.fault.ArgumentFault.{ArgumentFault}
 use Rattle.program_output.specs.declared.status.Status.{Status}
+use Rattle.chargectl.specs.declared.choices.ListAnswered.{ListAnswered}
 use Rattle.chargectl.specs.declared.command_fault.CommandFault.{CommandFault}
 use Rattle.chargectl.specs.declared.ended.Answered.{Answered}
 use Rattle.chargectl.specs.declared.ended.Ended.{Ended}
+use Rattle.chargectl.specs.Choices.{ChoosesBy, ChoosesListed, ComesOfList, list_answered}
 use Rattle.chargectl.specs.Commands.{AsksAndTells, AsksOnceBy, ComesOf, once_answered}
 use Rattle.chargectl.specs.Audits.{AuditsBy}
 use Rattle.chargectl.specs.CommandLaws.{AreCommanded, AskedBy, AsksOfHistory, Commanded}
-use Rattle.chargectl.specs.CommandLaws.{CommandsFollowHistory, DoesToHistory, Follows, FollowsBy}
-use Rattle.chargectl.specs.CommandLaws.{LeaveHistory, RunsOn, ServesOfHistory, place_after}
+use Rattle.chargectl.specs.CommandLaws.{ChoicesFollow, CommandsFollowHistory, DoesToHistory, Follows}
+use Rattle.chargectl.specs.CommandLaws.{IsListed, LeaveHistory, ListBy, ListOfHistory, ListsHistoryBy}
+use Rattle.chargectl.specs.CommandLaws.{OpenedSo, RunsOn}
+use Rattle.chargectl.specs.CommandLaws.{ServesOfHistory, place_after}
 use Rattle.chargectl.specs.Requests.{Does, DoesOrRefuses, ServesBy}
+use Rattle.chargectl.specs.RulingList.{Lists, ListsBy, listing_answered}
 use Rattle.chargectl.specs.Sittings.{SomeSittings}
 use Rattle.chargectl.proofs.SittingLemmas.{sittings_answered}
 
@@ -144,18 +157,70 @@ module _ (naming : Naming) (history : List Event) (name : List ℕ) (old new : S
                 (books_follow_history history) once.made);
           }
 
+  -- the rulings were listed
+  listed_on : (book : List ℕ) (held_bytes holds : Option (List ℕ)) (told : Result (Unit {0}) ReportFault)
+      → IsDoneTo book (WritesRulings naming held_bytes holds told) old new
+      → Step naming history name old new (λ made. (book ≡ name
+      → WritesPrefix (ruling_text naming (book_of history)) held_bytes holds told) × (made ≡ []))
+  listed_on book held_bytes holds told done = elim (one_or_apart book name) [
+    | inl same ↦
+        let more = (subst (λ book. IsDoneTo book (WritesRulings naming held_bytes holds told) old new) same
+        done).here history held in
+        record {
+          made = more.events;
+          so = (
+            λ _. subst (λ book. WritesPrefix (ruling_text naming book) held_bytes holds told)
+                (books_follow_history history) more.made.written,
+            more.made.none,
+          );
+          answered = listing_answered naming held_bytes holds told history false more.events more.is
+              more.made answered;
+          held = more.now;
+          named = done.naming;
+        }
+    | inr apart ↦
+        let more = done.elsewhere name (λ same. apart (sym same)) history held in
+        record {
+          made = [];
+          so = (λ same. absurd (apart same), refl);
+          answered = answered;
+          held = subst (λ (events : List Event). new.holds name (events ++ history)) more.made.none
+              more.now;
+          named = done.naming;
+        }
+  ]
+
+  -- records were chosen, one after the other
+  chosen_on : (book : List ℕ) (names : List (List ℕ)) (told : Result Chosen AllocError)
+      → IsDoneTo book (ChoosesBy naming names told) old new
+      → Step naming history name old new (Where book name (ChoicesFollow naming history names told))
+  chosen_on book names (Ok chosen) done =
+      step_as (λ made so. (λ same. follows_of made (so.0 same), so.1))
+      (work_on book (ChoosesBy naming names (Ok chosen)) (list_answered naming names (Ok chosen)) done)
+    where
+      follows_of : (made : List Event) → Makes (ChoosesBy naming names (Ok chosen)) history made
+          → ChoicesFollow naming history names (Ok chosen) made
+      follows_of made it =
+          choices_done naming names chosen.answers.items chosen.refusal (book_of history) made it.is
+          (subst (λ book. ChoosesBy naming names (Ok chosen) false book made it.is)
+          (books_follow_history history) it.made_so)
+  chosen_on book names (Err none) done =
+      step_as (λ made so. (λ same. (so.0 same).made_so.none, so.1))
+      (work_on book NoEvent (none_answered naming) done)
+
   -- or the books were not opened
-  opened_on : (book : List ℕ) (asked : Asked)
-      (told : Result (Result Answer LedgerFault) RepositoryFault)
-      → IsOpened (AsksOnceBy naming asked) book old new told
-      → Step naming history name old new (Where book name (FollowsBy naming history asked told))
-  opened_on book asked (Ok told) done = asked_on book asked told done
-  opened_on book asked (Err Unseen) done = elim done [
+  opened_on : {A : Type 0} (book : List ℕ) (work : A → Transition) (So : A → List Event → Type 0)
+      → ((told : A) → IsDoneTo book (work told) old new
+      → Step naming history name old new (Where book name (So told)))
+      → (told : Result A RepositoryFault) → IsOpened work book old new told
+      → Step naming history name old new (Where book name (OpenedSo So told))
+  opened_on book work So so_of (Ok told) done = so_of told done
+  opened_on book work So so_of (Err Unseen) done = elim done [
     | inl seen ↦ step_as (λ made so. (λ same. inl (seen.0, so.0 same), so.1))
-        (asked_on book asked seen.0 seen.1)
+        (so_of seen.0 seen.1)
     | inr none ↦ step_as (λ made is. (λ _. inr is, λ _. is)) (none_on book none)
   ]
-  opened_on book asked (Err fault) done =
+  opened_on book work So so_of (Err fault) done =
       step_as (λ made is. (λ _. is, λ _. is)) (none_on book done)
 
 -- no connections make no events
@@ -184,7 +249,9 @@ module _ (history : List Event) (name : List ℕ) (old new : Shelf)
         },
         so.1,
       ))
-      (opened_on old.naming history name old new answered held book comes.asked comes.came.told
+      (opened_on old.naming history name old new answered held book
+      (AsksOnceBy old.naming comes.asked) (Follows old.naming history comes.asked)
+      (asked_on old.naming history name old new answered held book comes.asked) comes.came.told
       comes.came.done)
   comes_on book request (Err why) comes =
       step_as (λ made is. (λ _. (comes.0, is), λ _. is))
@@ -199,6 +266,39 @@ module _ (history : List Event) (name : List ℕ) (old new : Shelf)
         λ same. record { came = it.answered; asked = so.0 same; tells = it.tells },
         so.1,
       )) (comes_on book request it.answered it.comes)
+
+  -- a list of choices
+  list_comes_on : (book : List ℕ) (came : Result ListAnswered CommandFault)
+      → ComesOfList book old new came
+      → Step old.naming history name old new (Where book name (ListBy old.naming history came))
+  list_comes_on book (Ok told) comes =
+      step_as (λ made so. (
+        λ same. record {
+          names = comes.names;
+          listed = comes.listed;
+          told = comes.came.told;
+          follows = so.0 same;
+          says = comes.came.says;
+        },
+        so.1,
+      ))
+      (opened_on old.naming history name old new answered held book
+      (ChoosesBy old.naming comes.names) (ChoicesFollow old.naming history comes.names)
+      (chosen_on old.naming history name old new answered held book comes.names) comes.came.told
+      comes.came.done)
+  list_comes_on book (Err why) comes =
+      step_as (λ made is. (λ _. (comes.0, is), λ _. is))
+      (none_on old.naming history name old new answered held book comes.1)
+
+  list_on : (book : List ℕ) (has holds : Option (List ℕ)) (ended : Ended)
+      → ChoosesListed book old new has holds ended
+      → Step old.naming history name old new
+      (Where book name (ListOfHistory old.naming history has holds ended))
+  list_on book has holds ended it =
+      step_as (λ made so. (
+        λ same. record { came = it.answered; listed = so.0 same; tells = it.tells },
+        so.1,
+      )) (list_comes_on book it.answered it.comes)
 
   -- books that are untouched, whatever else a command does
   still_on : (book touched : List ℕ) → IsUntouched touched old new
@@ -245,6 +345,54 @@ module _ (history : List Event) (name : List ℕ) (old new : Shelf)
       by_came (Err why) it =
           step_as (λ made is. (λ _. none_served old.naming history made is, λ _. is))
           (none_on old.naming history name old new answered held book it.1)
+  does_on book asks.Rulings has holds ended does =
+      step_as (λ made so. (
+        λ same. record {
+          came = does.came;
+          lists = so.0 same;
+          ends = does.ends;
+          none = so.1;
+        },
+        λ _. so.1,
+      ))
+      (by_came does.came does.does)
+    where
+      by_told : (told : Result (Result (Unit {0}) ReportFault) RepositoryFault)
+          → IsOpened (WritesRulings old.naming has holds) book old new told
+          → ComesBy (WritesSomeRulings has holds) (holds ≡ has) told
+          → Step old.naming history name old new
+          (λ made. (book ≡ name → IsListed (ruling_text old.naming (book_of history)) has holds told)
+          × (made ≡ []))
+      by_told (Ok written) done some =
+          listed_on old.naming history name old new answered held book has holds written done
+      by_told (Err Unseen) (inl seen) some =
+          step_as (λ made so. (λ _. some, so.1))
+          (listed_on old.naming history name old new answered held book has holds seen.0 seen.1)
+      by_told (Err Unseen) (inr none) some =
+          step_as (λ made is. (λ _. some, is))
+          (none_on old.naming history name old new answered held book none)
+      by_told (Err fault) none same =
+          step_as (λ made is. (λ _. same, is))
+          (none_on old.naming history name old new answered held book none)
+
+      by_came : (came : Result Ended CommandFault) → ListsBy book old new has holds came
+          → Step old.naming history name old new
+          (λ made. (book ≡ name → ListsHistoryBy old.naming history has holds came) × (made ≡ []))
+      by_came (Ok ended) it =
+          step_as (λ made so. (
+            λ same. record {
+              told = it.told;
+              flushed = it.flushed;
+              listed = so.0 same;
+              ends = it.ends;
+            },
+            so.1,
+          ))
+          (by_told it.told it.done it.some)
+      by_came (Err why) it =
+          step_as (λ made is. (λ _. (it.0, it.2), is))
+          (none_on old.naming history name old new answered held book it.1)
+  does_on book (asks.ChooseListed file) has holds ended does = list_on book has holds ended does
   does_on book request has holds ended does = asks_on book request has holds ended does
 
 -- the place of the books is as it was
@@ -272,6 +420,12 @@ runs_on shelf history name old new answered held (Ok (request.OfBooks book asked
     (does_on history name (shelf old) (shelf new) answered held book.now asked has holds done.0 done.1)
 runs_on shelf history name old new answered held (Ok (request.Trial layout cpu excp fee)) had has holds
     Says status done =
+    same_place shelf history name old new answered held done.1.0
+runs_on shelf history name old new answered held (Ok (request.TrialUnder layout file)) had has holds
+    Says status done =
+    same_place shelf history name old new answered held done.1.0
+runs_on shelf history name old new answered held (Ok (request.Unclear why)) had has holds Says status
+    done =
     same_place shelf history name old new answered held done.1.0
 runs_on shelf history name old new answered held (Ok (request.Check dump)) had has holds Says status
     done =

@@ -2,13 +2,20 @@
 -- give for the whole history before it.
 use Rattle.std.specs.Prelude.{◌≡◌, ◌≢◌, Bool, false, ℕ, List, [], ◌∷◌, ◌++◌, Option}
 use Rattle.std.specs.Prelude.{Result, Ok, Err}
+use Rattle.std.specs.declared.alloc.AllocError.{AllocError}
 use Rattle.streams.specs.InputOutput.{Input}
 use Rattle.tariff_rules.specs.Limits.{most_rate}
 use Rattle.book_model.specs.declared.fault.LedgerFault.{LedgerFault}
 use Rattle.book_model.specs.Words.{Event, IsMadeByCalls, Naming, book_after, book_of}
+use Rattle.book_reports.specs.declared.fault.ReportFault.{ReportFault}
+use Rattle.book_reports.specs.BookTexts.{ruling_text}
+use Rattle.book_reports.specs.StreamedRulings.{WritesSomeRulings}
+use Rattle.book_reports.specs.Writing.{WritesPrefix}
+use Rattle.office.specs.declared.choosing.Chosen.{Chosen}
 use Rattle.office.specs.declared.repository.RepositoryFault.{RepositoryFault}
 use Rattle.office.specs.declared.request.Answer.{Answer}
 use Rattle.office.specs.declared.request.Asked.{Asked}
+use Rattle.office.specs.Choices.{are_hindered, choices_outcome}
 use Rattle.office.specs.Outcomes.{asked_outcome, is_hindered}
 use Rattle.office.specs.Requests.{Dump, Gives, response_by}
 use Rattle.office.specs.Shelves.{Shelf, WhereUnopened}
@@ -20,12 +27,16 @@ use Rattle.command_line.specs.declared.fault.ArgumentFault.{ArgumentFault}
 use Rattle.command_line.specs.Known.{AreReadAs}
 use Rattle.program_output.specs.declared.status.Status.{Status}
 use Rattle.program_output.specs.Messages.{program_name}
+use Rattle.chargectl.specs.declared.choices.ListAnswered.{ListAnswered}
 use Rattle.chargectl.specs.declared.command_fault.CommandFault.{CommandFault}
 use Rattle.chargectl.specs.declared.ended.Answered.{Answered}
 use Rattle.chargectl.specs.declared.ended.Ended.{Ended}
-use Rattle.chargectl.specs.Commands.{AsksNothing, IsAskedBy, Tells, answer_of}
-use Rattle.chargectl.specs.Faults.{status_by}
+use Rattle.chargectl.specs.Choices.{AreListed, ChoosesNothing, TellsList, chosen_of}
+use Rattle.chargectl.specs.Commands.{AsksNothing, IsAskedBy, IsShelfFault, Tells, answer_of}
+use Rattle.chargectl.specs.Commands.{first_fault}
+use Rattle.chargectl.specs.Faults.{settled_as, status_by}
 use Rattle.chargectl.specs.Requests.{CommandsBy}
+use Rattle.chargectl.specs.RulingList.{list_end}
 use Rattle.chargectl.specs.Sittings.{SomeSittings}
 
 -- a command: its words, its input, its output and standard error before and after it, its status, and
@@ -66,13 +77,12 @@ pub record Follows (naming : Naming) (history : List Event) (asked : Asked)
       → asked_outcome naming asked dump (book_of history)
       ≡ record { told = response_by told; events = made }
 
--- where the books were not opened, none were made
-abbrev pub FollowsBy : Naming → List Event → Asked → Result (Result Answer LedgerFault) RepositoryFault
-    → List Event → Type 0
-FollowsBy naming history asked (Ok told) made = Follows naming history asked told made
-FollowsBy naming history asked (Err fault) made =
-    WhereUnopened ((told : Result Answer LedgerFault) × Follows naming history asked told made)
-    (made ≡ []) fault
+-- so it is of the answer of a visit and the events that it made; where the books were not opened,
+-- none were made
+abbrev pub OpenedSo : {A : Type 0} → (A → List Event → Type 0) → Result A RepositoryFault → List Event
+    → Type 0
+OpenedSo So (Ok told) made = So told made
+OpenedSo {A} So (Err fault) made = WhereUnopened ((told : A) × So told made) (made ≡ []) fault
 
 -- what the words ask of the books was asked, and so it was told
 pub record AskedOf (naming : Naming) (history : List Event) (request : BookRequest)
@@ -80,7 +90,7 @@ pub record AskedOf (naming : Naming) (history : List Event) (request : BookReque
   pub asked : Asked
   pub words : IsAskedBy request asked
   pub told : Result (Result Answer LedgerFault) RepositoryFault
-  pub follows : FollowsBy naming history asked told made
+  pub follows : OpenedSo (Follows naming history asked) told made
   pub says : answered.answer ≡ answer_of told
 
 -- or nothing was asked
@@ -96,10 +106,74 @@ pub record AsksOfHistory (naming : Naming) (history : List Event) (request : Boo
   pub asked : AskedBy naming history request came made
   pub tells : Tells came held holds ended
 
+-- After a history the records of these names were chosen, one after the other, which made these events.
+-- Unless a lack of memory or the store hindered one, that is what the definitions say of the history,
+-- looked at as a whole; without memory for the answers none was chosen.
+abbrev pub ChoicesFollow : Naming → List Event → List (List ℕ) → Result Chosen AllocError → List Event
+    → Type 0
+ChoicesFollow naming history names (Ok chosen) made = are_hindered chosen.refusal ≡ false
+    → choices_outcome naming names (book_of history) ≡ record {
+      answers = chosen.answers.items;
+      refusal = chosen.refusal;
+      events = made;
+    }
+ChoicesFollow naming history names (Err none) made = made ≡ []
+
+-- the names of a list were chosen, and so it was told
+pub record ListOf (naming : Naming) (history : List Event) (answered : ListAnswered) (made : List Event)
+    : Type 0 where
+  pub names : List (List ℕ)
+  pub listed : AreListed names
+  pub told : Result (Result Chosen AllocError) RepositoryFault
+  pub follows : OpenedSo (ChoicesFollow naming history names) told made
+  pub says : answered.chosen ≡ chosen_of told
+
+-- or none were
+abbrev pub ListBy : Naming → List Event → Result ListAnswered CommandFault → List Event → Type 0
+ListBy naming history (Ok answered) made = ListOf naming history answered made
+ListBy naming history (Err why) made = ChoosesNothing why × (made ≡ [])
+
+-- and that was written
+pub record ListOfHistory (naming : Naming) (history : List Event) (held holds : Option (List ℕ))
+    (ended : Ended) (made : List Event) : Type 0 where
+  pub came : Result ListAnswered CommandFault
+  pub listed : ListBy naming history came made
+  pub tells : TellsList came held holds ended
+
 -- Connections made these events of the books of a history.
 pub record ServesOfHistory (naming : Naming) (history made : List Event) : Type 0 where
   pub is : Bool
   pub made_so : SomeSittings naming false (book_after history) made is
+
+-- This text was written, whole or up to a fault. Where the books were not opened none was; where it was
+-- not seen that their closed files hold them, it may be the list of other rulings.
+abbrev pub IsListed : List ℕ → Option (List ℕ) → Option (List ℕ)
+    → Result (Result (Unit {0}) ReportFault) RepositoryFault → Type 0
+IsListed text held holds (Ok written) = WritesPrefix text held holds written
+IsListed text held holds (Err fault) =
+    WhereUnopened ((written : _) × WritesSomeRulings held holds written) (holds ≡ held) fault
+
+-- The list of the rulings of a history was written while the books were open.
+pub record ListsHistory (naming : Naming) (history : List Event) (held holds : Option (List ℕ))
+    (ended : Ended) : Type 0 where
+  pub told : Result (Result (Unit {0}) ReportFault) RepositoryFault
+  pub flushed : Result (Unit {0}) CommandFault
+  pub listed : IsListed (ruling_text naming (book_of history)) held holds told
+  pub ends : ended.came ≡ first_fault (list_end told) flushed
+
+-- or there was nothing of that name
+abbrev pub ListsHistoryBy : Naming → List Event → Option (List ℕ) → Option (List ℕ)
+    → Result Ended CommandFault → Type 0
+ListsHistoryBy naming history held holds (Ok ended) = ListsHistory naming history held holds ended
+ListsHistoryBy naming history held holds (Err why) = IsShelfFault why × (holds ≡ held)
+
+-- and no event was made
+pub record ListsOfHistory (naming : Naming) (history : List Event) (held holds : Option (List ℕ))
+    (ended : Ended) (made : List Event) : Type 0 where
+  pub came : Result Ended CommandFault
+  pub lists : ListsHistoryBy naming history held holds came
+  pub ends : ended ≡ settled_as came
+  pub none : made ≡ []
 
 -- what each command on books does to the history that they hold
 abbrev pub DoesToHistory : Naming → List Event → BookRequest → Option (List ℕ) → Option (List ℕ)
@@ -109,6 +183,10 @@ DoesToHistory naming history (book.Audit quiet) held holds ended made = made ≡
 DoesToHistory naming history (book.BackUp copy quiet) held holds ended made = made ≡ []
 DoesToHistory naming history (book.Serve port requests) held holds ended made =
     ServesOfHistory naming history made
+DoesToHistory naming history book.Rulings held holds ended made =
+    ListsOfHistory naming history held holds ended made
+DoesToHistory naming history (book.ChooseListed file) held holds ended made =
+    ListOfHistory naming history held holds ended made
 DoesToHistory naming history asked held holds ended made =
     AsksOfHistory naming history asked held holds ended made
 

@@ -16,7 +16,7 @@ use Rattle.book_core.specs.Transition.{Transition}
 use Rattle.book_reports.specs.declared.report.PeriodReport.{PeriodReport}
 use Rattle.book_reports.specs.declared.report.Report.{Report}
 use Rattle.book_reports.specs.declared.report.Report.TheVariants.{DisputeList, DisputeTable}
-use Rattle.book_reports.specs.declared.report.Report.TheVariants.{OfCentre}
+use Rattle.book_reports.specs.declared.report.Report.TheVariants.{OfCentre, PeriodList, TariffText}
 use Rattle.book_reports.specs.BookTexts.{centre_named, report_of_all}
 use Rattle.office.specs.declared.repository.RepositoryFault.{RepositoryFault}
 use Rattle.office.specs.declared.request.Asked.{Asked}
@@ -34,7 +34,8 @@ use Rattle.chargectl.specs.declared.command_fault.CommandFault.{CommandFault}
 use Rattle.chargectl.specs.declared.command_fault.CommandFault.TheVariants as fault
 use Rattle.chargectl.specs.declared.ended.Answered.{Answered}
 use Rattle.chargectl.specs.declared.ended.Ended.{Ended}
-use Rattle.chargectl.specs.Faults.{end_of, io_fault, shelf_fault, without_log}
+pub use Rattle.chargectl.specs.Faults.{IsFileFault, IsTextFault}
+use Rattle.chargectl.specs.Faults.{end_of, shelf_fault, without_log}
 
 -- what a period has of the whole office, or of the centre that is named, if that is a name
 abbrev pub period_report : PeriodReport → ℕ → Option (Bor (List ℕ)) → Option Report
@@ -57,6 +58,9 @@ IsAskedBy book.Adopt (asks.Adopt rule) = rule ≡ 2
 IsAskedBy (book.OfPeriod report period centre) (asks.Report printed) =
     period_report report period centre ≡ Some printed
 IsAskedBy (book.Disputes csv) (asks.Report printed) = printed ≡ dispute_report csv
+IsAskedBy (book.TariffText date) (asks.Report printed) =
+    option_map TariffText (day_of_text_of date.now) ≡ Some printed
+IsAskedBy book.Periods (asks.Report printed) = printed ≡ PeriodList
 IsAskedBy request asked = ⊥
 
 -- it may change the books
@@ -101,15 +105,6 @@ pub record IsAnswered (asked : Asked) (book : List ℕ) (old new : Shelf) (answe
 abbrev pub IsShelfFault : CommandFault → Type 0
 IsShelfFault why = (shelf : RepositoryFault) × (why ≡ shelf_fault shelf)
 
--- a file failed, or is not there
-abbrev pub IsFileFault : CommandFault → Type 0
-IsFileFault why = (kind : ErrorKind) × (why ≡ io_fault kind)
-
--- the file of a tariff failed, or its text is none
-abbrev pub IsTextFault : CommandFault → Type 0
-IsTextFault why = IsFileFault why
-    ⊎ ((refused : TariffFault) × (why ≡ fault.Ledger (ledger.TariffRefused refused)))
-
 -- a word is not what it has to be, before anything else; or else the place of the books failed
 abbrev pub IsWordFault : {A : Type 0} → Option A → CommandFault → Type 0
 IsWordFault None why = why ≡ fault.Argument
@@ -123,6 +118,7 @@ AsksNothing (book.Close period date) why = IsWordFault (day_of_text_of date.now)
 AsksNothing (book.Choose name) why = IsWordFault (name_in name.now) why
 AsksNothing (book.OfPeriod report period centre) why =
     IsWordFault (period_report report period centre) why
+AsksNothing (book.TariffText date) why = IsWordFault (day_of_text_of date.now) why
 AsksNothing request why = IsShelfFault why
 
 -- a command asked what its words ask

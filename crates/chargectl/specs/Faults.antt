@@ -1,16 +1,22 @@
 -- Why a command did not do what it was asked, and the exit status and the lines on standard error
 -- that say so.
-use Rattle.std.specs.Prelude.{if◌then◌else◌, false, ℕ, List, [], ◌∷◌, ◌++◌, codes, Result, Ok, Err}
+use Rattle.std.specs.Prelude.{◌≡◌, ◌⊎◌, if◌then◌else◌, false, ℕ, List, [], ◌∷◌, ◌++◌, codes, Result, Ok, Err}
 use Rattle.std.specs.declared.io.ErrorKind.{ErrorKind}
 use Rattle.std.specs.declared.io.ErrorKind.TheVariants.{OutOfMemory}
+use Rattle.tariff_rules.specs.declared.fault.TariffFault.{TariffFault}
 use Rattle.book_model.specs.declared.fault.LedgerFault.TheVariants as ledger
 use Rattle.book_import.specs.declared.receipt.Stop.{Stop}
 use Rattle.book_import.specs.declared.receipt.Stop.TheVariants.{End}
+use Rattle.command_line.specs.declared.request.Unclear.{Unclear}
+use Rattle.command_line.specs.declared.request.Unclear.TheVariants as unclear
 use Rattle.office.specs.declared.repository.RepositoryFault.{RepositoryFault}
 use Rattle.office.specs.declared.repository.RepositoryFault.TheVariants as shelf
+use Rattle.program_output.specs.declared.names.NamesFault.{NamesFault}
+use Rattle.program_output.specs.declared.names.NamesFault.TheVariants as names
 use Rattle.program_output.specs.declared.status.Status.{Status}
 use Rattle.program_output.specs.declared.status.Status.TheVariants as status
-use Rattle.program_output.specs.Messages.{busy_line, io_line, ledger_line, line_of, log_line}
+use Rattle.program_output.specs.Messages.{busy_line, io_line, ledger_line, ledger_message, line_at}
+use Rattle.program_output.specs.Messages.{line_of, log_line}
 use Rattle.program_output.specs.Messages.{no_number_line, report_line, stop_lines, unsound_line}
 use Rattle.program_output.specs.Statuses.{ledger_status, log_status, report_status, stop_status}
 use Rattle.chargectl.specs.declared.command_fault.CommandFault.{CommandFault}
@@ -24,8 +30,11 @@ fault_status fault.Usage = status.Usage
 fault_status fault.Number = status.Usage
 fault_status fault.Exists = status.Refused
 fault_status fault.Busy = status.Store
+fault_status (fault.Unclear why) = status.Usage
 fault_status fault.Argument = status.Refused
+fault_status (fault.ArgumentAt line) = status.Refused
 fault_status (fault.Ledger refused) = ledger_status refused
+fault_status (fault.LedgerAt refused line) = ledger_status refused
 fault_status (fault.Report refused) = report_status refused
 fault_status (fault.Stopped stop) = stop_status stop
 fault_status fault.Unsound = status.Store
@@ -41,6 +50,11 @@ status_by ended =
     if ended.has_log then log_status (came_status ended.came) ended.is_change
     else came_status ended.came
 
+-- words that do not say together what is asked
+abbrev pub unclear_line : Unclear → List ℕ
+unclear_line unclear.Choice = codes "error: choose takes either SHA256 or --from FILE\n"
+unclear_line unclear.Prices = codes "error: trial takes either rates or --tariff FILE\n"
+
 -- What is said of a fault: one line. Of a rate outside its limits nothing is said.
 abbrev pub fault_lines : CommandFault → List (List ℕ)
 fault_lines fault.Io = io_line ∷ []
@@ -48,8 +62,11 @@ fault_lines fault.Usage = []
 fault_lines fault.Number = no_number_line ∷ []
 fault_lines fault.Exists = line_of (codes "exists") ∷ []
 fault_lines fault.Busy = busy_line ∷ []
+fault_lines (fault.Unclear why) = unclear_line why ∷ []
 fault_lines fault.Argument = line_of (codes "word") ∷ []
+fault_lines (fault.ArgumentAt line) = line_at (codes "word") line ∷ []
 fault_lines (fault.Ledger refused) = ledger_line refused ∷ []
+fault_lines (fault.LedgerAt refused line) = line_at (ledger_message refused) line ∷ []
 fault_lines (fault.Report refused) = report_line refused ∷ []
 fault_lines (fault.Stopped stop) = stop_lines stop
 fault_lines fault.Unsound = unsound_line ∷ []
@@ -91,7 +108,26 @@ abbrev pub shelf_end : Result (Unit {0}) RepositoryFault → Result (Unit {0}) C
 shelf_end (Ok done) = Ok done
 shelf_end (Err fault) = Err (shelf_fault fault)
 
+-- there was no memory for a result, or this is the fault that it is
+abbrev pub IsFaultIn : {A : Type 0} → Result A CommandFault → CommandFault → Type 0
+IsFaultIn result why = (why ≡ fault.Ledger ledger.Memory) ⊎ (result ≡ Err why)
+
 -- a file, a socket or the output failed, or there was no memory for it
 abbrev pub io_fault : ErrorKind → CommandFault
 io_fault OutOfMemory = fault.Ledger ledger.Memory
 io_fault kind = fault.Io
+
+-- a file failed, or is not there
+abbrev pub IsFileFault : CommandFault → Type 0
+IsFileFault why = (kind : ErrorKind) × (why ≡ io_fault kind)
+
+-- the file of a tariff failed, or its text is none
+abbrev pub IsTextFault : CommandFault → Type 0
+IsTextFault why = IsFileFault why
+    ⊎ ((refused : TariffFault) × (why ≡ fault.Ledger (ledger.TariffRefused refused)))
+
+-- a list of names has too many, or a line that is none; or there was no memory for them
+abbrev pub names_fault : NamesFault → CommandFault
+names_fault names.Memory = fault.Ledger ledger.Memory
+names_fault (names.Line number) = fault.ArgumentAt number
+names_fault names.TooMany = fault.Ledger ledger.Full

@@ -4,8 +4,11 @@ use Rattle.std.specs.Prelude.{IsSome, IfSome, OnOk}
 use Rattle.std.specs.Io.KnownBytes.{Appends}
 use Rattle.std.specs.declared.io.ErrorKind.{ErrorKind}
 use Rattle.smf_frames.specs.declared.dump.Layout.{Layout}
-use Rattle.tariff_rules.specs.Terms.{AreRates, rates_of, flat_terms}
+use Rattle.tariff_rules.specs.declared.fault.TariffFault.{TariffFault}
+use Rattle.tariff_rules.specs.TariffFile.{terms_in}
+use Rattle.tariff_rules.specs.Terms.{AreRates, rates_of, flat_terms, on_every_day}
 use Rattle.streams.specs.InputOutput.{Input}
+use Rattle.book_model.specs.declared.fault.LedgerFault.TheVariants as ledger
 use Rattle.book_model.specs.Words.{Terms}
 use Rattle.book_import.specs.ReadLimits.{most_reads}
 use Rattle.book_import.specs.declared.receipt.Receipt.{Receipt}
@@ -23,7 +26,7 @@ use Rattle.program_output.specs.Readings.{reading}
 use Rattle.program_output.specs.Trials.{IsTrial}
 use Rattle.chargectl.specs.declared.command_fault.CommandFault.{CommandFault}
 use Rattle.chargectl.specs.declared.command_fault.CommandFault.TheVariants as fault
-use Rattle.chargectl.specs.Faults.{end_of, io_fault}
+use Rattle.chargectl.specs.Faults.{IsTextFault, end_of, io_fault}
 
 -- how a trial ends
 abbrev pub trial_end : Result Receipt ReportFault → Result (Unit {0}) CommandFault
@@ -61,6 +64,29 @@ pub record TriesAt (layout : Layout) (cpu excp fee : ℕ) (had held holds : Opti
   pub tariff : Option Terms
   pub flat : IsFlatTariff cpu excp fee tariff
   pub tries : TriesBy layout tariff had held holds ended
+
+-- the tariff of a text, in force on every day, if it is one
+abbrev pub lasting : Result Terms TariffFault → Result Terms CommandFault
+lasting (Ok terms) = Ok (on_every_day terms)
+lasting (Err refused) = Err (fault.Ledger (ledger.TariffRefused refused))
+
+-- the tariff is that of a text that its file gave; or the file failed, or its text is none
+abbrev pub IsTariffRead : Result Terms CommandFault → Type 0
+IsTariffRead (Ok terms) = (text : List ℕ) × (lasting (terms_in text) ≡ Ok terms)
+IsTariffRead (Err why) = IsTextFault why
+
+-- none is made where there is no tariff
+abbrev pub TriesWith : Layout → Result Terms CommandFault → Option (List ℕ) → Option (List ℕ)
+    → Option (List ℕ) → Result (Unit {0}) CommandFault → Type 0
+TriesWith layout (Ok terms) had held holds ended = Tries layout terms had held holds ended
+TriesWith layout (Err why) had held holds ended = (holds ≡ held) × (ended ≡ Err why)
+
+-- a trial under the tariff of a file
+pub record TriesUnder (layout : Layout) (had held holds : Option (List ℕ))
+    (ended : Result (Unit {0}) CommandFault) : Type 0 where
+  pub tariff : Result Terms CommandFault
+  pub read : IsTariffRead tariff
+  pub tries : TriesWith layout tariff had held holds ended
 
 -- A check of a file, with as many reads as an import has. No contract says what the file holds.
 pub record Lists (layout : Layout) (held holds : Option (List ℕ))

@@ -18,11 +18,14 @@ use Rattle.program_output.specs.declared.status.Status.{Status}
 use Rattle.program_output.specs.declared.status.Status.TheVariants as status
 use Rattle.program_output.specs.Messages.{io_line, ledger_line, program_name}
 use Rattle.chargectl.specs.declared.command_fault.CommandFault.{CommandFault}
+use Rattle.chargectl.specs.declared.command_fault.CommandFault.TheVariants as fault
 use Rattle.chargectl.specs.declared.ended.Ended.{Ended}
 use Rattle.chargectl.specs.Audits.{AuditsBy}
+use Rattle.chargectl.specs.Choices.{ChoosesListed}
 use Rattle.chargectl.specs.Commands.{AsksAndTells, IsShelfFault}
 use Rattle.chargectl.specs.Faults.{error_lines, settled_as, shelf_end, status_by, without_log}
-use Rattle.chargectl.specs.Reading.{Checks, TellsOf, TriesAt, kind_of}
+use Rattle.chargectl.specs.Reading.{Checks, TellsOf, TriesAt, TriesUnder, kind_of}
+use Rattle.chargectl.specs.RulingList.{ListsBy}
 use Rattle.chargectl.specs.Sittings.{ServesAll, SomeSittings}
 
 -- new books were made, or not, and nothing was written
@@ -67,6 +70,10 @@ Does (book.BackUp copy quiet) name old new held holds ended =
     held holds) ended
 Does (book.Serve port requests) name old new held holds ended =
     SettlesBy (ServesBy requests name old new held holds) ended
+Does book.Rulings name old new held holds ended =
+    SettlesBy (ListsBy name old new held holds) ended
+Does (book.ChooseListed file) name old new held holds ended =
+    ChoosesListed name old new held holds ended
 Does asked name old new held holds ended = AsksAndTells asked name old new held holds ended
 
 -- a command that opens no books, and leaves no log
@@ -80,12 +87,16 @@ abbrev pub Runs : {S : Type 0} → (S → Shelf) → S → S → Request → Opt
     → Option (List ℕ) → Ended → Type 0
 Runs shelf old new (request.Trial layout cpu excp fee) had held holds ended =
     (new ≡ old) × EndsAt (TriesAt layout cpu excp fee had held holds) ended
+Runs shelf old new (request.TrialUnder layout file) had held holds ended =
+    (new ≡ old) × EndsAt (TriesUnder layout had held holds) ended
 Runs shelf old new (request.Check dump) had held holds ended =
     (new ≡ old) × EndsAt (Checks dump.layout held holds) ended
 Runs shelf old new (request.Explain kind number) had held holds ended =
     (new ≡ old) × EndsAt (TellsOf (kind_of kind) number held holds) ended
 Runs shelf old new (request.OfBooks name asked) had held holds ended =
     Does asked name.now (shelf old) (shelf new) held holds ended
+Runs shelf old new (request.Unclear why) had held holds ended =
+    (new ≡ old) × (holds ≡ held) × (ended ≡ without_log (Err (fault.Unclear why)))
 
 -- What was wrong with the words, or help, which is written to standard output; and what is said on
 -- standard error.

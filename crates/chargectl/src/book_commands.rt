@@ -180,7 +180,7 @@ fn end_by(answer: &Answer, written: Result<(), CommandFault>) -> Result<(), Comm
 }
 
 /// Writes an answer, so that it has left the program.
-fn print<O: Write + Drop>(answer: &Answer, output: O) -> (Result<(), CommandFault>, O)
+pub(crate) fn print<O: Write + Drop>(answer: &Answer, output: O) -> (Result<(), CommandFault>, O)
     ensures { IsPrinted (answer_text (response_of answer.now))
         (O.contents output) (O.contents result.1) result.0 }
 {
@@ -212,7 +212,7 @@ pub(crate) fn tariff<'a, S: Repository>(
 }
 
 /// The text of a tariff file.
-fn tariff_text(rt: &HostRuntime, file: &str) -> Result<String, CommandFault>
+pub(crate) fn tariff_text(rt: &HostRuntime, file: &str) -> Result<String, CommandFault>
     ensures { IfErr result IsTextFault }
 {
     let mut bytes = Vec::new(rt.alloc());
@@ -323,6 +323,39 @@ pub(crate) fn report_disputes<S: Repository>(
 {
     repository.expect(book)?;
     let asked = Asked::Report(dispute_report(csv));
+    Ok(ask_books(rt, repository, book, asked, io::empty()))
+}
+
+/// Makes the list of periods.
+pub(crate) fn report_periods<S: Repository>(
+    rt: &HostRuntime,
+    repository: &mut S,
+    book: &str,
+) -> Result<Answered, CommandFault>
+    ensures { ComesOf BookRequest.Periods book.now
+        (S.shelf repository.old) (S.shelf repository.new) result }
+{
+    repository.expect(book)?;
+    let asked = Asked::Report(Report::PeriodList);
+    Ok(ask_books(rt, repository, book, asked, io::empty()))
+}
+
+/// Gives back the tariff file that begins on a day.
+pub(crate) fn report_tariff<S: Repository>(
+    rt: &HostRuntime,
+    repository: &mut S,
+    book: &str,
+    date: &str,
+) -> Result<Answered, CommandFault>
+    ensures { ComesOf (BookRequest.TariffText date.entry) book.now
+        (S.shelf repository.old) (S.shelf repository.new) result }
+{
+    let day = match day_of_text(date) {
+        Some(day) => day,
+        None => return Err(CommandFault::Argument),
+    };
+    repository.expect(book)?;
+    let asked = Asked::Report(Report::TariffText(day));
     Ok(ask_books(rt, repository, book, asked, io::empty()))
 }
 

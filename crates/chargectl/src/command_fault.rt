@@ -1,14 +1,15 @@
 ghost use Rattle.std.specs.Prelude.{◌≡◌};
 ghost use Rattle.program_output.specs.Messages.{AreSaid};
-ghost use Rattle.chargectl.specs.Faults.{end_of, fault_lines, fault_status};
+ghost use Rattle.chargectl.specs.Faults.{end_of, fault_lines, fault_status, unclear_line};
 
 use book_core::LedgerFault;
 use book_import::Stop;
 use book_reports::ReportFault;
+use command_line::Unclear;
 use office::RepositoryFault;
 use program_output::{
-    Status, books_busy, books_unsound, input_refused, io_failed, ledger_refused, no_such_number,
-    report_failed, stopped,
+    NamesFault, Status, books_busy, books_unsound, input_refused, input_refused_at, io_failed,
+    ledger_refused, ledger_refused_at, no_such_number, report_failed, stopped, words_refused,
 };
 use std::alloc::AllocError;
 use std::io;
@@ -28,9 +29,15 @@ pub(crate) enum CommandFault {
     Exists,
     /// Another program has the file of the books open.
     Busy,
+    /// Words that do not say together what is asked.
+    Unclear(Unclear),
     /// A word is no date, or no name of a record or of a centre.
     Argument,
+    /// The line of this number, of a list of names, is no name.
+    ArgumentAt(usize),
     Ledger(LedgerFault),
+    /// The books refused to choose the record that the line of this number names.
+    LedgerAt(LedgerFault, usize),
     Report(ReportFault),
     /// An import stopped before the dump's end.
     Stopped(Stop),
@@ -50,12 +57,25 @@ impl CommandFault {
             CommandFault::Number => no_such_number(errors),
             CommandFault::Exists => input_refused(errors, "exists"),
             CommandFault::Busy => books_busy(errors),
+            CommandFault::Unclear(why) => words_refused(errors, unclear_text(why)),
             CommandFault::Argument => input_refused(errors, "word"),
+            CommandFault::ArgumentAt(line) => input_refused_at(errors, "word", line),
             CommandFault::Ledger(fault) => ledger_refused(errors, fault),
+            CommandFault::LedgerAt(fault, line) => ledger_refused_at(errors, fault, line),
             CommandFault::Report(fault) => report_failed(errors, fault),
             CommandFault::Stopped(stop) => stopped(errors, stop),
             CommandFault::Unsound => books_unsound(errors),
         }
+    }
+}
+
+/// What is said of words that do not say together what is asked.
+fn unclear_text(why: Unclear) -> &'static str
+    ensures { result.now ≡ unclear_line why }
+{
+    match why {
+        Unclear::Choice => "error: choose takes either SHA256 or --from FILE\n",
+        Unclear::Prices => "error: trial takes either rates or --tariff FILE\n",
     }
 }
 
@@ -117,6 +137,20 @@ impl From<RepositoryFault> for CommandFault {
             RepositoryFault::Busy => CommandFault::Busy,
             RepositoryFault::Ledger(fault) => CommandFault::Ledger(fault),
             RepositoryFault::Unseen => CommandFault::Ledger(LedgerFault::Memory),
+        }
+    }
+}
+
+impl From<NamesFault> for CommandFault {
+    ghost use Rattle.chargectl.specs.Faults.{names_fault};
+
+    ghost from_gives = { λ refused fault. fault ≡ names_fault refused };
+
+    fn from(fault: NamesFault) -> CommandFault {
+        match fault {
+            NamesFault::Memory => CommandFault::Ledger(LedgerFault::Memory),
+            NamesFault::Line(number) => CommandFault::ArgumentAt(number),
+            NamesFault::TooMany => CommandFault::Ledger(LedgerFault::Full),
         }
     }
 }

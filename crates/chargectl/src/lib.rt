@@ -3,6 +3,7 @@
 
 mod audits;
 mod book_commands;
+mod choices;
 mod command_fault;
 mod connection;
 mod ended;
@@ -10,6 +11,7 @@ mod laws;
 mod port;
 mod program;
 mod progress;
+mod ruling_list;
 mod serve;
 
 pub use laws::commands_follow_history;

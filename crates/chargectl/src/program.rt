@@ -1,22 +1,27 @@
 //! What the program does with its words and streams.
 
-ghost use Rattle.std.specs.Prelude.{◌≡◌, map, string_bytes};
+ghost use Rattle.std.specs.Prelude.{◌≡◌, IfErr, IfOk, Ok, map, string_bytes};
+ghost use Rattle.tariff_rules.specs.TariffFile.{terms_in};
 ghost use Rattle.program_output.specs.Messages.{AreSaid};
-ghost use Rattle.chargectl.specs.Faults.{shelf_end, status_by};
+ghost use Rattle.chargectl.specs.Faults.{IsFaultIn, shelf_end, status_by};
 ghost use Rattle.chargectl.specs.Reading as spec;
-ghost use Rattle.chargectl.specs.Reading.{Checks, TellsOf, TriesBy, check_end, trial_end};
+ghost use Rattle.chargectl.specs.Reading.{Checks, IsTariffRead, TellsOf, TriesBy, TriesUnder};
+ghost use Rattle.chargectl.specs.Reading.{check_end, lasting, trial_end};
 ghost use Rattle.chargectl.specs.Requests.{CommandsBy, Does, IsRefusedFor, Runs};
 
 use crate::audits::{audit, back_up};
 use crate::book_commands::{
-    adopt, choose, close, import_dump, report_disputes, report_period, tariff, tell,
+    adopt, choose, close, import_dump, report_disputes, report_period, report_periods,
+    report_tariff, tariff, tariff_text, tell,
 };
+use crate::choices::choose_listed;
 use crate::command_fault::{CommandFault, ended};
 use crate::ended::Ended;
 use crate::progress::WatchedReader;
+use crate::ruling_list::list_rulings;
 use crate::serve::serve;
 use book_audit::AuditedRepository;
-use book_core::{Sink, Source};
+use book_core::{LedgerFault, Sink, Source};
 use book_import::{MAX_READS, Receipt, Stop};
 use book_reports::ReportFault;
 use command_line::{ArgumentFault, BookRequest, DumpFile, NumberKind, Request, requested_by};
@@ -29,7 +34,7 @@ use smf_frames::Layout;
 use std::alloc::Global;
 use std::io::{IsTerminal, Read, Write};
 use streams::Writer;
-use tariff_rules::{MAX_RATE, Tariff};
+use tariff_rules::{MAX_RATE, Tariff, TariffFault};
 
 /// Does what the words ask for, the first of which is the program's name. Books are kept on a
 /// shelf. Why it was not done is said on standard error.
@@ -76,6 +81,10 @@ fn run<S: AuditedRepository, I: Read + Drop, O: Write + Drop>(
             let (came, output) = run_trial(rt.alloc(), layout, tariff, input, output);
             (Ended::without_log(came), output)
         }
+        Request::TrialUnder { layout, file } => {
+            let (came, output) = run_trial_under(rt, layout, file, input, output);
+            (Ended::without_log(came), output)
+        }
         Request::Check(dump) => {
             let (came, output) = check(rt, dump, output);
             (Ended::without_log(came), output)
@@ -85,6 +94,7 @@ fn run<S: AuditedRepository, I: Read + Drop, O: Write + Drop>(
             (Ended::without_log(came), output)
         }
         Request::OfBooks { book, asked } => run_on_books(rt, repository, book, asked, output),
+        Request::Unclear(why) => (Ended::without_log(Err(CommandFault::Unclear(why))), output),
     }
 }
 
@@ -110,6 +120,7 @@ fn run_on_books<S: AuditedRepository, O: Write + Drop>(
             tell(close(rt, repository, book, period, date), output)
         }
         BookRequest::Choose { name } => tell(choose(rt, repository, book, name), output),
+        BookRequest::ChooseListed { file } => choose_listed(rt, repository, book, file, output),
         BookRequest::Adopt => tell(adopt(rt, repository, book), output),
         BookRequest::OfPeriod {
             report,
@@ -121,6 +132,14 @@ fn run_on_books<S: AuditedRepository, O: Write + Drop>(
         ),
         BookRequest::Disputes { csv } => {
             tell(report_disputes(rt, repository, book, csv), output)
+        }
+        BookRequest::Periods => tell(report_periods(rt, repository, book), output),
+        BookRequest::Rulings => {
+            let (listed, output) = list_rulings(rt, repository, book, output);
+            (Ended::settled(listed), output)
+        }
+        BookRequest::TariffText { date } => {
+            tell(report_tariff(rt, repository, book, date), output)
         }
         BookRequest::Audit { quiet } => {
             let audited = audit(rt, repository, book, quiet, &mut output);
@@ -215,6 +234,43 @@ fn run_trial<I: Read + Drop, O: Write + Drop>(
     let mut sink = Sink::new(output);
     let told = trial(alloc, &mut source, layout, MAX_READS, tariff, &mut sink);
     (trial_ended(told), sink.into_inner())
+}
+
+/// Prices the records of the input under the tariff of a file, whatever its first day is.
+fn run_trial_under<I: Read + Drop, O: Write + Drop>(
+    rt: &HostRuntime,
+    layout: Layout,
+    file: &str,
+    input: I,
+    output: O,
+) -> (Result<(), CommandFault>, O)
+    ensures { TriesUnder layout (I.remaining input) (O.contents output) (O.contents result.1)
+        result.0 }
+{
+    match read_tariff(rt, file) {
+        Ok(tariff) => run_trial(rt.alloc(), layout, Some(tariff), input, output),
+        Err(fault) => (Err(fault), output),
+    }
+}
+
+/// The tariff of a file, in force on every day.
+fn read_tariff(rt: &HostRuntime, file: &str) -> Result<Tariff, CommandFault>
+    ensures { IsTariffRead result }
+{
+    let text = tariff_text(rt, file)?;
+    lasting_tariff(rt.alloc(), &text)
+}
+
+/// The tariff of a text, in force on every day.
+fn lasting_tariff(alloc: Global, text: &str) -> Result<Tariff, CommandFault>
+    ensures lasts { IfOk result (λ tariff. lasting (terms_in text.now) ≡ Ok tariff) }
+    ensures refused { IfErr result (IsFaultIn (lasting (terms_in text.now))) }
+{
+    match Tariff::parse(alloc, text) {
+        Ok(tariff) => Ok(tariff.on_every_day()),
+        Err(TariffFault::Memory) => Err(CommandFault::Ledger(LedgerFault::Memory)),
+        Err(why) => Err(CommandFault::Ledger(LedgerFault::TariffRefused(why))),
+    }
 }
 
 /// How a trial ends.

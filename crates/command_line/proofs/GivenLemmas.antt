@@ -103,6 +103,7 @@ word_given s highest i (word.Optional valued text) words is own none =
     (value_given s t words own (valued_takes s.args_override_self t) none
     (default_row s t words (defaulted_has text.now [] t) is))
 word_given s highest i (word.Maybe valued) words is own none = tt
+word_given s highest i (word.MaybeLast valued) words is own none = tt
 
 words_given : (s : Shape) (highest : ℕ) (ws : List Argument) (i : ℕ) (words : List Text)
     → ((t : Rule) → In t (filled_from i (map (rule_for highest) ws ++ help_rule ∷ []))

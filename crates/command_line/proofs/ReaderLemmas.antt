@@ -34,8 +34,13 @@ pub has_text : (rows : List Row) (name : Text) (o : Option (Bor Text))
 has_text rows name None is some = absurd (true_false (sym some ∙ ap is_some (sym is)))
 has_text rows name (Some s) is some = refl
 
+pub none_read : (rows : List Row) (name : Text) (o : Option (Bor Text))
+    → option_map (λ s. s.now) o ≡ first_of name rows → o ≡ None → IsLeftOut rows name
+none_read rows name None is none = sym is
+none_read rows name (Some s) is none = absurd (none_some s (sym none))
+
 -- where no text is read, none was given
-left_out : (rows : List Row) (name : Text)
+pub left_out : (rows : List Row) (name : Text)
     → (IsSome (first_of name rows) → IsSome {T = Bor Text} None) → IsLeftOut rows name
 left_out rows name some = go (first_of name rows) some
   where

@@ -38,6 +38,7 @@ HasWord rows (known.last name value text) = HasValue rows name value
 HasWord rows (known.named name value) = HasValue rows name value
 HasWord rows (known.optional name value text) = HasValue rows name value
 HasWord rows (known.maybe name value) = ⊤
+HasWord rows (known.maybe_last name value) = ⊤
 
 abbrev pub HasWords : List Row → List WordSeen → Type 0
 HasWords rows [] = ⊤

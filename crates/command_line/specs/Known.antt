@@ -33,6 +33,7 @@ pub data WordSeen : Type 0 where
   named : Text → ValueSeen → WordSeen
   optional : Text → ValueSeen → Text → WordSeen
   maybe : Text → ValueSeen → WordSeen
+  maybe_last : Text → ValueSeen → WordSeen
 
 abbrev pub value_seen : ValueKind → ValueSeen
 value_seen kind.Text = any
@@ -49,6 +50,7 @@ word_seen (word.Named valued) = named valued.name.now (value_seen valued.kind)
 word_seen (word.Optional valued text) =
     optional valued.name.now (value_seen valued.kind) text.now
 word_seen (word.Maybe valued) = maybe valued.name.now (value_seen valued.kind)
+word_seen (word.MaybeLast valued) = maybe_last valued.name.now (value_seen valued.kind)
 
 abbrev pub command_seen : KnownCommand → Text × List WordSeen
 command_seen known = (known.name.now, map word_seen known.words.now)
@@ -68,7 +70,10 @@ abbrev pub date : WordSeen
 date = place (codes "date") any
 
 abbrev pub digest : WordSeen
-digest = place (codes "sha256") any
+digest = maybe_last (codes "sha256") any
+
+abbrev pub names : WordSeen
+names = maybe (codes "from") any
 
 abbrev pub number_kind : WordSeen
 number_kind = place (codes "kind") (among (codes "frame" ∷ codes "ledger" ∷ codes "tariff"
@@ -89,6 +94,9 @@ layouts = optional (codes "layout") (among (codes "rdw" ∷ codes "bdw" ∷ []))
 abbrev pub rate_of : Text → WordSeen
 rate_of name = optional name rate (codes "0")
 
+abbrev pub prices : WordSeen
+prices = maybe (codes "tariff") any
+
 abbrev pub quiet : WordSeen
 quiet = flag (codes "quiet")
 
@@ -102,18 +110,21 @@ centre = maybe (codes "centre") any
 unfoldable pub known_table : List (Text × List WordSeen)
 known_table = (
   codes "trial",
-  layouts ∷ rate_of (codes "cpu") ∷ rate_of (codes "excp") ∷ rate_of (codes "record") ∷ [],
+  layouts ∷ rate_of (codes "cpu") ∷ rate_of (codes "excp") ∷ rate_of (codes "record") ∷ prices ∷ [],
 ) ∷
     (codes "check", layouts ∷ quiet ∷ file ∷ []) ∷
     (codes "init", book ∷ []) ∷
     (codes "tariff", book ∷ file ∷ []) ∷
     (codes "import", book ∷ file ∷ layouts ∷ quiet ∷ []) ∷
     (codes "close", book ∷ period ∷ date ∷ []) ∷
-    (codes "choose", book ∷ digest ∷ []) ∷
+    (codes "choose", book ∷ digest ∷ names ∷ []) ∷
     (codes "adopt", book ∷ []) ∷
     (codes "statement", book ∷ period ∷ csv ∷ centre ∷ []) ∷
     (codes "adjustments", book ∷ period ∷ csv ∷ centre ∷ []) ∷
     (codes "disputes", book ∷ csv ∷ []) ∷
+    (codes "periods", book ∷ []) ∷
+    (codes "rulings", book ∷ []) ∷
+    (codes "tariff-text", book ∷ date ∷ []) ∷
     (codes "audit", book ∷ quiet ∷ []) ∷
     (codes "backup", book ∷ file ∷ quiet ∷ []) ∷
     (codes "serve", book ∷ port ∷ requests ∷ []) ∷

@@ -1,5 +1,6 @@
 -- Which request clap's matches are: the name of a command, and what was found for its arguments.
-use Rattle.std.specs.Prelude.{◌≡◌, ℕ, Bool, true, false, List, Option, codes, Some, None, IsSomeAnd}
+use Rattle.std.specs.Prelude.{◌≡◌, ◌⊎◌, ◌&&◌, ◌==◌, ℕ, Bool, true, false, List, Option, codes}
+use Rattle.std.specs.Prelude.{Some, None, IsSome, IsSomeAnd}
 use Rattle.std.specs.Borrow.{Bor}
 use Rattle.std.specs.Str.Parse.{IsNumeral, digits_value, without_leading_plus}
 use Rattle.clap.specs.Matches.{found_of}
@@ -17,6 +18,8 @@ use Rattle.command_line.specs.declared.request.NumberKind.{NumberKind}
 use Rattle.command_line.specs.declared.request.NumberKind.TheVariants as number
 use Rattle.command_line.specs.declared.request.Request.{Request}
 use Rattle.command_line.specs.declared.request.Request.TheVariants as request
+use Rattle.command_line.specs.declared.request.Unclear.{Unclear}
+use Rattle.command_line.specs.declared.request.Unclear.TheVariants as unclear
 
 -- what was found for a command's arguments
 abbrev pub rows_in : ArgMatches → List Row
@@ -38,7 +41,11 @@ IsNumber rows name value = IsSomeAnd (one_of name rows) (λ text. Writes text va
 abbrev pub IsFlag : List Row → Text → Bool → Type 0
 IsFlag rows name flag = one_of name rows ≡ Some (bool_text flag)
 
--- no text was given for an argument, and it has no default
+-- a text was given for an argument that has no default
+abbrev pub IsGiven : List Row → Text → Type 0
+IsGiven rows name = IsSome (first_of name rows)
+
+-- or none was
 abbrev pub IsLeftOut : List Row → Text → Type 0
 IsLeftOut rows name = first_of name rows ≡ None
 
@@ -97,11 +104,19 @@ IsOfBooks name rows (book.Close period date) =
     × IsText rows (codes "date") date
 IsOfBooks name rows (book.Choose digest) =
     (name ≡ codes "choose") × IsText rows (codes "sha256") digest
+    × IsLeftOut rows (codes "from")
+IsOfBooks name rows (book.ChooseListed file) =
+    (name ≡ codes "choose") × IsLeftOut rows (codes "sha256")
+    × IsText rows (codes "from") file
 IsOfBooks name rows book.Adopt = name ≡ codes "adopt"
 IsOfBooks name rows (book.OfPeriod asked period centre) =
     IsOfPeriod name rows asked period × IsCentre rows centre
 IsOfBooks name rows (book.Disputes csv) =
     (name ≡ codes "disputes") × IsFlag rows (codes "csv") csv
+IsOfBooks name rows book.Periods = name ≡ codes "periods"
+IsOfBooks name rows book.Rulings = name ≡ codes "rulings"
+IsOfBooks name rows (book.TariffText date) =
+    (name ≡ codes "tariff-text") × IsText rows (codes "date") date
 IsOfBooks name rows (book.Audit quiet) =
     (name ≡ codes "audit") × IsFlag rows (codes "quiet") quiet
 IsOfBooks name rows (book.BackUp copy quiet) =
@@ -110,13 +125,44 @@ IsOfBooks name rows (book.Serve port requests) =
     (name ≡ codes "serve") × IsNumber rows (codes "port") port
     × IsNumber rows (codes "requests") requests
 
+-- the rates of a trial, each of which is 0 where it is left out
+abbrev pub AreRates : List Row → ℕ → ℕ → ℕ → Type 0
+AreRates rows cpu excp price =
+    IsNumber rows (codes "cpu") cpu × IsNumber rows (codes "excp") excp
+    × IsNumber rows (codes "record") price
+
+-- no rate is above 0
+abbrev pub are_none : ℕ → ℕ → ℕ → Bool
+are_none cpu excp price = cpu == 0 && excp == 0 && price == 0
+
+-- a rate that is above 0 was given
+pub record NamesRate (rows : List Row) : Type 0 where
+  pub cpu : ℕ
+  pub excp : ℕ
+  pub price : ℕ
+  pub are : AreRates rows cpu excp price
+  pub some : are_none cpu excp price ≡ false
+
+-- words each of which is right, and which together do not say what is asked
+abbrev pub IsUnclear : Text → List Row → Unclear → Type 0
+IsUnclear name rows unclear.Choice =
+    (name ≡ codes "choose")
+    × ((IsGiven rows (codes "sha256") × IsGiven rows (codes "from"))
+    ⊎ (IsLeftOut rows (codes "sha256") × IsLeftOut rows (codes "from")))
+IsUnclear name rows unclear.Prices =
+    (name ≡ codes "trial") × IsGiven rows (codes "tariff") × NamesRate rows
+
 -- what is asked of the program
 abbrev pub IsRequest : Text → List Row → Request → Type 0
 IsRequest name rows (request.Trial layout cpu excp price) =
-    (name ≡ codes "trial") × IsLayout rows layout × IsNumber rows (codes "cpu") cpu
-    × IsNumber rows (codes "excp") excp × IsNumber rows (codes "record") price
+    (name ≡ codes "trial") × IsLayout rows layout × AreRates rows cpu excp price
+    × IsLeftOut rows (codes "tariff")
+IsRequest name rows (request.TrialUnder layout file) =
+    (name ≡ codes "trial") × IsLayout rows layout × AreRates rows 0 0 0
+    × IsText rows (codes "tariff") file
 IsRequest name rows (request.Check dump) = (name ≡ codes "check") × IsDump rows dump
 IsRequest name rows (request.Explain kind value) =
     (name ≡ codes "explain") × IsKind rows kind × IsNumber rows (codes "number") value
 IsRequest name rows (request.OfBooks path asked) =
     IsText rows (codes "book") path × IsOfBooks name rows asked
+IsRequest name rows (request.Unclear why) = IsUnclear name rows why

@@ -45,6 +45,7 @@ rule_for highest (word.Optional valued text) =
     record (value_rule highest valued) { long = Some valued.name.now; defaults = text.now ∷ [] }
 rule_for highest (word.Maybe valued) =
     record (value_rule highest valued) { long = Some valued.name.now }
+rule_for highest (word.MaybeLast valued) = value_rule highest valued
 
 -- a command of the program
 abbrev pub shape_for : ℕ → KnownCommand → Shape

@@ -62,6 +62,7 @@ fn clap_arg<'a>(alloc: Global, word: Argument, highest: u32) -> Arg<'a>
             .long(valued.name)
             .default_value(text),
         Argument::Maybe(valued) => value_arg(alloc, valued, highest).long(valued.name),
+        Argument::MaybeLast(valued) => value_arg(alloc, valued, highest),
     }
 }
 

@@ -27,6 +27,8 @@ pub(crate) enum Argument {
     Optional(ValuedArgument, &'static str),
     /// A value after its name, or none.
     Maybe(ValuedArgument),
+    /// The last value in its place, or none.
+    MaybeLast(ValuedArgument),
 }
 
 /// What has a value.
@@ -97,10 +99,24 @@ const DATE: Argument = Argument::InPlace(ValuedArgument {
     kind: ValueKind::Text,
 });
 
-const SHA256: Argument = Argument::InPlace(ValuedArgument {
+const FIRST_DAY: Argument = Argument::InPlace(ValuedArgument {
+    name: "date",
+    shown: "DATE",
+    help: "The tariff's first day, such as 2024-01-01",
+    kind: ValueKind::Text,
+});
+
+const SHA256: Argument = Argument::MaybeLast(ValuedArgument {
     name: "sha256",
     shown: "SHA256",
     help: "The record's name, as the list of disputes shows it",
+    kind: ValueKind::Text,
+});
+
+const NAMES: Argument = Argument::Maybe(ValuedArgument {
+    name: "from",
+    shown: "FILE",
+    help: "A list of names in place of SHA256, one a line",
     kind: ValueKind::Text,
 });
 
@@ -166,6 +182,13 @@ const RECORD: Argument = Argument::Optional(
     "0",
 );
 
+const PRICES: Argument = Argument::Maybe(ValuedArgument {
+    name: "tariff",
+    shown: "FILE",
+    help: "A tariff in place of rates, in force on every day",
+    kind: ValueKind::Text,
+});
+
 const PORT: Argument = Argument::Named(ValuedArgument {
     name: "port",
     shown: "PORT",
@@ -198,11 +221,11 @@ const NUMBER: Argument = Argument::Last(
 );
 
 /// The commands in the order of the program's help.
-pub(crate) static KNOWN_COMMANDS: [KnownCommand; 15] = [
+pub(crate) static KNOWN_COMMANDS: [KnownCommand; 18] = [
     KnownCommand {
         name: "trial",
         about: "Prices a dump from standard input in new books, and prints their statement",
-        words: &[LAYOUT, CPU, EXCP, RECORD],
+        words: &[LAYOUT, CPU, EXCP, RECORD, PRICES],
     },
     KnownCommand {
         name: "check",
@@ -232,7 +255,7 @@ pub(crate) static KNOWN_COMMANDS: [KnownCommand; 15] = [
     KnownCommand {
         name: "choose",
         about: "Charges one of several records in dispute with each other, and none of the others",
-        words: &[BOOK, SHA256],
+        words: &[BOOK, SHA256, NAMES],
     },
     KnownCommand {
         name: "adopt",
@@ -253,6 +276,21 @@ pub(crate) static KNOWN_COMMANDS: [KnownCommand; 15] = [
         name: "disputes",
         about: "Prints the records in dispute",
         words: &[BOOK, DISPUTE_CSV],
+    },
+    KnownCommand {
+        name: "periods",
+        about: "Prints the periods",
+        words: &[BOOK],
+    },
+    KnownCommand {
+        name: "rulings",
+        about: "Prints the tariffs, the closes, the choices and the adoption",
+        words: &[BOOK],
+    },
+    KnownCommand {
+        name: "tariff-text",
+        about: "Prints the tariff file that begins on a day, byte for byte",
+        words: &[BOOK, FIRST_DAY],
     },
     KnownCommand {
         name: "audit",

@@ -1,15 +1,17 @@
 //! The command that `clap` found in the words.
 
-ghost use Rattle.std.specs.Prelude.{[], ◌∷◌, IfSome, IsSome, IsSomeAnd, codes, pos};
+ghost use Rattle.std.specs.Prelude.{◌≡◌, [], ◌∷◌, None, IfSome, IsSome, IsSomeAnd, codes, pos};
 ghost use Rattle.clap.specs.Simple.{subcommand_rows_of};
 ghost use Rattle.clap.specs.Walk.{first_of};
 ghost use Rattle.command_line.specs.Given.{HasNumber, HasRate, HasWord, HasWords, HasWordsOf};
 ghost use Rattle.command_line.specs.Given.{NoneIs};
 ghost use Rattle.command_line.specs.Known as known;
 ghost use Rattle.command_line.specs.Requests.{IsDump, IsFlag, IsKind, IsLayout, IsNumber};
-ghost use Rattle.command_line.specs.Requests.{IsOfBooks, IsOfPeriod, IsRequest, IsText, rows_in};
+ghost use Rattle.command_line.specs.Requests.{IsLeftOut, IsOfBooks, IsOfPeriod, IsRequest};
+ghost use Rattle.command_line.specs.Requests.{IsText, rows_in};
+ghost use Rattle.command_line.specs.Requests as spec;
 
-use crate::request::{BookRequest, DumpFile, NumberKind, Request};
+use crate::request::{BookRequest, DumpFile, NumberKind, Request, Unclear};
 use book_reports::PeriodReport;
 use clap::ArgMatches;
 use smf_frames::Layout;
@@ -49,7 +51,7 @@ fn change_in<'a>(name: &str, found: &ArgMatches<'a>) -> Option<Request<'a>>
         "tariff" => of_books_in(found, tariff_in(found)),
         "import" => of_books_in(found, import_in(found)),
         "close" => of_books_in(found, close_in(found)),
-        "choose" => of_books_in(found, choice_in(found)),
+        "choose" => choice_in(found),
         "adopt" => of_books_in(found, Some(BookRequest::Adopt)),
         _ => service_in(name, found),
     }
@@ -70,6 +72,23 @@ fn service_in<'a>(name: &str, found: &ArgMatches<'a>) -> Option<Request<'a>>
         "audit" => of_books_in(found, audit_in(found)),
         "backup" => of_books_in(found, back_up_in(found)),
         "serve" => of_books_in(found, serve_in(found)),
+        _ => list_in(name, found),
+    }
+}
+
+/// The periods, or what was ruled.
+fn list_in<'a>(name: &str, found: &ArgMatches<'a>) -> Option<Request<'a>>
+    ensures request { IfSome result (IsRequest name.now (rows_in found.now)) }
+    ensures some { HasWordsOf name.now (rows_in found.now)
+        → NoneIs (codes "trial" ∷ codes "check" ∷ codes "explain" ∷ codes "init"
+        ∷ codes "tariff" ∷ codes "import" ∷ codes "close" ∷ codes "choose" ∷ codes "adopt"
+        ∷ codes "statement" ∷ codes "adjustments" ∷ codes "disputes" ∷ codes "audit"
+        ∷ codes "backup" ∷ codes "serve" ∷ []) name.now → IsSome result }
+{
+    match name {
+        "periods" => of_books_in(found, Some(BookRequest::Periods)),
+        "rulings" => of_books_in(found, Some(BookRequest::Rulings)),
+        "tariff-text" => of_books_in(found, tariff_text_in(found)),
         _ => None,
     }
 }
@@ -88,6 +107,7 @@ fn of_books_in<'a>(found: &ArgMatches<'a>, asked: Option<BookRequest<'a>>) -> Op
 fn text_in<'a>(found: &ArgMatches<'a>, name: &str) -> Option<&'a str>
     ensures text { IfSome result (IsText (rows_in found.now) name.now) }
     ensures some { IsSome (first_of name.now (rows_in found.now)) → IsSome result }
+    ensures left_out { result ≡ None → IsLeftOut (rows_in found.now) name.now }
 {
     found.get_str(name)
 }
@@ -124,17 +144,39 @@ fn layout_in(found: &ArgMatches<'_>) -> Option<Layout>
     }
 }
 
-fn trial_in<'a>(found: &ArgMatches<'_>) -> Option<Request<'a>>
+/// No rate is above 0.
+fn are_none(cpu: u64, excp: u64, price: u64) -> bool
+    ensures { result ≡ spec.are_none cpu excp price }
+{
+    cpu == 0 && excp == 0 && price == 0
+}
+
+/// A trial at rates, or under the tariff that is named. With both it is unclear.
+fn trial_in<'a>(found: &ArgMatches<'a>) -> Option<Request<'a>>
     ensures request { IfSome result (IsRequest (codes "trial") (rows_in found.now)) }
     ensures some { HasWords (rows_in found.now) (known.layouts ∷ known.rate_of (codes "cpu")
-        ∷ known.rate_of (codes "excp") ∷ known.rate_of (codes "record") ∷ []) → IsSome result }
+        ∷ known.rate_of (codes "excp") ∷ known.rate_of (codes "record") ∷ known.prices ∷ [])
+        → IsSome result }
 {
-    Some(Request::Trial {
-        layout: layout_in(found)?,
-        cpu: rate_in(found, "cpu")?,
-        excp: rate_in(found, "excp")?,
-        record: rate_in(found, "record")?,
-    })
+    let layout = layout_in(found)?;
+    let cpu = rate_in(found, "cpu")?;
+    let excp = rate_in(found, "excp")?;
+    let price = rate_in(found, "record")?;
+    match text_in(found, "tariff") {
+        None => Some(Request::Trial {
+            layout,
+            cpu,
+            excp,
+            record: price,
+        }),
+        Some(file) => {
+            if are_none(cpu, excp, price) {
+                Some(Request::TrialUnder { layout, file })
+            } else {
+                Some(Request::Unclear(Unclear::Prices))
+            }
+        }
+    }
 }
 
 fn dump_in<'a>(found: &ArgMatches<'a>) -> Option<DumpFile<'a>>
@@ -186,12 +228,22 @@ fn close_in<'a>(found: &ArgMatches<'a>) -> Option<BookRequest<'a>>
     Some(BookRequest::Close { period, date })
 }
 
-fn choice_in<'a>(found: &ArgMatches<'a>) -> Option<BookRequest<'a>>
-    ensures asked { IfSome result (IsOfBooks (codes "choose") (rows_in found.now)) }
-    ensures some { HasWord (rows_in found.now) known.digest → IsSome result }
+/// One choice, or those of the list that is named. With both, or neither, it is unclear.
+fn choice_in<'a>(found: &ArgMatches<'a>) -> Option<Request<'a>>
+    ensures request { IfSome result (IsRequest (codes "choose") (rows_in found.now)) }
+    ensures some { HasWord (rows_in found.now) known.book → IsSome result }
 {
-    let name = text_in(found, "sha256")?;
-    Some(BookRequest::Choose { name })
+    let unclear = Some(Request::Unclear(Unclear::Choice));
+    match text_in(found, "sha256") {
+        Some(name) => match text_in(found, "from") {
+            Some(_) => unclear,
+            None => of_books_in(found, Some(BookRequest::Choose { name })),
+        },
+        None => match text_in(found, "from") {
+            Some(file) => of_books_in(found, Some(BookRequest::ChooseListed { file })),
+            None => unclear,
+        },
+    }
 }
 
 /// What a period has of the centre that is named, or else of the whole office.
@@ -239,6 +291,14 @@ fn disputes_in<'a>(found: &ArgMatches<'_>) -> Option<BookRequest<'a>>
 {
     let csv = flag_in(found, "csv")?;
     Some(BookRequest::Disputes { csv })
+}
+
+fn tariff_text_in<'a>(found: &ArgMatches<'a>) -> Option<BookRequest<'a>>
+    ensures asked { IfSome result (IsOfBooks (codes "tariff-text") (rows_in found.now)) }
+    ensures some { HasWord (rows_in found.now) known.date → IsSome result }
+{
+    let date = text_in(found, "date")?;
+    Some(BookRequest::TariffText { date })
 }
 
 fn audit_in<'a>(found: &ArgMatches<'_>) -> Option<BookRequest<'a>>

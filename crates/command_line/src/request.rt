@@ -27,6 +27,15 @@ pub struct DumpFile<'a> {
     pub quiet: bool,
 }
 
+/// Words each of which is right, and which together do not say what is asked.
+#[derive(Clone, Copy, Debug, PartialEq, Eq)]
+pub enum Unclear {
+    /// Which records are chosen: a name and a list of names are given, or neither.
+    Choice,
+    /// What a trial prices by: a tariff and a rate are given.
+    Prices,
+}
+
 /// What is asked of books in a file.
 #[derive(Clone, Copy)]
 pub enum BookRequest<'a> {
@@ -51,6 +60,11 @@ pub enum BookRequest<'a> {
         /// Its name, as 64 hexadecimal digits.
         name: &'a str,
     },
+    /// The records of a list chosen, one after the other.
+    ChooseListed {
+        /// The path of the list, which has a name a line.
+        file: &'a str,
+    },
     /// Identity rule 2 adopted for good.
     Adopt,
     /// What a period has printed.
@@ -65,6 +79,15 @@ pub enum BookRequest<'a> {
     Disputes {
         /// As a table of comma-separated values.
         csv: bool,
+    },
+    /// The list of periods printed.
+    Periods,
+    /// The list of rulings printed.
+    Rulings,
+    /// The file of a tariff printed.
+    TariffText {
+        /// Its first day, as `YYYY-MM-DD`.
+        date: &'a str,
     },
     /// The whole file audited.
     Audit {
@@ -100,6 +123,13 @@ pub enum Request<'a> {
         /// Ten-thousandths of the money unit for a record.
         record: u64,
     },
+    /// The same under the tariff of a file.
+    TrialUnder {
+        /// How the input's segments are laid out.
+        layout: Layout,
+        /// The path of the tariff.
+        file: &'a str,
+    },
     /// What every record of a file is.
     Check(DumpFile<'a>),
     /// What a number on standard error or in a list means, or a word that has none.
@@ -113,4 +143,6 @@ pub enum Request<'a> {
         book: &'a str,
         asked: BookRequest<'a>,
     },
+    /// Nothing that is clear.
+    Unclear(Unclear),
 }

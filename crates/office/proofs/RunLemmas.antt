@@ -18,7 +18,7 @@ use Rattle.office.specs.Runs.{AsksWithoutReader, Runs, dump_here}
 use Rattle.office.proofs.LawLemmas.{asks_answered}
 
 -- what was done to books that stayed as they were, and then other work
-none_then : (Next : Transition) (was between : Bool) (before : Book) (early late : List Event) (is : Bool)
+pub none_then : (Next : Transition) (was between : Bool) (before : Book) (early late : List Event) (is : Bool)
     → NoEvent was before early between → Next between (after_all early before) late is
     → Next was before late is
 none_then Next was between before early late is none next =

@@ -1,9 +1,11 @@
--- What makes a trial and a check, what is said, laws of trials, and the number of each fault.
+-- What makes a trial and a check, what is said, lists of names, laws of trials, and the number of each
+-- fault.
 pub mod TrialLemmas
 pub mod LineLemmas
 pub mod ListingLemmas
 pub mod PieceLemmas
 pub mod CheckLemmas
 pub mod MessageLemmas
+pub mod NameLemmas
 pub mod LawLemmas
 pub mod NumberLemmas

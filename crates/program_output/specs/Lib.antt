@@ -1,5 +1,5 @@
 -- Read in this order: how a dump is read, what a trial and a check are, the exit statuses and what is said with them,
--- the name that a word spells, what each number means, and the laws that follow.
+-- the names that a word and a list spell, what each number means, and the laws that follow.
 pub mod Readings
 pub mod Trials
 pub mod Checks

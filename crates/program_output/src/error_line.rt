@@ -3,9 +3,10 @@
 
 ghost use Rattle.std.specs.Prelude.{◌≡◌, ◌<◌, ◌≤◌, [], ◌∷◌, length, take};
 ghost use Rattle.std.specs.Io.KnownBytes.{Appends};
-ghost use Rattle.program_output.specs.Messages.{AreSaid, FailsToWrite, line_of};
+ghost use Rattle.program_output.specs.Messages.{AreSaid, FailsToWrite, line_at, line_of};
 
 use arrayvec::ArrayString;
+use itoa::Buffer;
 use streams::Writer;
 
 /// The name by which the program speaks of itself.
@@ -13,6 +14,9 @@ pub const PROGRAM: &str = "chargectl";
 
 /// Room for a line: the program's name, what it says, and what stands around that.
 type Line = ArrayString<80>;
+
+/// Room for a line that also has the number of a line of a file, of up to 20 digits.
+type NumberedLine = ArrayString<112>;
 
 /// Writes once, and answers how many bytes were taken: none where the write failed.
 fn write_once<E: Writer>(errors: &mut E, bytes: &[u8]) -> usize
@@ -52,6 +56,22 @@ pub(crate) fn say_line<E: Writer>(errors: &mut E, what: &str)
     line.push_str(PROGRAM);
     line.push_str(": ");
     line.push_str(what);
+    line.push_str("\n");
+    say(errors, line.as_str());
+}
+
+/// Says the same of a line of a file, which has this number.
+pub(crate) fn say_at<E: Writer>(errors: &mut E, what: &str, number: usize)
+    requires { length what.now ≤ 64 }
+    ensures { AreSaid E.contents E.may_answer (line_at what.now number ∷ []) errors.old errors.new }
+{
+    let mut digits = Buffer::new();
+    let mut line = NumberedLine::new();
+    line.push_str(PROGRAM);
+    line.push_str(": ");
+    line.push_str(what);
+    line.push_str(" line ");
+    line.push_str(digits.format(number));
     line.push_str("\n");
     say(errors, line.as_str());
 }

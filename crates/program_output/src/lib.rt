@@ -23,9 +23,10 @@ pub use error_line::{PROGRAM, say};
 pub use explanations::{Explanation, FaultKind, explained};
 pub use laws::{numbers_are_one_to_one, same_records_same_texts};
 pub use message::{
-    arguments_failed, books_busy, books_unsound, input_refused, io_failed, ledger_refused,
-    log_left, no_such_number, out_of_memory, report_failed, stopped,
+    arguments_failed, books_busy, books_unsound, input_refused, input_refused_at, io_failed,
+    ledger_refused, ledger_refused_at, log_left, no_such_number, out_of_memory, report_failed,
+    stopped, words_refused,
 };
-pub use names::name_of_text;
+pub use names::{MAX_NAMES, NameList, NamesFault, name_of_text};
 pub use status::Status;
 pub use trials::trial;

@@ -4,13 +4,15 @@
 ghost use Rattle.std.specs.Prelude.{◌≡◌, ◌≤◌, [], ◌∷◌, length};
 ghost use Rattle.std.specs.IoError.{error_kind};
 ghost use Rattle.program_output.specs.Messages.{AreSaid, arguments_line, busy_line, io_line};
-ghost use Rattle.program_output.specs.Messages.{ledger_line, line_of, log_line, no_number_line};
+ghost use Rattle.program_output.specs.Messages.{ledger_line, line_at, line_of};
+ghost use Rattle.program_output.specs.Messages.{log_line, no_number_line};
 ghost use Rattle.program_output.specs.Messages.{report_line, stop_lines, unsound_line};
+ghost use Rattle.program_output.specs.Messages as messages;
 ghost use Rattle.program_output.specs.Statuses as statuses;
 ghost use Rattle.program_output.specs.Statuses.{arguments_status, log_status, report_status};
 ghost use Rattle.program_output.specs.Statuses.{stop_status};
 
-use crate::error_line::{say, say_line};
+use crate::error_line::{say, say_at, say_line};
 use crate::fault_message::{ledger_message, numbered};
 use crate::status::Status;
 use book_core::LedgerFault;
@@ -83,6 +85,26 @@ pub fn input_refused<E: Writer>(errors: &mut E, word: &str) -> Status
     Status::Refused
 }
 
+/// Says the same of a line of a file.
+pub fn input_refused_at<E: Writer>(errors: &mut E, word: &str, number: usize) -> Status
+    requires { length word.now ≤ 64 }
+    ensures status { result ≡ Status.Refused }
+    ensures said { AreSaid E.contents E.may_answer (line_at word.now number ∷ [])
+        errors.old errors.new }
+{
+    say_at(errors, word, number);
+    Status::Refused
+}
+
+/// Says why words are refused each of which is right.
+pub fn words_refused<E: Writer>(errors: &mut E, text: &str) -> Status
+    ensures status { result ≡ Status.Usage }
+    ensures said { AreSaid E.contents E.may_answer (text.now ∷ []) errors.old errors.new }
+{
+    say(errors, text);
+    Status::Usage
+}
+
 /// Says that an audit found books unsound.
 pub fn books_unsound<E: Writer>(errors: &mut E) -> Status
     ensures status { result ≡ Status.Store }
@@ -121,6 +143,17 @@ pub fn ledger_refused<E: Writer>(errors: &mut E, fault: LedgerFault) -> Status
 {
     let message = ledger_message(fault);
     say_line(errors, message.as_str());
+    ledger_status(fault)
+}
+
+/// Says why a ledger refused what a line of a file asks.
+pub fn ledger_refused_at<E: Writer>(errors: &mut E, fault: LedgerFault, number: usize) -> Status
+    ensures status { result ≡ statuses.ledger_status fault }
+    ensures said { AreSaid E.contents E.may_answer (line_at (messages.ledger_message fault) number ∷ [])
+        errors.old errors.new }
+{
+    let message = ledger_message(fault);
+    say_at(errors, message.as_str(), number);
     ledger_status(fault)
 }
 

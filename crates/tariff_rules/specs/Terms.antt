@@ -55,3 +55,7 @@ pub record Terms : Type 0 where
 abbrev pub flat_terms : RatesOf → Terms
 flat_terms rates =
     record { effective = first_day; step = rates; job = rates; shifts = []; centres = [] }
+
+-- the same terms, in force on every day
+abbrev pub on_every_day : Terms → Terms
+on_every_day terms = record terms { effective = first_day }

@@ -5,6 +5,7 @@ ghost use Rattle.smf_text.specs.Day.{IsDay};
 ghost use Rattle.smf_text.specs.Names.{IsName};
 ghost use Rattle.tariff_rules.specs.Price as spec;
 ghost use Rattle.tariff_rules.specs.Terms.{AreRates, IsShift, flat_terms, rates_of};
+ghost use Rattle.tariff_rules.specs.Terms as terms;
 
 mod file;
 
@@ -61,6 +62,15 @@ impl Tariff {
             shifts: Vec::new(alloc),
             centres: Vec::new(alloc),
         })
+    }
+
+    /// The same tariff, in force on every day.
+    pub fn on_every_day(self) -> Tariff
+        ensures { result ≡ terms.on_every_day self }
+    {
+        let mut lasting = self;
+        lasting.effective = FIRST_DAY;
+        lasting
     }
 
     /// The first day on which the tariff is in force, in days since 1970-01-01.

@@ -2,7 +2,7 @@ use Rattle.std.proofs.Common.{subst, sym, refl}
 use Rattle.std.specs.Prelude.{IfSome}
 use Rattle.command_line.specs.Given.{HasWordsOf}
 use Rattle.command_line.specs.Known.{known_table}
-use Rattle.command_line.specs.Requests.{IsOfBooks, rows_in}
+use Rattle.command_line.specs.Requests.{IsOfBooks, IsRequest, rows_in}
 use Rattle.command_line.proofs.matched_request.change_in.Goals as goal
 
 pub returns-in-init-clause-some : goal.returns-in-init-clause-some
@@ -53,16 +53,15 @@ returns-in-close-clause-some c =
 
 pub returns-in-choose-clause-request : goal.returns-in-choose-clause-request
 returns-in-choose-clause-request c =
-    c.of_books_in-in-choose.ensures.request c.args.name.now
-    (subst (λ n. IfSome c.choice_in.result (IsOfBooks n (rows_in c.args.found.now)))
-    (sym c.in-choose.is) c.choice_in.ensures.asked)
+    subst (λ n. IfSome c.choice_in.result (IsRequest n (rows_in c.args.found.now)))
+    (sym c.in-choose.is) c.choice_in.ensures.request
 
 pub returns-in-choose-clause-some : goal.returns-in-choose-clause-some
 unfolding known_table
 returns-in-choose-clause-some c =
     λ has others.
     let words = subst (λ n. HasWordsOf n (rows_in c.args.found.now)) c.in-choose.is has in
-    c.of_books_in-in-choose.ensures.some words.0 (c.choice_in.ensures.some words.1.0)
+    c.choice_in.ensures.some words.0
 
 pub returns-in-adopt-clause-some : goal.returns-in-adopt-clause-some
 unfolding known_table

@@ -1,9 +1,8 @@
 use Rattle.std.proofs.Common.{subst, sym}
 use Rattle.std.specs.Prelude.{IfSome}
-use Rattle.command_line.specs.Given.{HasWords, HasWordsOf}
+use Rattle.command_line.specs.Given.{HasWordsOf}
 use Rattle.command_line.specs.Known.{known_table}
 use Rattle.command_line.specs.Requests.{IsOfBooks, rows_in}
-use Rattle.command_line.proofs.ReaderLemmas.{not_named}
 use Rattle.command_line.proofs.matched_request.service_in.Goals as goal
 
 pub returns-in-statement-clause-request : goal.returns-in-statement-clause-request
@@ -86,46 +85,7 @@ returns-in-serve-clause-some c =
     c.of_books_in-in-serve.ensures.some words.0 (c.serve_in.ensures.some words.1.0 words.1.1.0)
 
 pub returns-in_default-clause-some : goal.returns-in_default-clause-some
-unfolding known_table
 returns-in_default-clause-some c =
     let at = c.in_default in
     λ has others.
-    let later = others.1.1.1 in
-    absurd (not_named (λ command. HasWords (rows_in c.args.found.now) command.1) known_table
-    c.args.name.now (
-      others.0,
-      (
-        others.1.0,
-        (
-          later.0,
-          (
-            later.1.0,
-            (
-              later.1.1.0,
-              (
-                later.1.1.1.0,
-                (
-                  later.1.1.1.1.0,
-                  (
-                    later.1.1.1.1.1.0,
-                    (
-                      at.not-statement,
-                      (
-                        at.not-adjustments,
-                        (
-                          at.not-disputes,
-                          (
-                            at.not-audit,
-                            (at.not-backup, (at.not-serve, (others.1.1.0, tt))),
-                          ),
-                        ),
-                      ),
-                    ),
-                  ),
-                ),
-              ),
-            ),
-          ),
-        ),
-      ),
-    ) has)
+    c.list_in.ensures.some has (assumption (others, at))

@@ -2,7 +2,7 @@ use Rattle.std.proofs.Common.{◌∙◌}
 use Rattle.clap.specs.Matches.{found_of}
 use Rattle.clap.proofs.WalkLemmas.{first_value-rows}
 use Rattle.command_line.specs.Requests.{rows_in}
-use Rattle.command_line.proofs.ReaderLemmas.{has_text, read_text}
+use Rattle.command_line.proofs.ReaderLemmas.{has_text, none_read, read_text}
 use Rattle.command_line.proofs.matched_request.text_in.Goals as goal
 
 pub returns : goal.returns
@@ -12,4 +12,5 @@ returns c =
     record {
       text = read_text (rows_in found) c.args.name.now c.get_str.result is;
       some = has_text (rows_in found) c.args.name.now c.get_str.result is;
+      left_out = none_read (rows_in found) c.args.name.now c.get_str.result is;
     }

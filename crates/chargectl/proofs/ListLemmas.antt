@@ -1,0 +1,85 @@
+-- Lists of names that a reader gives, choices by them, and the tariff of a text.
+use Rattle.std.proofs.Common.{◌≡◌, ◌∙◌, ◌⊎◌, List, ℕ, Option, Result, Ok, Err, ap, inl, inr, refl}
+use Rattle.std.proofs.Common.{subst, sym, take, true, true≢false}
+use Rattle.std.specs.Prelude.{IfErr, IfOk, IsErr, IsErrAnd, OnErr}
+use Rattle.std.specs.declared.alloc.AllocError.{AllocError}
+use Rattle.std.specs.declared.io.ErrorKind.TheVariants.{OutOfMemory}
+use Rattle.std.specs.Io.KnownBytes.{Appends}
+use Rattle.std.proofs.KnownBytes.{Appends-nil}
+use Rattle.tariff_rules.specs.declared.fault.TariffFault.{TariffFault}
+use Rattle.tariff_rules.specs.TariffFile.{terms_in}
+use Rattle.book_model.specs.Words.{Terms}
+use Rattle.book_core.specs.Ledgers.{Seen}
+use Rattle.book_core.specs.Transition.{IsTransition, NoEvent}
+use Rattle.book_core.proofs.TransitionLemmas.{no_work}
+use Rattle.office.specs.declared.choosing.Chosen.{Chosen}
+use Rattle.office.specs.Choices.{ChoosesEach}
+use Rattle.office.specs.Shelves.{Shelf}
+use Rattle.office.proofs.ShelfLemmas.{untouched}
+use Rattle.program_output.specs.declared.names.NamesFault.{NamesFault}
+use Rattle.program_output.specs.declared.names.NamesFault.TheVariants as names
+use Rattle.program_output.specs.Names.{IsNamesFault, names_in}
+use Rattle.chargectl.specs.declared.choices.ListAnswered.{ListAnswered}
+use Rattle.chargectl.specs.declared.command_fault.CommandFault.{CommandFault}
+use Rattle.chargectl.specs.Choices.{ChoosesBy, ChoosesNothing, ComesOfList, IsListFault}
+use Rattle.chargectl.specs.Commands.{IsPrinted}
+use Rattle.chargectl.specs.Faults.{IsFaultIn, IsTextFault, names_fault}
+use Rattle.chargectl.specs.Reading.{IsTariffRead, lasting}
+
+-- the fault that `?` hands on
+pub fault_is : {T : Type 0} (result : Result T CommandFault) (found : CommandFault)
+    (IsOf : CommandFault → Type 0) → IsErrAnd result (λ why. why ≡ found) → IsOf found
+    → IfErr result IsOf
+fault_is (Ok value) found IsOf is holds = tt
+fault_is (Err why) found IsOf is holds = subst IsOf (sym is) holds
+
+-- why a text is no list of names
+pub no_list : (text : List ℕ) (found : NamesFault) → IsNamesFault (names_in text) found
+    → IsListFault (names_fault found)
+no_list text names.Memory read = inl (OutOfMemory, refl)
+no_list text (names.Line number) read =
+    inr (record { text = text; found = names.Line number; read = read; is = refl })
+no_list text names.TooMany read =
+    inr (record { text = text; found = names.TooMany; read = read; is = refl })
+
+-- a visit that chose the records of names, or had no memory for the answers
+pub choices_made : {L : Type 0} (seen : L → Seen) (old new : L) (names : List (List ℕ))
+    (told : Result Chosen AllocError)
+    → IfOk told (λ chosen. IsTransition (seen old) (seen new)
+    (ChoosesEach (seen old).naming names chosen.answers.items chosen.refusal))
+    → OnErr told (new ≡ old)
+    → IsTransition (seen old) (seen new) (ChoosesBy (seen old).naming names told)
+choices_made seen old new names (Ok chosen) made none = made
+choices_made seen old new names (Err fault) made none =
+    subst (λ now. IsTransition (seen old) (seen now) NoEvent) (sym none) (no_work (seen old))
+
+-- nothing was chosen, and this is why
+pub not_listed : (book : List ℕ) (shelf : Shelf) (result : Result ListAnswered CommandFault)
+    (found : CommandFault) → IsErr result → IsErrAnd result (λ why. why ≡ found)
+    → ChoosesNothing found → ComesOfList book shelf shelf result
+not_listed book shelf (Ok answered) found bad is why = absurd (true≢false (sym bad))
+not_listed book shelf (Err fault) found bad is why =
+    (subst ChoosesNothing (sym is) why, untouched book shelf)
+
+-- nothing was written
+pub none_printed : (text : List ℕ) (held : Option (List ℕ))
+    → (count : ℕ) × Appends held held (take count text)
+none_printed text held = (0, Appends-nil held)
+
+-- the tariff of a text, or why it is none
+refused_text : (said : Result Terms TariffFault) (why : CommandFault) → lasting said ≡ Err why
+    → IsTextFault why
+refused_text (Ok terms) why is = cc
+refused_text (Err refused) why is = inr (refused, (cc))
+
+pub tariff_is : (text : List ℕ) (result : Result Terms CommandFault)
+    → IfOk result (λ terms. lasting (terms_in text) ≡ Ok terms)
+    → IfErr result (IsFaultIn (lasting (terms_in text))) → IsTariffRead result
+tariff_is text (Ok terms) is why = (text, is)
+tariff_is text (Err fault) is (inl memory) = inl (OutOfMemory, memory)
+tariff_is text (Err fault) is (inr refused) = refused_text (terms_in text) fault refused
+
+pub no_tariff : (result : Result Terms CommandFault) (found : CommandFault) → IsErr result
+    → IsErrAnd result (λ why. why ≡ found) → IsTextFault found → IsTariffRead result
+no_tariff (Ok terms) found bad is why = absurd (true≢false (sym bad))
+no_tariff (Err fault) found bad is why = subst IsTextFault (sym is) why

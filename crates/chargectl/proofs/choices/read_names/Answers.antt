@@ -1,0 +1,26 @@
+use Rattle.std.proofs.Common.{◌++◌, ◌∷◌, []}
+use Rattle.chargectl.specs.Choices.{IsListFault}
+use Rattle.chargectl.specs.Faults.{names_fault}
+use Rattle.chargectl.proofs.ListLemmas.{fault_is, no_list}
+use Rattle.chargectl.proofs.choices.read_names.Goals as goal
+
+pub loop-byte-preserved : goal.loop-byte-preserved
+loop-byte-preserved g c =
+    let so_far = c.loop-byte.invariant in
+    (so_far.0 ++ c.in_ok-byte.field-0 ∷ [], c.in_ok-push.ensures.read so_far.0 so_far.1)
+
+pub returns-in_err-push-clause-refused : goal.returns-in_err-push-clause-refused
+returns-in_err-push-clause-refused g c =
+    let so_far = c.loop-byte.invariant in
+    let why = c.in_err-push.field-0.0 in
+    fault_is c.from_residual-in_err-push.result (names_fault why) IsListFault
+    c.from_residual-in_err-push.ensures.1
+    (no_list (so_far.0 ++ c.in_ok-byte.field-0 ∷ []) why (c.in_err-push.ensures.refused so_far.0 so_far.1))
+
+pub returns-in_err-end-clause-refused : goal.returns-in_err-end-clause-refused
+returns-in_err-end-clause-refused g c =
+    let so_far = c.loop-byte.invariant in
+    let why = c.in_err-end.field-0.0 in
+    fault_is c.from_residual-in_err-end.result (names_fault why) IsListFault
+    c.from_residual-in_err-end.ensures.1
+    (no_list so_far.0 why (c.in_err-end.ensures.refused so_far.0 so_far.1))

@@ -1,0 +1,126 @@
+-- Choices by the names of a list in a file: what the list has to be, what the books are asked, what is
+-- written, and how the command ends.
+use Rattle.std.specs.Prelude.{◌≡◌, ◌⊎◌, ◌+◌, true, ℕ, List, length}
+use Rattle.std.specs.Prelude.{Option, Some, None, Result, Ok, Err}
+use Rattle.std.specs.declared.alloc.AllocError.{AllocError}
+use Rattle.book_model.specs.declared.fault.LedgerFault.{LedgerFault}
+use Rattle.book_model.specs.declared.fault.LedgerFault.TheVariants as ledger
+use Rattle.book_model.specs.Words.{Naming}
+use Rattle.book_core.specs.Follow.{MakesAnswered}
+use Rattle.book_core.specs.Transition.{NoEvent, Transition}
+use Rattle.book_core.proofs.FollowLemmas.{none_answered}
+use Rattle.office.specs.declared.choosing.Chosen.{Chosen}
+use Rattle.office.specs.declared.repository.RepositoryFault.{RepositoryFault}
+use Rattle.office.specs.Choices.{ChoosesEach, answer_lines}
+use Rattle.office.specs.Shelves.{Shelf, IsOpened, IsUntouched}
+use Rattle.office.proofs.ChoiceLemmas.{choices_answered}
+use Rattle.program_output.specs.declared.names.NamesFault.{NamesFault}
+use Rattle.program_output.specs.Names.{names_in}
+use Rattle.chargectl.specs.declared.choices.ListAnswered.{ListAnswered}
+use Rattle.chargectl.specs.declared.command_fault.CommandFault.{CommandFault}
+use Rattle.chargectl.specs.declared.command_fault.CommandFault.TheVariants as fault
+use Rattle.chargectl.specs.declared.ended.Ended.{Ended}
+use Rattle.chargectl.specs.Commands.{IsFileFault, IsPrinted, IsShelfFault, first_fault}
+use Rattle.chargectl.specs.Faults.{names_fault, shelf_fault, without_log}
+
+-- these are the names of the text that a file gave
+abbrev pub AreListed : List (List ℕ) → Type 0
+AreListed names = (text : List ℕ) × (names_in text ≡ Ok names)
+
+-- its text is no list of names
+pub record IsNoList (why : CommandFault) : Type 0 where
+  pub text : List ℕ
+  pub found : NamesFault
+  pub read : names_in text ≡ Err found
+  pub is : why ≡ names_fault found
+
+-- the file failed, or its text is no list of names
+abbrev pub IsListFault : CommandFault → Type 0
+IsListFault why = IsFileFault why ⊎ IsNoList why
+
+-- what a visit to the books did that chose the records of these names; without memory for the answers
+-- it chose none
+abbrev pub ChoosesBy : Naming → List (List ℕ) → Result Chosen AllocError → Transition
+ChoosesBy naming names (Ok chosen) =
+    ChoosesEach naming names chosen.answers.items chosen.refusal
+ChoosesBy naming names (Err none) = NoEvent
+
+-- it makes events that the books answered
+pub list_answered : (naming : Naming) (names : List (List ℕ)) (told : Result Chosen AllocError)
+    → MakesAnswered naming (ChoosesBy naming names told)
+list_answered naming names (Ok chosen) =
+    choices_answered naming names chosen.answers.items chosen.refusal
+list_answered naming names (Err none) = none_answered naming
+
+-- what came of choices, or why none were made
+abbrev pub chosen_of : Result (Result Chosen AllocError) RepositoryFault → Result Chosen CommandFault
+chosen_of (Ok (Ok chosen)) = Ok chosen
+chosen_of (Ok (Err none)) = Err (fault.Ledger ledger.Memory)
+chosen_of (Err shelf) = Err (shelf_fault shelf)
+
+-- The books of a name were opened, and the records of these names chosen, one after the other.
+pub record IsListAnswered (names : List (List ℕ)) (book : List ℕ) (old new : Shelf)
+    (answered : ListAnswered) : Type 0 where
+  pub told : Result (Result Chosen AllocError) RepositoryFault
+  pub done : IsOpened (ChoosesBy old.naming names) book old new told
+  pub says : answered.chosen ≡ chosen_of told
+  pub log : new.has_log book answered.has_log
+
+-- so with the names of a list
+pub record AnswersList (book : List ℕ) (old new : Shelf) (answered : ListAnswered) : Type 0 where
+  pub names : List (List ℕ)
+  pub listed : AreListed names
+  pub came : IsListAnswered names book old new answered
+
+-- why nothing is chosen
+abbrev pub ChoosesNothing : CommandFault → Type 0
+ChoosesNothing why = IsShelfFault why ⊎ IsListFault why
+
+-- what came of a list
+abbrev pub ComesOfList : List ℕ → Shelf → Shelf → Result ListAnswered CommandFault → Type 0
+ComesOfList book old new (Ok answered) = AnswersList book old new answered
+ComesOfList book old new (Err why) = ChoosesNothing why × IsUntouched book old new
+
+-- the refusal of the choice on the line of this number, if it was refused
+abbrev pub refusal_end : Option LedgerFault → ℕ → Result (Unit {0}) CommandFault
+refusal_end None line = Ok tt
+refusal_end (Some refused) line = Err (fault.LedgerAt refused line)
+
+-- How choices end: at the line after those that have answers, where that was refused; else by whether
+-- the answers were written.
+abbrev pub choices_end : Chosen → Result (Unit {0}) CommandFault → Result (Unit {0}) CommandFault
+choices_end chosen written =
+    first_fault (refusal_end chosen.refusal (length chosen.answers.items + 1)) written
+
+-- a line is written for each answer
+pub record EndsChoices (chosen : Chosen) (held holds : Option (List ℕ))
+    (came : Result (Unit {0}) CommandFault) : Type 0 where
+  pub written : Result (Unit {0}) CommandFault
+  pub lines : IsPrinted (answer_lines chosen.answers.items) held holds written
+  pub ends : came ≡ choices_end chosen written
+
+-- or nothing, where there are none
+abbrev pub TellsChoices : Result Chosen CommandFault → Option (List ℕ) → Option (List ℕ)
+    → Result (Unit {0}) CommandFault → Type 0
+TellsChoices (Ok chosen) held holds came = EndsChoices chosen held holds came
+TellsChoices (Err why) held holds came = (holds ≡ held) × (came ≡ Err why)
+
+-- with what the books left, which may have changed
+pub record TellsListAnswered (answered : ListAnswered) (held holds : Option (List ℕ)) (ended : Ended)
+    : Type 0 where
+  pub told : TellsChoices answered.chosen held holds ended.came
+  pub log : ended.has_log ≡ answered.has_log
+  pub change : ended.is_change ≡ true
+
+-- and where nothing was chosen
+abbrev pub TellsList : Result ListAnswered CommandFault → Option (List ℕ) → Option (List ℕ) → Ended
+    → Type 0
+TellsList (Ok answered) held holds ended = TellsListAnswered answered held holds ended
+TellsList (Err why) held holds ended = (holds ≡ held) × (ended ≡ without_log (Err why))
+
+-- The command: what came of the list, and what was told of that.
+pub record ChoosesListed (book : List ℕ) (old new : Shelf) (held holds : Option (List ℕ))
+    (ended : Ended) : Type 0 where
+  pub answered : Result ListAnswered CommandFault
+  pub comes : ComesOfList book old new answered
+  pub tells : TellsList answered held holds ended

@@ -1,0 +1,211 @@
+//! Choices by the names of a list. Faults are found in this order: the books, the file, its lines, what
+//! the books say, and then the output. The books are closed before their answers are written.
+
+ghost use Rattle.std.specs.Prelude.{◌≡◌, IfErr, IfOk};
+ghost use Rattle.office.specs.Choices as choices;
+ghost use Rattle.chargectl.specs.Choices as spec;
+ghost use Rattle.chargectl.specs.Choices.{AreListed, ChoosesBy, ChoosesListed, ComesOfList};
+ghost use Rattle.chargectl.specs.Choices.{EndsChoices, IsListAnswered, IsListFault, TellsChoices};
+ghost use Rattle.chargectl.specs.Choices.{TellsList, chosen_of, list_answered};
+ghost use Rattle.chargectl.specs.Commands.{IsPrinted};
+
+use crate::book_commands::print;
+use crate::command_fault::CommandFault;
+use crate::ended::Ended;
+use book_core::{Ledger, LedgerFault, Ruled};
+use office::{
+    Answer, Chosen, Opened, Repository, RepositoryFault, Visit, answer_lines, choose_each,
+};
+use program_output::{MAX_NAMES, NameList};
+use std::alloc::{AllocError, Global};
+use std::fs;
+use std::io::{BufReader, Read, Write};
+
+/// How many bytes of a list are read: one more than a list has that is as long as it may be, for each
+/// name its digits and the two bytes after them. So many have a line that is no name, or one too many.
+const MOST_BYTES: u64 = 66 * MAX_NAMES as u64 + 1;
+
+/// The choices that the names of a list ask for.
+#[derive(Drop)]
+struct ListedChoices {
+    alloc: Global,
+    names: Vec<[u8; 32]>,
+}
+
+impl Visit for ListedChoices {
+    /// What came of them. An error is a lack of memory for their answers.
+    type Answer = Result<Chosen, AllocError>;
+
+    ghost work = { λ naming choices _ told. ChoosesBy naming choices.names.items told };
+
+    ghost comes = { λ _ _ _. Unit {0} };
+
+    ghost answered = { λ naming choices _ told. list_answered naming choices.names.items told };
+
+    fn visit<L: Ledger>(&mut self, books: &mut L) -> Result<Chosen, AllocError> {
+        choose_each(self.alloc, books, &self.names)
+    }
+}
+
+/// What came of the choices of a list, whose books are closed again.
+#[derive(Drop)]
+pub(crate) struct ListAnswered {
+    /// The answers, or why there are none.
+    pub(crate) chosen: Result<Chosen, CommandFault>,
+    /// The log beside the books holds a part of them.
+    pub(crate) has_log: bool,
+}
+
+/// Chooses the records that a list names, one after the other up to the first refusal, and writes
+/// the answers.
+pub(crate) fn choose_listed<S: Repository, O: Write + Drop>(
+    rt: &HostRuntime,
+    repository: &mut S,
+    book: &str,
+    file: &str,
+    output: O,
+) -> (Ended, O)
+    ensures { ChoosesListed book.now (S.shelf repository.old) (S.shelf repository.new)
+        (O.contents output) (O.contents result.1) result.0 }
+{
+    let answered = ask_listed(rt, repository, book, file);
+    tell_list(rt.alloc(), answered, output)
+}
+
+/// What comes of a list.
+fn ask_listed<S: Repository>(
+    rt: &HostRuntime,
+    repository: &mut S,
+    book: &str,
+    file: &str,
+) -> Result<ListAnswered, CommandFault>
+    ensures { ComesOfList book.now (S.shelf repository.old) (S.shelf repository.new) result }
+{
+    repository.expect(book)?;
+    let names = read_list(rt, file)?;
+    Ok(choose_names(rt.alloc(), repository, book, names))
+}
+
+/// The names of a list in a file. All its lines are looked at before a record is chosen.
+fn read_list(rt: &HostRuntime, file: &str) -> Result<Vec<[u8; 32]>, CommandFault>
+    ensures listed { IfOk result (λ names. AreListed names.items) }
+    ensures refused { IfErr result IsListFault }
+{
+    let reader = BufReader::new(rt.alloc(), fs::open(rt, file)?)?;
+    read_names(rt.alloc(), reader.take(MOST_BYTES))
+}
+
+/// The names of a list that a reader gives.
+fn read_names<R: Read + Drop>(alloc: Global, reader: R) -> Result<Vec<[u8; 32]>, CommandFault>
+    ensures listed { IfOk result (λ names. AreListed names.items) }
+    ensures refused { IfErr result IsListFault }
+{
+    let mut list = NameList::new(alloc);
+    for byte in reader.bytes() {
+        list.push(byte?)?;
+    }
+    Ok(list.end()?)
+}
+
+/// Opens the books, and chooses the records of these names.
+fn choose_names<S: Repository>(
+    alloc: Global,
+    repository: &mut S,
+    book: &str,
+    names: Vec<[u8; 32]>,
+) -> ListAnswered
+    ensures { IsListAnswered names.items book.now (S.shelf repository.old) (S.shelf repository.new)
+        result }
+{
+    let mut choices = ListedChoices { alloc, names };
+    let Opened { answer, has_log } = repository.open(book, &mut choices);
+    ListAnswered {
+        chosen: chosen_in(answer),
+        has_log,
+    }
+}
+
+/// What came of choices, or why none were made.
+fn chosen_in(
+    told: Result<Result<Chosen, AllocError>, RepositoryFault>,
+) -> Result<Chosen, CommandFault>
+    ensures { result ≡ chosen_of told }
+{
+    match told {
+        Ok(Ok(chosen)) => Ok(chosen),
+        Ok(Err(_)) => Err(CommandFault::Ledger(LedgerFault::Memory)),
+        Err(fault) => Err(CommandFault::from(fault)),
+    }
+}
+
+/// Writes what came of a list, and says how the command ends.
+fn tell_list<O: Write + Drop>(
+    alloc: Global,
+    answered: Result<ListAnswered, CommandFault>,
+    output: O,
+) -> (Ended, O)
+    ensures { TellsList answered (O.contents output) (O.contents result.1) result.0 }
+{
+    match answered {
+        Ok(ListAnswered { chosen, has_log }) => {
+            let (came, output) = tell_choices(alloc, chosen, output);
+            let ended = Ended {
+                came,
+                has_log,
+                is_change: true,
+            };
+            (ended, output)
+        }
+        Err(fault) => (Ended::without_log(Err(fault)), output),
+    }
+}
+
+fn tell_choices<O: Write + Drop>(
+    alloc: Global,
+    chosen: Result<Chosen, CommandFault>,
+    output: O,
+) -> (Result<(), CommandFault>, O)
+    ensures { TellsChoices chosen (O.contents output) (O.contents result.1) result.0 }
+{
+    match chosen {
+        Ok(chosen) => tell_chosen(alloc, &chosen, output),
+        Err(fault) => (Err(fault), output),
+    }
+}
+
+/// Writes a line for each answer. A refusal is said also where they could not be written.
+fn tell_chosen<O: Write + Drop>(
+    alloc: Global,
+    chosen: &Chosen,
+    output: O,
+) -> (Result<(), CommandFault>, O)
+    ensures { EndsChoices chosen.now (O.contents output) (O.contents result.1) result.0 }
+{
+    let (written, output) = print_answers(alloc, &chosen.answers, output);
+    (chosen_end(chosen, written), output)
+}
+
+/// How choices end, by whether their answers were written.
+fn chosen_end(chosen: &Chosen, written: Result<(), CommandFault>) -> Result<(), CommandFault>
+    ensures { result ≡ spec.choices_end chosen.now written }
+{
+    match chosen.refusal {
+        Some(fault) => Err(CommandFault::LedgerAt(fault, chosen.answers.len() + 1)),
+        None => written,
+    }
+}
+
+/// Writes a line for each answer, so that they have left the program.
+fn print_answers<O: Write + Drop>(
+    alloc: Global,
+    answers: &[Ruled],
+    output: O,
+) -> (Result<(), CommandFault>, O)
+    ensures { IsPrinted (choices.answer_lines answers.now) (O.contents output) (O.contents result.1)
+        result.0 }
+{
+    match answer_lines(alloc, answers) {
+        Ok(lines) => print(&Answer::Text(lines), output),
+        Err(_) => (Err(CommandFault::Ledger(LedgerFault::Memory)), output),
+    }
+}

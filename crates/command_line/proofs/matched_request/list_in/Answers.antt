@@ -1,0 +1,42 @@
+use Rattle.std.proofs.Common.{subst, sym, refl}
+use Rattle.std.specs.Prelude.{IfSome}
+use Rattle.command_line.specs.Given.{HasWords, HasWordsOf}
+use Rattle.command_line.specs.Known.{known_table}
+use Rattle.command_line.specs.Requests.{IsOfBooks, rows_in}
+use Rattle.command_line.proofs.ReaderLemmas.{not_named}
+use Rattle.command_line.proofs.matched_request.list_in.Goals as goal
+
+pub returns-in-periods-clause-some : goal.returns-in-periods-clause-some
+unfolding known_table
+returns-in-periods-clause-some c =
+    λ has others.
+    let words = subst (λ n. HasWordsOf n (rows_in c.args.found.now)) c.in-periods.is has in
+    c.of_books_in.ensures.some words.0 refl
+
+pub returns-in-rulings-clause-some : goal.returns-in-rulings-clause-some
+unfolding known_table
+returns-in-rulings-clause-some c =
+    λ has others.
+    let words = subst (λ n. HasWordsOf n (rows_in c.args.found.now)) c.in-rulings.is has in
+    c.of_books_in-in-rulings.ensures.some words.0 refl
+
+pub returns-in-text-clause-request : goal.returns-in-text-clause-request
+returns-in-text-clause-request c =
+    c.of_books_in-in-text.ensures.request c.args.name.now
+    (subst (λ n. IfSome c.tariff_text_in.result (IsOfBooks n (rows_in c.args.found.now)))
+    (sym c.in-text.is) c.tariff_text_in.ensures.asked)
+
+pub returns-in-text-clause-some : goal.returns-in-text-clause-some
+unfolding known_table
+returns-in-text-clause-some c =
+    λ has others.
+    let words = subst (λ n. HasWordsOf n (rows_in c.args.found.now)) c.in-text.is has in
+    c.of_books_in-in-text.ensures.some words.0 (c.tariff_text_in.ensures.some words.1.0)
+
+pub returns-in_default-clause-some : goal.returns-in_default-clause-some
+unfolding known_table
+returns-in_default-clause-some c =
+    let at = c.in_default in
+    λ has others.
+    absurd (not_named (λ command. HasWords (rows_in c.args.found.now) command.1) known_table
+    c.args.name.now (assumption (others, at)) has)

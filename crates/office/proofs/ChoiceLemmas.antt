@@ -1,0 +1,223 @@
+-- Choices, one after the other: one more, what they make, and what the definitions say of them.
+use Rattle.std.proofs.Common.{◌≡◌, ◌∙◌, Bool, true, false, ℕ, List, [], ◌∷◌, ◌++◌, Option, Some, None}
+use Rattle.std.proofs.Common.{Result, Ok, Err, refl, sym, ap, subst, append_assoc, append-nil}
+use Rattle.std.proofs.Common.{◌+◌, ◌<◌, drop, get_or, length, take, take-append-drop}
+use Rattle.std.proofs.lemmas.List.{take_more}
+use Rattle.std.proofs.lemmas.List.Concat.{flat_map-append}
+use Rattle.book_model.specs.declared.answer.Ruled.{Ruled}
+use Rattle.book_model.specs.declared.fault.LedgerFault.{LedgerFault}
+use Rattle.book_model.specs.declared.fault.LedgerFault.TheVariants.{Memory, Store, Reopen}
+use Rattle.book_model.specs.Words.{Book, Event, Naming, Outcome, after_all, choose_outcome}
+use Rattle.book_core.specs.Calls.{Calls, listed}
+use Rattle.book_core.specs.Follow.{MakesAnswered}
+use Rattle.book_core.specs.Ledgers.{Seen}
+use Rattle.book_core.specs.Transition.{IsTransition, NoEvent, Then}
+use Rattle.book_core.proofs.FollowLemmas.{choose_answered, none_answered, then_answered}
+use Rattle.book_core.proofs.TransitionLemmas.{after_all-append, work_as, work_then}
+use Rattle.office.specs.Choices.{Chooses, ChoosesEach, ChoicesOutcome, are_hindered}
+use Rattle.office.specs.Answers.{answer_text}
+use Rattle.office.specs.Choices.{answer_lines, choices_after, choices_by, choices_outcome}
+use Rattle.office.specs.Requests.{Ruling}
+use Rattle.office.proofs.RunLemmas.{none_then}
+
+-- choices that were all answered, and then others
+pub choices_then : (naming : Naming) (names : List (List ℕ)) (answers : List Ruled)
+    (others : List (List ℕ)) (more : List Ruled) (refusal : Option LedgerFault)
+    (was : Bool) (before : Book) (events : List Event) (is : Bool)
+    → Then (ChoosesEach naming names answers None) (ChoosesEach naming others more refusal) was before
+    events is
+    → ChoosesEach naming (names ++ others) (answers ++ more) refusal was before events is
+choices_then naming [] [] others more refusal was before events is both =
+    subst (λ events. ChoosesEach naming others more refusal was before events is)
+    (sym (both.all ∙ ap (λ early. both.late ++ early) both.first.none ∙ append-nil both.late))
+    (none_then (ChoosesEach naming others more refusal) was both.between before both.early both.late is
+    both.first both.next)
+choices_then naming [] (ruled ∷ answers) others more refusal was before events is both =
+    absurd both.first
+choices_then naming (name ∷ names) [] others more refusal was before events is both =
+    absurd both.first
+choices_then naming (name ∷ names) (ruled ∷ answers) others more refusal was before events is both =
+    let ran = both.first in
+    let middle : Book = after_all ran.early before in
+    record {
+      between = ran.between;
+      early = ran.early;
+      late = both.late ++ ran.late;
+      first = ran.first;
+      next = choices_then naming names answers others more refusal ran.between middle
+          (both.late ++ ran.late) is (record {
+            between = both.between;
+            early = ran.late;
+            late = both.late;
+            first = ran.next;
+            next = subst (λ book. ChoosesEach naming others more refusal both.between book both.late is)
+                (ap (λ events. after_all events before) ran.all
+                ∙ after_all-append ran.late ran.early before) both.next;
+            all = refl;
+          });
+      all = both.all ∙ ap (λ early. both.late ++ early) ran.all
+          ∙ sym (append_assoc both.late ran.late ran.early);
+    }
+
+-- one choice that was answered
+one_choice : (naming : Naming) (name : List ℕ) (ruled : Ruled) (was : Bool) (before : Book)
+    (events : List Event) (is : Bool) → Chooses naming name (Ok ruled) was before events is
+    → ChoosesEach naming (name ∷ []) (ruled ∷ []) None was before events is
+one_choice naming name ruled was before events is made = record {
+  between = is;
+  early = events;
+  late = [];
+  first = made;
+  next = record { none = refl; same = refl };
+  all = refl;
+}
+
+-- nothing was chosen yet
+pub none_chosen : (naming : Naming) (told : List Ruled) → told ≡ []
+    → (was : Bool) (before : Book) (events : List Event) (is : Bool) → NoEvent was before events is
+    → ChoosesEach naming [] told None was before events is
+none_chosen naming told so was before events is none =
+    subst (λ told. ChoosesEach naming [] told None was before events is) (sym so) none
+
+-- one more choice was answered
+pub one_more_chosen : (naming : Naming) (names all : List (List ℕ)) (answers told : List Ruled)
+    (name : List ℕ) (ruled : Ruled) → names ++ name ∷ [] ≡ all → told ≡ answers ++ ruled ∷ []
+    → (was : Bool) (before : Book) (events : List Event) (is : Bool)
+    → Then (ChoosesEach naming names answers None) (Chooses naming name (Ok ruled)) was before events is
+    → ChoosesEach naming all told None was before events is
+one_more_chosen naming names all answers told name ruled more so was before events is both =
+    subst (λ all. ChoosesEach naming all told None was before events is) more
+    (subst (λ told. ChoosesEach naming (names ++ name ∷ []) told None was before events is) (sym so)
+    (choices_then naming names answers (name ∷ []) (ruled ∷ []) None was before events is (record {
+      between = both.between;
+      early = both.early;
+      late = both.late;
+      first = both.first;
+      next = one_choice naming name ruled both.between (after_all both.early before) both.late is
+          both.next;
+      all = both.all;
+    })))
+
+-- the next one was refused
+pub refused_after : (naming : Naming) (names all : List (List ℕ)) (answers : List Ruled)
+    (name : List ℕ) (more : List (List ℕ)) (refusal : LedgerFault) → names ++ name ∷ more ≡ all
+    → (was : Bool) (before : Book) (events : List Event) (is : Bool)
+    → Then (ChoosesEach naming names answers None) (Chooses naming name (Err refusal)) was before events
+    is
+    → ChoosesEach naming all answers (Some refusal) was before events is
+refused_after naming names all answers name more refusal whole was before events is both =
+    subst (λ all. ChoosesEach naming all answers (Some refusal) was before events is) whole
+    (subst (λ told. ChoosesEach naming (names ++ name ∷ more) told (Some refusal) was before events is)
+    (append-nil answers)
+    (choices_then naming names answers (name ∷ more) [] (Some refusal) was before events is both))
+
+-- a step of choices in a loop: one more was answered
+pub choice_kept : (old now new : Seen) (names : List (List ℕ)) (answers told : List Ruled) (i : ℕ)
+    (d : List ℕ) (ruled : Ruled) → i < length names → told ≡ answers ++ ruled ∷ []
+    → IsTransition old now (ChoosesEach old.naming (take i names) answers None)
+    → IsTransition now new (Chooses now.naming (get_or names i d) (Ok ruled))
+    → IsTransition old new (ChoosesEach old.naming (take (i + 1) names) told None)
+choice_kept old now new names answers told i d ruled small so before made =
+    let name : List ℕ = get_or names i d in
+    let made_so = subst (λ naming. IsTransition now new (Chooses naming name (Ok ruled))) before.naming
+    made in
+    let both = work_then old now new (ChoosesEach old.naming (take i names) answers None)
+    (Chooses old.naming name (Ok ruled)) before made_so in
+    work_as old new _ (ChoosesEach old.naming (take (i + 1) names) told None)
+    (one_more_chosen old.naming (take i names) (take (i + 1) names) answers told name ruled
+    (sym (take_more names i d small)) so) both
+
+-- the next one was refused
+pub choice_refused : (old now new : Seen) (names : List (List ℕ)) (answers : List Ruled) (i : ℕ)
+    (d : List ℕ) (refusal : LedgerFault) → i < length names
+    → IsTransition old now (ChoosesEach old.naming (take i names) answers None)
+    → IsTransition now new (Chooses now.naming (get_or names i d) (Err refusal))
+    → IsTransition old new (ChoosesEach old.naming names answers (Some refusal))
+choice_refused old now new names answers i d refusal small before made =
+    let name : List ℕ = get_or names i d in
+    let later : List (List ℕ) = drop (i + 1) names in
+    let whole : take i names ++ name ∷ later ≡ names =
+    sym (append_assoc (take i names) (name ∷ []) later)
+    ∙ ap (λ front. front ++ later) (sym (take_more names i d small))
+    ∙ take-append-drop (i + 1) names in
+    let made_so = subst (λ naming. IsTransition now new (Chooses naming name (Err refusal)))
+    before.naming made in
+    let both = work_then old now new (ChoosesEach old.naming (take i names) answers None)
+    (Chooses old.naming name (Err refusal)) before made_so in
+    work_as old new _ (ChoosesEach old.naming names answers (Some refusal))
+    (refused_after old.naming (take i names) names answers name later refusal whole) both
+
+-- choices make only events that the books answered
+pub choices_answered : (naming : Naming) (names : List (List ℕ)) (answers : List Ruled)
+    (refusal : Option LedgerFault) → MakesAnswered naming (ChoosesEach naming names answers refusal)
+choices_answered naming [] [] None = none_answered naming
+choices_answered naming [] [] (Some refusal) = λ history was events is never. absurd never
+choices_answered naming [] (ruled ∷ answers) refusal = λ history was events is never. absurd never
+choices_answered naming (name ∷ names) [] None = λ history was events is never. absurd never
+choices_answered naming (name ∷ names) [] (Some refusal) =
+    choose_answered naming (λ ruled. ruled) name (Err refusal)
+choices_answered naming (name ∷ names) (ruled ∷ answers) refusal =
+    then_answered naming (Chooses naming name (Ok ruled)) (ChoosesEach naming names answers refusal)
+    (choose_answered naming (λ ruled. ruled) name (Ok ruled))
+    (choices_answered naming names answers refusal)
+
+-- a refusal of open books is the one that the definitions say, unless memory or the store hindered it
+refusal_done : (naming : Naming) (name : List ℕ) (refusal : LedgerFault) (book : Book)
+    (events : List Event) (is : Bool) → Chooses naming name (Err refusal) false book events is
+    → are_hindered (Some refusal) ≡ false
+    → ((choose_outcome naming name book).answer ≡ Err refusal) × (events ≡ [])
+refusal_done naming name Memory book events is called free = cc free
+refusal_done naming name Store book events is called free = cc free
+refusal_done naming name Reopen book events is called free = let no = called.reopens.reopen in cc no
+refusal_done naming name refusal book events is called free = called.makes
+
+-- what is said of choices by the answer to the first
+choices_of : (outcome : Outcome Ruled) (book : Book) (later : Book → ChoicesOutcome)
+    (told : Result Ruled LedgerFault) → outcome.answer ≡ told
+    → choices_after outcome book later
+    ≡ choices_by told (listed outcome.event) (later (after_all (listed outcome.event) book))
+choices_of outcome book later told is =
+    ap (λ told. choices_by told (listed outcome.event) (later (after_all (listed outcome.event) book)))
+    is
+
+-- choices of open books came to what the definitions say, unless memory or the store hindered one
+pub choices_done : (naming : Naming) (names : List (List ℕ)) (answers : List Ruled)
+    (refusal : Option LedgerFault) (book : Book) (events : List Event) (is : Bool)
+    → ChoosesEach naming names answers refusal false book events is → are_hindered refusal ≡ false
+    → choices_outcome naming names book
+    ≡ record { answers = answers; refusal = refusal; events = events }
+choices_done naming [] [] None book events is made free =
+    ap (λ events. record { answers = []; refusal = None; events = events }) (sym made.none)
+choices_done naming [] [] (Some refusal) book events is made free = absurd made
+choices_done naming [] (ruled ∷ answers) refusal book events is made free = absurd made
+choices_done naming (name ∷ names) [] None book events is made free = absurd made
+choices_done naming (name ∷ names) [] (Some refusal) book events is made free =
+    let done = refusal_done naming name refusal book events is made free in
+    choices_of (choose_outcome naming name book) book (choices_outcome naming names) (Err refusal) done.0
+    ∙ ap (λ events. record { answers = []; refusal = Some refusal; events = events }) (sym done.1)
+choices_done naming (name ∷ names) (ruled ∷ answers) refusal book events is made free =
+    let outcome = choose_outcome naming name book in
+    let one = made.first in
+    let still : made.between ≡ false = one.reopens.store in
+    let middle : Book = after_all (listed outcome.event) book in
+    let early : after_all made.early book ≡ middle =
+    ap (λ events. after_all events book) one.makes.1 in
+    let next = subst (λ book. ChoosesEach naming names answers refusal false book made.late is) early
+    (subst (λ was. ChoosesEach naming names answers refusal was (after_all made.early book) made.late is)
+    still made.next) in
+    let rest = choices_done naming names answers refusal middle made.late is next free in
+    choices_of outcome book (choices_outcome naming names) (Ok ruled) one.makes.0
+    ∙ ap (choices_by (Ok ruled) (listed outcome.event)) rest
+    ∙ ap (λ events. record { answers = ruled ∷ answers; refusal = refusal; events = events })
+    (ap (λ event. made.late ++ event) (sym one.makes.1) ∙ sym made.all)
+
+-- the lines of one more answer
+pub lines_more : (answers : List Ruled) (i : ℕ) (d : Ruled) (line : List ℕ) → i < length answers
+    → line ≡ answer_text (Ruling (get_or answers i d))
+    → answer_lines (take (i + 1) answers) ≡ answer_lines (take i answers) ++ line
+lines_more answers i d line small is =
+    let ruled : Ruled = get_or answers i d in
+    let line_of : Ruled → List ℕ = λ ruled. answer_text (Ruling ruled) in
+    ap answer_lines (take_more answers i d small)
+    ∙ flat_map-append line_of (take i answers) (ruled ∷ [])
+    ∙ ap (λ last. answer_lines (take i answers) ++ last) (append-nil (line_of ruled) ∙ sym is)

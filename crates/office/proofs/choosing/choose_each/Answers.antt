@@ -1,0 +1,51 @@
+use Rattle.std.proofs.Common.{[], None, arith, rules, subst, take_all}
+use Rattle.book_core.specs.Transition.{IsTransition}
+use Rattle.book_core.proofs.TransitionLemmas.{no_work, work_as}
+use Rattle.office.specs.Choices.{ChoosesEach}
+use Rattle.office.proofs.ChoiceLemmas.{choice_kept, choice_refused, none_chosen}
+use Rattle.office.proofs.choosing.choose_each.Goals as goal
+
+pub loop-name-init : goal.loop-name-init
+loop-name-init g c =
+    let seen = g.L.Ledger.seen c.args.ledger.now in
+    record {
+      chosen = work_as seen seen _ (ChoosesEach seen.naming [] c.in_ok-answers.answers.items None)
+          (none_chosen seen.naming c.in_ok-answers.answers.items c.in_ok-answers.ensures.items)
+          (no_work seen);
+      count = search rules;
+      room = search rules;
+    }
+
+pub loop-name-preserved : goal.loop-name-preserved
+loop-name-preserved g c =
+    record {
+      chosen = choice_kept (g.L.Ledger.seen c.args.ledger.now) (g.L.Ledger.seen c.loop-name.ledger)
+          (g.L.Ledger.seen c.choose.new.self) c.args.names.now c.loop-name.answers.items
+          c.push.new.self.items c.loop-name.name-index _ c.in-Ok.ruled c.loop-name-test.true
+          c.in_ok-push-in-Ok.ensures.items c.loop-name.invariant.chosen c.in-Ok.ensures.work;
+      count = search rules;
+      room = search rules;
+    }
+
+pub returns-in-Err : goal.returns-in-Err
+returns-in-Err g c =
+    record {
+      chosen = choice_refused (g.L.Ledger.seen c.args.ledger.now) (g.L.Ledger.seen c.loop-name.ledger)
+          (g.L.Ledger.seen c.choose.new.self) c.args.names.now c.loop-name.answers.items
+          c.loop-name.name-index _ c.in-Err.fault c.loop-name-test.true c.loop-name.invariant.chosen
+          c.in-Err.ensures.work;
+      few = omega (arith, c.loop-name.invariant.count, c.loop-name-test.true);
+      none = tt;
+    }
+
+pub returns : goal.returns
+returns g c =
+    let old = g.L.Ledger.seen c.args.ledger.now in
+    record {
+      chosen = subst (λ names. IsTransition old (g.L.Ledger.seen c.loop-name.ledger)
+          (ChoosesEach old.naming names c.loop-name.answers.items None))
+          (take_all c.loop-name.name-index c.args.names.now c.loop-name-test.false)
+          c.loop-name.invariant.chosen;
+      few = omega (arith, c.loop-name.invariant.count, c.loop-name.auto.name-index-end);
+      none = tt;
+    }

@@ -1,0 +1,48 @@
+//! Choices, one after the other.
+
+ghost use Rattle.std.specs.Prelude.{◌≡◌, ◌≤◌, IfOk, OnErr, length};
+ghost use Rattle.book_core.specs.Transition.{IsTransition};
+ghost use Rattle.office.specs.Choices.{ChoosesEach};
+
+use book_core::{Ledger, LedgerFault, Ruled};
+use std::alloc::{AllocError, Global};
+
+/// What came of choices.
+#[derive(Drop)]
+pub struct Chosen {
+    /// The answers to those before a refusal, or to all of them.
+    pub answers: Vec<Ruled>,
+    /// The refusal of the one after these, if there is one.
+    pub refusal: Option<LedgerFault>,
+}
+
+/// Chooses the records of these names, one after the other, up to the first refusal. An error is a
+/// lack of memory for the answers: nothing was chosen.
+pub fn choose_each<L: Ledger>(
+    alloc: Global,
+    ledger: &mut L,
+    names: &[[u8; 32]],
+) -> Result<Chosen, AllocError>
+    ensures chosen { IfOk result (λ chosen. IsTransition (L.seen ledger.old) (L.seen ledger.new)
+        (ChoosesEach (L.seen ledger.old).naming names.now chosen.answers.items chosen.refusal)) }
+    ensures few { IfOk result (λ chosen. length chosen.answers.items ≤ length names.now) }
+    ensures none { OnErr result (ledger.new ≡ ledger.old) }
+{
+    // The room for all answers is taken first: if there is too little, the books stay as they were.
+    let mut answers = Vec::with_capacity(alloc, names.len())?;
+    for name in names {
+        match ledger.choose(*name) {
+            Ok(ruled) => answers.push(ruled)?,
+            Err(fault) => {
+                return Ok(Chosen {
+                    answers,
+                    refusal: Some(fault),
+                });
+            }
+        }
+    }
+    Ok(Chosen {
+        answers,
+        refusal: None,
+    })
+}
