@@ -196,9 +196,12 @@ class Commands:
         tariff, month, february = (
             SAMPLES / name for name in ("february.toml", "month.smf", "february.smf"))
         return (("audit", "audit"), ("audit", "audit"), ("disputes", "disputes"),
+                ("disputes", "disputes-csv", "--csv"), ("rulings", "rulings"),
+                ("periods", "periods"), ("tariff-text", "tariff-text", "2024-01-01"),
                 ("adopt", "ruling"), ("choose", "ruling", name), ("statement", "statement", "1"),
                 ("statement", "statement", "2"), ("statement", "statement-csv", "1", "--csv"),
-                ("adjustments", "adjustments", "2"), ("close", "ruling", "2", "2024-02-29"),
+                ("adjustments", "adjustments", "2"),
+                ("adjustments", "adjustments-csv", "2", "--csv"), ("close", "ruling", "2", "2024-02-29"),
                 ("tariff", "ruling", tariff), ("import", "import", month),
                 ("import", "import", february))
 

@@ -11,7 +11,7 @@ import time
 import formats
 import inputs
 from loopback import CHARGECTL
-from outcome import MOST_SECONDS, audited, new_books
+from outcome import MOST_SECONDS, TARIFF, audited, new_books
 
 # Of a hundred clients one resets before it is accepted, one after it has sent; ten send in pieces.
 EARLY, GONE, IN_PIECES = 50, 51, 3
@@ -117,9 +117,11 @@ def due_to(request, model):
         line, stop, new = model.receipt(asked.body, asked.layout)
         status = 200 if stop == "END" else 422
         return Due("SERVED %d" % status, formats.answer(status, line), new=new)
+    if asked.report == formats.TARIFF:
+        return Due("SERVED 200", formats.answer(200, TARIFF))
     if asked.report:
-        kind = "csv" if asked.report[0] == b"statement-csv" else "plain"
-        return Due("SERVED 200", form=formats.SERVED[asked.report], kind=kind)
+        kind = "csv" if asked.report[0].endswith("-csv") else "plain"
+        return Due("SERVED 200", form=formats.report_form(*asked.report), kind=kind)
     return Due("SERVED %d" % asked.status, formats.answer(asked.status, allow=asked.allow))
 
 

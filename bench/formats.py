@@ -3,6 +3,7 @@
 every byte; of reports, audits and lines on standard error, the form."""
 import calendar
 import collections
+import functools
 import re
 import struct
 
@@ -160,16 +161,18 @@ TOKEN = rb"[!#$%&'*+.^_`|~0-9A-Za-z-]+"
 HEAD = re.compile(rb"(?:\r?\n)*(" + TOKEN + rb") ([!-~\x80-\xff]+) HTTP/1\.[01]\r?\n"
                   rb"((?:" + TOKEN + rb":[\t -~\x80-\xff]*\r?\n)*)\r?\n")
 FIELD = re.compile(rb"([^:\r\n]+):([^\r\n]*)\r?\n")
-PATH = re.compile(rb"/(?:(periods|disputes)|(statement|statement-csv|adjustments)/([1-9][0-9]{0,3})"
-                  rb"|(import)(-bdw)?)")
+PATH = re.compile(rb"/(?:(periods|disputes|disputes-csv|rulings)"
+                  rb"|((?:statement|adjustments)(?:-csv)?)/([1-9][0-9]{0,3})(?:/([A-Z0-9-]{1,16}))?"
+                  rb"|(import)(-bdw)?|tariff/(2024-01-01))")
 LENGTH = re.compile(rb"[0-9]{1,19}")
 PHRASES = {200: "OK", 400: "Bad Request", 403: "Forbidden", 404: "Not Found",
            405: "Method Not Allowed", 411: "Length Required", 413: "Payload Too Large",
            422: "Unprocessable Entity", 503: "Service Unavailable"}
 
-# What a request is to be answered: the status, the method that `Allow` names, the report, or the
-# dump that is imported.
+# What a request is to be answered: the status, the method that `Allow` names, the report by its
+# name, period and centre, or the dump that is imported. The one tariff has a report of its name.
 Asked = collections.namedtuple("Asked", "status allow report layout body", defaults=(None,) * 4)
+TARIFF = "tariff", 0, None
 
 
 def is_text(target):
@@ -193,14 +196,17 @@ def asked(request, last_period):
     path = PATH.fullmatch(head[2].split(b"?")[0])
     if not path:
         return Asked(404)
-    method = b"POST" if path[4] else b"GET"
+    method = b"POST" if path[5] else b"GET"
     if head[1] != method:
         return Asked(405, method)
     if method == b"POST":
-        return asked_import(request, head.end(), names, lengths, "bdw" if path[5] else "rdw")
+        return asked_import(request, head.end(), names, lengths, "bdw" if path[6] else "rdw")
     if path[3] and int(path[3]) > last_period:
         return Asked(404)
-    return Asked(200, report=(path[1] or path[2], int(path[3] or 0)))
+    if path[7]:
+        return Asked(200, report=TARIFF)
+    centre = path[4] and path[4].decode()
+    return Asked(200, report=((path[1] or path[2]).decode(), int(path[3] or 0), centre))
 
 
 def asked_import(request, end, names, lengths, layout):
@@ -241,18 +247,37 @@ COLUMNS = ("%-10s %-16s %-16s %8s %19s %18s %21s\n"
            % ("DAY", "CENTRE", "SHIFT", "COUNT", "CPU", "BLOCKS", "AMOUNT"))
 WIDE = r"(?=.{114}\n)"
 TEXTS = {
-    "statement": COLUMNS + r"(?:%s%s %s +%s%s)*%sTOTAL%s"
-                 % (WIDE, DAY, NAME, NAME, SUMS, WIDE, SUMS),
-    "adjustments": r"(?:(?:PLUS |MINUS) %s %s +%s +-?%s [0-9a-f]{64} %s\n)*TOTAL +-?%s\n"
-                   % (DAY, NAME, NAME, AMOUNT, SHOWN, AMOUNT)}
+    "statement": COLUMNS + r"(?:%s%s %%s +%s%s)*%sTOTAL%s" % (WIDE, DAY, NAME, SUMS, WIDE, SUMS),
+    "adjustments": r"(?:(?:PLUS |MINUS) %s %%s +%s +-?%s [0-9a-f]{64} %s\n)*TOTAL +-?%s\n"
+                   % (DAY, NAME, AMOUNT, SHOWN, AMOUNT)}
 CSV_COLUMNS = "period,day,centre,shift,count,cpu,blocks,amount"
-CSV = (CSV_COLUMNS + r"\n(?:%%s,%s,%s,%s,[0-9]+,[0-9]+\.[0-9]{2},[0-9]+,%s\n)*"
-       % (DAY, NAME, NAME, AMOUNT))
+ADJUSTMENT_COLUMNS = "period,action,day,centre,shift,amount,name,job"
+DISPUTE_COLUMNS = ("dispute,system,job,reader,initiation,subtype,step,name,day,cpu,blocks,amount,"
+                   "completion,jobid,program")
+# A text among comma-separated values: in quotes where it has a comma or a quote.
+VALUE = r"(?:(?:(?![,\"])[ -\[\]-~]|\\[0-9A-F]{2})*|\"(?:(?!\")[ -\[\]-~]|\"\"|\\[0-9A-F]{2})*\")"
 MOMENT = r"[0-9A-F]{8} [0-9A-F]{8}"
+CLOCK = r"(?:%s [0-2][0-9]:[0-5][0-9]:[0-5][0-9]\.[0-9]{2}|%s)" % (DAY, MOMENT)
+TABLES = {
+    "statement-csv": CSV_COLUMNS + r"\n(?:%%s,%s,%%s,%s,[0-9]+,[0-9]+\.[0-9]{2},[0-9]+,%s\n)*"
+                     % (DAY, NAME, AMOUNT),
+    "adjustments-csv": ADJUSTMENT_COLUMNS
+                       + r"\n(?:%%s,(?:PLUS|MINUS),%s,%%s,%s,-?%s,[0-9a-f]{64},%s\n)*"
+                       % (DAY, NAME, AMOUNT, VALUE)}
 DISPUTES = (r"DISPUTES [0-9]+\n(?:%s READER %s SUBTYPE [45] STEP [0-9]+(?: START %s)?\n"
             r"(?:  [0-9a-f]{64} %s +%s (?:[0-9A-F]{4}/[0-9A-F]{4}|----) %s\n){2,})*"
             % (SHOWN, MOMENT, MOMENT, DAY, AMOUNT, SHOWN))
-PERIODS = r"PERIODS 2\n1 CLOSED THROUGH %s\n2 OPEN\n" % CLOSED_THROUGH
+DISPUTE_TABLE = (
+    DISPUTE_COLUMNS
+    + r"\n(?:[0-9]+,%s,%s,%s,%s,[45],[0-9]+,[0-9a-f]{64},%s,[0-9]+\.[0-9]{2},[0-9]+,"
+    r"%s,(?:[0-9A-F]{4}/[0-9A-F]{4}|----),%s,%s\n)*"
+    % (VALUE, VALUE, CLOCK, CLOCK, DAY, AMOUNT, VALUE, VALUE))
+PERIODS = r"PERIODS [0-9]+\n(?:[0-9]+ CLOSED THROUGH %s\n)*[0-9]+ OPEN\n" % DAY
+RULINGS = (r"RULINGS\n(?:TARIFF %s [0-9a-f]{64} [0-9]+\n)*(?:CLOSE [0-9]+ %s\n)*"
+           r"(?:CHOICE [0-9]+ PERIOD [0-9]+ [0-9a-f]{64}\n)*(?:ADOPTED PERIOD [0-9]+\n)?"
+           % (DAY, DAY))
+WHOLE = {"disputes": DISPUTES, "disputes-csv": DISPUTE_TABLE, "periods": PERIODS,
+         "rulings": RULINGS}
 SOUND = "SOUND\n" + "".join(
     word + " [0-9]+\n" for word in "RECORDS TARIFFS CLOSES CHOICES ROWS LINES".split())
 UNSOUND = r"UNSOUND [ -~]+: [ -~]+\n"
@@ -267,40 +292,43 @@ def form(text):
     return re.compile(text.encode())
 
 
-def report_form(name, period):
+@functools.cache
+def report_form(name, period=0, centre=None):
     """The form of a report of books with two periods, the first of which is closed; with period 0
-    of any books."""
+    of any books, and of any centre. With a centre it has rows and lines of that one alone."""
     if name in TEXTS:
-        return form(name.upper() + " " + OF_PERIOD[period] + TEXTS[name])
-    if name == "statement-csv":
-        return form(CSV % (period or "[0-9]+"))
-    return form({"disputes": DISPUTES, "periods": PERIODS}[name])
+        title = " CENTRE " + centre if centre else "" if period else "(?: CENTRE %s)?" % NAME
+        return form(name.upper() + title + " " + OF_PERIOD[period] + TEXTS[name] % (centre or NAME))
+    if name in TABLES:
+        return form(TABLES[name] % (period or "[0-9]+", centre or NAME))
+    return form(WHOLE[name])
 
 
-OF_PERIODS = "statement", "statement-csv", "adjustments"
-SERVED = {(name.encode(), 0): report_form(name, 0) for name in ("periods", "disputes")}
-SERVED |= {(name.encode(), period): report_form(name, period)
-           for name in OF_PERIODS for period in (1, 2)}
-OF_COMMANDS = {name: report_form(name, 0) for name in OF_PERIODS + ("disputes",)}
+OF_PERIODS = "statement", "statement-csv", "adjustments", "adjustments-csv"
+OF_COMMANDS = {name: report_form(name) for name in (*OF_PERIODS, *WHOLE)}
 OF_COMMANDS |= {
     "audit": form(SOUND + "|" + UNSOUND), "import": form(RECEIPT),
-    "ruling": form("DONE\n|ALREADY\n"), "check": form(CHECKED), "init": form(""),
+    "ruling": form("DONE\n|ALREADY\n"), "listed": form("(?:(?:DONE|ALREADY)\n)*"),
+    "tariff-text": form(r"(?s:.*)\[rates\](?s:.*)"), "check": form(CHECKED), "init": form(""),
     "explain": form(r"[ -~]+\n[ -~]+\n"),
     "version": form(r"chargectl [0-9.]+\n"),
     "help": form(r"[ -~\n]*Usage: chargectl[ -~\n]*"),
-    "trial": form(RECEIPT + "STATEMENT PERIOD 1 OPEN\n" + TEXTS["statement"] + DISPUTES)}
+    "trial": form(RECEIPT + "STATEMENT PERIOD 1 OPEN\n" + TEXTS["statement"] % NAME + DISPUTES)}
 
 # Of books that are damaged a report begins as it has to. Its rows say what the file says, which may
 # be no name and no day.
 OF_DAMAGED = OF_COMMANDS | {
     name: form(front + r"(?s:.*)\n") for name, front in (
         ("statement", "STATEMENT " + OF_PERIOD[0] + COLUMNS), ("statement-csv", CSV_COLUMNS),
-        ("adjustments", "ADJUSTMENTS " + OF_PERIOD[0]), ("disputes", "DISPUTES [0-9]+"))}
+        ("adjustments", "ADJUSTMENTS " + OF_PERIOD[0]), ("disputes", "DISPUTES [0-9]+"),
+        ("adjustments-csv", ADJUSTMENT_COLUMNS), ("disputes-csv", DISPUTE_COLUMNS),
+        ("periods", "PERIODS [0-9]+"), ("rulings", "RULINGS"))}
 
 # A line on standard error, by its status: 1, 4, 5, and 3 for any other.
 ERROR = re.compile(
-    rb"chargectl: (?:(io)|(unsound|busy|ledger 2|ledger 3|ledger 16)|(ledger 1)|exists|word"
-    rb"|frame [1-8]|tariff [1-6](?: [a-z_]+)?|ledger (?:[4-7]|9 [0-9]+|1[0-3]))\n")
+    rb"chargectl: (?:(io)|(unsound|busy|ledger 2|ledger 3|ledger 16)|(ledger 1)|exists"
+    rb"|frame [1-8]|tariff [1-6](?: [a-z_]+)?|(?:word|ledger 4|ledger 1[23])(?: line [0-9]+)?"
+    rb"|ledger (?:[5-7]|9 [0-9]+|1[01]|19))\n")
 
 
 # The last line of a command that leaves pages in the log of books, whatever it said before.

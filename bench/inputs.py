@@ -187,10 +187,16 @@ def dump(rng):
 METHODS = [b"GET"] * 8 + [b"POST"] * 8
 METHODS += [b"HEAD", b"PUT", b"DELETE", b"OPTIONS", b"get", b"GE", b"POSTS", b"!#$%&'*+.^_`|~-",
             b"G(T", b"", b"M" * 3_000]
-PATHS = [b"/periods", b"/disputes", b"/statement/1", b"/statement/2", b"/statement-csv/1",
-         b"/statement-csv/2", b"/adjustments/1", b"/adjustments/2", b"/import", b"/import-bdw"]
-REPORTS = PATHS[:8]
+REPORTS = [b"/periods", b"/disputes", b"/disputes-csv", b"/rulings", b"/tariff/2024-01-01",
+           b"/statement/1", b"/statement/2", b"/statement-csv/1", b"/statement-csv/2",
+           b"/adjustments/1", b"/adjustments/2", b"/adjustments-csv/2", b"/statement/1/LEDGER",
+           b"/statement-csv/1/LEDGER", b"/adjustments/2/LEDGER", b"/adjustments-csv/2/LEDGER"]
+PATHS = REPORTS + [b"/import", b"/import-bdw"] * 2
 TARGETS = PATHS * 3
+TARGETS += [b"/tariff/2024-01-02", b"/tariff/2024-02-30", b"/tariff/2024-1-1", b"/tariff/",
+            b"/tariff", b"/tariff/2024-01-01/", b"/rulings/", b"/rulings/1", b"/disputes-csv/1",
+            b"/adjustments-csv", b"/adjustments-csv/3", b"/statement/1/ledger",
+            b"/statement/1/ABCDEFGHIJKLMNOPQ", b"/statement/1/LEDGER/", b"/statement/3/LEDGER"]
 TARGETS += [b"/statement/3", b"/statement/0", b"/statement/01", b"/statement/9999",
             b"/statement/10000", b"/statement/65537", b"/statement/-1", b"/statement/+1",
             b"/statement/1/", b"/statement/", b"/statement", b"/statement/%31", b"/statement/{n}",
@@ -383,12 +389,13 @@ def book(rng, file):
     return bytes_turned(rng, file) if way < 0.9 else mutated(rng, file, file)
 
 
-COMMANDS = ("init tariff import close choose adopt statement adjustments disputes audit trial "
-            "check explain help serve --help -h --version -V").split()
+COMMANDS = ("init tariff import close choose adopt statement adjustments disputes periods rulings "
+            "tariff-text audit trial check explain help serve --help -h --version -V").split()
 WORDS = ("books nothing tariff dump . .. books/ books-wal 0 1 2 3 65535 65536 -1 1e3 0x1 ١ "
          "2024-01-31 2024-02-30 2024-02-29 2024-1-1 --layout --layout=bdw --layout=xyz rdw bdw "
          "--quiet --quiet=1 --csv --cpu --cpu=100000000 --cpu=100000001 --excp --record "
-         "--record=-1 -- - -q --help -h --port --requests frame ledger tariff damaged").split()
+         "--record=-1 -- - -q --help -h --port --requests --from --tariff "
+         "--centre --centre=LEDGER frame ledger tariff damaged").split()
 WORDS += ["", " ", "\n", "é", "x" * 300, "y" * 100_000, "/dev/null/x", "%s%n", "0" * 64, "ab" * 32,
           "AB" * 32, "zz" * 32]
 
@@ -396,13 +403,14 @@ WORDS += ["", " ", "\n", "é", "x" * 300, "y" * 100_000, "/dev/null/x", "%s%n", 
 # What a command's words are, as often as not: books, a file, a period, a date, a name, a number.
 PLACES = {
     "init": "B", "tariff": "BF", "import": "BF", "close": "BPD", "choose": "BN", "adopt": "B",
-    "statement": "BP", "adjustments": "BP", "disputes": "B", "audit": "B", "trial": "",
+    "statement": "BP", "adjustments": "BP", "disputes": "B", "periods": "B", "rulings": "B",
+    "tariff-text": "BD", "audit": "B", "trial": "",
     "check": "F", "explain": "KP", "serve": "B"}
 PLACED = {
     "B": ("books", "books", "books", "dump", "tariff", "nothing", "other", ".", "/dev/null/x", ""),
     "F": ("dump", "dump", "tariff", "books", "nothing", ".", "/dev/zero", "/dev/null"),
     "P": ("0", "1", "2", "3", "17", "65535", "65536", "-1", "x"),
-    "D": ("2024-01-31", "2024-02-29", "2023-02-29", "2099-12-31", "1899-12-31", "2024-1-31", ""),
+    "D": ("2024-01-01", "2024-01-31", "2024-02-29", "2023-02-29", "2099-12-31", "1899-12-31", "2024-1-31", ""),
     "N": ("0" * 64, "ab" * 32, "AB" * 32, "zz" * 32, "0" * 63, ""),
     "K": ("frame", "ledger", "tariff", "damaged", "other")}
 

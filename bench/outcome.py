@@ -13,7 +13,8 @@ MOST_SECONDS, MOST_MEMORY = 5, 64
 MOST_SHOWN, MOST_DIGITS = 20, 2_000
 
 SAMPLES = ROOT / "samples"
-MONTH, FEBRUARY = ((SAMPLES / name).read_bytes() for name in ("month.smf", "february.smf"))
+MONTH, FEBRUARY, TARIFF = (
+    (SAMPLES / name).read_bytes() for name in ("month.smf", "february.smf", "office.toml"))
 
 
 class Outcome:

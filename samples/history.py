@@ -8,7 +8,7 @@ import re
 import struct
 
 import office
-from rows import dump_of
+from rows import dump_of, served
 
 TURNS = 330
 
@@ -348,6 +348,16 @@ class History:
         self.ask("statement %d" % later, books.of_period(books.statement, later))
         self.ask("adjustments 0", books.of_period(books.adjustments, 0))
 
+    def ask_lists(self):
+        """Asks by requests for the rulings, for each tariff's file, and for the lists as comma-separated values."""
+        books = self.books
+        self.ask("get /rulings", served(200, list(books.rulings())))
+        for tariff in books.tariffs:
+            self.ask("get /tariff/%s" % tariff.effective, served(200, tariff.file))
+        for period in range(1, books.open + 1):
+            self.ask("get /adjustments-csv/%d" % period, served(200, list(books.adjustment_table(period)), "csv"))
+        self.ask("get /disputes-csv", served(200, list(books.dispute_table()), "csv"))
+
     def ask_books(self, words, answer, body=()):
         """A command, or a list of some, and what changed."""
         self.ask(words, answer, body)
@@ -379,6 +389,8 @@ def history(sample):
     made.lines += ["", "> row long_history new"]
     for turn in range(TURNS):
         made.play(turn)
+        if turn in (ADOPTED - 1, TURNS - 1):
+            made.ask_lists()
     missing = [kind for kind in NEEDED if made.came[kind] < 2]
     if missing:
         raise ValueError("what did not come twice: " + ", ".join(missing))

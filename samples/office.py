@@ -1,5 +1,5 @@
 """The office's rules once more, apart from the program: what its commands print of a dump, of a tariff file, of a
-close, of a choice among records in dispute, of the second rule of identity, and as each report. `samples/make` writes
+close, of choices among records in dispute, of the second rule of identity, and as each report. `samples/make` writes
 by it what a month of commands has to print, history.py the answers to a long history, and rows.py those to worked rows
 and the rows of their tables; `samples/recompute` recomputes the reports of any books. Only what these need is here: no
 dump is torn, no books are full, and five faults of a tariff file are known."""
@@ -12,11 +12,16 @@ import tomllib
 
 Record = collections.namedtuple(
     "Record", "name identity day minute job centre shift cpu blocks amount code job_id program")
+ADJUSTMENT_COLUMNS = "period,action,day,centre,shift,amount,name,job"
+DISPUTE_COLUMNS = ("dispute,system,job,reader,initiation,subtype,step,name,day,cpu,blocks,amount,completion,jobid,"
+                   "program")
 EPOCH = datetime.date(1970, 1, 1)
 RATES = ["%s_%s" % (kind, unit) for kind in ("step", "job") for unit in ("cpu", "excp", "record")]
 MEMORY = 1
 (TARIFF_DATE, TARIFF_EXISTS, _, WRONG_PERIOD, NOT_LATER, NO_SUCH_PERIOD, NO_SUCH_RECORD, NOT_DISPUTED,
  OLD_RULE) = range(6, 15)
+NO_SUCH_TARIFF = 19
+ACTIONS = {1: "PLUS", -1: "MINUS"}
 # How many bytes say whose work a record measures, by the first rule of identity and by the second.
 IDENTITY_LENGTHS = {1: 24, 2: 32}
 # The bytes of code page 037 that are shown as characters: printable ASCII without the backslash.
@@ -68,6 +73,31 @@ def text(field):
 def moment(word, field):
     """A word, and a time and a date in digits."""
     return "%s %s %s" % (word, field[:4].hex().upper(), field[4:].hex().upper())
+
+
+def packed_day(packed):
+    """The day of a packed date, if it is one: 0cyydddF, of which the sign may be C too."""
+    digits = re.fullmatch("0([01])([0-9]{2})([0-9]{3})[cf]", packed.hex())
+    if digits is None:
+        return None
+    century, year, number = map(int, digits.groups())
+    day = datetime.date(1900 + 100 * century + year, 1, 1) + datetime.timedelta(number - 1)
+    return day if number > 0 and day.year == 1900 + 100 * century + year else None
+
+
+def clock(field):
+    """A time and a date as people write them; where there is no such time or day, in digits."""
+    hundredths, day = int.from_bytes(field[:4], "big"), packed_day(field[4:])
+    if hundredths >= 8640000 or day is None:
+        return "%s %s" % (field[:4].hex().upper(), field[4:].hex().upper())
+    return "%s %02d:%02d:%02d.%02d" % (
+        day, hundredths // 360000, hundredths // 6000 % 60, hundredths // 100 % 60, hundredths % 100)
+
+
+def comma_line(*fields):
+    """A line of comma-separated values: in quotes what has a comma, a quote or a line's end, its quotes doubled."""
+    shown = [str(field) for field in fields]
+    return ",".join('"%s"' % one.replace('"', '""') if re.search('[,"\r\n]', one) else one for one in shown)
 
 
 def day_of(packed):
@@ -247,6 +277,17 @@ class Books:
         self.choices.append((name, self.open))
         return ["DONE"]
 
+    def choose_each(self, names):
+        """One choice after the other, up to the first refusal: the answers to those before it, and the refusal with the
+        number of its line."""
+        answers = []
+        for number, name in enumerate(names, 1):
+            [answer] = self.choose(name)
+            if answer.startswith("chargectl"):
+                return answers + ["%s line %d" % (answer, number)]
+            answers.append(answer)
+        return answers
+
     def adopt(self, rule):
         """From now on identities are those of this rule, of held records too. What closes charged stays."""
         if rule == self.rule:
@@ -316,40 +357,92 @@ class Books:
         added = {name for name in self.charged(period) - before if self.held[name].day <= self.before(period)}
         return added, before - self.charged(period)
 
-    def adjustments(self, period, centre=None):
+    def lines(self, period, centre=None):
+        """The adjustment lines of a period: of all centres, or of one."""
         added, removed = self.changes(period)
         lines = [(1, self.held[name]) for name in added] + [(-1, self.held[name]) for name in removed]
         lines = [line for line in lines if centre in (None, line[1].centre)]
+        return sorted(lines, key=lambda line: (line[1].day, line[1].name))
+
+    def adjustments(self, period, centre=None):
+        lines = self.lines(period, centre)
         yield self.title("ADJUSTMENTS", period, centre)
-        for sign, one in sorted(lines, key=lambda line: (line[1].day, line[1].name)):
-            yield "%-5s %s %-16s %-16s %21s %s %s" % ("PLUS" if sign > 0 else "MINUS", one.day, one.centre, one.shift,
+        for sign, one in lines:
+            yield "%-5s %s %-16s %-16s %21s %s %s" % (ACTIONS[sign], one.day, one.centre, one.shift,
                                                       decimals(sign * one.amount, 4), one.name, one.job)
         yield "TOTAL" + 46 * " " + "%21s" % decimals(sum(sign * one.amount for sign, one in lines), 4)
+
+    def adjustment_table(self, period, centre=None):
+        yield ADJUSTMENT_COLUMNS
+        for sign, one in self.lines(period, centre):
+            yield comma_line(period, ACTIONS[sign], one.day, one.centre, one.shift, decimals(sign * one.amount, 4),
+                             one.name, one.job)
 
     def periods(self):
         yield "PERIODS %d" % self.open
         for period in range(1, self.open + 1):
             yield "%d %s" % (period, self.head(period))
 
+    def rulings(self):
+        yield "RULINGS"
+        for tariff in self.tariffs:
+            yield "TARIFF %s %s %d" % (tariff.effective, hashlib.sha256(tariff.file).hexdigest(), len(tariff.file))
+        for number, through in enumerate(self.closes, 1):
+            yield "CLOSE %d %s" % (number, through)
+        for number, (name, period) in enumerate(self.choices, 1):
+            yield "CHOICE %d PERIOD %d %s" % (number, period, name)
+        if self.adopted is not None:
+            yield "ADOPTED PERIOD %d" % self.adopted
+
+    def tariff_text(self, day):
+        """The file of the tariff that begins on a day, if one does."""
+        return next((tariff.file for tariff in self.tariffs if tariff.effective == day), None)
+
     def of_period(self, report, period, centre=None):
         """A report of a period, if there is such a period: of all centres, or of one."""
         return list(report(period, centre)) if 0 < period <= self.open else refused(NO_SUCH_PERIOD)
 
-    def disputes(self):
+    def disputed(self):
+        """The identities in dispute in their order, each with its records."""
         groups = collections.defaultdict(list)
         for record in self.held.values():
             groups[self.identity(record)].append(record)
         chosen = self.chosen()
-        disputed = sorted(group for group in groups.items() if len(group[1]) > 1 and group[0] not in chosen)
+        return [(identity, sorted(members)) for identity, members in sorted(groups.items())
+                if len(members) > 1 and identity not in chosen]
+
+    def disputes(self):
+        disputed = self.disputed()
         yield "DISPUTES %d" % len(disputed)
         for identity, members in disputed:
             numbers = struct.unpack(">HH", identity[20:24])
             yield "%s %s %s SUBTYPE %d STEP %d%s" % (
                 (text(identity[:4]), text(identity[4:12]), moment("READER", identity[12:20])) + numbers
                 + (" " + moment("START", identity[24:]) if identity[24:] else "",))
-            for one in sorted(members):
+            for one in members:
                 yield "  %s %s %21s %s %s %s" % (
                     one.name, one.day, decimals(one.amount, 4), one.code, one.job_id, one.program)
+
+    def dispute_table(self):
+        yield DISPUTE_COLUMNS
+        for number, (identity, members) in enumerate(self.disputed(), 1):
+            subtype, step = struct.unpack(">HH", identity[20:24])
+            for one in members:
+                yield comma_line(number, text(identity[:4]), text(identity[4:12]), clock(identity[12:20]),
+                                 clock(one.identity[24:]), subtype, step, one.name, one.day, decimals(one.cpu, 2),
+                                 one.blocks, decimals(one.amount, 4), one.code, one.job_id, one.program)
+
+
+def tried(file, dump):
+    """What a trial prints of a dump that is priced by a tariff file, or why there is none: the file is in force from
+    1900-01-01 on, whatever its own first day is."""
+    fault = fault_of(file)
+    if fault:
+        return ["chargectl: tariff " + fault]
+    books, tariff = Books(), Tariff(file)
+    tariff.effective = datetime.date(1900, 1, 1)
+    books.tariffs.append(tariff)
+    return books.take(dump) + list(books.statement(1)) + list(books.disputes())
 
 
 def texts(books):

@@ -3,6 +3,7 @@ each answer is made anew. Tables are what they have to hold by the books as a wh
 import datetime
 import hashlib
 import itertools
+import re
 
 import office
 
@@ -48,6 +49,14 @@ def dump_of(named, words):
     return bytes(dump)
 
 
+def options(words):
+    """The options among words, each with its value, if it has one."""
+    parts = [part for word in words for part in word.split("=", 1)]
+    for at, word in enumerate(parts):
+        if word.startswith("--"):
+            yield word, parts[at + 1] if at + 1 < len(parts) else None
+
+
 def told(turns, unit):
     """What came of each turn: once of all that follow each other and are the same."""
     at = 0
@@ -60,6 +69,14 @@ def told(turns, unit):
 
 def days(day):
     return (day - office.EPOCH).days
+
+
+def day_of(word):
+    """The day that a word names, if it does: exactly YYYY-MM-DD, of a year from 1900 to 2099."""
+    try:
+        return datetime.date.fromisoformat(word) if re.fullmatch("(19|20)[0-9]{2}-[0-9]{2}-[0-9]{2}", word) else None
+    except ValueError:
+        return None
 
 
 class Tables:
@@ -129,37 +146,69 @@ class Tables:
 
 TABLES = "book closed tariffs rows lines marks choices identities index".split()
 
-# How often a report asks the books: for the days of the closes, and for what it lists.
-ASKS = {"statement": 2, "table": 1, "adjustments": 2, "disputes": 1, "periods": 1}
+# How often a report asks the books: for the days of the closes, and for what it lists. The rulings are asked for one
+# after the other.
+ASKS = {"statement": 2, "table": 1, "adjustments": 2, "adjustment_table": 1, "disputes": 1, "dispute_table": 1,
+        "periods": 1}
 
 # The report of a path, and the form of its text.
 PATHS = {"statement": ("statement", "plain"), "statement-csv": ("table", "csv"),
-         "adjustments": ("adjustments", "plain"), "disputes": ("disputes", "plain"), "periods": ("periods", "plain")}
+         "adjustments": ("adjustments", "plain"), "adjustments-csv": ("adjustment_table", "csv"),
+         "disputes": ("disputes", "plain"), "disputes-csv": ("dispute_table", "csv"),
+         "periods": ("periods", "plain"), "rulings": ("rulings", "plain")}
+
+OF_PERIODS = "statement table adjustments adjustment_table".split()
 
 PHRASES = {200: "OK", 404: "Not Found", 503: "Service Unavailable"}
+
+
+def bytes_of(text):
+    return "".join(line + "\n" for line in text).encode()
+
+
+def shown_bytes(body):
+    """Bytes as an exchange shows them: what prints as itself as it is, and a backslash where no line's end is last."""
+    def shown(byte):
+        code = chr(byte)
+        return {"\r": "\\r", "\\": "\\\\"}.get(code, code if code == "\n" or " " <= code <= "~" else "\\x%02X" % byte)
+    text = "".join(map(shown, body))
+    return (text if text.endswith("\n") or not text else text + "\\\n").splitlines()
 
 
 def served(status, text, form="plain"):
     """An answer over HTTP, as it is shown. A refusal without a text of its own has its status and phrase."""
     first = "%d %s" % (status, PHRASES[status])
-    text = text or [first]
+    body = text if isinstance(text, bytes) else bytes_of(text or [first])
     head = ["HTTP/1.1 " + first, "Content-Type: text/%s; charset=us-ascii" % form,
-            "Content-Length: %d" % sum(len(line) + 1 for line in text), "Connection: close", ""]
-    return [line + "\\r" for line in head] + text + ["SERVED %d" % status]
+            "Content-Length: %d" % len(body), "Connection: close", ""]
+    return [line + "\\r" for line in head] + shown_bytes(body) + ["SERVED %d" % status]
+
+
+def output_shown(verb, words, output):
+    """What a command wrote, as a line shows it that asks for it so: all of it, its first bytes, or how much it is."""
+    if verb == "count-lines":
+        return ["LINES %d" % output.count(b"\n")]
+    if verb == "count-bytes":
+        return ["BYTES %d" % len(output)]
+    if verb == "first" and len(output) > int(words[0]):
+        output = output[:int(words[0])] + b"..\n"
+    # A line's end may have a carriage return, which is not shown.
+    *lines, last = output.decode().split("\n")
+    return [line.removesuffix("\r") for line in lines] + [last, "\\"] * (last != "")
 
 
 class Rows:
     """Scripts, one after the other: what one names is named in those after it."""
     def __init__(self):
         self.dumps, self.texts = {}, {}
-        self.books, self.shown, self.files = None, {}, {}
+        self.books, self.shown, self.files, self.input = None, {}, {}, b""
         # How many calls of the books come before one that is refused for memory, if one is to be.
         self.calls_left, self.is_counted = None, False
 
     def begin(self, kind):
         if kind not in (["new"], ["commands"]):
             raise NotKnown
-        self.books, self.shown, self.files = office.Books(), {}, {}
+        self.books, self.shown, self.files, self.input = office.Books(), {}, {}, b""
         self.is_counted = False
 
     def is_refused(self):
@@ -182,7 +231,8 @@ class Rows:
 
     def report(self, verb, words):
         """A report, or why there is none."""
-        if any(self.is_refused() for _ in range(ASKS[verb])):
+        asks = len(list(self.books.rulings())) if verb == "rulings" else ASKS[verb]
+        if any(self.is_refused() for _ in range(asks)):
             return office.refused(office.MEMORY)
         if words:
             return self.books.of_period(getattr(self.books, verb), int(words[0]), *words[1:])
@@ -232,13 +282,27 @@ class Rows:
     def get(self, path):
         """The answer to a request for a report."""
         _, name, *words = path.split("/")
+        if name == "tariff":
+            return self.get_tariff(*words) if len(words) == 1 else served(404, [])
         verb, form = PATHS[name]
-        if len(words) > 2 or not all(office.is_name(centre) for centre in words[1:]):
+        has_period = verb in OF_PERIODS
+        if bool(words) != has_period or len(words) > 2 or not all(map(office.is_name, words[1:])):
             return served(404, [])
         text = self.report(verb, words)
         if text == office.refused(office.MEMORY):
             return served(503, [])
         return served(404, []) if text == office.refused(office.NO_SUCH_PERIOD) else served(200, text, form)
+
+    def get_tariff(self, word):
+        """The answer to a request for a tariff's file. The tariffs are asked for in their order."""
+        day = day_of(word)
+        if day is None:
+            return served(404, [])
+        days = [tariff.effective for tariff in self.books.tariffs]
+        if any(self.is_refused() for _ in range(days.index(day) + 1 if day in days else len(days) + 1)):
+            return served(503, [])
+        file = self.books.tariff_text(day)
+        return served(404, []) if file is None else served(200, file)
 
     def post(self, parts):
         """The answer to a request that hands in a dump."""
@@ -298,29 +362,68 @@ class Rows:
         if verb == "text-file":
             self.files[words[0]] = self.text(words[1:], body).encode()
             return []
-        if verb != "chargectl" or words[1] != "@books":
+        if verb == "input":
+            self.input = dump_of(self.dumps, words)
+            return []
+        if verb != "chargectl" and "chargectl" not in words:
             raise NotKnown
-        books, (verb, _, *words) = self.books, words
+        at = words.index("chargectl") if verb != "chargectl" else -1
+        output = self.output(words[at + 1:])
+        errors = []
+        if not isinstance(output, bytes):
+            errors = [line for line in output if line.startswith("chargectl")]
+            output = bytes_of(line for line in output if line not in errors)
+        refusal = ["! " + line for line in errors] + ["STATUS 3"] * len(errors)
+        return output_shown(verb, words[:at + 1], output) + refusal
 
-        def of_centre(report, period, options):
+    def output(self, words):
+        """What a command writes: bytes, or lines, of which the last may be that of a refusal."""
+        if words[0] == "trial":
+            return office.tried(self.files[dict(options(words[1:]))["--tariff"]], self.input)
+        verb, book, *words = words
+        if book != "@books":
+            raise NotKnown
+        books, given = self.books, dict(options(words))
+
+        def of_period(report, table, period):
             """A report of a period, of the centre that an option names. What is no name of a centre is a wrong word."""
-            words = [part for option in options for part in option.split("=")]
-            centre = words[words.index("--centre") + 1] if "--centre" in words else None
+            centre = given.get("--centre")
             if centre is not None and not office.is_name(centre):
                 return ["chargectl: word"]
-            return books.of_period(report, int(period), centre)
+            return books.of_period(table if "--csv" in given else report, int(period), centre)
 
-        lines = {"init": lambda: [],
-                 "tariff": lambda file: books.tariff(self.files[file]),
-                 "import": lambda file: books.take(self.files[file]),
-                 "adopt": lambda: books.adopt(2),
-                 "disputes": lambda: list(books.disputes()),
-                 "audit": lambda: list(Tables(books).audit()),
-                 "statement": lambda period, *options: of_centre(
-                     books.table if "--csv" in options else books.statement, period, options),
-                 "adjustments": lambda period, *options: of_centre(books.adjustments, period, options)
-                 }.get(verb, lambda *words: self.command(verb, words))(*words)
-        return ["! " + lines[0], "STATUS 3"] if lines and lines[0].startswith("chargectl") else lines
+        def tariff_text(word):
+            """The file of a tariff, by the day on which it begins. What is no day is a wrong word."""
+            if day_of(word) is None:
+                return ["chargectl: word"]
+            file = books.tariff_text(day_of(word))
+            return office.refused(office.NO_SUCH_TARIFF) if file is None else file
+
+        def choose(name=None, *_):
+            """One choice, or those of a file. What is no name in the file is a wrong word, before the first of them."""
+            if "--from" not in given:
+                return self.command("choose", [name])
+            # A carriage return is a part of a line's end, and ends no line alone.
+            *names, last = self.files[given["--from"]].decode("latin-1").split("\n")
+            names = [name.removesuffix("\r") for name in names] + [last] * (last != "")
+            for number, name in enumerate(names, 1):
+                if not re.fullmatch("[0-9A-Fa-f]{64}", name):
+                    return ["chargectl: word line %d" % number]
+            return books.choose_each(name.lower() for name in names)
+
+        return {"init": lambda: [],
+                "tariff": lambda file: books.tariff(self.files[file]),
+                "tariff-text": tariff_text,
+                "import": lambda file: books.take(self.files[file]),
+                "choose": choose,
+                "adopt": lambda: books.adopt(2),
+                "rulings": lambda: list(books.rulings()),
+                "periods": lambda: list(books.periods()),
+                "disputes": lambda *_: list(books.dispute_table() if "--csv" in given else books.disputes()),
+                "audit": lambda: list(Tables(books).audit()),
+                "statement": lambda period, *_: of_period(books.statement, books.table, period),
+                "adjustments": lambda period, *_: of_period(books.adjustments, books.adjustment_table, period)
+                }.get(verb, lambda *words: self.command(verb, words))(*words)
 
     def act(self, kind, line, body):
         verb, *words = line.split()
