@@ -3,6 +3,7 @@
 every byte; of reports, audits and lines on standard error, the form."""
 import calendar
 import collections
+import datetime
 import functools
 import re
 import struct
@@ -163,7 +164,7 @@ HEAD = re.compile(rb"(?:\r?\n)*(" + TOKEN + rb") ([!-~\x80-\xff]+) HTTP/1\.[01]\
 FIELD = re.compile(rb"([^:\r\n]+):([^\r\n]*)\r?\n")
 PATH = re.compile(rb"/(?:(periods|disputes|disputes-csv|rulings)"
                   rb"|((?:statement|adjustments)(?:-csv)?)/([1-9][0-9]{0,3})(?:/([A-Z0-9-]{1,16}))?"
-                  rb"|(import)(-bdw)?|tariff/(2024-01-01))")
+                  rb"|(import)(-bdw)?|tariff/([0-9]{4}-[0-9]{2}-[0-9]{2}))")
 LENGTH = re.compile(rb"[0-9]{1,19}")
 PHRASES = {200: "OK", 400: "Bad Request", 403: "Forbidden", 404: "Not Found",
            405: "Method Not Allowed", 411: "Length Required", 413: "Payload Too Large",
@@ -173,6 +174,15 @@ PHRASES = {200: "OK", 400: "Bad Request", 403: "Forbidden", 404: "Not Found",
 # name, period and centre, or the dump that is imported. The one tariff has a report of its name.
 Asked = collections.namedtuple("Asked", "status allow report layout body", defaults=(None,) * 4)
 TARIFF = "tariff", 0, None
+TARIFF_DAY = b"2024-01-01"
+
+
+def is_day_text(text):
+    """A day of the calendar, from 1900 to 2099."""
+    try:
+        return 1900 <= datetime.date.fromisoformat(text.decode()).year <= 2099
+    except ValueError:
+        return False
 
 
 def is_text(target):
@@ -194,7 +204,7 @@ def asked(request, last_period):
     if len(lengths) > 1 or lengths and not LENGTH.fullmatch(lengths[0]):
         return Asked(400)
     path = PATH.fullmatch(head[2].split(b"?")[0])
-    if not path:
+    if not path or path[7] and not is_day_text(path[7]):
         return Asked(404)
     method = b"POST" if path[5] else b"GET"
     if head[1] != method:
@@ -204,7 +214,7 @@ def asked(request, last_period):
     if path[3] and int(path[3]) > last_period:
         return Asked(404)
     if path[7]:
-        return Asked(200, report=TARIFF)
+        return Asked(200, report=TARIFF) if path[7] == TARIFF_DAY else Asked(404)
     centre = path[4] and path[4].decode()
     return Asked(200, report=((path[1] or path[2]).decode(), int(path[3] or 0), centre))
 
