@@ -27,4 +27,5 @@ pub mod TreatmentLemmas
 pub mod BookLemmas
 pub mod ChosenLemmas
 pub mod MemoryLemmas
+pub mod OtherPriceLemmas
 pub mod LineLemmas

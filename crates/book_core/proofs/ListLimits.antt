@@ -19,7 +19,7 @@ use Rattle.book_model.specs.Words.{IsDay, IsPriced, most_held, IsDispute, AreDis
 use Rattle.book_model.specs.Words.{by_bytes, Rulings, key_of, identity_by, identity_length}
 use Rattle.book_model.specs.Words.{identity2_length}
 use Rattle.book_model.specs.Words.{charged_at, row_at, keys_of, rows_of, FitSums, AreRows, set_of}
-use Rattle.book_model.specs.Words.{members}
+use Rattle.book_model.specs.Words.{members, most_cost}
 use Rattle.tariff_rules.specs.declared.priced.Priced.{Priced}
 use Rattle.book_model.specs.declared.row.ChargeRow.{ChargeRow}
 use Rattle.book_model.specs.declared.row.RowKey.{RowKey}
@@ -147,6 +147,26 @@ all_priced entries =
     let price : Entry → Priced = λ entry. entry.1.priced in
     All-map IsPriced price entries (λ k d within. (get_or entries k d).1.priced_is)
 
+-- The sums of no more prices than a ledger may hold fit 64 bits, where they cost no more than it
+-- holds.
+pub priced_fit : (prices : List Priced) → All IsPriced prices → length prices ≤ most_held
+    → sum_by (λ one. one.amount) prices ≤ most_cost → FitSums prices
+priced_fit prices priced few small =
+    let each_cpu : All (λ one. one.cpu ≤ 2 ^ 33) prices =
+    λ k d within. (priced k d within).cpu in
+    let each_excp : All (λ one. one.excp ≤ 2 ^ 32) prices =
+    λ k d within. let below = (priced k d within).excp in omega arith in
+    let cpu = sum_by-le (λ one. one.cpu) (2 ^ 33) prices each_cpu in
+    let blocks = sum_by-le (λ one. one.excp) (2 ^ 32) prices each_excp in
+    record { cpu = omega arith; blocks = omega arith; amount = omega arith }
+
+-- and their rows can be shown
+pub priced_shown : (prices : List Priced) → All IsPriced prices → length prices ≤ most_held
+    → sum_by (λ one. one.amount) prices ≤ most_cost → AreRows (rows_of prices)
+priced_shown prices priced few small =
+    let dated : All (λ one. IsDay one.day) prices = λ k d within. (priced k d within).day in
+    rows_shown prices (priced_fit prices priced few small) (omega arith) dated
+
 module _ {naming : Naming} {rulings : Rulings} {entries : List Entry} {total : ℕ}
     (kept : AreBooked naming rulings entries total) where
   -- there are no more such prices than a ledger may hold records
@@ -158,35 +178,30 @@ module _ {naming : Naming} {rulings : Rulings} {entries : List Entry} {total : �
       let few = kept.few in
       omega arith
 
-  -- the sums of what the entries cost that pass a test fit 64 bits
-  pub fit_sums : (test : Entry → Bool) → FitSums (prices_where test entries)
-  fit_sums test =
+  -- nor do they cost more than a ledger may hold
+  small_chosen : (test : Entry → Bool)
+      → sum_by (λ one. one.amount) (prices_where test entries) ≤ most_cost
+  small_chosen test =
       let others : Entry → Bool = λ entry. not (test entry) in
-      let prices = prices_where test entries in
-      let priced = all_priced (filter test entries) in
-      let few = few_chosen test in
-      let each_cpu : All (λ one. one.cpu ≤ 2 ^ 33) prices =
-      λ k d within. (priced k d within).cpu in
-      let each_excp : All (λ one. one.excp ≤ 2 ^ 32) prices =
-      λ k d within. let below = (priced k d within).excp in omega arith in
-      let cpu = sum_by-le (λ one. one.cpu) (2 ^ 33) prices each_cpu in
-      let blocks = sum_by-le (λ one. one.excp) (2 ^ 32) prices each_excp in
       let price : Entry → Priced = λ entry. entry.1.priced in
       let own : Entry → ℕ = λ entry. entry.1.priced.amount in
       let amount = fold-map (λ n one. n + one.amount) price 0 (filter test entries) in
       let both = sum_by-filter_both test others (λ entry. refl) own entries in
       let summed = kept.summed in
       let small = kept.small in
-      record { cpu = omega arith; blocks = omega arith; amount = omega arith }
+      omega arith
+
+  -- so the sums of what the entries cost that pass a test fit 64 bits
+  pub fit_sums : (test : Entry → Bool) → FitSums (prices_where test entries)
+  fit_sums test =
+      priced_fit (prices_where test entries) (all_priced (filter test entries)) (few_chosen test)
+      (small_chosen test)
 
   -- their rows can be shown
   pub are_rows : (test : Entry → Bool) → AreRows (rows_of (prices_where test entries))
   are_rows test =
-      let priced = all_priced (filter test entries) in
-      let few = few_chosen test in
-      let dated : All (λ one. IsDay one.day) (prices_where test entries) =
-      λ k d within. (priced k d within).day in
-      rows_shown (prices_where test entries) (fit_sums test) (omega arith) dated
+      priced_shown (prices_where test entries) (all_priced (filter test entries)) (few_chosen test)
+      (small_chosen test)
 
   -- and so can the disputes among the entries
   pub are_disputes : AreDisputes (disputes_among rulings entries)

@@ -4,12 +4,14 @@ ghost use Rattle.book_model.specs.Words.{dispute_shown, accept_outcome, close_ou
 ghost use Rattle.book_model.specs.Words.{tariff_outcome, adjustments_outcome, charges_outcome};
 ghost use Rattle.book_model.specs.Words.{choose_outcome, disputes_outcome, periods_outcome};
 ghost use Rattle.book_model.specs.Words.{adopt_outcome, ruling_outcome, ruling_shown, ShowsDays};
+ghost use Rattle.book_model.specs.Words.{what_if_outcome};
 ghost use Rattle.book_core.specs.Ledgers.{StopIsHarmless, Seen};
 ghost use Rattle.book_core.specs.Calls.{IsCall};
 ghost use Rattle.book_core.specs.Submissions.{Takes, records_in};
 ghost use Rattle.book_core.specs.Transition.{IsTransition};
 
 use book_model::{Accepted, ChargeRow, Dispute, LedgerFault, Line, ListedRuling, Ruled};
+use tariff_rules::Tariff;
 
 /// The books of an office, however they are kept. Each call is at most one change of them: it is
 /// made whole, or not at all. After `Store` every call answers `Reopen`, and only the next open of
@@ -67,6 +69,14 @@ pub trait Ledger {
     fn charges(&mut self, period: u16) -> Result<Vec<ChargeRow>, LedgerFault>
         ensures rows { IsCall (λ rows. rows.items) (seen self.old) (seen self.new) result
             (charges_outcome period) }
+        ensures shown { IfOk result (λ rows. AreRows rows.items) };
+
+    /// The charge rows that a period would have by another tariff: the records that it counts, each
+    /// by this tariff, whatever its first day. Where they cost more by it than books hold, that is
+    /// answered as for books that are full. Nothing is changed.
+    fn charges_under(&mut self, period: u16, tariff: &Tariff) -> Result<Vec<ChargeRow>, LedgerFault>
+        ensures rows { IsCall (λ rows. rows.items) (seen self.old) (seen self.new) result
+            (what_if_outcome period tariff.now) }
         ensures shown { IfOk result (λ rows. AreRows rows.items) };
 
     /// The adjustment lines of a period, by day, then name.

@@ -32,6 +32,7 @@ pub use book_model::{
 // What a ledger of another crate needs to keep the same books.
 pub use acceptance::{is_full, name_of};
 pub use accepted_tariff::{AcceptedTariff, are_before};
+pub use charge_rows::empty_row;
 pub use effects::{
     ChoiceEffects, DayChange, Effects, LineChange, Member, View, plan, plan_charge, plan_choice,
 };
@@ -39,9 +40,10 @@ pub use ledger::Ledger;
 pub use limits::{LAST_PERIOD, MAX_CHOICES, MAX_COST, MAX_HELD};
 pub use lines::sort_lines;
 pub use listed_rulings::ListedAt;
-pub use period_end::is_after;
+pub use period_end::{is_after, is_through};
 pub use plain::PlainLedger;
 pub use pricing::price_in;
 pub use rulings::{Rulings, is_done};
 pub use streams::{Sink, Source};
+pub use tariff_rules::Tariff;
 pub use variant::copied;

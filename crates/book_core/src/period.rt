@@ -1,7 +1,9 @@
 //! Periods that are read: what the records cost that they count, and their lines.
 
-ghost use Rattle.std.specs.Prelude.{◌≡◌, IfOk, filter, map};
+ghost use Rattle.std.specs.Prelude.{◌≡◌, All, IfOk, filter, map};
 ghost use Rattle.std.specs.List.{filter_map};
+ghost use Rattle.book_model.specs.Words.{IsPriced, price_by};
+ghost use Rattle.book_core.specs.Plain.{record_of};
 ghost use Rattle.book_core.specs.Treatments as spec;
 ghost use Rattle.book_core.specs.Treatments.{is_counted, line_at};
 
@@ -13,7 +15,7 @@ use crate::treatment::Treatment;
 use book_model::Line;
 use std::alloc::{AllocError, Global};
 use std::collections::{BTreeMap, BTreeSet};
-use tariff_rules::Priced;
+use tariff_rules::{Priced, Tariff};
 
 /// A period that is read.
 #[derive(Drop)]
@@ -62,6 +64,29 @@ impl Period<'_> {
         for (name, kept) in held {
             if self.counts(posted, name, kept) {
                 prices.push(kept.priced)?;
+            }
+        }
+        Ok(prices)
+    }
+
+    /// What the records would cost by another tariff that the period counts, by name.
+    pub(crate) fn prices_under(
+        &self,
+        alloc: Global,
+        held: &BTreeMap<[u8; 32], HeldRecord>,
+        posted: &BTreeSet<[u8; 32]>,
+        tariff: &Tariff,
+    ) -> Result<Vec<Priced>, AllocError>
+        ensures prices { IfOk result (λ prices. prices.items
+            ≡ map (λ entry. price_by tariff.now (record_of entry.1))
+            (filter (λ entry. is_counted (spec.treatment_in self.now posted.now entry))
+            held.now.entries)) }
+        ensures bounds { IfOk result (λ prices. All IsPriced prices.items) }
+    {
+        let mut prices = Vec::new(alloc);
+        for (name, kept) in held {
+            if self.counts(posted, name, kept) {
+                prices.push(kept.price_by(tariff))?;
             }
         }
         Ok(prices)

@@ -41,7 +41,7 @@ pub fn is_after(close: Option<i32>, day: i32) -> bool
 }
 
 /// A day is no later than another, if there is one.
-fn is_through(through: Option<i32>, day: i32) -> bool
+pub fn is_through(through: Option<i32>, day: i32) -> bool
     ensures { result ≡ option_map_or (λ through. not (int_lt through day)) through true }
 {
     match through {

@@ -131,6 +131,14 @@ impl<N: Naming + Drop> Ledger for PlainLedger<N> {
         self.charge_rows(period)
     }
 
+    fn charges_under(
+        &mut self,
+        period: u16,
+        tariff: &Tariff,
+    ) -> Result<Vec<ChargeRow>, LedgerFault> {
+        self.charge_rows_under(period, tariff)
+    }
+
     fn adjustments(&mut self, period: u16) -> Result<Vec<Line>, LedgerFault> {
         self.lines(period)
     }

@@ -1,9 +1,9 @@
 -- Read in this order: sets and records; what the office ruled, and what a record costs by it; which
 -- records are undisputed and charged; what a period is, and the rows, lines and disputes that are
--- read; the book, and the events that change it; what is answered to a record and to a ruling, how
--- the rulings are listed, and what each call is; what a whole history defines, which histories calls make, and how a history
--- is cut at its rulings; what is always true of a book; and laws. Then the answers and the faults
--- of a ledger.
+-- read, and the rows by another tariff; the book, and the events that change it; what is answered
+-- to a record and to a ruling, how the rulings are listed, and what each call is; what a whole
+-- history defines, which histories calls make, and how a history is cut at its rulings; what is
+-- always true of a book; and laws. Then the answers and the faults of a ledger.
 pub mod Sets
 pub mod Records
 pub mod Limits
@@ -11,6 +11,7 @@ pub mod Rulings
 pub mod Charged
 pub mod Periods
 pub mod Rows
+pub mod OtherPrices
 pub mod Lines
 pub mod Disputes
 pub mod Books

@@ -60,7 +60,8 @@ pub use Rattle.book_model.specs.Outcomes.{adjustments_outcome, adopt_event, adop
 pub use Rattle.book_model.specs.Outcomes.{charges_outcome, choose_event, choose_outcome}
 pub use Rattle.book_model.specs.Outcomes.{close_event, close_outcome, disputes_outcome}
 pub use Rattle.book_model.specs.Outcomes.{periods_outcome, no_event, ruling_outcome, tariff_event}
-pub use Rattle.book_model.specs.Outcomes.{tariff_outcome}
+pub use Rattle.book_model.specs.Outcomes.{tariff_outcome, what_if_outcome}
+pub use Rattle.book_model.specs.OtherPrices.{costs_under, rows_if_room, what_if_answer}
 pub use Rattle.book_model.specs.History.{book_after, book_of, charged_in, closes, day_of_close}
 pub use Rattle.book_model.specs.History.{held_before, period_after, periods, rulings}
 pub use Rattle.book_model.specs.MadeByCalls.{IsMadeByCalls}

@@ -3,7 +3,9 @@
 
 ghost use Rattle.office.specs.Away.{away};
 
-use book_core::{Accepted, ChargeRow, Dispute, Ledger, LedgerFault, Line, ListedRuling, Ruled};
+use book_core::{
+    Accepted, ChargeRow, Dispute, Ledger, LedgerFault, Line, ListedRuling, Ruled, Tariff,
+};
 
 /// Answers to each call that the books are to be opened again.
 #[derive(Drop)]
@@ -38,6 +40,14 @@ impl Ledger for AwayBooks {
     }
 
     fn charges(&mut self, _period: u16) -> Result<Vec<ChargeRow>, LedgerFault> {
+        Err(LedgerFault::Reopen)
+    }
+
+    fn charges_under(
+        &mut self,
+        _period: u16,
+        _tariff: &Tariff,
+    ) -> Result<Vec<ChargeRow>, LedgerFault> {
         Err(LedgerFault::Reopen)
     }
 

@@ -22,7 +22,7 @@ use Rattle.table_laws.proofs.SetReading.{before_back}
 
 module _ (closes : List ℤ) (charged : ℕ → Records) where
   -- the period after this many closes
-  abbrev link : ℕ → Period
+  abbrev pub link : ℕ → Period
   link k = period_by (close_after k closes) (charged k) (charged (suc k))
 
   -- there are this many periods
@@ -66,7 +66,7 @@ module _ (naming : Naming) (book : Book) (whole : IsReadable naming book) where
   charged = whole.past.charged
 
   -- the period after this many closes is one of the book,
-  its_place : (k : ℕ) → k < length days
+  pub its_place : (k : ℕ) → k < length days
       → slice_get (all_periods book) k ≡ Some (link days charged k)
   its_place k within =
       let count = whole.sound.closed in

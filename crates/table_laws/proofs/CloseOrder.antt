@@ -9,7 +9,7 @@ use Rattle.std.specs.declared.cmp.Ordering.TheVariants.{Less}
 use Rattle.std.proofs.lemmas.Int.{ints}
 
 -- a day is later than another if it compares so
-earlier : (one other : ℤ) → int_cmp one other ≡ Less → one <ℤ other
+pub earlier : (one other : ℤ) → int_cmp one other ≡ Less → one <ℤ other
 earlier one other less = int_ranked one other Less (sym less)
 
 -- a day that is later than the last of rising days is later than the first

@@ -1,8 +1,9 @@
 -- Read in this order: texts, lists in order, what is found in a table, and sets that are made from
 -- lists; records that have rivals; books that calls made, what their calls passed, and that they
 -- can be read back; the rulings, the records, the choices, their list, and the lines that are
--- read, and the book; the rows of an identity; the answers to records, choices and other rulings, and the lists
--- of a period; rows in groups and in order, and the disputes; the numbers that fit; how long an
+-- read, and the book; the rows of an identity; the answers to records, choices and other rulings,
+-- the lists of a period, and which records it counts; rows in groups and in order, and the
+-- disputes; the numbers that fit; the rows that a period would have by another tariff; how long an
 -- identity is; the tables under the second rule of it; and the lists that can be shown.
 pub mod Texts
 pub mod ListOrder
@@ -25,6 +26,7 @@ pub mod AcceptLemmas
 pub mod ChoiceLemmas
 pub mod RulingLemmas
 pub mod ListLemmas
+pub mod CountedReading
 pub mod GroupingLemmas
 pub mod DisputedRecords
 pub mod DisputedIdentities
@@ -33,6 +35,7 @@ pub mod DisputedRows
 pub mod DisputeLemmas
 pub mod PriceSums
 pub mod FitsLemmas
+pub mod CountedLemmas
 pub mod IdentityLengths
 pub mod AdoptionLemmas
 pub mod ShownLemmas

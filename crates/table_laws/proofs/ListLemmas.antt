@@ -1,6 +1,6 @@
 -- The lists of a period, and the list of rulings, are answered from the tables.
 use Rattle.std.proofs.Common.{◌≡◌, ℕ, ◌-◌, length, refl, sym, ap, ◌∙◌, true, false, true≢false}
-use Rattle.std.proofs.Common.{Bool, not, ◌&&◌, Option, Some, None, Result, Ok, Err, get_or, arith}
+use Rattle.std.proofs.Common.{Bool, not, ◌&&◌, Option, Some, None, Result, Ok, get_or, arith}
 use Rattle.std.specs.Prelude.{◌<◌, ◌≤◌, ◌==◌, nat_le, if◌then◌else◌, slice_get}
 use Rattle.std.specs.Option.{ok_or, option_map}
 use Rattle.std.proofs.lemmas.Bool.Decides.{nat_tests}
@@ -63,24 +63,31 @@ module _ (book : Book) (closed : length book.past ≡ length book.rulings.closes
   period_there is =
       by_tests (number == 0) (number == open_number book) refl refl is
 
+  -- what is told by a period, if there is one, is told by the test of its number
+  pub told : {X : Type 0} (by_period : Option Period → X) (found : X)
+      → ((period : Period) → period_of book number ≡ Some period → found ≡ by_period (Some period))
+      → by_period (period_of book number)
+      ≡ (if is_period number book.rulings then found else by_period None)
+  told by_period found reads =
+      elim (is_period number book.rulings) as (λ b. is_period number book.rulings ≡ b
+      → by_period (period_of book number) ≡ (if b then found else by_period None)) [
+        | true ↦ λ is.
+            let its = period_there is in
+            ap by_period its.1 ∙ sym (reads its.0 its.1)
+        | false ↦ λ is_not.
+            ap by_period
+            (by_no_tests (number == 0) (number == open_number book) refl refl is_not)
+      ] refl
+
   -- what is answered for a period
   answered : {A : Type 0} (f : Period → A) (found : A)
       → ((period : Period) → period_of book number ≡ Some period → found ≡ f period)
       → ok_or (option_map f (period_of book number)) NoSuchPeriod
       ≡ of_period number book.rulings found
   answered {A} f found reads =
-      let by_period : Option Period → Result A LedgerFault =
-      λ period. ok_or (option_map f period) NoSuchPeriod in
       let answer : A → Result A LedgerFault = λ list. Ok list in
-      elim (is_period number book.rulings) as (λ b. is_period number book.rulings ≡ b
-      → by_period (period_of book number) ≡ (if b then answer found else Err NoSuchPeriod)) [
-        | true ↦ λ is.
-            let its = period_there is in
-            ap by_period its.1 ∙ ap answer (sym (reads its.0 its.1))
-        | false ↦ λ is_not.
-            ap by_period
-            (by_no_tests (number == 0) (number == open_number book) refl refl is_not)
-      ] refl
+      told (λ period. ok_or (option_map f period) NoSuchPeriod) (answer found)
+      (λ period is. ap answer (reads period is))
 
 -- the law
 pub lists_follow : ListsFollow

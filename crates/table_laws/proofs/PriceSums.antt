@@ -31,7 +31,7 @@ part_within f p xs =
     one false n = omega arith
 
 -- no more are given than there are elements
-given_few : {X Y : Type 0} (h : X → Option Y) (xs : List X)
+pub given_few : {X Y : Type 0} (h : X → Option Y) (xs : List X)
     → length (filter_map h xs) ≤ length xs
 given_few {X} {Y} h xs =
     let ones = length-sum_by (filter_map h xs) ∙ sum_by-filter_map (λ _. 1) h xs in

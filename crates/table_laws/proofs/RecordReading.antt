@@ -117,7 +117,7 @@ module _ (naming : Naming) (book : Book) (sound : IsSound naming book) where
 
   module _ (framed : AreFramed book.held) where
     -- the records of entries are those that they were made from
-    records_of : (ks : List (List ℕ))
+    pub records_of : (ks : List (List ℕ))
         → ((bytes : List ℕ) → list_any (is bytes) ks ≡ true → has book.held bytes ≡ true)
         → map (λ (e : List ℕ × RecordRow). row_record e.1) (filter_map entry ks) ≡ ks
     records_of [] held = refl

@@ -1,18 +1,23 @@
 -- The laws of lists: what is answered for a period, for rulings and for disputes is what the tables
 -- say, and can be shown.
-use Rattle.std.specs.Prelude.{◌≡◌, ◌+◌, ℕ, filter, List, [], ◌∷◌, ◌++◌, Ok, slice_get, true}
-use Rattle.std.specs.FinMap.{values}
+use Rattle.std.specs.Prelude.{◌≡◌, ◌+◌, ◌≤◌, ℕ, filter, map, List, [], ◌∷◌, ◌++◌, Ok, Some, length}
+use Rattle.std.specs.Prelude.{All, slice_get, true}
+use Rattle.std.specs.FinMap.{entries, values}
 use Rattle.std.specs.List.Sorted.{IsPermutation, IsStrictlySortedBy}
 use Rattle.std.specs.Option.{option_map}
+use Rattle.book_model.specs.declared.row.ChargeRow.{ChargeRow}
 use Rattle.book_model.specs.Words.{Book, charges_outcome, adjustments_outcome, disputes_outcome}
-use Rattle.book_model.specs.Words.{periods_outcome, no_event, Naming, AreDisputes, AreLines, AreRows}
-use Rattle.book_model.specs.Words.{choice_seen, ruling_outcome}
+use Rattle.book_model.specs.Words.{periods_outcome, no_event, Naming, AreDisputes, AreLines}
+use Rattle.book_model.specs.Words.{AreRows, IsPriced, Period, Terms, by_bytes, choice_seen}
+use Rattle.book_model.specs.Words.{most_held, period_of, ruling_outcome, set_of, what_if_outcome}
 use Rattle.table_model.specs.TablesOf.{tables_of}
 use Rattle.table_laws.specs.DisputesRead.{NamedRow, by_identity, disputed_among, disputed_rows}
 use Rattle.table_laws.specs.DisputesRead.{disputes_read, grouped, has_none_charged, join_last}
 use Rattle.table_laws.specs.DisputesRead.{uncharged_among}
 use Rattle.table_laws.specs.ListsRead.{charges_read, adjustments_read, choice_read_at, is_period}
 use Rattle.table_laws.specs.ListsRead.{rulings_read}
+use Rattle.table_laws.specs.BookIn.{row_record}
+use Rattle.table_laws.specs.CountedRead.{counted_rows, row_costs, what_if_read}
 use Rattle.table_laws.specs.Readable.{IsReadable}
 use Rattle.table_model.specs.PeriodLists.{rows_read, lines_read}
 
@@ -60,6 +65,31 @@ pub record DisputesFollow : Type 0 where
       ≡ disputed_rows (tables_of naming book)
   pub push : (rows : List NamedRow) (row : NamedRow)
       → grouped (rows ++ row ∷ []) ≡ join_last (grouped rows) row
+
+-- Which records a period counts is read from the marks of their rows and from their lines; and by
+-- another tariff the period would have the charge rows of what these rows cost. Where each costs
+-- what a record may, the charge rows that are answered can be shown; and there are no more rows of
+-- records than records may be held.
+pub record CountedFollows : Type 0 where
+  pub counted :
+      (naming : Naming) (book : Book) (number : ℕ) (period : Period) → IsReadable naming book
+      → period_of book number ≡ Some period
+      → set_of by_bytes (map (λ (row : NamedRow). row_record row.1)
+      (counted_rows number book.rulings (tables_of naming book)))
+      ≡ period.counted
+  pub what_if :
+      (naming : Naming) (book : Book) (number : ℕ) (terms : Terms) → IsReadable naming book
+      → what_if_outcome number terms book
+      ≡ no_event (what_if_read number terms book.rulings (tables_of naming book))
+  pub shown :
+      (naming : Naming) (book : Book) (number : ℕ) (terms : Terms) (rows : List ChargeRow)
+      → IsReadable naming book
+      → All IsPriced (row_costs terms (counted_rows number book.rulings (tables_of naming book)))
+      → what_if_read number terms book.rulings (tables_of naming book) ≡ Ok rows
+      → AreRows rows
+  pub few :
+      (naming : Naming) (book : Book) → IsReadable naming book
+      → length (entries (tables_of naming book).records) ≤ most_held
 
 -- The charge rows and the adjustment lines of a period that exists, and the disputes, are lists
 -- that reports can print.

@@ -5,7 +5,7 @@ ghost use Rattle.table_laws.specs.AnswerLaws.{AcceptFollows, AdoptionsFollow, Ch
 ghost use Rattle.table_laws.specs.AnswerLaws.{ClosingFollows, NumbersFit, TermsFollow};
 ghost use Rattle.table_laws.specs.AnswerLaws.{TwoAreEnough, ViewIsDetermined};
 ghost use Rattle.table_laws.specs.Laws.{BookFollows, CallsRead, CallsStay, TablesDetermine};
-ghost use Rattle.table_laws.specs.ListLaws.{DisputesFollow, ListsFollow, ListsShow};
+ghost use Rattle.table_laws.specs.ListLaws.{CountedFollows, DisputesFollow, ListsFollow, ListsShow};
 
 /// New books are made by calls, and each call that is an event leaves such books.
 pub fn calls_stay()
@@ -71,6 +71,12 @@ pub fn closing_follows()
 /// rulings are answered from the tables.
 pub fn lists_follow()
     ensures { ListsFollow }
+{}
+
+/// Which records a period counts is read from the marks of their rows and from their lines; and so
+/// are the charge rows that the period would have by another tariff, which can be shown.
+pub fn counted_follows()
+    ensures { CountedFollows }
 {}
 
 /// The disputes are the rows of identities that have no charged row, by identity, then name, in

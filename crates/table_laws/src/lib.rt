@@ -6,6 +6,6 @@ mod laws;
 
 pub use laws::{
     accept_follows, adoptions_follow, book_follows, calls_read, calls_stay, choices_follow,
-    closing_follows, disputes_follow, lists_follow, lists_show, numbers_fit, tables_determine,
-    terms_follow, two_are_enough, view_is_determined,
+    closing_follows, counted_follows, disputes_follow, lists_follow, lists_show, numbers_fit,
+    tables_determine, terms_follow, two_are_enough, view_is_determined,
 };

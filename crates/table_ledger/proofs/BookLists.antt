@@ -18,6 +18,7 @@ use Rattle.table_model.specs.Tables.{RecordRow, RecordTable}
 use Rattle.table_model.specs.TablesOf.{tables_of}
 use Rattle.table_laws.specs.ListsRead.{is_period}
 use Rattle.table_laws.specs.Readable.{IsReadable}
+use Rattle.table_laws.proofs.CountedLemmas.{counted_follows}
 use Rattle.table_laws.proofs.ListOrder.{all_so}
 use Rattle.table_laws.proofs.ReadableLemmas.{calls_read}
 use Rattle.table_laws.proofs.ShownDisputes.{lists_show}
@@ -28,6 +29,7 @@ use Rattle.tree_tables.specs.declared.line_rows.StoredLine.{StoredLine}
 use Rattle.tree_tables.specs.declared.stored_record.StoredRecord.{StoredRecord}
 use Rattle.table_ledger.specs.DisputeReads.{IsShownRow}
 use Rattle.table_ledger.specs.LineReads.{NamesRise, lines_stored}
+use Rattle.table_ledger.specs.OtherPrices.{CanBeWalked}
 use Rattle.table_ledger.specs.Ready.{IsReadyAt}
 use Rattle.table_ledger.specs.RecordReads.{CanBeRead, HasWideNames}
 use Rattle.tree_tables.specs.UsageData.{IsUsageData}
@@ -109,6 +111,10 @@ module _ {naming : Naming} {summary : Summary} {view : View} {book : Book}
   -- records can be read
   pub own_records : HasWideNames naming → CanBeRead (tables_of naming book)
   own_records wide = can_be_read naming book whole wide
+
+  -- and there are no more of them than a walk can end at
+  pub own_walk : HasWideNames naming → CanBeWalked (tables_of naming book)
+  own_walk wide = record { read = own_records wide; few = counted_follows.few naming book whole }
 
   module _ (number : ℕ) (is : is_period number (ruled_in summary.rulings) ≡ true)
       (stored : List StoredLine) (lines : List Line)

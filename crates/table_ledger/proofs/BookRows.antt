@@ -13,7 +13,7 @@ use Rattle.std.specs.List.Sorted.{IsStrictlySortedBy}
 use Rattle.std.specs.declared.cmp.Ordering.{Ordering}
 use Rattle.std.proofs.lemmas.Cmp.{nat_list_cmp_total}
 use Rattle.std.proofs.lemmas.List.{length-append, length-map}
-use Rattle.std.proofs.lemmas.List.Sorted.{IsPermutation-sym, length_permutation}
+use Rattle.std.proofs.lemmas.List.Sorted.{IsPermutation-sym}
 use Rattle.std.proofs.lemmas.List.Sums.{count_by-le-length, length-filter}
 use Rattle.std.proofs.lemmas.Map.Lookups.{exact_bytes}
 use Rattle.sqlite_trees.proofs.ListLemmas.{all-filter, all-map, all-permutation, all_from_map}
@@ -41,13 +41,14 @@ use Rattle.table_model.proofs.RowReading.{rows_follow}
 use Rattle.table_laws.specs.Fits.{DayFits}
 use Rattle.table_laws.specs.ListsRead.{is_period}
 use Rattle.table_laws.specs.Readable.{IsReadable}
+use Rattle.table_laws.proofs.CountedLemmas.{counted_follows}
 use Rattle.table_laws.proofs.DisputedRows.{each_entry}
 use Rattle.table_laws.proofs.Finding.{find_one}
 use Rattle.table_laws.proofs.FitsLemmas.{numbers_fit}
 use Rattle.table_laws.proofs.ListLemmas.{period_there}
 use Rattle.table_laws.proofs.ListOrder.{all_joined}
 use Rattle.table_laws.proofs.PriceSums.{costs, some_within}
-use Rattle.table_laws.proofs.RecordReading.{all_entries, all_permuted, entry, entry_at}
+use Rattle.table_laws.proofs.RecordReading.{all_entries, all_permuted, entry_at}
 use Rattle.tree_tables.specs.Answers.{ListsUncharged, is_uncharged}
 use Rattle.tree_tables.specs.Columns.{day_columns, line_columns, record_columns}
 use Rattle.tree_tables.specs.Fits.{ChargeFits, DaysFit, LineFits, LinesFit, RecordFits, RowsFit}
@@ -204,22 +205,12 @@ module _ (naming : Naming) (book : Book) (whole : IsReadable naming book) where
       (sym (get-from_entries nat_list_cmp_total (all_entries naming book whole.sound) name)
       ∙ there)
 
-  -- there are no more rows of records than records may be held
-  few_records : length (entries (tables_of naming book).records) ≤ most_held
-  few_records =
-      let all = all_entries naming book whole.sound in
-      let same = length_permutation (entries (tables_of naming book).records) all
-      (all_permuted naming book whole.sound) in
-      let given = given_few (entry naming book whole.sound) (members book.held) in
-      let held = whole.limits.held in
-      omega (arith, same, given, held)
-
   -- so records can be read
   pub can_be_read : HasWideNames naming → CanBeRead (tables_of naming book)
   can_be_read wide = record {
     fit = record {
       each = λ name row there. (row_taken wide name row there).fits;
-      few = (let few = few_records in omega (arith, few));
+      few = (let few = counted_follows.few naming book whole in omega (arith, few));
     };
     usage = λ name row there. (row_taken wide name row there).data_bytes;
   }

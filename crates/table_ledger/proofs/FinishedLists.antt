@@ -1,4 +1,4 @@
--- Lists that were tried and settled: what fails is the store's own.
+-- Lists that were tried and settled: what fails, and is no refusal of theirs, is the store's own.
 use Rattle.std.proofs.Common.{◌≡◌, ◌∙◌, Bool, false, inl, inr, List, Result, Ok, Err, refl, sym, subst}
 use Rattle.std.specs.Prelude.{IfErr, IsErrOf, IsTrue}
 use Rattle.sqlite_trees.specs.View.{IsClean}
@@ -7,11 +7,11 @@ use Rattle.sqlite_trees.specs.declared.error.StoreError.TheVariants.{OutOfMemory
 use Rattle.sqlite_trees.specs.declared.store.Store.{Ghosts}
 use Rattle.book_model.specs.Words.{Book, Event, Naming}
 use Rattle.book_model.specs.declared.fault.LedgerFault.{LedgerFault}
-use Rattle.book_model.specs.declared.fault.LedgerFault.TheVariants.{Memory, NoSuchPeriod, Store}
+use Rattle.book_model.specs.declared.fault.LedgerFault.TheVariants.{Memory, Store}
 use Rattle.tree_tables.specs.States.{HasCleanDisk, state}
-use Rattle.table_ledger.specs.Loaded.{FailsAsItsOwn}
+use Rattle.table_ledger.specs.Loaded.{FailsBut}
 use Rattle.table_ledger.specs.LedgerState.{LedgerState, state_on}
-use Rattle.table_ledger.specs.Attempts.{Finishes, TriesItsOwn}
+use Rattle.table_ledger.specs.Attempts.{Finishes, TriesBut}
 use Rattle.table_ledger.specs.Stages.{AttemptsBy}
 use Rattle.table_ledger.specs.declared.summary.Summary.{Summary}
 use Rattle.table_ledger.proofs.OwnBooks.{cause_told}
@@ -24,35 +24,36 @@ same_fault result one other is too =
     let both : Err one ≡ Err other = sym is ∙ too in cc
 
 -- a refusal of the answer is a refusal of the list
-by_answer : {V : Type 0} (old new : LedgerState) (answer : Result V LedgerFault)
-    → IfErr answer (λ fault. fault ≡ NoSuchPeriod) → FailsAsItsOwn answer old new
-by_answer old new (Ok value) own = tt
-by_answer old new (Err fault) own = λ other clean books open_now. absurd (other own)
+by_answer : {V : Type 0} (Refuses : LedgerFault → Type 0) (old new : LedgerState)
+    (answer : Result V LedgerFault) → IfErr answer Refuses → FailsBut Refuses answer old new
+by_answer Refuses old new (Ok value) own = tt
+by_answer Refuses old new (Err fault) own = λ other clean books open_now. absurd (other own)
 
 -- a list that was tried fails as stated
 pub own_settled : {S V : Type 0} {Made : Result V LedgerFault → Book → List Event → Type 0}
     {Leaves : Book → List Event → Type 0} {naming : Naming} {summary : Summary} {middle last : S}
     {before flag : Bool} {tried : Result (Result V LedgerFault) StoreError} {result : Result V LedgerFault}
-    (ghosts : Ghosts S) (first : S) → Finishes ghosts middle last before flag tried result
+    (Refuses : LedgerFault → Type 0) (ghosts : Ghosts S) (first : S) → Finishes ghosts middle last before flag tried result
     → AttemptsBy Made Leaves naming summary summary (state ghosts first) (state ghosts middle) tried
-    → TriesItsOwn naming summary (state ghosts first) (state ghosts middle) tried
+    → TriesBut Refuses naming summary (state ghosts first) (state ghosts middle) tried
     → IfErr tried (λ error. IsClean (ghosts.view last) → error ≡ OutOfMemory
     → (ghosts.view last).is_broken ≡ false → IsErrOf result Memory)
     → IfErr tried (λ error. IsClean (ghosts.view last) → IsTrue (ghosts.view last).is_open
     → (ghosts.view last).is_broken ≡ false)
-    → FailsAsItsOwn result (state_on ghosts naming first before summary)
+    → FailsBut Refuses result (state_on ghosts naming first before summary)
     (state_on ghosts naming last flag summary)
-own_settled {naming = naming} {summary = summary} {last = last} {before = before} {flag = flag} {tried = Ok answer} {result = result} ghosts first settles tries own served mended =
+own_settled {naming = naming} {summary = summary} {last = last} {before = before} {flag = flag} {tried = Ok answer} {result = result} Refuses ghosts first settles tries own served mended =
     let old = state_on ghosts naming first before summary in
     let new = state_on ghosts naming last flag summary in
-    subst (λ result. FailsAsItsOwn result old new) (sym settles.ends.0) (by_answer old new answer own)
-own_settled {naming = naming} {summary = summary} {middle = middle} {last = last} {before = before} {flag = flag} {tried = Err error} {result = result} ghosts first settles tries own served mended =
+    subst (λ result. FailsBut Refuses result old new) (sym settles.ends.0)
+    (by_answer Refuses old new answer own)
+own_settled {naming = naming} {summary = summary} {middle = middle} {last = last} {before = before} {flag = flag} {tried = Err error} {result = result} Refuses ghosts first settles tries own served mended =
     let old = state_on ghosts naming first before summary in
     let new = state_on ghosts naming last flag summary in
     elim settles.ends [
-      | inl wanting ↦ subst (λ result. FailsAsItsOwn result old new) (sym wanting.0)
+      | inl wanting ↦ subst (λ result. FailsBut Refuses result old new) (sym wanting.0)
           (λ other clean books open_now. inl refl)
-      | inr failed ↦ subst (λ result. FailsAsItsOwn result old new) (sym failed.0)
+      | inr failed ↦ subst (λ result. FailsBut Refuses result old new) (sym failed.0)
           (λ other clean books open_now.
           let early : HasCleanDisk (state ghosts middle) = clean_before settles.survives clean in
           let ready = books.ready open_now (clean_before tries.survives early) in

@@ -29,6 +29,9 @@ mod NewEntries
 mod AcceptTries
 mod ListReadings
 mod LineReadings
+mod CountTestLemmas
+mod OtherPriceLemmas
+mod WhatIfTries
 mod RisingNames
 mod JoinLemmas
 mod OpenLemmas

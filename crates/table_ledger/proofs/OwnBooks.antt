@@ -32,7 +32,7 @@ use Rattle.tree_tables.specs.Steps.{FailsByStore, IsCaused, Looks}
 use Rattle.table_ledger.specs.Commits.{IsAtRest, Saw}
 use Rattle.table_ledger.specs.Loaded.{CanBeListed, HasTexts, IsOpenCause, IsLoaded, ReadsItsOwn}
 use Rattle.table_ledger.specs.Ready.{IsReadyAt}
-use Rattle.table_ledger.specs.Attempts.{TriesItsOwn}
+use Rattle.table_ledger.specs.Attempts.{TriesBut}
 use Rattle.table_ledger.specs.declared.summary.Summary.{Summary}
 use Rattle.table_ledger.proofs.LastChoice.{last_counts}
 use Rattle.table_ledger.proofs.UnchangedStores.{holds_on}
@@ -67,18 +67,18 @@ fails_after_look {old = old} {middle = middle} {new = new} {error = error} resul
 -- so does the look of a list that is tried
 pub own_failed : {V B : Type 0} {naming : Naming} {summary : Summary} {old middle new : State}
     {Known When : Tables → Type 0} {Answers : Tables → B → Type 0} {error : StoreError}
-    (result : Result (Result V LedgerFault) StoreError)
+    (Refuses : LedgerFault → Type 0) (result : Result (Result V LedgerFault) StoreError)
     → IsErrAnd result (λ other. other ≡ error) → Saw old middle Known
     → Looks {A = B} (Err error) middle new Answers
     → (HasCleanDisk new → (tables : Tables) → Holds middle.view.trees tables → When tables
     → IsCaused middle new error)
     → (HasCleanDisk new → (book : Book) → IsReadyAt naming summary old.view book
     → When (tables_of naming book))
-    → TriesItsOwn naming summary old new result
-own_failed {V = V} {naming = naming} {When = When} {Answers = Answers} (Err other) is saw looks cause when =
+    → TriesBut Refuses naming summary old new result
+own_failed {V = V} {naming = naming} {When = When} {Answers = Answers} Refuses (Err other) is saw looks cause when =
     λ clean book ready. fails_after_look {A = Result V LedgerFault} {When = When} {Answers = Answers} (Err other) is saw looks
     cause clean (tables_of naming book) ready.kept.holds (when clean book ready)
-own_failed (Ok answer) is saw looks cause when = absurd is
+own_failed Refuses (Ok answer) is saw looks cause when = absurd is
 
 -- a tariff's text that consists of characters
 text_fits : (found : Option (List ℕ)) (text : List ℕ) → found ≡ Some text → IsUtf8 text

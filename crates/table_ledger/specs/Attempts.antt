@@ -3,7 +3,8 @@ use Rattle.std.specs.Prelude.{◌≡◌, ◌⊎◌, Bool, true, false, IsTrue, R
 use Rattle.sqlite_trees.specs.View.{View, IsClean}
 use Rattle.sqlite_trees.specs.declared.error.StoreError.{StoreError}
 use Rattle.book_model.specs.declared.fault.LedgerFault.{LedgerFault}
-use Rattle.book_model.specs.declared.fault.LedgerFault.TheVariants.{Memory, NoSuchPeriod, Store}
+use Rattle.book_model.specs.declared.fault.LedgerFault.TheVariants.{Full, Memory, NoSuchPeriod}
+use Rattle.book_model.specs.declared.fault.LedgerFault.TheVariants.{Store}
 use Rattle.book_model.specs.Words.{Book, Naming}
 use Rattle.book_core.specs.Calls.{is_store, is_reopen}
 use Rattle.sqlite_trees.specs.declared.store.Store.{Ghosts}
@@ -23,14 +24,27 @@ pub record IsRefused (summary : Summary) (old new : View) (book : Book) : Type 0
   pub stands : KeepsLastCommit old new
   pub remembers : Remembers summary book
 
--- A list that is tried: its own refusal is that there is no such period; and if the ledger is
--- ready and the store refuses, there is a cause in the store.
-abbrev pub TriesItsOwn : {V : Type 0} → Naming → Summary → State → State
+-- a list is refused where there is no such period;
+abbrev pub IsNoPeriod : LedgerFault → Type 0
+IsNoPeriod fault = fault ≡ NoSuchPeriod
+
+-- the rows by another tariff are refused also where the books cannot hold what they cost
+abbrev pub IsWhatIfRefusal : LedgerFault → Type 0
+IsWhatIfRefusal fault = IsNoPeriod fault ⊎ (fault ≡ Full)
+
+-- A call that is tried and only looks: its own refusals are these; and if the ledger is ready and
+-- the store refuses, there is a cause in the store.
+abbrev pub TriesBut : {V : Type 0} → (LedgerFault → Type 0) → Naming → Summary → State → State
     → Result (Result V LedgerFault) StoreError → Type 0
-TriesItsOwn naming summary old new (Ok answer) = IfErr answer (λ fault. fault ≡ NoSuchPeriod)
-TriesItsOwn naming summary old new (Err error) =
+TriesBut Refuses naming summary old new (Ok answer) = IfErr answer Refuses
+TriesBut Refuses naming summary old new (Err error) =
     HasCleanDisk new → (book : Book) → IsReadyAt naming summary old.view book
     → IsCaused old new error
+
+-- a list has no other refusal than that there is no such period
+abbrev pub TriesItsOwn : {V : Type 0} → Naming → Summary → State → State
+    → Result (Result V LedgerFault) StoreError → Type 0
+TriesItsOwn naming summary old new result = TriesBut IsNoPeriod naming summary old new result
 
 -- the last commit is seen again
 pub record IsRolledBack (old new : View) : Type 0 where

@@ -12,8 +12,7 @@ use Rattle.tree_tables.specs.States.{State, HasCleanDisk, Survives}
 use Rattle.book_model.specs.Words.{IsDay, AcceptedTerms, Rulings, Book, Naming, are_rising, last_period}
 use Rattle.book_model.specs.Words.{most_choices, most_cost, most_held, second_rule}
 use Rattle.book_model.specs.declared.fault.LedgerFault.{LedgerFault}
-use Rattle.book_model.specs.declared.fault.LedgerFault.TheVariants.{Memory, NoSuchPeriod, NotBooks}
-use Rattle.book_model.specs.declared.fault.LedgerFault.TheVariants.{Store}
+use Rattle.book_model.specs.declared.fault.LedgerFault.TheVariants.{Memory, NotBooks, Store}
 use Rattle.table_model.specs.Tables.{Tables, first_rule, never_adopted}
 use Rattle.table_model.specs.TablesOf.{close_entries, tables_of}
 use Rattle.table_laws.specs.BookIn.{rulings_of_tables, tariff_read}
@@ -27,6 +26,7 @@ use Rattle.tree_tables.specs.Stored.{close_entry, tariff_of}
 use Rattle.tree_tables.specs.declared.book_row.StoredBook.{StoredBook as Stored}
 use Rattle.tree_tables.specs.declared.closed_rows.Close.{Close}
 use Rattle.tree_tables.specs.declared.tariff_rows.StoredTariff.{StoredTariff}
+use Rattle.table_ledger.specs.Attempts.{IsNoPeriod}
 use Rattle.table_ledger.specs.Commits.{IsAtRest, Stores}
 use Rattle.table_ledger.specs.LedgerState.{LedgerState, seen_on}
 use Rattle.book_core.specs.OfficeRulings.{ruled_in}
@@ -134,12 +134,17 @@ abbrev pub IsOpenCause : State → State → LedgerFault → Type 0
 IsOpenCause old new fault =
     (fault ≡ Memory) ⊎ ((fault ≡ Store) × MoreFaults old.faults new.faults)
 
--- Why a list fails, other than that there is no such period: if a ledger wrote what is stored and
--- was not to be reopened, and the disk is clean after the call, only for such a cause.
-abbrev pub FailsAsItsOwn : {V : Type 0} → Result V LedgerFault → LedgerState → LedgerState → Type 0
-FailsAsItsOwn result old new =
-    IfErr result (λ fault. fault ≢ NoSuchPeriod → HasCleanDisk new.state
+-- Why a call that only looks fails, other than by a refusal of its own: if a ledger wrote what is
+-- stored and was not to be reopened, and the disk is clean after the call, only for such a cause.
+abbrev pub FailsBut : {V : Type 0} → (LedgerFault → Type 0) → Result V LedgerFault → LedgerState
+    → LedgerState → Type 0
+FailsBut Refuses result old new =
+    IfErr result (λ fault. (Refuses fault → ⊥) → HasCleanDisk new.state
     → (seen_on old).is_books → old.must_reopen ≡ false → IsOpenCause old.state new.state fault)
+
+-- a list has no other refusal than that there is no such period
+abbrev pub FailsAsItsOwn : {V : Type 0} → Result V LedgerFault → LedgerState → LedgerState → Type 0
+FailsAsItsOwn result old new = FailsBut IsNoPeriod result old new
 
 -- Whether there are books is told by their row: that there are none is answered where it is not
 -- there, and only there.

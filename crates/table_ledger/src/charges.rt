@@ -54,7 +54,7 @@ fn is_dated(row: &ChargeRow) -> bool
 }
 
 /// The rows are dated on days, and 64 bits hold their totals.
-fn can_show(rows: &[ChargeRow]) -> bool
+pub(crate) fn can_show(rows: &[ChargeRow]) -> bool
     ensures shown { IsTrue result → AreRows rows.now }
     ensures refused { result ≡ false → ¬ AreRows rows.now }
 {

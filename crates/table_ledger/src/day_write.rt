@@ -1,6 +1,6 @@
 //! How a new record changes the charge rows of the open period.
 
-ghost use Rattle.std.specs.Prelude.{◌≡◌, ◌<◌, ◌^◌, [], IfSome, IsTrue, IfOk, false};
+ghost use Rattle.std.specs.Prelude.{◌≡◌, ◌<◌, ◌^◌, [], IfSome, IsTrue, IfOk, None, false};
 ghost use Rattle.std.specs.FinMap.{get};
 ghost use Rattle.tree_tables.specs.States.{state};
 ghost use Rattle.book_model.specs.Rows as rows;
@@ -10,6 +10,7 @@ ghost use Rattle.tree_tables.specs.Steps.{Looks};
 ghost use Rattle.tree_tables.specs.Days.{RowFits};
 ghost use Rattle.table_ledger.specs.DayWrites.{ReplacesPrice, WritesDayRows, WriteFits};
 ghost use Rattle.table_ledger.specs.DayRows.{IsAdded, IsTaken, IsPriceReplaced};
+ghost use Rattle.table_ledger.specs.TotalsFit.{FitsPrice};
 ghost use Rattle.table_ledger.specs.declared.day_write.DayWrite.TheVariants.{Put};
 
 use book_core::{ChargeRow, DayChange, RowKey};
@@ -68,8 +69,9 @@ fn first_row(priced: &Priced) -> ChargeRow
 }
 
 /// The row with one more price, if 64 bits hold its sums.
-fn with_price(row: &ChargeRow, priced: &Priced) -> Option<ChargeRow>
-    ensures { IfSome result (λ more. more ≡ changed.with_price row.now priced.now) }
+pub(crate) fn with_price(row: &ChargeRow, priced: &Priced) -> Option<ChargeRow>
+    ensures more { IfSome result (λ more. more ≡ changed.with_price row.now priced.now) }
+    ensures full { result ≡ None → ¬ FitsPrice row.now priced.now }
 {
     Some(ChargeRow {
         day: row.day,

@@ -15,6 +15,7 @@ use crate::close::try_close;
 use crate::disputes::try_disputes;
 use crate::finish::finish;
 use crate::listed_rulings::try_ruling;
+use crate::other_prices::try_charges_under;
 use crate::periods::try_periods;
 use crate::summary::Summary;
 use crate::tariff::try_tariff;
@@ -23,6 +24,7 @@ use book_core::{
 };
 use sqlite_trees::store::Store;
 use std::alloc::Global;
+use tariff_rules::Tariff;
 use tree_tables::{Close, TreeTables};
 
 /// The most records that one commit takes.
@@ -57,10 +59,12 @@ impl<S: Store, N: Naming + Drop> Ledger for TableLedger<S, N> {
     ghost use Rattle.book_model.specs.Words.{adjustments_outcome, charges_outcome, dispute_shown};
     ghost use Rattle.book_model.specs.Words.{disputes_outcome, periods_outcome, IsUsageRecord};
     ghost use Rattle.book_model.specs.Words.{ShowsDays, ruling_outcome, ruling_shown};
+    ghost use Rattle.book_model.specs.Words.{what_if_outcome};
     ghost use Rattle.book_core.specs.Calls.{IsCall};
     ghost use Rattle.book_core.specs.Submissions.{Takes, records_in};
     ghost use Rattle.book_core.specs.Transition.{IsTransition};
-    ghost use Rattle.table_ledger.specs.Loaded.{FailsAsItsOwn};
+    ghost use Rattle.table_ledger.specs.Attempts.{IsWhatIfRefusal};
+    ghost use Rattle.table_ledger.specs.Loaded.{FailsAsItsOwn, FailsBut};
     ghost use Rattle.table_ledger.specs.LedgerState.{seen_in, ledger_state};
     ghost use Rattle.table_ledger.specs.ReadyBooks.{settled_on};
 
@@ -156,6 +160,22 @@ impl<S: Store, N: Naming + Drop> Ledger for TableLedger<S, N> {
             return Err(LedgerFault::Reopen);
         }
         let tried = try_charges(&mut self.tables, self.alloc, &self.summary, period);
+        finish(&mut self.tables, &mut self.must_reopen, tried)
+    }
+
+    fn charges_under(&mut self, period: u16, tariff: &Tariff) -> Result<Vec<ChargeRow>, LedgerFault>
+        ensures rows { IsCall (λ rows. rows.items) (seen_in S.Store N.name_of self.old)
+            (seen_in S.Store N.name_of self.new) result (what_if_outcome period tariff.now) }
+        ensures shown { IfOk result (λ rows. AreRows rows.items) }
+
+        // It is refused also where the books cannot hold what the records would cost.
+        ensures own { FailsBut IsWhatIfRefusal result (ledger_state S.Store N.name_of self.old)
+            (ledger_state S.Store N.name_of self.new) }
+    {
+        if self.must_reopen {
+            return Err(LedgerFault::Reopen);
+        }
+        let tried = try_charges_under(&mut self.tables, self.alloc, &self.summary, period, tariff);
         finish(&mut self.tables, &mut self.must_reopen, tried)
     }
 

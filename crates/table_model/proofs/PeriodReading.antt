@@ -48,7 +48,7 @@ module _ {K V : Type 0} (R : K → K → Ordering) where
       (find-before q (suc n) periods earlier i))
 
   -- of periods, each is found under its own number
-  find-at : (q : ℕ × K) (n k : ℕ) (periods : List (List (K × V))) (rows : List (K × V))
+  pub find-at : (q : ℕ × K) (n k : ℕ) (periods : List (List (K × V))) (rows : List (K × V))
       → slice_get periods k ≡ Some rows → q.0 ≡ n + k
       → find (by_period R) q (numbered n periods) ≡ find R q.1 rows
   find-at q n k [] rows there is = cc

@@ -4,7 +4,9 @@ ghost use Rattle.std.specs.Prelude.{◌≡◌, ◌<◌, length, take, List, ℤ,
 ghost use Rattle.book_model.specs.Words.{periods_outcome};
 ghost use Rattle.book_core.specs.Calls.{IsCall};
 
-use book_core::{Accepted, ChargeRow, Dispute, Ledger, LedgerFault, Line, ListedRuling, Ruled};
+use book_core::{
+    Accepted, ChargeRow, Dispute, Ledger, LedgerFault, Line, ListedRuling, Ruled, Tariff,
+};
 
 /// Passes a given number of calls on to a ledger, answers the next that memory ran out, with
 /// nothing done, and passes on all after that.
@@ -117,6 +119,17 @@ impl<L: Ledger> Ledger for RefusingLedger<'_, L> {
             return Err(refusal(&mut *self.inner));
         }
         self.inner.charges(period)
+    }
+
+    fn charges_under(
+        &mut self,
+        period: u16,
+        tariff: &Tariff,
+    ) -> Result<Vec<ChargeRow>, LedgerFault> {
+        if is_due(&mut self.calls_left) {
+            return Err(refusal(&mut *self.inner));
+        }
+        self.inner.charges_under(period, tariff)
     }
 
     fn adjustments(&mut self, period: u16) -> Result<Vec<Line>, LedgerFault> {

@@ -101,6 +101,11 @@ module _ (last : Option (List ℕ)) (tables : Tables) (stored : StoredRecord)
       above_next record_layout.total record_layout.exact last tables.records stored.name
       (stored_entry stored).1 front.0 front.1
 
+  -- so it comes before those that are still to come after it
+  pub next_above : above last tables.records
+      ≡ stored_entry stored ∷ above (Some stored.name) tables.records
+  next_above = front.1 ∙ ap (λ more. stored_entry stored ∷ more) (sym rest)
+
   -- it is in the tables
   pub next_stands : IsAsRead stored tables
   next_stands =

@@ -1,7 +1,7 @@
 //! The lists that are read of a plain ledger.
 
 use super::PlainLedger;
-use crate::charge_rows::charge_rows;
+use crate::charge_rows::{are_too_dear, charge_rows};
 use crate::choices::last_chosen;
 use crate::identities::{disputes, shared_identities};
 use crate::lines::sort_lines;
@@ -9,12 +9,14 @@ use crate::period::Period;
 use crate::period_end::PeriodEnd;
 use book_model::{ChargeRow, Dispute, LedgerFault, Line, Naming};
 use std::alloc::AllocError;
+use tariff_rules::Tariff;
 
 impl<N: Naming + Drop> PlainLedger<N> {
     ghost use Rattle.std.specs.Prelude.{◌≡◌, All, IfOk, map, ok_or};
     ghost use Rattle.book_model.specs.Words.{IsDay, Answers, period_of, AreDisputes, dispute_shown};
     ghost use Rattle.book_model.specs.Words.{AreLines, adjustments_outcome, charges_outcome};
     ghost use Rattle.book_model.specs.Words.{disputes_outcome, periods_outcome, AreRows};
+    ghost use Rattle.book_model.specs.Words.{what_if_outcome};
     ghost use Rattle.book_core.specs.Treatments.{IsPeriodEnd};
     ghost use Rattle.book_core.specs.PlainBook.{book_in, naming_in, period_in};
 
@@ -54,6 +56,24 @@ impl<N: Naming + Drop> PlainLedger<N> {
     {
         let period = self.period(number)?;
         let prices = period.prices(self.alloc, &self.held, &self.posted)?;
+        Ok(charge_rows(self.alloc, &prices)?)
+    }
+
+    /// The charge rows that a period would have by another tariff.
+    pub(super) fn charge_rows_under(
+        &self,
+        number: u16,
+        tariff: &Tariff,
+    ) -> Result<Vec<ChargeRow>, LedgerFault>
+        ensures rows { Answers (λ rows. rows.items) result
+            (what_if_outcome number tariff.now (book_in self.now)).answer }
+        ensures shown { IfOk result (λ rows. AreRows rows.items) }
+    {
+        let period = self.period(number)?;
+        let prices = period.prices_under(self.alloc, &self.held, &self.posted, tariff)?;
+        if are_too_dear(&prices) {
+            return Err(LedgerFault::Full);
+        }
         Ok(charge_rows(self.alloc, &prices)?)
     }
 

@@ -55,14 +55,14 @@ returns-clause-tries g c = λ naming.
 -- the lines of the period fit
 pub returns-in_err-found-clause-own : goal.returns-in_err-found-clause-own
 returns-in_err-found-clause-own g c = λ naming wide.
-    own_failed _ c.from_residual.ensures.1 saw_none c.in_err-found.ensures.looks
+    own_failed _ _ c.from_residual.ensures.1 saw_none c.in_err-found.ensures.looks
     c.in_err-found.ensures.cause (λ clean book ready.
     own_lines ready wide c.args.period (sym c.has_period.ensures ∙ c.if-not-has_period.false))
 
 -- their records can be read
 pub returns-in_err-lines-clause-own : goal.returns-in_err-lines-clause-own
 returns-in_err-lines-clause-own g c = λ naming wide.
-    own_failed _ c.from_residual-in_err-lines.ensures.1
+    own_failed _ _ c.from_residual-in_err-lines.ensures.1
     (saw_found c.in_ok-found.ensures.looks) c.in_err-lines.ensures.looks
     c.in_err-lines.ensures.cause (λ clean book ready. own_records ready wide)
 

@@ -39,7 +39,7 @@ returns-clause-tries g c = λ naming.
 -- the rows of the period fit
 pub returns-in_err-rows-clause-own : goal.returns-in_err-rows-clause-own
 returns-in_err-rows-clause-own g c = λ naming.
-    own_failed _ c.from_residual.ensures.1 saw_none c.in_err-rows.ensures.looks
+    own_failed _ _ c.from_residual.ensures.1 saw_none c.in_err-rows.ensures.looks
     c.in_err-rows.ensures.cause (λ clean book ready.
     own_days ready c.args.period (sym c.has_period.ensures ∙ c.if-not-has_period.false))
 

@@ -41,7 +41,7 @@ returns-in_err-grouped-clause-tries g c = λ naming.
 -- the rows of records fit
 pub returns-in_err-rows-clause-own : goal.returns-in_err-rows-clause-own
 returns-in_err-rows-clause-own g c = λ naming wide.
-    own_failed _ c.from_residual.ensures.1 saw_none c.in_err-rows.ensures.looks
+    own_failed _ _ c.from_residual.ensures.1 saw_none c.in_err-rows.ensures.looks
     c.in_err-rows.ensures.cause
     (λ clean book ready. (own_records ready wide).fit)
 
@@ -59,7 +59,7 @@ returns-then-not-can_show-clause-own g c = λ naming wide clean book ready.
 pub returns-in_err-grouped-clause-own : goal.returns-in_err-grouped-clause-own
 returns-in_err-grouped-clause-own g c = λ naming wide.
     let looks = c.in_err-grouped.ensures.looks in
-    own_failed _ c.from_residual-in_err-grouped.ensures.1
+    own_failed _ _ c.from_residual-in_err-grouped.ensures.1
     (saw_found c.in_ok-rows.ensures.looks) looks c.in_err-grouped.ensures.cause
     (λ clean book ready.
     let lists = (c.in_ok-rows.ensures.looks.found (clean_before looks.survives clean)).known

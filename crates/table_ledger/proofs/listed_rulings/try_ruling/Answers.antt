@@ -41,7 +41,7 @@ pub returns-in_err-look_for_choice-in-Choice-clause-own :
     goal.returns-in_err-look_for_choice-in-Choice-clause-own
 returns-in_err-look_for_choice-in-Choice-clause-own g c = λ naming wide.
     let stands = rw c.in-Choice.is at c.in_ok-listed.ensures.stands in
-    own_failed _ c.from_residual-in_err-look_for_choice-in-Choice.ensures.1 saw_none
+    own_failed _ _ c.from_residual-in_err-look_for_choice-in-Choice.ensures.1 saw_none
     c.in_err-look_for_choice-in-Choice.ensures.looks
     c.in_err-look_for_choice-in-Choice.ensures.cause (λ clean book ready.
     own_choice ready wide c.in-Choice.place

@@ -21,6 +21,6 @@ returns-then-self-clause-own g c = λ other clean books open_now.
 -- what fails is the store's own
 pub returns-clause-own : goal.returns-clause-own
 returns-clause-own g c =
-    own_settled g.S.Store c.args.self.now.tables.store c.finish.ensures.settles
+    own_settled _ g.S.Store c.args.self.now.tables.store c.finish.ensures.settles
     (c.try_adjustments-tried.ensures.tries _) (c.try_adjustments-tried.ensures.own _ (g.met.N.Naming.wide c.args.self.now.naming))
     c.finish.ensures.served c.finish.ensures.mended

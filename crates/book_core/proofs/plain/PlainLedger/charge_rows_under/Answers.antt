@@ -1,0 +1,69 @@
+use Rattle.std.proofs.Common.{Vec, Global, ◌∙◌, sym, ap, subst, Bool, Ok, Err, refl}
+use Rattle.std.proofs.lemmas.Result.{err_from_is_err_and}
+use Rattle.book_model.specs.Words.{Answers, AreRows, FitSums, period_of, rows_if_room, rows_of}
+use Rattle.book_model.specs.Words.{what_if_answer}
+use Rattle.book_model.specs.declared.row.ChargeRow.{ChargeRow}
+use Rattle.book_core.specs.Plain.{Entry}
+use Rattle.book_core.specs.PlainBook.{book_in, period_in}
+use Rattle.book_core.specs.Treatments.{is_counted, treatment_in}
+use Rattle.book_core.proofs.OtherPriceLemmas.{answer_under, fit_under, refused_under, room_of}
+use Rattle.book_core.proofs.OtherPriceLemmas.{shown_under, when_dear, when_room}
+use Rattle.book_core.proofs.plain.PlainLedger.charge_rows_under.Goals as goal
+
+pub returns-in_err-period-clause-rows : goal.returns-in_err-period-clause-rows
+returns-in_err-period-clause-rows g c =
+    let ledger = c.args.self.now in
+    let found = period_of (book_in ledger) c.args.number in
+    let p = err_from_is_err_and c.from_residual.result c.from_residual.ensures.1 in
+    subst (λ result. Answers (λ rows. rows.items) result (what_if_answer c.args.tariff.now found))
+    (sym (p.1 ∙ ap Err p.2))
+    (refused_under (period_in ledger) (λ (rows : Vec ChargeRow Global). rows.items)
+    c.args.tariff.now found c.in_err-period.field-0.0 c.in_err-period.ensures)
+
+pub charge_rows-requires : goal.charge_rows-requires
+charge_rows-requires g c =
+    let ledger = c.args.self.now in
+    let counted : Entry → Bool = λ entry.
+    is_counted (treatment_in c.in_ok-period.period ledger.posted entry) in
+    let prices = c.in_ok-prices.prices.items in
+    subst FitSums (sym c.deref-2.ensures.value)
+    (fit_under c.args.tariff.now counted ledger.held.entries prices ledger.kept.few
+    c.in_ok-prices.ensures.prices c.in_ok-prices.ensures.bounds
+    (room_of c.deref.ensures.value (sym c.are_too_dear.ensures ∙ c.if-are_too_dear.false)))
+
+pub returns-then-are_too_dear-clause-rows : goal.returns-then-are_too_dear-clause-rows
+returns-then-are_too_dear-clause-rows g c =
+    let ledger = c.args.self.now in
+    let counted : Entry → Bool = λ entry.
+    is_counted (treatment_in c.in_ok-period.period ledger.posted entry) in
+    let found = period_of (book_in ledger) c.args.number in
+    let same = c.deref.ensures.value ∙ c.in_ok-prices.ensures.prices in
+    answer_under ledger.kept ledger.rising c.args.tariff.now counted found _
+    c.in_ok-period.ensures refl
+    ∙ ap rows_if_room (sym same)
+    ∙ when_dear c.deref.result.now (sym c.are_too_dear.ensures ∙ c.if-are_too_dear.true)
+
+pub returns-clause-rows : goal.returns-clause-rows
+returns-clause-rows g c =
+    let ledger = c.args.self.now in
+    let counted : Entry → Bool = λ entry.
+    is_counted (treatment_in c.in_ok-period.period ledger.posted entry) in
+    let found = period_of (book_in ledger) c.args.number in
+    let same = c.deref.ensures.value ∙ c.in_ok-prices.ensures.prices in
+    answer_under ledger.kept ledger.rising c.args.tariff.now counted found _
+    c.in_ok-period.ensures refl
+    ∙ ap rows_if_room (sym same)
+    ∙ when_room c.deref.result.now (sym c.are_too_dear.ensures ∙ c.if-are_too_dear.false)
+    ∙ ap Ok (ap rows_of (c.deref.ensures.value ∙ sym c.deref-2.ensures.value)
+    ∙ sym c.in_ok-charge_rows.ensures)
+
+pub returns-clause-shown : goal.returns-clause-shown
+returns-clause-shown g c =
+    let ledger = c.args.self.now in
+    let counted : Entry → Bool = λ entry.
+    is_counted (treatment_in c.in_ok-period.period ledger.posted entry) in
+    let prices = c.in_ok-prices.prices.items in
+    subst AreRows (sym (c.in_ok-charge_rows.ensures ∙ ap rows_of c.deref-2.ensures.value))
+    (shown_under c.args.tariff.now counted ledger.held.entries prices ledger.kept.few
+    c.in_ok-prices.ensures.prices c.in_ok-prices.ensures.bounds
+    (room_of c.deref.ensures.value (sym c.are_too_dear.ensures ∙ c.if-are_too_dear.false)))

@@ -1,0 +1,127 @@
+-- What is answered to the rows of a period by another tariff, where they were found in the tables.
+use Rattle.std.proofs.Common.{◌≡◌, ◌∙◌, ℕ, Bool, true, false, List, Some, None, Ok, Err}
+use Rattle.std.proofs.Common.{refl, sym, ap, subst, Vec}
+use Rattle.std.specs.Prelude.{All, filter, if◌then◌else◌}
+use Rattle.std.specs.FinMap.{entries}
+use Rattle.std.specs.Global.{Global}
+use Rattle.book_model.specs.declared.fault.LedgerFault.TheVariants.{Full, NoSuchPeriod}
+use Rattle.book_model.specs.declared.row.ChargeRow.{ChargeRow}
+use Rattle.book_model.specs.Words.{AreRows, Book, IsPriced, Naming, Outcome, Rulings, Terms}
+use Rattle.book_model.specs.Words.{rows_if_room, what_if_outcome}
+use Rattle.book_core.specs.OfficeRulings.{ruled_in}
+use Rattle.sqlite_trees.specs.View.{View}
+use Rattle.table_model.specs.Tables.{Tables}
+use Rattle.table_model.specs.TablesOf.{tables_of}
+use Rattle.table_laws.specs.CountedRead.{counted_rows, row_costs, what_if_read}
+use Rattle.table_laws.specs.ListsRead.{is_period}
+use Rattle.table_laws.proofs.CountedLemmas.{counted_follows}
+use Rattle.table_laws.proofs.ReadableLemmas.{calls_read}
+use Rattle.tree_tables.specs.States.{State}
+use Rattle.table_ledger.specs.Commits.{Saw}
+use Rattle.table_ledger.specs.Ready.{IsReadyAt, Remembers}
+use Rattle.table_ledger.specs.OtherPrices.{FindsRowsUnder, IsTestOf, costs_of}
+use Rattle.table_ledger.specs.Stages.{AttemptsOne, IsAt}
+use Rattle.table_ledger.specs.declared.count_test.CountTest.{CountTest}
+use Rattle.table_ledger.specs.declared.summary.Summary.{Summary}
+use Rattle.table_ledger.proofs.Answering.{makes_answer, makes_refused}
+use Rattle.table_ledger.proofs.Remembered.{rulings_are}
+use Rattle.table_ledger.proofs.TryLemmas.{saw_none, try_answered}
+
+-- the rows of a vector
+abbrev pub items_of : Vec ChargeRow Global → List ChargeRow
+items_of rows = rows.items
+
+-- by the test of a period the costs are those of the records that it counts
+costs_tested : (number : ℕ) (rulings : Rulings) (terms : Terms) (tables : Tables) (test : CountTest)
+    → IsTestOf number rulings tables test
+    → row_costs terms (counted_rows number rulings tables)
+    ≡ costs_of terms test (entries tables.records)
+costs_tested number rulings terms tables test tests =
+    λ i. row_costs terms (filter (λ row. sym (tests row) i) (entries tables.records))
+
+module _ (naming : Naming) (summary : Summary) (number : ℕ) (terms : Terms) where
+  -- what is read by what is remembered
+  read_by : (book : Book) → Remembers summary book → (there : Bool)
+      → is_period number (ruled_in summary.rulings) ≡ there
+      → what_if_read number terms book.rulings (tables_of naming book)
+      ≡ (if there
+      then rows_if_room (row_costs terms
+      (counted_rows number (ruled_in summary.rulings) (tables_of naming book)))
+      else Err NoSuchPeriod)
+  read_by book remembers there is =
+      ap (λ (rulings : Rulings). what_if_read number terms rulings (tables_of naming book))
+      (rulings_are remembers)
+      ∙ ap (λ (there : Bool). if there
+      then rows_if_room (row_costs terms
+      (counted_rows number (ruled_in summary.rulings) (tables_of naming book)))
+      else Err NoSuchPeriod) is
+
+  -- that is the answer
+  answer_by : (view : View) (book : Book) → IsAt naming summary view book → (there : Bool)
+      → is_period number (ruled_in summary.rulings) ≡ there
+      → (what_if_outcome number terms book).answer
+      ≡ (if there
+      then rows_if_room (row_costs terms
+      (counted_rows number (ruled_in summary.rulings) (tables_of naming book)))
+      else Err NoSuchPeriod)
+  answer_by view book at there is =
+      let whole = calls_read naming book at.kept.calls in
+      ap (λ (outcome : Outcome (List ChargeRow)). outcome.answer)
+      (counted_follows.what_if naming book number terms whole)
+      ∙ read_by book at.remembers there is
+
+  -- there is no such period
+  pub what_if_absent : {state : State} → is_period number (ruled_in summary.rulings) ≡ false
+      → AttemptsOne items_of naming summary summary state state (what_if_outcome number terms)
+      (Ok (Err NoSuchPeriod))
+  what_if_absent {state = state} absent =
+      try_answered (what_if_outcome number terms) saw_none
+      (record { stored = refl; served = refl })
+      (λ book at known. makes_refused items_of (what_if_outcome number terms book) NoSuchPeriod
+      (answer_by state.view book at false absent))
+
+  module _ {old new : State} (test : CountTest)
+      (there : is_period number (ruled_in summary.rulings) ≡ true) where
+    -- the books cannot hold what the records cost
+    pub what_if_full : Saw old new (λ tables. IsTestOf number (ruled_in summary.rulings) tables test
+        × FindsRowsUnder terms test tables None)
+        → AttemptsOne items_of naming summary summary old new (what_if_outcome number terms)
+        (Ok (Err Full))
+    what_if_full saw =
+        try_answered (what_if_outcome number terms) saw (record { stored = refl; served = refl })
+        (λ book at known. makes_refused items_of (what_if_outcome number terms book) Full
+        (answer_by old.view book at true there
+        ∙ ap rows_if_room (costs_tested number (ruled_in summary.rulings) terms
+        (tables_of naming book) test known.0)
+        ∙ known.1))
+
+    -- the rows are found
+    pub what_if_found : (rows : Vec ChargeRow Global)
+        → Saw old new (λ tables. IsTestOf number (ruled_in summary.rulings) tables test
+        × FindsRowsUnder terms test tables (Some rows))
+        → AttemptsOne items_of naming summary summary old new (what_if_outcome number terms)
+        (Ok (Ok rows))
+    what_if_found rows saw =
+        try_answered (what_if_outcome number terms) saw (record { stored = refl; served = refl })
+        (λ book at known. makes_answer items_of (what_if_outcome number terms book) rows
+        (answer_by old.view book at true there
+        ∙ ap rows_if_room (costs_tested number (ruled_in summary.rulings) terms
+        (tables_of naming book) test known.0)
+        ∙ known.1.0) refl)
+
+  -- they can be shown
+  pub what_if_shown : {view : View} (test : CountTest) (rows : Vec ChargeRow Global) (book : Book)
+      → is_period number (ruled_in summary.rulings) ≡ true
+      → IsReadyAt naming summary view book
+      → IsTestOf number (ruled_in summary.rulings) (tables_of naming book) test
+      → FindsRowsUnder terms test (tables_of naming book) (Some rows) → AreRows rows.items
+  what_if_shown test rows book there ready tests finds =
+      let whole = calls_read naming book ready.kept.calls in
+      let costs = costs_tested number (ruled_in summary.rulings) terms (tables_of naming book) test
+      tests in
+      let own = ap (λ (rulings : Rulings). row_costs terms
+      (counted_rows number rulings (tables_of naming book))) (rulings_are ready.remembers)
+      ∙ costs in
+      counted_follows.shown naming book number terms rows.items whole
+      (subst (All IsPriced) (sym own) finds.1)
+      (read_by book ready.remembers true there ∙ ap rows_if_room costs ∙ finds.0)

@@ -1,0 +1,39 @@
+use Rattle.std.proofs.Common.{◌∙◌, ◌+◌, map, ap, arith, refl}
+use Rattle.std.specs.BTreeMap.{get}
+use Rattle.std.specs.FinMap.{find}
+use Rattle.std.specs.Option.{option_or}
+use Rattle.std.proofs.lemmas.Result.{err_from_is_err_and}
+use Rattle.book_model.specs.Words.{by_bytes}
+use Rattle.tree_tables.specs.Stored.{signed_name}
+use Rattle.table_ledger.proofs.CountTestLemmas.{lines_on}
+use Rattle.table_ledger.proofs.OwnBooks.{fails_after_look}
+use Rattle.table_ledger.proofs.TryLemmas.{saw_found, saw_so, saw_then}
+use Rattle.table_ledger.proofs.count_test.first_lines.Goals as goal
+
+pub loop-period-preserved : goal.loop-period-preserved
+loop-period-preserved g c = record {
+  saw = saw_so (saw_then c.loop-period.invariant.saw (saw_found c.in_ok-found.ensures.looks))
+      (λ tables known name. lines_on c.args.after c.loop-period.period (c.loop-period.period + 1)
+      tables c.in_ok-found.found.items name _ _ c.loop-period.invariant.since refl (known.0 name)
+      known.1 (c.in_ok-add_first.ensures name
+      ∙ ap (λ lines. option_or (get by_bytes c.loop-period.lines name)
+      (find by_bytes name (map signed_name lines))) c.deref.ensures.value));
+  since = omega arith;
+  until = omega arith;
+}
+
+-- the lines of the next period fit
+pub returns-in_err-found-clause-cause : goal.returns-in_err-found-clause-cause
+returns-in_err-found-clause-cause g c =
+    let since = c.loop-period.invariant.since in
+    fails_after_look _ c.from_residual.ensures.1 c.loop-period.invariant.saw
+    c.in_err-found.ensures.looks
+    (λ clean tables holds fit. c.in_err-found.ensures.cause clean tables holds
+    (fit (c.loop-period.period + 1) (omega (arith, since)) (omega (arith, c.loop-period-test.true))))
+
+-- for what is kept of them only memory may run out
+pub returns-in_err-add_first-clause-cause : goal.returns-in_err-add_first-clause-cause
+returns-in_err-add_first-clause-cause g c =
+    let p = err_from_is_err_and c.from_residual-in_err-add_first.result
+    c.from_residual-in_err-add_first.ensures.1 in
+    rw (p.1, p.2) (λ clean tables holds fit. tt)

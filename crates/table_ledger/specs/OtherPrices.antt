@@ -1,0 +1,83 @@
+-- What is found out about a period, and about its records by another tariff, in a walk over all
+-- records.
+use Rattle.std.specs.Prelude.{◌≡◌, ◌≤◌, ◌<◌, ◌^◌, ℕ, Bool, true, false, ◌&&◌, List, All, filter}
+use Rattle.std.specs.Prelude.{length, map, MatchOption, Ok, Err, Option, Vec, sum_by}
+use Rattle.std.specs.BTreeMap.{get}
+use Rattle.std.specs.FinMap.{entries}
+use Rattle.std.specs.Global.{Global}
+use Rattle.tariff_rules.specs.declared.priced.Priced.{Priced}
+use Rattle.book_model.specs.declared.fault.LedgerFault.TheVariants.{Full}
+use Rattle.book_model.specs.declared.row.ChargeRow.{ChargeRow}
+use Rattle.book_model.specs.declared.row.RowKey.{RowKey}
+use Rattle.book_model.specs.Words.{FitSums, IsPriced, Rulings, Terms, by_bytes, keys_of, most_cost}
+use Rattle.book_model.specs.Words.{most_held, row_at, rows_if_room}
+use Rattle.table_model.specs.Tables.{Tables}
+use Rattle.table_laws.specs.CountedRead.{charged_before_lines, is_day_between, is_row_counted}
+use Rattle.table_laws.specs.CountedRead.{row_costs}
+use Rattle.table_laws.specs.DisputesRead.{NamedRow}
+use Rattle.table_laws.specs.ListsRead.{is_period}
+use Rattle.tree_tables.specs.Fits.{LinesFit}
+use Rattle.table_ledger.specs.RecordReads.{CanBeRead}
+use Rattle.table_ledger.specs.declared.count_test.CountTest.{CountTest}
+use Rattle.table_ledger.specs.declared.other_prices.RowSums.{RowSums}
+
+-- a test of a record's row: its day is between the two closes, and it was charged before the lines
+abbrev pub passes : CountTest → NamedRow → Bool
+passes test entry =
+    is_day_between test.last test.through entry.1.priced.day
+    && charged_before_lines (get by_bytes test.lines entry.0) entry.1.charged
+
+-- it is the test of which records a period counts
+abbrev pub IsTestOf : ℕ → Rulings → Tables → CountTest → Type 0
+IsTestOf number rulings tables test =
+    (entry : NamedRow) → passes test entry ≡ is_row_counted number rulings tables.lines entry
+
+-- the lines of each period fit
+abbrev pub AllLinesFit : Rulings → Tables → Type 0
+AllLinesFit rulings tables =
+    (number : ℕ) → is_period number rulings ≡ true → LinesFit number tables
+
+-- the rows of records can be read, and there are no more of them than records may be held
+pub record CanBeWalked (tables : Tables) : Type 0 where
+  pub read : CanBeRead tables
+  pub few : length (entries tables.records) ≤ most_held
+
+-- what some records cost
+abbrev pub Costs : Type 0
+Costs = List Priced
+
+-- the rows of some costs, each under its key
+abbrev pub keyed_rows : List Priced → List (RowKey × ChargeRow)
+keyed_rows costs = map {B = RowKey × ChargeRow} (λ key. (key, row_at costs key)) (keys_of costs)
+
+-- 64 bits hold the number of some costs, and their sums
+pub record CostsFit (costs : List Priced) : Type 0 where
+  pub count : length costs < 2 ^ 64
+  pub sums : FitSums costs
+
+-- the sums are those of what some records cost, each of them what a record may
+pub record AreSumsOf (sums : RowSums) (costs : List Priced) : Type 0 where
+  pub rows : sums.rows.entries ≡ keyed_rows costs
+  pub cost : sums.cost ≡ sum_by (λ one. one.amount) costs
+  pub small : sums.cost ≤ most_cost
+  pub priced : All IsPriced costs
+
+-- they are, where there is room; else the costs are too dear
+abbrev pub SumsUp : RowSums → List Priced → Bool → Type 0
+SumsUp sums costs true = AreSumsOf sums costs
+SumsUp sums costs false = most_cost < sum_by (λ one. one.amount) costs
+
+-- what the records that pass a test cost by a tariff
+abbrev pub costs_of : Terms → CountTest → List NamedRow → List Priced
+costs_of terms test rows = row_costs terms (filter (passes test) rows)
+
+-- the charge rows of costs, each of them what a record may cost; or none where they are too dear
+abbrev pub AreRowsOf : List Priced → Option (Vec ChargeRow Global) → Type 0
+AreRowsOf costs found =
+    MatchOption found (rows_if_room costs ≡ Err Full)
+    (λ rows. (rows_if_room costs ≡ Ok rows.items) × All IsPriced costs)
+
+-- of the records that pass a test, by a tariff
+abbrev pub FindsRowsUnder : Terms → CountTest → Tables → Option (Vec ChargeRow Global) → Type 0
+FindsRowsUnder terms test tables found =
+    AreRowsOf (costs_of terms test (entries tables.records)) found

@@ -1,0 +1,179 @@
+//! The charge rows that a period would have by another tariff.
+
+ghost use Rattle.std.specs.Prelude.{◌≡◌, ◌<◌, ◌++◌, ◌∷◌, [], List, IfErr, IfOk, OnOk, length, true};
+ghost use Rattle.book_model.specs.Words.{AreRows, Naming, most_held, what_if_outcome};
+ghost use Rattle.table_laws.specs.DisputesRead.{NamedRow};
+ghost use Rattle.tree_tables.specs.States.{state};
+ghost use Rattle.tree_tables.specs.Steps.{FailsByStore, Looks};
+ghost use Rattle.tree_tables.specs.Stored.{stored_entry};
+ghost use Rattle.tree_tables.specs.UsageData.{IsUsageData};
+ghost use Rattle.table_ledger.specs.Attempts.{IsWhatIfRefusal, TriesBut};
+ghost use Rattle.table_ledger.specs.OtherPrices.{CanBeWalked, Costs, CostsFit, FindsRowsUnder};
+ghost use Rattle.table_ledger.specs.OtherPrices.{SumsUp, costs_of, keyed_rows};
+ghost use Rattle.table_ledger.specs.RecordReads.{HasWideNames};
+ghost use Rattle.table_ledger.specs.Stages.{AttemptsOne};
+
+use crate::charges::can_show;
+use crate::count_test::CountTest;
+use crate::day_write::{key_of, with_price};
+use crate::summary::Summary;
+use book_core::{ChargeRow, LedgerFault, MAX_COST, RowKey, empty_row};
+use smf_type30::Type30;
+use sqlite_trees::error::StoreError;
+use sqlite_trees::store::Store;
+use std::alloc::{AllocError, Global};
+use std::collections::BTreeMap;
+use tariff_rules::{Priced, Tariff, price};
+use tree_tables::{StoredRecord, TreeTables, usage_bytes};
+
+/// The most records that are walked over: more than any tree of a sound store has.
+const MOST_STEPS: u64 = 1 << 32;
+
+/// The charge rows of some prices, which come one at a time, and what they are together.
+#[derive(Drop)]
+struct RowSums {
+    rows: BTreeMap<RowKey, ChargeRow>,
+    cost: u64,
+}
+
+/// A price joins the row of its key. That 64 bits do not hold the sums is a damaged file.
+fn add_price(rows: &mut BTreeMap<RowKey, ChargeRow>, priced: &Priced) -> Result<(), StoreError>
+    ensures joined { OnOk result ((costs : Costs) → rows.old.entries ≡ keyed_rows costs
+        → rows.new.entries ≡ keyed_rows (costs ++ priced.now ∷ [])) }
+    ensures taken { IfErr result (λ error. (costs : Costs) → rows.old.entries ≡ keyed_rows costs
+        → CostsFit (costs ++ priced.now ∷ []) → error ≡ StoreError.OutOfMemory) }
+{
+    let key = key_of(priced);
+    let row = rows.get(&key).copied().unwrap_or(empty_row(key));
+    let Some(more) = with_price(&row, priced) else {
+        return Err(StoreError::Corrupt);
+    };
+    rows.insert(key, more)?;
+    Ok(())
+}
+
+impl RowSums {
+    ghost use Rattle.std.specs.Prelude.{◌≡◌, ◌<◌, ◌++◌, ◌∷◌, [], IfErr, IfOk, length};
+    ghost use Rattle.book_model.specs.Words.{IsPriced, most_held};
+    ghost use Rattle.table_ledger.specs.OtherPrices.{AreRowsOf, AreSumsOf, Costs, SumsUp};
+
+    /// No price yet.
+    fn new(alloc: Global) -> RowSums
+        ensures { AreSumsOf result [] }
+    {
+        RowSums {
+            rows: BTreeMap::new(alloc),
+            cost: 0,
+        }
+    }
+
+    /// One more price, or the answer that with it they are more than the books hold.
+    fn add(&mut self, priced: &Priced) -> Result<bool, StoreError>
+        requires priced { IsPriced priced.now }
+        ensures sums { IfOk result (λ room. (costs : Costs) → AreSumsOf self.old costs
+            → SumsUp self.new (costs ++ priced.now ∷ []) room) }
+        ensures taken { IfErr result (λ error. (costs : Costs) → AreSumsOf self.old costs
+            → length costs < most_held → error ≡ StoreError.OutOfMemory) }
+    {
+        // It ends at the first excess: 64 bits need not hold what all of them cost.
+        let Some(cost) = self.cost.checked_add(priced.amount) else {
+            return Ok(false);
+        };
+        if cost > MAX_COST {
+            return Ok(false);
+        }
+        add_price(&mut self.rows, priced)?;
+        self.cost = cost;
+        Ok(true)
+    }
+
+    /// The rows, by day, then centre, then shift.
+    fn into_rows(self, alloc: Global) -> Result<Vec<ChargeRow>, AllocError>
+        ensures { IfOk result (λ rows. (costs : Costs) → AreSumsOf self costs
+            → AreRowsOf costs (Some rows)) }
+    {
+        self.rows.into_values().collect(alloc)
+    }
+}
+
+/// A record joins the sums at its price by a tariff, if it is counted; or the answer is that with
+/// it they are more than the books hold.
+fn add_counted(
+    sums: &mut RowSums,
+    alloc: Global,
+    tariff: &Tariff,
+    test: &CountTest,
+    stored: &StoredRecord,
+) -> Result<bool, StoreError>
+    ensures counted { IfOk result (λ room. (passed : List NamedRow)
+        → SumsUp sums.old (costs_of tariff.now test.now passed) true
+        → SumsUp sums.new (costs_of tariff.now test.now (passed ++ stored_entry stored.now ∷ []))
+        room) }
+    ensures taken { IfErr result (λ error. (passed : List NamedRow)
+        → SumsUp sums.old (costs_of tariff.now test.now passed) true → length passed < most_held
+        → IsUsageData stored.now.data_bytes.items → error ≡ StoreError.OutOfMemory) }
+{
+    if !test.counts(stored) {
+        return Ok(true);
+    }
+    let bytes = usage_bytes(alloc, &stored.data_bytes)?;
+    sums.add(&price(tariff, &Type30::of_usage(&bytes)))
+}
+
+/// The charge rows of all records that are counted, each by a tariff, unless they cost more than
+/// the books hold. One record is read at a time.
+fn rows_under<S: Store>(
+    tables: &mut TreeTables<S>,
+    alloc: Global,
+    tariff: &Tariff,
+    test: &CountTest,
+) -> Result<Option<Vec<ChargeRow>>, StoreError>
+    ensures looks { Looks result (state S.Store tables.old.store) (state S.Store tables.new.store)
+        (FindsRowsUnder tariff.now test.now) }
+    ensures cause { FailsByStore result (state S.Store tables.old.store)
+        (state S.Store tables.new.store) CanBeWalked }
+{
+    let mut sums = RowSums::new(alloc);
+    let mut last = None;
+    'records: for _steps in 0..MOST_STEPS {
+        let Some(stored) = tables.find_next(alloc, last)? else {
+            let rows = sums.into_rows(alloc)?;
+            return Ok(Some(rows));
+        };
+        if !add_counted(&mut sums, alloc, tariff, test, &stored)? {
+            return Ok(None);
+        }
+        last = Some(stored.name);
+    }
+    // Only a disk that lies has more rows.
+    Err(StoreError::Corrupt)
+}
+
+/// The charge rows that a period would have by another tariff.
+pub(crate) fn try_charges_under<S: Store>(
+    tables: &mut TreeTables<S>,
+    alloc: Global,
+    summary: &Summary,
+    period: u16,
+    tariff: &Tariff,
+) -> Result<Result<Vec<ChargeRow>, LedgerFault>, StoreError>
+    ensures tries { (naming : Naming) → AttemptsOne (λ rows. rows.items) naming summary.now
+        summary.now (state S.Store tables.old.store) (state S.Store tables.new.store)
+        (what_if_outcome period tariff.now) result }
+    ensures shown { IfOk result (λ answer. IfOk answer (λ rows. AreRows rows.items)) }
+    ensures own { (naming : Naming) → HasWideNames naming
+        → TriesBut IsWhatIfRefusal naming summary.now (state S.Store tables.old.store)
+        (state S.Store tables.new.store) result }
+{
+    if !summary.has_period(period) {
+        return Ok(Err(LedgerFault::NoSuchPeriod));
+    }
+    let test = CountTest::of_period(tables, alloc, summary, period)?;
+    let Some(rows) = rows_under(tables, alloc, tariff, &test)? else {
+        return Ok(Err(LedgerFault::Full));
+    };
+    if !can_show(&rows) {
+        return Err(StoreError::Corrupt);
+    }
+    Ok(Ok(rows))
+}
