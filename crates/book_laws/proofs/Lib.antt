@@ -1,8 +1,8 @@
 -- Whole histories: what their periods give and take; net counts, and days; wrong definitions that
 -- they refuse; sums over rows and over a period's sets; the amounts of periods; the lines that are
 -- read; and closed periods. Runs, from these; calls one after another, and what they leave; the
--- lists of all periods; the lines of a statement; and single centres. Single answers: to calls,
--- reports, imports, and lists of requests.
+-- lists of all periods; the lines of a statement; single centres; rows by another tariff, and their
+-- lines. Single answers: to calls, reports, imports, and lists of requests.
 pub mod PeriodLemmas
 pub mod NetLemmas
 pub mod WrongPeriodLemmas
@@ -18,6 +18,9 @@ pub mod CallLemmas
 pub mod ListLemmas
 pub mod WidthLemmas
 pub mod CentreLemmas
+pub mod OtherPriceLemmas
+pub mod OtherWorkLemmas
+pub mod OtherWidthLemmas
 pub mod AnswerLemmas
 pub mod ReportLemmas
 pub mod ImportLemmas

@@ -1,5 +1,5 @@
 -- Charge rows sum what all prices sum to.
-use Rattle.std.proofs.Common.{◌≡◌, ℕ, ◌+◌, List, [], ◌∷◌, refl, sym, ap, ◌∙◌, true, Bool}
+use Rattle.std.proofs.Common.{◌≡◌, ℕ, ◌+◌, List, [], ◌∷◌, refl, sym, ap, ◌∙◌, true, false, Bool}
 use Rattle.std.proofs.Common.{cond, ◌||◌, map, arith, length}
 use Rattle.std.specs.Prelude.{filter, sum_by}
 use Rattle.std.specs.Cmp.{IsEquivalence}
@@ -7,15 +7,19 @@ use Rattle.std.specs.List.{list_any, IsDistinct}
 use Rattle.std.proofs.Math.Bool.{or-true}
 use Rattle.std.proofs.lemmas.List.Folds.{fold-map}
 use Rattle.std.proofs.lemmas.List.Sums.{sum_by-cons, length-filter}
+use Rattle.std.proofs.lemmas.Map.Views.{tells_apart}
 use Rattle.tariff_rules.specs.declared.priced.Priced.{Priced}
-use Rattle.book_model.specs.Words.{charged_at, key_of, same_key, row_at, keys_of, rows_of}
+use Rattle.book_model.specs.Words.{charged_at, key_of, keys_of, row_at, rows_of, same_bytes}
+use Rattle.book_model.specs.Words.{same_key}
 use Rattle.book_model.specs.declared.row.ChargeRow.{ChargeRow}
 use Rattle.book_model.specs.declared.row.RowKey.{RowKey}
-use Rattle.book_model.proofs.RowLemmas.{by_key_total, same_key_is, same_key_laws, keys_distinct}
+use Rattle.book_model.proofs.RowLemmas.{by_key_exact, by_key_total, same_key_is, same_key_laws}
+use Rattle.book_model.proofs.RowLemmas.{same_key_ties, keys_distinct}
 use Rattle.book_model.proofs.ListLemmas.{list_any-map, count_by-distinct}
 use Rattle.book_model.proofs.SetLemmas.{any_tied-members}
 use Rattle.book_model.proofs.SumLemmas.{sum_by-exchange}
 use Rattle.book_model.proofs.SumsAlike.{sum_by-filter}
+use Rattle.report_texts.specs.Centres.{rows_of_centre}
 
 -- a number for each element of a list of one
 sum_by-one : {X : Type 0} (n : ℕ) (xs : List X) → length xs ≡ 1 → sum_by (λ _. n) xs ≡ n
@@ -83,3 +87,51 @@ pub sum_by-rows_of : (priced : List Priced) → sum_by (λ row. row.amount) (row
     ≡ sum_by (λ one. one.amount) priced
 sum_by-rows_of priced =
     sum_by-rows (λ row. row.amount) (λ one. one.amount) priced (λ key. refl)
+
+-- one more of some numbers, of which all count or none
+one_more : (passes : Bool) (n shared shared_rest all rest : ℕ)
+    → shared ≡ cond passes n 0 + shared_rest → all ≡ n + rest
+    → shared_rest ≡ cond passes rest 0 → shared ≡ cond passes all 0
+one_more true n shared shared_rest all rest first second rests = omega arith
+one_more false n shared shared_rest all rest first second rests = omega arith
+
+module _ (f : Priced → ℕ) (passes : RowKey → Bool) (key : RowKey) where
+  -- of what is charged at one place all passes a test of the place, or nothing
+  at_one_place : (priced : List Priced)
+      → sum_by (λ one. cond (passes (key_of one)) (f one) 0) (charged_at priced key)
+      ≡ cond (passes key) (sum_by f (charged_at priced key)) 0
+  at_one_place [] = elim (passes key) as (λ b. ◌≡◌ {A = ℕ} 0 (cond b 0 0)) [
+    | true ↦ refl
+    | false ↦ refl
+  ]
+  at_one_place (one ∷ priced) =
+      let rest : List Priced = charged_at priced key in
+      let share : Priced → ℕ = λ one. cond (passes (key_of one)) (f one) 0 in
+      elim (same_key (key_of one) key) as (λ here. same_key (key_of one) key ≡ here
+      → sum_by share (cond here (one ∷ rest) rest)
+      ≡ cond (passes key) (sum_by f (cond here (one ∷ rest) rest)) 0) [
+        | true ↦ λ same.
+            let own : key_of one ≡ key =
+            tells_apart by_key_exact (key_of one) key
+            (sym (same_key_ties (key_of one) key) ∙ same) in
+            one_more (passes key) (f one) (sum_by share (one ∷ rest)) (sum_by share rest)
+            (sum_by f (one ∷ rest)) (sum_by f rest)
+            (sum_by-cons share one rest
+            ∙ ap (λ place. cond (passes place) (f one) 0 + sum_by share rest) own)
+            (sum_by-cons f one rest) (at_one_place priced)
+        | false ↦ λ other. at_one_place priced
+      ] refl
+
+-- so the rows of a centre sum what is charged to it
+pub sum_by-centre_rows :
+    (g : ChargeRow → ℕ) (f : Priced → ℕ) (centre : List ℕ) (priced : List Priced)
+    → ((key : RowKey) → g (row_at priced key) ≡ sum_by f (charged_at priced key))
+    → sum_by g (rows_of_centre centre (rows_of priced))
+    ≡ sum_by f (filter (λ one. same_bytes one.centre centre) priced)
+sum_by-centre_rows g f centre priced each =
+    let passes : RowKey → Bool = λ key. same_bytes key.centre centre in
+    sum_by-filter g (λ row. same_bytes row.centre centre) (rows_of priced)
+    ∙ sum_by-rows (λ row. cond (same_bytes row.centre centre) (g row) 0)
+    (λ one. cond (same_bytes one.centre centre) (f one) 0) priced
+    (λ key. ap (λ n. cond (passes key) n 0) (each key) ∙ sym (at_one_place f passes key priced))
+    ∙ sym (sum_by-filter f (λ one. same_bytes one.centre centre) priced)

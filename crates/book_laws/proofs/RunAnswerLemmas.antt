@@ -16,10 +16,11 @@ use Rattle.book_import.specs.Dumps.{stop_after}
 use Rattle.book_import.specs.Imports.{Handles, whole, out_of_memory, store_failed}
 use Rattle.office.specs.declared.request.Asked.{Asked}
 use Rattle.office.specs.declared.request.Asked.TheVariants.{Tariff, Close, Choose, Adopt, Import}
-use Rattle.office.specs.declared.request.Asked.TheVariants.{ImportBytes, Report}
+use Rattle.office.specs.declared.request.Asked.TheVariants.{ImportBytes, Report, WhatIf}
 use Rattle.office.specs.declared.request.Answer.{Answer}
 use Rattle.office.specs.Outcomes.{AskedOutcome, asked_outcome, is_hindered}
 use Rattle.book_reports.specs.BookTexts.{report_outcome}
+use Rattle.book_reports.specs.WhatIfTexts.{what_if_report}
 use Rattle.office.specs.Requests.{Dump, Response, Ruling, Count, Text, Receives, Asks, response_outcome}
 use Rattle.office.specs.Requests.{response_by}
 use Rattle.office.specs.Runs.{AsksWithoutReader, Runs, dump_here}
@@ -77,6 +78,9 @@ asked_opened naming (ImportBytes layout bytes) dump told was before events is ma
     receipt_opened naming dump told was before events is made is_open
 asked_opened naming (Report report) dump told was before events is made is_open =
     call_opened (response_outcome Text (report_outcome naming report)) told was before events is made is_open
+asked_opened naming (WhatIf report tariff) dump told was before events is made is_open =
+    call_opened (response_outcome Text (what_if_report report (string_bytes tariff))) told was before
+    events is made is_open
 
 -- and before one request after another
 run_opened : (naming : Naming) (requests : List Asked) (answers : List (Result Answer LedgerFault))

@@ -247,7 +247,7 @@ same_rows a b same = cc
 
 module _ (naming : Naming) (book : Book) (whole : IsReadable naming book) where
   -- what all held records cost fits
-  held_fit : FitTogether (prices book.rulings book.held)
+  pub held_fit : FitTogether (prices book.rulings book.held)
   held_fit =
       let all : List (List ℕ) = members book.held in
       let its : List Priced = prices book.rulings book.held in

@@ -14,7 +14,8 @@ abbrev pub line_centres : List Line → List (List ℕ)
 line_centres lines = members (set_of by_bytes (map (λ line. line.priced.centre) lines))
 
 -- The statements of all centres add up to the statement of the period, whatever is summed (counts,
--- CPU times, blocks, amounts); and so do the adjustments.
+-- CPU times, blocks, amounts); and so do the adjustments. The rows may be any, so this holds of
+-- rows by another tariff too.
 pub record CentresAddUp : Type 0 where
   pub rows :
       (part : ChargeRow → ℕ) (rows : List ChargeRow)

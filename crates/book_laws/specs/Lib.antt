@@ -2,8 +2,9 @@
 -- amount to; the lines of a period, each once; what is read of a closed period; the laws; and wrong
 -- definitions of a period, which the laws refuse. Runs: what a run is, and on which books; the
 -- statement of a period; and the laws. Then calls one after another and what they leave, the lists
--- of all periods, how wide the lines of a statement are, and the reports on single centres. Single
--- answers: to calls, reports, imports, and lists of requests.
+-- of all periods, how wide the lines of a statement are, the reports on single centres, and a
+-- period's rows by another tariff. Single answers: to calls, reports, imports, and lists of
+-- requests.
 pub mod NetCounts
 pub mod PeriodAmounts
 pub mod PeriodLines
@@ -18,6 +19,7 @@ pub mod CallLaws
 pub mod ListLaws
 pub mod StatementWidths
 pub mod CentreLaws
+pub mod OtherPriceLaws
 pub mod AnswerLaws
 pub mod ReportLaws
 pub mod ImportLaws

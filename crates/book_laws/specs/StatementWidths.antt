@@ -1,6 +1,7 @@
 -- How wide the lines of a statement are.
-use Rattle.std.specs.Prelude.{◌≡◌, ℕ, All, List, length, Ok}
-use Rattle.book_model.specs.Words.{Book, Naming, charges_outcome}
+use Rattle.std.specs.Prelude.{◌≡◌, ℕ, true, All, List, length, Some, Ok}
+use Rattle.book_model.specs.Words.{Book, IsPriced, Naming, Period, Terms, charges_outcome, has}
+use Rattle.book_model.specs.Words.{period_of, price_by, what_if_outcome}
 use Rattle.book_model.specs.declared.row.ChargeRow.{ChargeRow}
 use Rattle.report_texts.specs.Statements.{heading, row_line, total_line}
 use Rattle.table_laws.specs.FromCalls.{IsFromCalls}
@@ -21,3 +22,14 @@ abbrev pub StatementsAreAligned : Type 0
 StatementsAreAligned =
     (naming : Naming) (book : Book) (number : ℕ) (rows : List ChargeRow)
     → IsFromCalls naming book → (charges_outcome number book).answer ≡ Ok rows → AreAligned rows
+
+-- It holds as well of the rows of such a period by another tariff, where the prices by it that are
+-- summed are within the limits of a price, as those of any tariff file are.
+abbrev pub WhatIfsAreAligned : Type 0
+WhatIfsAreAligned =
+    (naming : Naming) (book : Book) (number : ℕ) (terms : Terms) (period : Period)
+    (rows : List ChargeRow)
+    → IsFromCalls naming book
+    → period_of book number ≡ Some period
+    → ((bytes : List ℕ) → has period.counted bytes ≡ true → IsPriced (price_by terms bytes))
+    → (what_if_outcome number terms book).answer ≡ Ok rows → AreAligned rows

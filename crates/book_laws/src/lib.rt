@@ -4,6 +4,7 @@
 mod calls;
 mod centres;
 mod histories;
+mod other_prices;
 mod runs;
 
 pub use calls::{
@@ -15,6 +16,7 @@ pub use histories::{
     charged_once, closed_stays, conserved, conserved_in_sets, dated_right, lines_once, named_once,
     posted_once, wrong_periods_fail,
 };
+pub use other_prices::{what_if, what_ifs_are_aligned};
 pub use runs::{
     calls_follow_history, closed_statements_stay, lists_conserve, open_statement_is_first,
     run_order_is_free, runs_charge_once, runs_conserve, runs_follow_history, runs_make_history,

@@ -8,3 +8,4 @@ pub mod RulingReading
 pub mod StreamedLemmas
 pub mod RulingLemmas
 pub mod TariffLemmas
+pub mod WhatIfLemmas

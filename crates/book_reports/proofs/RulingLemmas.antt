@@ -1,7 +1,7 @@
 -- The list of rulings, which is written as it is read.
 use Rattle.std.proofs.Common.{◌≡◌, ◌∙◌, ℕ, ◌+◌, Bool, true, false, true≢false, List, [], ◌∷◌, ◌++◌}
 use Rattle.std.proofs.Common.{take, drop, refl, sym, ap, subst, append_assoc, append-nil}
-use Rattle.std.proofs.Common.{Option, Some, None, Result, Ok, Err, Vec, Global, inl, inr, ◌⊎◌}
+use Rattle.std.proofs.Common.{Option, Some, None, Result, Ok, Err, Vec, Global, inl, inr}
 use Rattle.std.specs.Prelude.{IfErr, flat_map, option_map, slice_get}
 use Rattle.std.specs.Io.KnownBytes.{Appends}
 use Rattle.std.proofs.KnownBytes.{Appends-nil}
@@ -13,7 +13,7 @@ use Rattle.book_model.specs.declared.listed_ruling.ListedRuling.{ListedRuling}
 use Rattle.book_model.specs.Words.{Book, Event, Naming, Outcome, RulingSeen, after_all, ruling_outcome}
 use Rattle.book_model.specs.Words.{ruling_shown, rulings_listed}
 use Rattle.book_core.specs.Ledgers.{Seen}
-use Rattle.book_core.specs.Calls.{Calls, IsCall, Makes, Reopens, listed}
+use Rattle.book_core.specs.Calls.{Calls, IsCall, Makes, Reopens}
 use Rattle.book_core.specs.Transition.{IsTransition, Then}
 use Rattle.book_core.proofs.TransitionLemmas.{work_as, work_then}
 use Rattle.report_texts.specs.RulingLists.{ruling_line, ruling_list_head, ruling_list_text}
@@ -30,7 +30,6 @@ use Rattle.book_reports.proofs.RulingReading.{HasRead, all_taken, first_read, fi
 use Rattle.book_reports.proofs.RulingReading.{next_taken, one_more_read, read_and, read_parts}
 use Rattle.book_reports.proofs.StreamedLemmas.{is_prefix, none_written, rest_written, then_written}
 use Rattle.book_reports.proofs.StreamedLemmas.{written_as, written_of_more}
-use Rattle.book_reports.proofs.WritingLemmas.{same_value}
 
 -- ---- texts
 

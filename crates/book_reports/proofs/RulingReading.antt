@@ -1,6 +1,6 @@
 -- The rulings of a ledger, which are read one after another: all calls show one book.
 use Rattle.std.proofs.Common.{◌≡◌, ◌∙◌, ℕ, ◌+◌, List, [], ◌∷◌, ◌++◌, length, take, refl, ap, subst}
-use Rattle.std.proofs.Common.{Option, Some, None, Result, Ok, Err, ◌≤◌, zero, suc, arith, take_all}
+use Rattle.std.proofs.Common.{Option, Some, None, Result, Ok, ◌≤◌, zero, suc, arith, take_all}
 use Rattle.std.specs.Prelude.{slice_get, option_map}
 use Rattle.std.proofs.lemmas.List.{take_more}
 use Rattle.std.proofs.lemmas.Option.{get_or_from_slice_get, slice_get_within}

@@ -1,6 +1,6 @@
 -- Texts that are written in part.
 use Rattle.std.proofs.Common.{◌≡◌, ◌∙◌, ℕ, List, [], ◌++◌, length, take, drop}
-use Rattle.std.proofs.Common.{refl, sym, ap, subst, append_assoc, append-nil, Option, Result, Ok, Err}
+use Rattle.std.proofs.Common.{refl, sym, ap, subst, append_assoc, Option, Result, Ok, Err}
 use Rattle.std.proofs.lemmas.List.{take-append-drop}
 use Rattle.std.proofs.Math.Seq.{take-append_seam}
 use Rattle.std.specs.Io.KnownBytes.{Appends}
@@ -57,8 +57,8 @@ written_as text other left held holds same written =
     subst (λ b. WritesFirst b left held holds) same written
 
 -- the rest of a text was written, or a prefix of the rest
-pub rest_written : (text rest : List ℕ) (held had has : Option (List ℕ))
-    (result : Result (Unit {0}) ReportFault) → WritesFirst text rest held had
+pub rest_written : {A : Type 0} (text rest : List ℕ) (held had has : Option (List ℕ))
+    (result : Result A ReportFault) → WritesFirst text rest held had
     → WritesPrefix rest had has result → WritesPrefix text held has result
 rest_written text rest held had has (Ok done) written grown =
     subst (Appends held has) (sym written.parts)

@@ -1,8 +1,10 @@
--- Read in this order: the lines of receipts and of check lists, the texts that books answer, the
--- faults, what a writer gains, a report as a whole, and a list that is written while it is read.
+-- Read in this order: the lines of receipts and of check lists, the texts that books answer, also
+-- by another tariff, the faults, what a writer gains, a report as a whole, and a list that is
+-- written while it is read.
 pub mod ReceiptLines
 pub mod CheckLists
 pub mod BookTexts
+pub mod WhatIfTexts
 pub mod Faults
 pub mod Writing
 pub mod Reports

@@ -1,4 +1,5 @@
--- Reports: each is one call of a ledger that answers a text, and what a writer has of the answer.
+-- Reports: each is as one call of a ledger that answers a text, and what a writer has of the
+-- answer.
 use Rattle.std.specs.Prelude.{◌≡◌, ◌<◌, ℕ, List, length, take, Result, Ok, Err}
 use Rattle.std.specs.Io.KnownBytes.{Appends}
 use Rattle.streams.specs.InputOutput.{Output}
@@ -31,9 +32,9 @@ abbrev pub IsPassedOn : Result (List ℕ) LedgerFault → Output → Result (Uni
 IsPassedOn (Ok text) output result = IsWritten text output result
 IsPassedOn (Err fault) output result = Refuses fault output result
 
--- The ledger answered the text of a report, by the book and in one call that made no event, or it
--- refused; a lack of memory for the text is one of the ledger's faults. The answer was passed on to
--- a writer.
+-- The ledger answered the text of a report, by the book and as in one call that made no event, or
+-- it refused; a lack of memory for the text is one of the ledger's faults. The answer was passed on
+-- to a writer.
 pub record IsReport (report : Report) (books : Books) (output : Output)
     (result : Result (Unit {0}) ReportFault) : Type 0 where
   pub answer : Result (List ℕ) LedgerFault

@@ -19,7 +19,10 @@ use smf_text::Name;
 use std::alloc::{AllocError, Global};
 
 /// The day that a period was closed through, `None` if no such period is closed.
-fn closed_through<L: Ledger>(ledger: &mut L, period: u16) -> Result<Option<i32>, LedgerFault>
+pub(crate) fn closed_through<L: Ledger>(
+    ledger: &mut L,
+    period: u16,
+) -> Result<Option<i32>, LedgerFault>
     ensures through { IsCall (λ through. through) (L.seen ledger.old) (L.seen ledger.new) result
         (spec.closed_through_outcome period) }
     ensures shown { IfOk result (λ through. ForSome through IsDay) }
@@ -29,7 +32,7 @@ fn closed_through<L: Ledger>(ledger: &mut L, period: u16) -> Result<Option<i32>,
 }
 
 /// What is made of a list that a ledger answered. A refusal stays one, and a lack of memory is one.
-fn made_of<V, T, F: FnOnce(V) -> Result<T, AllocError>>(
+pub(crate) fn made_of<V, T, F: FnOnce(V) -> Result<T, AllocError>>(
     answer: Result<V, LedgerFault>,
     make: F,
 ) -> Result<T, LedgerFault>

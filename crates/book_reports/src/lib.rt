@@ -11,6 +11,7 @@ mod report;
 mod reports;
 mod ruling_texts;
 mod streamed_rulings;
+mod what_if;
 
 pub use book_texts::report_text;
 pub use check_lists::{push_last_line, push_record_line};
@@ -28,3 +29,4 @@ pub use reports::{
     write_report,
 };
 pub use streamed_rulings::write_rulings;
+pub use what_if::{StatementForm, WhatIf, what_if_text};

@@ -13,7 +13,7 @@ use Rattle.book_core.proofs.TransitionLemmas.{work_as}
 use Rattle.book_reports.specs.BookTexts.{shown_by}
 use Rattle.office.specs.declared.request.Asked.{Asked}
 use Rattle.office.specs.declared.request.Asked.TheVariants.{Tariff, Close, Choose, Adopt, Import}
-use Rattle.office.specs.declared.request.Asked.TheVariants.{ImportBytes, Report}
+use Rattle.office.specs.declared.request.Asked.TheVariants.{ImportBytes, Report, WhatIf}
 use Rattle.office.specs.declared.request.Answer.{Answer}
 use Rattle.office.specs.Requests.{Dump, Response, response_outcome, response_by, IsAskable, IsAskableUnread, Gives, Asks}
 use Rattle.office.specs.Requests.{IsAsked}
@@ -82,6 +82,7 @@ askable_once (Adopt rule) = hlevel props
 askable_once (Import layout) = hlevel props
 askable_once (ImportBytes layout bytes) = hlevel props
 askable_once (Report report) = hlevel props
+askable_once (WhatIf report tariff) = hlevel props
 
 -- a reader that was not asked yet may be asked
 pub askable_anew : (asked : Asked) (reader : ReaderSeen) → IsAskableUnread asked → reader.reads ≡ 0
@@ -94,6 +95,7 @@ askable_anew (Import layout) reader may reads failed ended =
     record { reads = omega arith; failed = failed; ended = ended }
 askable_anew (ImportBytes layout bytes) reader may reads failed ended = tt
 askable_anew (Report report) reader may reads failed ended = tt
+askable_anew (WhatIf report tariff) reader may reads failed ended = tt
 
 -- it may be asked whatever reader is at hand
 pub askable_with : (asked : Asked) (reader : ReaderSeen) → IsAskableWithoutReader asked
@@ -105,6 +107,7 @@ askable_with (Adopt rule) reader alone = tt
 askable_with (Import layout) reader alone = absurd alone
 askable_with (ImportBytes layout bytes) reader alone = tt
 askable_with (Report report) reader alone = tt
+askable_with (WhatIf report tariff) reader alone = tt
 
 -- a request with no reader at hand has the dump that it brings
 pub asked_alone : (asked : Asked) {answer : Result Answer LedgerFault} {books : Books}
@@ -130,3 +133,7 @@ asked_alone (ImportBytes layout bytes) {answer = answer} {books = books} alone a
 asked_alone (Report report) {answer = answer} {books = books} alone asked =
     subst (λ dump. IsTransition books.old books.new
     (Asks books.old.naming (Report report) dump (response_by answer))) asked.given.is asked.work
+asked_alone (WhatIf report tariff) {answer = answer} {books = books} alone asked =
+    subst (λ dump. IsTransition books.old books.new
+    (Asks books.old.naming (WhatIf report tariff) dump (response_by answer))) asked.given.is
+    asked.work

@@ -1,5 +1,5 @@
 -- Requests, one after the other, and the history that they make.
-use Rattle.std.proofs.Common.{◌≡◌, ◌∙◌, Bool, true, false, List, [], ◌∷◌, ◌++◌, Result, Ok, Err}
+use Rattle.std.proofs.Common.{◌≡◌, ◌∙◌, Bool, true, false, ℕ, List, [], ◌∷◌, ◌++◌, Result, Ok, Err}
 use Rattle.std.proofs.Common.{inr, refl, sym, ap, subst}
 use Rattle.std.specs.Prelude.{string_bytes}
 use Rattle.book_model.specs.declared.fault.LedgerFault.{LedgerFault}
@@ -19,10 +19,12 @@ use Rattle.book_import.specs.Dumps.{stop_after}
 use Rattle.book_import.proofs.RepeatLemmas.{is_whole}
 use Rattle.book_import.proofs.EventLemmas.{import_answered}
 use Rattle.book_reports.specs.declared.report.Report as report
+use Rattle.book_reports.specs.declared.what_if.WhatIf as what_if
 use Rattle.book_reports.specs.BookTexts.{report_outcome}
+use Rattle.book_reports.specs.WhatIfTexts.{what_if_report}
 use Rattle.office.specs.declared.request.Asked.{Asked}
 use Rattle.office.specs.declared.request.Asked.TheVariants.{Tariff, Close, Choose, Adopt, Import}
-use Rattle.office.specs.declared.request.Asked.TheVariants.{ImportBytes, Report}
+use Rattle.office.specs.declared.request.Asked.TheVariants.{ImportBytes, Report, WhatIf}
 use Rattle.office.specs.Requests.{Dump, Response, Ruling, Count, Text, response_by, response_outcome}
 use Rattle.office.specs.Requests.{Receives, Asks}
 use Rattle.office.specs.Outcomes.{AskedOutcome, events_by, asked_outcome_by, import_asked_outcome, asked_outcome, is_hindering, is_hindered}
@@ -54,6 +56,15 @@ report_answered naming report told =
     calls_answered naming (λ told. told) (response_outcome Text (report_outcome naming report)) told
     (λ history answered. answered)
 
+-- nor is what a period would have cost by another tariff
+what_if_answered : (naming : Naming) (asked : what_if.WhatIf) (tariff : List ℕ)
+    (told : Result Response LedgerFault)
+    → MakesAnswered naming
+    (Calls (λ told. told) (response_outcome Text (what_if_report asked tariff)) told)
+what_if_answered naming asked tariff told =
+    calls_answered naming (λ told. told) (response_outcome Text (what_if_report asked tariff)) told
+    (λ history answered. answered)
+
 pub receives_answered : (naming : Naming) (dump : Dump) (told : Result Response LedgerFault)
     → MakesAnswered naming (Receives naming dump told)
 receives_answered naming dump (Ok (Count receipt)) =
@@ -81,6 +92,8 @@ asks_answered naming (Adopt rule) dump told =
 asks_answered naming (Import layout) dump told = receives_answered naming dump told
 asks_answered naming (ImportBytes layout bytes) dump told = receives_answered naming dump told
 asks_answered naming (Report report) dump told = report_answered naming report told
+asks_answered naming (WhatIf report tariff) dump told =
+    what_if_answered naming report (string_bytes tariff) told
 
 same_done : (outcome : Book → Outcome Response) (told : Result Response LedgerFault) (book : Book)
     (events : List Event) → (outcome book).answer ≡ told
@@ -141,6 +154,9 @@ asks_done naming (ImportBytes layout bytes) dump told book events is made free =
     receives_done naming dump told book events is made free
 asks_done naming (Report report) dump told book events is made free =
     calls_done (response_outcome Text (report_outcome naming report)) told book events is made free
+asks_done naming (WhatIf report tariff) dump told book events is made free =
+    calls_done (response_outcome Text (what_if_report report (string_bytes tariff))) told book events
+    is made free
 
 -- a ledger that is open after requests was open before them
 open_at_first : {L : Type 0} (seen : L → Seen) (before : L) (exchanges : List (Exchange L))

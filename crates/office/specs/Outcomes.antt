@@ -10,9 +10,10 @@ use Rattle.book_import.specs.declared.receipt.Stop.TheVariants.{Ledger}
 use Rattle.book_import.specs.Dumps.{stop_after}
 use Rattle.book_import.specs.Laws.{import_of_records}
 use Rattle.book_reports.specs.BookTexts.{report_outcome}
+use Rattle.book_reports.specs.WhatIfTexts.{what_if_report}
 use Rattle.office.specs.declared.request.Asked.{Asked}
 use Rattle.office.specs.declared.request.Asked.TheVariants.{Tariff, Close, Choose, Adopt, Import}
-use Rattle.office.specs.declared.request.Asked.TheVariants.{ImportBytes, Report}
+use Rattle.office.specs.declared.request.Asked.TheVariants.{ImportBytes, Report, WhatIf}
 use Rattle.office.specs.Requests.{Dump, Response, Ruling, Count, Text, response_outcome}
 
 -- what the books answer, and the events that they make, the newest first
@@ -42,10 +43,14 @@ asked_outcome naming (Close period through) dump book =
     asked_outcome_by (response_outcome Ruling (close_outcome period through) book)
 asked_outcome naming (Choose name) dump book =
     asked_outcome_by (response_outcome Ruling (choose_outcome naming name) book)
-asked_outcome naming (Adopt rule) dump book = asked_outcome_by (response_outcome Ruling (adopt_outcome rule) book)
+asked_outcome naming (Adopt rule) dump book =
+    asked_outcome_by (response_outcome Ruling (adopt_outcome rule) book)
 asked_outcome naming (Import layout) dump book = import_asked_outcome naming dump book
 asked_outcome naming (ImportBytes layout bytes) dump book = import_asked_outcome naming dump book
-asked_outcome naming (Report report) dump book = asked_outcome_by (response_outcome Text (report_outcome naming report) book)
+asked_outcome naming (Report report) dump book =
+    asked_outcome_by (response_outcome Text (report_outcome naming report) book)
+asked_outcome naming (WhatIf report tariff) dump book =
+    asked_outcome_by (response_outcome Text (what_if_report report (string_bytes tariff)) book)
 
 -- a lack of memory or the store stopped an import
 abbrev pub is_hindering : Stop → Bool

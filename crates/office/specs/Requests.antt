@@ -19,9 +19,10 @@ use Rattle.book_import.specs.Imports.{Imports}
 use Rattle.book_import.specs.Reach.{IsReadFor}
 use Rattle.book_import.specs.ReadLimits.{most_reads}
 use Rattle.book_reports.specs.BookTexts.{shown_by, report_outcome}
+use Rattle.book_reports.specs.WhatIfTexts.{what_if_report}
 use Rattle.office.specs.declared.request.Asked.{Asked}
 use Rattle.office.specs.declared.request.Asked.TheVariants.{Tariff, Close, Choose, Adopt, Import}
-use Rattle.office.specs.declared.request.Asked.TheVariants.{ImportBytes, Report}
+use Rattle.office.specs.declared.request.Asked.TheVariants.{ImportBytes, Report, WhatIf}
 use Rattle.office.specs.declared.request.Answer.{Answer}
 use Rattle.office.specs.declared.request.Answer.TheVariants as answer
 
@@ -133,6 +134,8 @@ Asks naming (Import layout) dump told = Receives naming dump told
 Asks naming (ImportBytes layout bytes) dump told = Receives naming dump told
 Asks naming (Report report) dump told =
     Calls (λ told. told) (response_outcome Text (report_outcome naming report)) told
+Asks naming (WhatIf report tariff) dump told =
+    Calls (λ told. told) (response_outcome Text (what_if_report report (string_bytes tariff))) told
 
 -- Something was asked of books, with a reader at hand, and this is their answer.
 pub record IsAsked (asked : Asked) (answer : Result Answer LedgerFault) (books : Books)

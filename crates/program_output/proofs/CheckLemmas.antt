@@ -25,10 +25,11 @@ use Rattle.program_output.specs.Readings.{reading}
 use Rattle.program_output.specs.Checks.{IsCheck, AreWritten}
 use Rattle.book_reports.specs.CheckLists.{record_lines, last_line, check_list_text}
 use Rattle.program_output.specs.Listings.{HasListed, WritesSome, ListsPiece, Breaks, waiting}
-use Rattle.program_output.specs.Listings.{listed_count, WritesFirst}
+use Rattle.program_output.specs.Listings.{listed_count}
+use Rattle.book_reports.specs.StreamedRulings.{WritesFirst}
 use Rattle.book_reports.specs.Writing.{WritesPrefix}
-use Rattle.program_output.proofs.ListingLemmas.{written_of_more, is_prefix, listed_whole}
-use Rattle.program_output.proofs.ListingLemmas.{prefix_grows, grows_on, lines_written}
+use Rattle.book_reports.proofs.StreamedLemmas.{is_prefix, written_of_more}
+use Rattle.program_output.proofs.ListingLemmas.{listed_whole, prefix_grows, grows_on, lines_written}
 
 -- the lines of the records were written, or are waiting
 abbrev pub AreListed : Option (List ℕ) → Option (List ℕ) → Listing → List (List ℕ) → Type 0

@@ -1,23 +1,20 @@
--- Texts that were written in part: how parts join, and what a list gains with a line.
-use Rattle.std.proofs.Common.{◌≡◌, ◌∙◌, ℕ, ◌+◌, List, [], ◌∷◌, ◌++◌, length, take, drop}
-use Rattle.std.proofs.Common.{refl, sym, ap, subst, append_assoc, append-nil, length-append}
+-- What a list gains with a line, and with what is written of the lines that wait.
+use Rattle.std.proofs.Common.{◌≡◌, ◌∙◌, ℕ, ◌+◌, List, [], ◌∷◌, ◌++◌, length, take}
+use Rattle.std.proofs.Common.{sym, ap, subst, append_assoc, append-nil, length-append}
 use Rattle.std.proofs.Common.{Option, Result, Ok, Err}
-use Rattle.std.proofs.lemmas.List.{take-append-drop}
-use Rattle.std.proofs.Math.Seq.{take-append_seam}
 use Rattle.std.specs.Io.KnownBytes.{Appends}
-use Rattle.std.proofs.KnownBytes.{Appends-nil, Appends-trans}
+use Rattle.std.proofs.KnownBytes.{Appends-trans}
 use Rattle.book_import.specs.declared.receipt.Stop.{Stop}
 use Rattle.book_reports.specs.declared.fault.ReportFault.{ReportFault}
 use Rattle.program_output.specs.declared.listing.Listing.{Listing}
 use Rattle.book_reports.specs.CheckLists.{record_line, record_lines, last_line, check_list_text}
-use Rattle.program_output.specs.Listings.{WritesFirst, HasListed, waiting, listed_count}
+use Rattle.program_output.specs.Listings.{HasListed, waiting, listed_count}
 use Rattle.program_output.specs.Checks.{AreWritten}
+use Rattle.book_reports.specs.StreamedRulings.{WritesFirst}
 use Rattle.book_reports.specs.Writing.{WritesPrefix}
 use Rattle.book_reports.proofs.NumberLemmas.{lines-append, one_more_line}
-
--- nothing was written
-pub none_written : (text : List ℕ) (held : Option (List ℕ)) → WritesFirst text text held held
-none_written text held = record { first = []; grown = Appends-nil held; parts = refl }
+use Rattle.book_reports.proofs.StreamedLemmas.{first_written, rest_written, then_written}
+use Rattle.book_reports.proofs.StreamedLemmas.{written_as, written_of_more}
 
 -- all was written
 pub all_written : (text rest : List ℕ) (held holds : Option (List ℕ)) → rest ≡ []
@@ -27,49 +24,6 @@ all_written text rest held holds none grown = record {
   grown = grown;
   parts = sym (append-nil text) ∙ ap (λ b. text ++ b) (sym none);
 }
-
--- a prefix was written, and the rest of the text was not
-pub prefix_written : (text : List ℕ) (count : ℕ) (held holds : Option (List ℕ))
-    → Appends held holds (take count text) → (left : List ℕ) × WritesFirst text left held holds
-prefix_written text count held holds grown = (
-  drop count text,
-  record { first = take count text; grown = grown; parts = sym (take-append-drop count text) },
-)
-
--- what was written is a prefix of the text
-pub is_prefix : (text left : List ℕ) (held holds : Option (List ℕ)) → WritesFirst text left held holds
-    → (count : ℕ) × Appends held holds (take count text)
-is_prefix text left held holds written = (
-  length written.first,
-  subst (Appends held holds)
-      (sym (ap (take (length written.first)) written.parts
-      ∙ take-append_seam written.first left)) written.grown,
-)
-
--- a text goes on with what was not written of it
-pub written_of_more : (text left more : List ℕ) (held holds : Option (List ℕ))
-    → WritesFirst text left held holds → WritesFirst (text ++ more) (left ++ more) held holds
-written_of_more text left more held holds written = record {
-  first = written.first;
-  grown = written.grown;
-  parts = ap (λ b. b ++ more) written.parts ∙ append_assoc written.first left more;
-}
-
--- and then a part of the rest was written too
-pub then_written : (text rest left : List ℕ) (held had has : Option (List ℕ))
-    → WritesFirst text rest held had → WritesFirst rest left had has → WritesFirst text left held has
-then_written text rest left held had has written next = record {
-  first = written.first ++ next.first;
-  grown = Appends-trans held had has written.first next.first written.grown next.grown;
-  parts = written.parts ∙ ap (λ b. written.first ++ b) next.parts
-      ∙ sym (append_assoc written.first next.first left);
-}
-
--- the same for another text that is equal
-pub written_as : (text other left : List ℕ) (held holds : Option (List ℕ)) → text ≡ other
-    → WritesFirst text left held holds → WritesFirst other left held holds
-written_as text other left held holds same written =
-    subst (λ b. WritesFirst b left held holds) same written
 
 -- the lines so far, with the line of one more record
 lines_on : (records : List (List ℕ)) (bytes : List ℕ) (held had : Option (List ℕ))
@@ -133,7 +87,7 @@ pub flush_cut : (records later : List (List ℕ)) (count : ℕ) (held had has : 
     → (rest : List ℕ) × WritesFirst (record_lines 1 (records ++ later)) rest held has
 flush_cut records later count held had has began listed grown =
     let others = record_lines (1 + length records) later in
-    let part = prefix_written (waiting began) count had has grown in (
+    let part = first_written (waiting began) count had has grown in (
       part.0 ++ others,
       written_as (record_lines 1 records ++ others) (record_lines 1 (records ++ later))
           (part.0 ++ others) held has (sym (lines-append 1 records later))
@@ -153,19 +107,8 @@ listed_whole records stop held had has began answer listed ended =
     listed.lines in
     let ended_so = subst (λ n. WritesPrefix (waiting began ++ last_line n stop) had has answer)
     listed.count ended in
-    whole_written (record_lines 1 records ++ last) (waiting began ++ last) held had has answer
-    so_far ended_so
-  where
-    whole_written : (text rest : List ℕ) (held had has : Option (List ℕ))
-        (answer : Result Stop ReportFault) → WritesFirst text rest held had
-        → WritesPrefix rest had has answer → WritesPrefix text held has answer
-    whole_written text rest held had has (Ok told) written grown =
-        subst (Appends held has) (sym written.parts)
-        (Appends-trans held had has written.first rest written.grown grown)
-    whole_written text rest held had has (Err fault) written part =
-        let left = prefix_written rest part.0 had has part.1 in
-        is_prefix text left.0 held has
-        (then_written text rest left.0 held had has written left.1)
+    rest_written (record_lines 1 records ++ last) (waiting began ++ last) held had has answer so_far
+    ended_so
 
 -- a prefix of a text, or all of it, came after what the writer held
 pub prefix_grows : {A : Type 0} (text : List ℕ) (held holds : Option (List ℕ))

@@ -8,7 +8,8 @@ use Rattle.book_import.proofs.FeedLemmas.{Doing, Goes, records_after, records_fo
 use Rattle.book_reports.specs.declared.fault.ReportFault.{ReportFault}
 use Rattle.book_reports.specs.CheckLists.{record_line, record_lines}
 use Rattle.program_output.specs.declared.listing.Listing.{Listing}
-use Rattle.program_output.specs.Listings.{WritesFirst, HasListed, TakesOrBreaks, ListsPiece}
+use Rattle.book_reports.specs.StreamedRulings.{WritesFirst}
+use Rattle.program_output.specs.Listings.{HasListed, TakesOrBreaks, ListsPiece}
 use Rattle.program_output.specs.Listings.{waiting, listed_count}
 use Rattle.program_output.proofs.ListingLemmas.{line_cut, flush_cut}
 

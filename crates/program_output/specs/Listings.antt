@@ -1,7 +1,6 @@
 -- A check list that is written as the records of its dump come. Words of the code alone.
 use Rattle.std.specs.Prelude.{◌≡◌, ℕ, ◌+◌, ◌≤◌, List, ◌++◌, length, Option, Some, None}
 use Rattle.std.specs.Prelude.{Result, Ok, Err, string_bytes}
-use Rattle.std.specs.Io.KnownBytes.{Appends}
 use Rattle.smf_frames.specs.declared.dump.Layout.{Layout}
 use Rattle.smf_frames.specs.declared.fault.FrameFault.{FrameFault}
 use Rattle.book_model.specs.Words.{front, Joining, HasTaken, broken_by}
@@ -9,6 +8,7 @@ use Rattle.book_import.specs.Pieces.{TakesAll}
 use Rattle.book_reports.specs.declared.fault.ReportFault.{ReportFault}
 use Rattle.program_output.specs.declared.listing.Listing.{Listing}
 use Rattle.book_reports.specs.CheckLists.{record_lines}
+use Rattle.book_reports.specs.StreamedRulings.{WritesFirst}
 
 -- how many bytes are written at once, at most (the office's rule)
 abbrev pub most_written : ℕ
@@ -29,19 +29,6 @@ listed_count listing = listing.count
 -- one more line can be written together with what is waiting
 abbrev pub HasRoom : Listing → Type 0
 HasRoom listing = length (waiting listing) + longest_line ≤ most_written
-
--- the first bytes of a text were written, where what the writer holds is known, and this rest was
--- not
-pub record WritesFirst (text rest : List ℕ) (held holds : Option (List ℕ)) : Type 0 where
-  pub first : List ℕ
-  pub grown : Appends held holds first
-  pub parts : text ≡ first ++ rest
-
--- a text was written but for this rest, or before a fault but for some rest
-abbrev pub WritesAllBut : List ℕ → List ℕ → Option (List ℕ) → Option (List ℕ)
-    → Result (Unit {0}) ReportFault → Type 0
-WritesAllBut text rest held holds (Ok done) = WritesFirst text rest held holds
-WritesAllBut text rest held holds (Err fault) = (left : List ℕ) × WritesFirst text left held holds
 
 -- the lines of these records were written, or wait
 pub record HasListed (records : List (List ℕ)) (held holds : Option (List ℕ)) (listing : Listing)

@@ -4,7 +4,8 @@ ghost use Rattle.std.specs.Prelude.{◌≡◌, ◌+◌, ◌<◌, ◌≤◌, ◌^
 ghost use Rattle.std.specs.Prelude.{length, IfErr, IfOk, OnOk};
 ghost use Rattle.streams.specs.Sinks.{writer_of, has_failed};
 ghost use Rattle.book_reports.specs.CheckLists.{last_line, record_line};
-ghost use Rattle.program_output.specs.Listings.{waiting, listed_count, most_written, HasRoom, WritesAllBut};
+ghost use Rattle.book_reports.specs.StreamedRulings.{WritesAllBut};
+ghost use Rattle.program_output.specs.Listings.{HasRoom, listed_count, most_written, waiting};
 ghost use Rattle.book_reports.specs.Writing.{WritesPrefix, is_write_fault, is_write_or_memory};
 
 use book_core::Sink;

@@ -1,9 +1,9 @@
 -- Rows of fields that need no quotes are these fields with commas between them; and such fields.
 use Rattle.std.proofs.Common.{◌≡◌, ℕ, ◌+◌, ◌-◌, ◌/◌, ◌%◌, ◌<◌, ◌^◌, false, true}
-use Rattle.std.proofs.Common.{List, [], ◌∷◌, ◌++◌, refl, arith}
+use Rattle.std.proofs.Common.{List, [], ◌∷◌, ◌++◌, ◌∙◌, ap, append-nil, refl, arith}
 use Rattle.std.proofs.Common.{decimal, ℤ, suc, zero, length}
 use Rattle.std.specs.Prelude.{codes, replicate}
-use Rattle.std.specs.List.{flat_map, list_any, list_all}
+use Rattle.std.specs.List.{flat_map, list_all}
 use Rattle.std.proofs.lemmas.Bool.{and_parts, ne_eqb}
 use Rattle.std.proofs.lemmas.Bool.Decides.{nat_tests}
 use Rattle.std.proofs.lemmas.Fmt.{decimal_by_steps}
@@ -12,12 +12,9 @@ use Rattle.csv.specs.Writing.{default_writer, field_text, fields_text, is_blank,
 use Rattle.csv.specs.Writing.{row_text}
 use Rattle.smf_text.specs.Day.{day_text_of}
 use Rattle.book_model.specs.Words.{date_of, IsName, is_name_character}
-use Rattle.report_texts.specs.Columns.{digits_in, seconds_text, amount_text}
-use Rattle.report_texts.specs.StatementTables.{comma_line}
-
--- a field of bytes that call for no quotes
-abbrev pub IsPlain : List ℕ → Type 0
-IsPlain field = list_any (needs_byte default_writer) field ≡ false
+use Rattle.report_texts.specs.Columns.{newline, digits_in, seconds_text, amount_text}
+use Rattle.report_texts.specs.StatementTables.{comma_line, table_heading}
+use Rattle.report_texts.specs.Tables.{IsPlain}
 
 -- a byte after the comma calls for none
 plain_byte : (b : ℕ) → 44 < b → needs_byte default_writer b ≡ false
@@ -138,3 +135,17 @@ pub plain_row : (first second : List ℕ) (others : List (List ℕ))
 unfolding is_blank
 plain_row first second others plain =
     rw (plain_field first plain.0, plain_fields (second ∷ others) plain.1) refl
+
+-- the names of the columns of charge rows, where that of the amounts calls for none
+pub plain_heading : (amounts : List ℕ) → IsPlain amounts
+    → row_text default_writer
+    (codes "period" ∷ codes "day" ∷ codes "centre" ∷ codes "shift" ∷ codes "count" ∷ codes "cpu"
+    ∷ codes "blocks" ∷ amounts ∷ [])
+    ≡ table_heading amounts
+unfolding table_heading
+plain_heading amounts plain =
+    plain_row (codes "period") (codes "day")
+    (codes "centre" ∷ codes "shift" ∷ codes "count" ∷ codes "cpu" ∷ codes "blocks" ∷ amounts ∷ [])
+    (refl, (refl, (refl, (refl, (refl, (refl, (refl, (plain, tt))))))))
+    ∙ ap (λ last. codes "period,day,centre,shift,count,cpu,blocks," ++ last ++ newline)
+    (append-nil amounts)

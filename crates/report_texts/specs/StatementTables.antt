@@ -1,4 +1,4 @@
--- Statements as tables of comma-separated values: a heading, and a line for each charge row.
+-- Charge rows as tables of comma-separated values: a heading, and a line for each of them.
 use Rattle.std.specs.Prelude.{ℕ, List, [], ◌∷◌, ◌++◌, codes, flat_map}
 use Rattle.std.specs.Fmt.{decimal}
 use Rattle.book_model.specs.Words.{day_text_of}
@@ -9,9 +9,10 @@ use Rattle.report_texts.specs.Columns.{newline, seconds_text, amount_text}
 abbrev pub comma_line : List ℕ → List (List ℕ) → List ℕ
 comma_line first others = first ++ flat_map (λ field. codes "," ++ field) others ++ newline
 
--- the names of the columns
-unfoldable pub table_heading : List ℕ
-table_heading = codes "period,day,centre,shift,count,cpu,blocks,amount" ++ newline
+-- the names of the columns, of which the last one has the amounts
+unfoldable pub table_heading : List ℕ → List ℕ
+table_heading amounts =
+    codes "period,day,centre,shift,count,cpu,blocks," ++ amounts ++ newline
 
 -- the line of a row of a period
 unfoldable pub table_line : ℕ → ChargeRow → List ℕ
@@ -21,5 +22,9 @@ table_line period row =
     ∷ decimal row.blocks ∷ amount_text row.amount ∷ [])
 
 -- the heading, and a line for each row; there is no total
+abbrev pub row_table : List ℕ → ℕ → List ChargeRow → List ℕ
+row_table amounts period rows = table_heading amounts ++ flat_map (table_line period) rows
+
+-- the statement of a period
 abbrev pub statement_table : ℕ → List ChargeRow → List ℕ
-statement_table period rows = table_heading ++ flat_map (table_line period) rows
+statement_table period rows = row_table (codes "amount") period rows

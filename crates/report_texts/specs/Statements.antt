@@ -48,18 +48,23 @@ sum_columns rows =
     (sum_by (λ row. row.blocks) rows)
     (sum_by (λ row. row.amount) rows)
 
--- the line below the rows
+-- a line below the rows: a word, and the sums of some rows
+abbrev pub sums_line : List ℕ → List ChargeRow → List ℕ
+sums_line word rows = key_columns word [] [] ++ sum_columns rows
+
+-- the line of the rows' own sums
 abbrev pub total_line : List ChargeRow → List ℕ
-total_line rows = key_columns (codes "TOTAL") [] [] ++ sum_columns rows
+total_line rows = sums_line (codes "TOTAL") rows
+
+-- the lines of rows: the one above them, their own, and the one of their sums
+abbrev pub row_lines : List ChargeRow → List ℕ
+row_lines rows = heading ++ flat_map row_line rows ++ total_line rows
 
 -- a statement under a title: of a period, by its number, the day that it was closed through, if it
 -- was, and rows
 abbrev pub titled_statement : List ℕ → ℕ → Option ℤ → List ChargeRow → List ℕ
 titled_statement title period through rows =
-    title_line title period through
-    ++ heading
-    ++ flat_map row_line rows
-    ++ total_line rows
+    title_line title period through ++ row_lines rows
 
 -- the statement of a period, with all its rows
 abbrev pub statement_text : ℕ → Option ℤ → List ChargeRow → List ℕ

@@ -1,8 +1,9 @@
 -- Tables of comma-separated values: a line of fields, and a table while it is written.
 use Rattle.std.specs.Prelude.{◌≡◌, ℕ, false, List, ◌++◌, Some, Vec}
 use Rattle.std.specs.Global.{Global}
+use Rattle.std.specs.List.{list_any}
 use Rattle.csv.specs.Writing.{default_writer, text_written, writer_setup, fields_written}
-use Rattle.csv.specs.Writing.{has_written, row_text}
+use Rattle.csv.specs.Writing.{has_written, needs_byte, row_text}
 use Rattle.csv.specs.declared.writer.Writer.{Writer}
 
 -- the line of some fields, as the crate `csv` writes it with its defaults: commas between the fields,
@@ -10,6 +11,10 @@ use Rattle.csv.specs.declared.writer.Writer.{Writer}
 -- each of its own quotes is written twice
 unfoldable pub fields_line : List (List ℕ) → List ℕ
 fields_line fields = row_text default_writer fields
+
+-- a field of bytes that call for no quotes
+abbrev pub IsPlain : List ℕ → Type 0
+IsPlain field = list_any (needs_byte default_writer) field ≡ false
 
 -- a writer of rows over a vector, with the crate's defaults, has written these bytes and no field
 -- of a next row

@@ -14,7 +14,7 @@ use smf_text::Name;
 use std::alloc::{AllocError, Global};
 
 /// Keeps the rows of the centre, in their order.
-fn keep_rows(rows: &mut Vec<ChargeRow>, centre: Name)
+pub(crate) fn keep_rows(rows: &mut Vec<ChargeRow>, centre: Name)
     requires { AreRows rows.old.items }
     ensures kept { rows.new.items ≡ spec.rows_of_centre centre rows.old.items }
     ensures rows { AreRows rows.new.items }
@@ -33,7 +33,7 @@ fn keep_lines(lines: &mut Vec<Line>, centre: Name)
 
 /// The title of a report on the centre.
 #[tactic(auto, unfolding(crate::specs::Centres::centre_title))]
-fn centre_title(alloc: Global, report: &str, centre: Name) -> Result<String, AllocError>
+pub(crate) fn centre_title(alloc: Global, report: &str, centre: Name) -> Result<String, AllocError>
     ensures { IfOk result (λ title. string_bytes title ≡ spec.centre_title report.now centre) }
 {
     let mut title = String::from_str(alloc, report)?;

@@ -1,7 +1,7 @@
 //! Disputes as tables of comma-separated values.
 
-ghost use Rattle.std.specs.Prelude.{◌≡◌, ℕ, [], ◌∷◌, ◌++◌, ◌≤◌, All, IfOk, OnOk};
-ghost use Rattle.std.specs.Prelude.{flat_map, length, map, string_bytes};
+ghost use Rattle.std.specs.Prelude.{◌≡◌, [], ◌∷◌, ◌++◌, ◌≤◌, All, IfOk, OnOk};
+ghost use Rattle.std.specs.Prelude.{flat_map, length, map};
 ghost use Rattle.book_model.specs.Words.{IsDay, AreDisputes, dispute_shown, identity_length};
 ghost use Rattle.csv.specs.Records.{fields_of};
 ghost use Rattle.report_texts.specs.DisputeLists.{completion_text};

@@ -16,6 +16,7 @@ mod ruling_lists;
 mod statement_tables;
 mod statements;
 mod tables;
+mod what_ifs;
 
 pub use adjustment_lists::adjustment_list_text;
 pub use adjustment_tables::adjustment_table;
@@ -29,3 +30,4 @@ pub use period_lists::period_list_text;
 pub use ruling_lists::{push_ruling_line, ruling_list_head};
 pub use statement_tables::statement_table;
 pub use statements::statement_text;
+pub use what_ifs::{centre_what_if_table, centre_what_if_text, what_if_table, what_if_text};

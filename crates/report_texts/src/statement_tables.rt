@@ -1,9 +1,9 @@
-//! Statements as tables of comma-separated values.
+//! Charge rows as tables of comma-separated values.
 
-ghost use Rattle.std.specs.Prelude.{◌≡◌, ◌++◌, ℕ, List, [], All, IfOk, OnOk};
+ghost use Rattle.std.specs.Prelude.{◌≡◌, ◌++◌, ℕ, List, [], IfOk, OnOk};
 ghost use Rattle.book_model.specs.Words.{AreRows, IsDay};
 ghost use Rattle.report_texts.specs.StatementTables as spec;
-ghost use Rattle.report_texts.specs.Tables.{IsBetweenRows};
+ghost use Rattle.report_texts.specs.Tables.{IsBetweenRows, IsPlain};
 
 use crate::columns::{amount_text, seconds_text};
 use crate::tables::{into_bytes, new_table, write_fields};
@@ -12,13 +12,14 @@ use csv::Writer;
 use smf_text::day_text;
 use std::alloc::{AllocError, Global};
 
-/// Writes the names of the columns.
-fn write_heading(table: &mut Writer<Vec<u8>>) -> Result<(), AllocError>
+/// Writes the names of the columns, of which the last one has the amounts.
+fn write_heading(table: &mut Writer<Vec<u8>>, amounts: &[u8]) -> Result<(), AllocError>
+    requires { IsPlain amounts.now }
     ensures { OnOk result (IsBetweenRows table.old []
-        → IsBetweenRows table.new spec.table_heading) }
+        → IsBetweenRows table.new (spec.table_heading amounts.now)) }
 {
     let names: [&[u8]; 8] = [
-        b"period", b"day", b"centre", b"shift", b"count", b"cpu", b"blocks", b"amount",
+        b"period", b"day", b"centre", b"shift", b"count", b"cpu", b"blocks", amounts,
     ];
     write_fields(table, &names)?;
     Ok(())
@@ -55,6 +56,26 @@ fn write_row(
     Ok(())
 }
 
+/// Charge rows of a period as a table: a heading, whose last column has this name, and a row for
+/// each of them.
+pub(crate) fn row_table(
+    alloc: Global,
+    amounts: &[u8],
+    period: u16,
+    rows: &[ChargeRow],
+) -> Result<Vec<u8>, AllocError>
+    requires amounts { IsPlain amounts.now }
+    requires rows { AreRows rows.now }
+    ensures { IfOk result (λ table. table.items ≡ spec.row_table amounts.now period rows.now) }
+{
+    let mut table = new_table(alloc);
+    write_heading(&mut table, amounts)?;
+    for row in rows {
+        write_row(alloc, &mut table, period, *row)?;
+    }
+    into_bytes(table)
+}
+
 /// The statement of a period as a table: a heading, and a row for each of its charge rows, in the
 /// order in which the books give them.
 pub fn statement_table(
@@ -65,10 +86,5 @@ pub fn statement_table(
     requires { AreRows rows.now }
     ensures { IfOk result (λ table. table.items ≡ spec.statement_table period rows.now) }
 {
-    let mut table = new_table(alloc);
-    write_heading(&mut table)?;
-    for row in rows {
-        write_row(alloc, &mut table, period, *row)?;
-    }
-    into_bytes(table)
+    row_table(alloc, b"amount", period, rows)
 }

@@ -137,14 +137,34 @@ fn push_sums(alloc: Global, out: &mut String, rows: &[ChargeRow]) -> Result<(), 
     push_numbers(alloc, out, count, cpu, blocks, amount)
 }
 
-/// Appends the line below the rows.
-fn push_total(alloc: Global, out: &mut String, rows: &[ChargeRow]) -> Result<(), AllocError>
+/// Appends a line below the rows: a word, and the sums of some rows.
+pub(crate) fn push_sums_line(
+    alloc: Global,
+    out: &mut String,
+    word: &str,
+    rows: &[ChargeRow],
+) -> Result<(), AllocError>
     requires { AreRows rows.now }
     ensures { OnOk result (string_bytes out.new
-        ≡ string_bytes out.old ++ spec.total_line rows.now) }
+        ≡ string_bytes out.old ++ spec.sums_line word.now rows.now) }
 {
-    push_key(out, "TOTAL", "", "")?;
+    push_key(out, word, "", "")?;
     push_sums(alloc, out, rows)
+}
+
+/// Appends the lines of rows: the one above them, their own, and the one of their sums.
+pub(crate) fn push_row_lines(
+    alloc: Global,
+    out: &mut String,
+    rows: &[ChargeRow],
+) -> Result<(), AllocError>
+    requires { AreRows rows.now }
+    ensures { OnOk result (string_bytes out.new
+        ≡ string_bytes out.old ++ spec.row_lines rows.now) }
+{
+    push_heading(out)?;
+    push_rows(alloc, out, rows)?;
+    push_sums_line(alloc, out, "TOTAL", rows)
 }
 
 /// A statement under a title: of a period, by its number, the day that it was closed through, if it
@@ -162,9 +182,7 @@ pub(crate) fn titled_statement(
         string_bytes text ≡ spec.titled_statement title.now period through rows.now) }
 {
     let mut out = title_text(alloc, title, period, through)?;
-    push_heading(&mut out)?;
-    push_rows(alloc, &mut out, rows)?;
-    push_total(alloc, &mut out, rows)?;
+    push_row_lines(alloc, &mut out, rows)?;
     Ok(out)
 }
 

@@ -1,6 +1,7 @@
 use Rattle.std.proofs.Common.{refl, subst, ℤ, w32}
 use Rattle.std.proofs.lemmas.Int.{to_z-of_z}
-use Rattle.std.specs.Prelude.{None, List, ℕ}
+use Rattle.std.specs.Prelude.{None, List, ℕ, Vec}
+use Rattle.std.specs.Global.{Global}
 use Rattle.streams.specs.InputOutput.{reader_seen}
 use Rattle.book_model.proofs.DayLemmas.{day_fits}
 use Rattle.book_model.specs.Outcomes.{tariff_outcome, close_outcome}
@@ -8,9 +9,10 @@ use Rattle.book_core.specs.Calls.{Calls}
 use Rattle.book_core.specs.Transition.{IsTransition}
 use Rattle.book_import.specs.Imports.{Imports}
 use Rattle.book_import.specs.ReadLimits.{cut_of}
+use Rattle.book_reports.specs.WhatIfTexts.{what_if_report}
 use Rattle.office.specs.declared.request.Asked.{Asked}
 use Rattle.office.specs.declared.request.Asked.TheVariants.{Tariff, Close, Choose, Adopt, Import}
-use Rattle.office.specs.declared.request.Asked.TheVariants.{ImportBytes, Report}
+use Rattle.office.specs.declared.request.Asked.TheVariants.{ImportBytes, Report, WhatIf}
 use Rattle.office.specs.Requests.{Ruling, Text, IsAskable, no_dump, whole_dump}
 use Rattle.office.proofs.AskLemmas.{work_told, unread, as_asked}
 use Rattle.office.proofs.asking.ask.Goals as goal
@@ -87,3 +89,15 @@ returns-in-Report g c =
     as_asked (Report c.in-Report.report) c.in-Report.is
     (unread no_dump (record { is = refl; same = refl })
     (work_told Text c.text.ensures c.report_text.ensures.work))
+
+pub returns-in-WhatIf : goal.returns-in-WhatIf
+returns-in-WhatIf g c =
+    let old = g.L.Ledger.seen c.args.ledger.now in
+    let new = g.L.Ledger.seen c.what_if_text.new.ledger in
+    as_asked (WhatIf c.in-WhatIf.report c.in-WhatIf.tariff) c.in-WhatIf.is
+    (unread no_dump (record { is = refl; same = refl })
+    (work_told Text c.text-in-WhatIf.ensures
+    (subst (λ (tariff : List ℕ). IsTransition old new
+    (Calls (λ (text : Vec ℕ Global). text.items) (what_if_report c.in-WhatIf.report tariff)
+    c.what_if_text.result))
+    c.as_str-in-WhatIf.ensures.value c.what_if_text.ensures.work)))

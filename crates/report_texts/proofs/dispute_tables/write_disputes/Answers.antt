@@ -1,7 +1,7 @@
 use Rattle.std.proofs.Common.{map, subst, sym}
 use Rattle.std.proofs.lemmas.List.{length-map, take_all}
 use Rattle.book_model.specs.Words.{dispute_shown}
-use Rattle.report_texts.specs.DisputeTables.{dispute_rows, rows_from}
+use Rattle.report_texts.specs.DisputeTables.{rows_from}
 use Rattle.report_texts.specs.Tables.{AddsRows}
 use Rattle.report_texts.proofs.RowLemmas.{adds_more, long_enough, one_more_dispute, shown_at}
 use Rattle.report_texts.proofs.dispute_tables.write_disputes.Goals as goal

@@ -1,9 +1,10 @@
-use Rattle.std.proofs.Common.{[]}
-use Rattle.csv.specs.Writing.{fields_text, is_blank}
-use Rattle.report_texts.specs.StatementTables.{table_heading}
+use Rattle.std.proofs.Common.{[], subst}
+use Rattle.report_texts.specs.Tables.{IsBetweenRows}
+use Rattle.report_texts.proofs.TableLemmas.{plain_heading}
 use Rattle.report_texts.proofs.statement_tables.write_heading.Goals as goal
 
 -- the names call for no quotes
 pub returns : goal.returns
-unfolding table_heading fields_text is_blank
-returns c between = c.in_ok-write_fields.ensures [] between
+returns c between =
+    subst (IsBetweenRows c.write_fields.new.table) (plain_heading c.args.amounts.now c.requires)
+    (c.in_ok-write_fields.ensures [] between)

@@ -4,9 +4,9 @@ use Rattle.book_model.proofs.DayLemmas.{day_fits}
 use Rattle.book_model.specs.Words.{day_text_of}
 use Rattle.report_texts.specs.Columns.{seconds_text, amount_text}
 use Rattle.report_texts.specs.StatementTables.{table_line}
-use Rattle.report_texts.specs.Tables.{IsBetweenRows}
+use Rattle.report_texts.specs.Tables.{IsBetweenRows, IsPlain}
 use Rattle.report_texts.proofs.TableLemmas.{plain_amount, plain_day, plain_name, plain_number}
-use Rattle.report_texts.proofs.TableLemmas.{plain_row, plain_seconds, IsPlain}
+use Rattle.report_texts.proofs.TableLemmas.{plain_row, plain_seconds}
 use Rattle.report_texts.proofs.statement_tables.write_row.Goals as goal
 
 -- none of the fields calls for quotes

@@ -2,9 +2,9 @@ use Rattle.std.proofs.Common.{◌+◌, arith, ap, length, length-append}
 use Rattle.std.proofs.lemmas.Result.{err_from_is_err_and}
 use Rattle.streams.specs.Sinks.{writer_of}
 use Rattle.book_reports.specs.CheckLists.{record_line}
+use Rattle.book_reports.proofs.StreamedLemmas.{first_written, none_written, written_as}
 use Rattle.program_output.specs.Listings.{waiting}
 use Rattle.program_output.proofs.LineLemmas.{record_line_short}
-use Rattle.program_output.proofs.ListingLemmas.{none_written, prefix_written, written_as}
 use Rattle.program_output.proofs.listing.Listing.push_line.Goals as goal
 
 pub returns-in_err-push_record_line-clause-written :
@@ -32,5 +32,5 @@ returns-in_err-flush-clause-written g c =
     let held = g.W.Write.contents (writer_of c.args.sink.now) in
     let holds = g.W.Write.contents (writer_of c.flush.new.sink) in
     let wrote = c.in_err-flush.ensures.written in
-    let part = prefix_written _ wrote.0 held holds wrote.1 in
+    let part = first_written _ wrote.0 held holds wrote.1 in
     rw failed.1 (part.0, written_as _ _ part.0 held holds c.in_ok-push_record_line.ensures part.1)

@@ -1,0 +1,123 @@
+//! What-ifs: what a period would have cost by another tariff.
+
+ghost use Rattle.std.specs.Prelude.{◌≡◌, ◌++◌, IfOk, OnOk, string_bytes};
+ghost use Rattle.std.specs.Option.{ForSome};
+ghost use Rattle.book_model.specs.Words.{AreRows, IsDay};
+ghost use Rattle.report_texts.specs.WhatIfs as spec;
+
+use crate::centres::{centre_title, keep_rows};
+use crate::parts::push_name;
+use crate::periods::title_text;
+use crate::statement_tables::row_table;
+use crate::statements::{push_row_lines, push_sums_line};
+use book_model::ChargeRow;
+use smf_text::Name;
+use std::alloc::{AllocError, Global};
+
+/// Appends the line that says which tariff it is, by the SHA-256 of its file.
+#[tactic(auto, unfolding(crate::specs::WhatIfs::tariff_line))]
+fn push_tariff(alloc: Global, out: &mut String, digest: &[u8; 32]) -> Result<(), AllocError>
+    ensures { OnOk result (string_bytes out.new
+        ≡ string_bytes out.old ++ spec.tariff_line digest.now) }
+{
+    out.push_str("TARIFF ")?;
+    push_name(alloc, out, digest)?;
+    out.push('\n')
+}
+
+/// A what-if under a title.
+fn titled_what_if(
+    alloc: Global,
+    title: &str,
+    period: u16,
+    through: Option<i32>,
+    digest: &[u8; 32],
+    rows: &[ChargeRow],
+    charged: &[ChargeRow],
+) -> Result<String, AllocError>
+    requires through { ForSome through IsDay }
+    requires rows { AreRows rows.now }
+    requires charged { AreRows charged.now }
+    ensures { IfOk result (λ text. string_bytes text
+        ≡ spec.titled_what_if title.now period through digest.now rows.now charged.now) }
+{
+    let mut out = title_text(alloc, title, period, through)?;
+    push_tariff(alloc, &mut out, digest)?;
+    push_row_lines(alloc, &mut out, rows)?;
+    push_sums_line(alloc, &mut out, "CHARGED", charged)?;
+    Ok(out)
+}
+
+/// What a period would have cost by another tariff: the period by its number and the day that it
+/// was closed through, if it was, the tariff by the SHA-256 of its file, the rows by it, and the
+/// rows that the period is charged, each in the order in which the books give them.
+pub fn what_if_text(
+    alloc: Global,
+    period: u16,
+    through: Option<i32>,
+    digest: &[u8; 32],
+    rows: &[ChargeRow],
+    charged: &[ChargeRow],
+) -> Result<String, AllocError>
+    requires through { ForSome through IsDay }
+    requires rows { AreRows rows.now }
+    requires charged { AreRows charged.now }
+    ensures { IfOk result (λ text. string_bytes text
+        ≡ spec.what_if_text period through digest.now rows.now charged.now) }
+{
+    titled_what_if(alloc, "WHAT-IF", period, through, digest, rows, charged)
+}
+
+/// The same as a table: a heading, and a row for each charge row by the other tariff.
+pub fn what_if_table(alloc: Global, period: u16, rows: &[ChargeRow]) -> Result<Vec<u8>, AllocError>
+    requires { AreRows rows.now }
+    ensures { IfOk result (λ table. table.items ≡ spec.what_if_table period rows.now) }
+{
+    row_table(alloc, b"what_if", period, rows)
+}
+
+/// What a centre would have cost in a period by another tariff: by all rows of the period, those by
+/// the tariff and those that the period is charged.
+pub fn centre_what_if_text(
+    alloc: Global,
+    centre: Name,
+    period: u16,
+    through: Option<i32>,
+    digest: &[u8; 32],
+    mut rows: Vec<ChargeRow>,
+    mut charged: Vec<ChargeRow>,
+) -> Result<String, AllocError>
+    requires through { ForSome through IsDay }
+    requires rows { AreRows rows.items }
+    requires charged { AreRows charged.items }
+    ensures { IfOk result (λ text. string_bytes text
+        ≡ spec.centre_what_if_text centre period through digest.now rows.items charged.items) }
+{
+    let title = centre_title(alloc, "WHAT-IF", centre)?;
+    keep_rows(&mut rows, centre);
+    keep_rows(&mut charged, centre);
+    titled_what_if(
+        alloc,
+        title.as_str(),
+        period,
+        through,
+        digest,
+        &rows,
+        &charged,
+    )
+}
+
+/// The same as a table: a heading, and a row for each charge row of the centre by the other tariff.
+pub fn centre_what_if_table(
+    alloc: Global,
+    centre: Name,
+    period: u16,
+    mut rows: Vec<ChargeRow>,
+) -> Result<Vec<u8>, AllocError>
+    requires { AreRows rows.items }
+    ensures { IfOk result (λ table.
+        table.items ≡ spec.centre_what_if_table centre period rows.items) }
+{
+    keep_rows(&mut rows, centre);
+    what_if_table(alloc, period, &rows)
+}
