@@ -1,6 +1,7 @@
 -- What is answered to what a head asks, whatever follows the bytes that were taken.
 use Rattle.std.proofs.Common.{◌≡◌, ◌∙◌, ℕ, ◌<◌, ◌≤◌, Bool, true, List, ◌++◌, length, take, refl}
-use Rattle.std.proofs.Common.{sym, ap, subst, arith, length-append, append-nil, Option}
+use Rattle.std.proofs.Common.{sym, ap, subst, arith, length-append, append-nil, Option, IfOk}
+use Rattle.std.proofs.Common.{Result, Ok, Err}
 use Rattle.std.proofs.lemmas.Bool.{le-ltb, lt-ltb}
 use Rattle.std.proofs.lemmas.List.{take-append-le}
 use Rattle.httparse.specs.Grammar.{RequestHead}
@@ -8,8 +9,13 @@ use Rattle.smf_frames.specs.declared.dump.Layout.{Layout}
 use Rattle.book_core.specs.Ledgers.{Seen}
 use Rattle.book_core.specs.Transition.{Transition, NoEvent, IsTransition}
 use Rattle.book_core.proofs.TransitionLemmas.{no_work, work_as}
+use Rattle.book_reports.specs.declared.what_if.WhatIf.{WhatIf}
+use Rattle.book_http.specs.declared.answer.Answer.{Answer}
+use Rattle.book_http.specs.declared.answering.ReadFailed.{ReadFailed}
 use Rattle.book_http.specs.declared.asked.Asked.{Asked}
 use Rattle.book_http.specs.declared.asked.Asked.TheVariants as asks
+use Rattle.book_http.specs.declared.body.BodyFault.{BodyFault}
+use Rattle.book_http.specs.declared.body.BodyFault.TheVariants.{Short, Read, Memory}
 use Rattle.book_http.specs.declared.framing.Framing.{Framing}
 use Rattle.book_http.specs.declared.route.Route.{Route}
 use Rattle.book_http.specs.declared.status.Status.TheVariants.{BadRequest, Unavailable}
@@ -18,9 +24,10 @@ use Rattle.book_http.specs.Asked.{asked_framed}
 use Rattle.book_http.specs.Framing.{framing}
 use Rattle.book_http.specs.Requests.{DescribesHead}
 use Rattle.book_http.specs.Routes.{path_of, route}
-use Rattle.book_http.specs.Answer.{RefusesRequest, AnswersImport, AnswersBody, AnswersAsked, UnlessMemory}
-use Rattle.book_http.specs.Answer.{done, no_memory}
-use Rattle.book_http.specs.Replies.{Reply, refusal}
+use Rattle.book_http.specs.Answer.{AnswersImport, AnswersWhatIf, AnswersBody, AnswersAsked}
+use Rattle.book_http.specs.Answer.{RefusesRequest, UnlessBad, UnlessMemory, done, no_memory}
+use Rattle.book_http.specs.Bodies.{BodyComes, body_status}
+use Rattle.book_http.specs.Replies.{Reply, refusal, reply_of}
 use Rattle.book_http.specs.Served.{IsAnswerTo}
 
 -- nothing is done, and a refusal is the reply
@@ -46,32 +53,77 @@ wanting seen Made =
     (UnlessMemory Made (refusal Unavailable)) (λ was before events is refused. no_memory refused)
     (refuses seen (refusal Unavailable))
 
--- a body that came whole is imported, whatever follows it
-pub whole_body : (old new : Seen) (ended : Bool) (layout : Layout) (size : ℕ)
+-- what is done with a body that came whole is done with it, whatever follows
+whole_body : (old new : Seen) (size : ℕ) (came body more : List ℕ) (reply : Reply)
+    (Whole : List ℕ → Reply → Transition) → size ≤ length came → body ≡ take size came
+    → IsTransition old new (Whole body reply)
+    → IsTransition old new (AnswersBody Whole size (came ++ more) reply)
+whole_body old new size came body more reply Whole enough is work =
+    let few : size ≤ length (came ++ more) = rw length-append (omega arith) in
+    let same : body ≡ take size (came ++ more) = is ∙ sym (take-append-le size came more enough) in
+    subst (λ short. IsTransition old new
+    (UnlessBad short (Whole (take size (came ++ more)) reply) reply))
+    (sym (le-ltb (length (came ++ more)) size few))
+    (subst (λ body. IsTransition old new (Whole body reply)) same work)
+
+-- a dump that came whole is imported
+pub whole_dump_answered : (old new : Seen) (ended : Bool) (layout : Layout) (size : ℕ)
     (came body : List ℕ) (reply : Reply) → size ≤ length came → body ≡ take size came
     → IsTransition old new (AnswersImport old.naming layout body reply)
     → IsAnswerTo old new ended (asks.Import layout size) came reply
-whole_body old new ended layout size came body reply enough is work more none =
-    let few : size ≤ length (came ++ more) = rw length-append (omega arith) in
-    let same : body ≡ take size (came ++ more) = is ∙ sym (take-append-le size came more enough) in
-    let imported = subst (λ body. IsTransition old new (AnswersImport old.naming layout body reply))
-    same work in
+whole_dump_answered old new ended layout size came body reply enough is work more none =
     answered old new (asks.Import layout size) (came ++ more) reply
-    (subst (λ short. IsTransition old new
-    (AnswersBody short old.naming layout (take size (came ++ more)) reply))
-    (sym (le-ltb (length (came ++ more)) size few)) imported)
+    (whole_body old new size came body more reply (AnswersImport old.naming layout) enough is work)
 
--- of a body that the input's end cuts short nothing is imported
-pub short_body : (seen : Seen) (ended : Bool) (layout : Layout) (size : ℕ) (came : List ℕ)
-    → ended ≡ true → length came < size
-    → IsAnswerTo seen seen ended (asks.Import layout size) came (refusal BadRequest)
-short_body seen ended layout size came is_end short more none =
-    let whole : came ++ more ≡ came = ap (λ bytes. came ++ bytes) (none is_end) ∙ append-nil came in
-    let few : length (came ++ more) < size = rw whole short in
-    answered seen seen (asks.Import layout size) (came ++ more) (refusal BadRequest)
-    (subst (λ short. IsTransition seen seen (AnswersBody short seen.naming layout
-    (take size (came ++ more)) (refusal BadRequest)))
-    (sym (lt-ltb (length (came ++ more)) size few)) (refuses seen (refusal BadRequest)))
+-- by a tariff that came whole a period is priced
+pub whole_tariff_answered : (old new : Seen) (ended : Bool) (what_if : WhatIf) (size : ℕ)
+    (came body : List ℕ) (reply : Reply) → size ≤ length came → body ≡ take size came
+    → IsTransition old new (AnswersWhatIf what_if body reply)
+    → IsAnswerTo old new ended (asks.WhatIf what_if size) came reply
+whole_tariff_answered old new ended what_if size came body reply enough is work more none =
+    answered old new (asks.WhatIf what_if size) (came ++ more) reply
+    (whole_body old new size came body more reply (AnswersWhatIf what_if) enough is work)
+
+-- with a body that the input's end cuts short nothing is done
+short_body : (seen : Seen) (size : ℕ) (came : List ℕ) (Whole : List ℕ → Reply → Transition)
+    → length came < size
+    → IsTransition seen seen (AnswersBody Whole size came (refusal BadRequest))
+short_body seen size came Whole short =
+    subst (λ short. IsTransition seen seen
+    (UnlessBad short (Whole (take size came) (refusal BadRequest)) (refusal BadRequest)))
+    (sym (lt-ltb (length came) size short)) (refuses seen (refusal BadRequest))
+
+-- so what asks for a body of that size is refused without one, and nothing is done
+module _ (seen : Seen) (ended : Bool) (wanted : Asked) (size : ℕ)
+    (Whole : List ℕ → Reply → Transition)
+    (takes : (behind : List ℕ) (reply : Reply)
+    → IsTransition seen seen (AnswersBody Whole size behind reply)
+    → IsTransition seen seen (AnswersAsked seen.naming wanted behind reply)) where
+  short_answered : (came : List ℕ) → ended ≡ true → length came < size
+      → IsAnswerTo seen seen ended wanted came (refusal BadRequest)
+  short_answered came is_end short more none =
+      let whole : came ++ more ≡ came = ap (λ bytes. came ++ bytes) (none is_end) ∙ append-nil came
+      in
+      let few : length (came ++ more) < size = rw whole short in
+      answered seen seen wanted (came ++ more) (refusal BadRequest)
+      (takes (came ++ more) (refusal BadRequest) (short_body seen size (came ++ more) Whole few))
+
+  told_refused : (came : List ℕ) (fault : BodyFault) → (fault ≡ Short → ended ≡ true)
+      → BodyComes {A = List ℕ} (λ body. body) size came (Err fault)
+      → IsAnswerTo seen seen ended wanted came (refusal (body_status fault))
+  told_refused came Short is_end short = short_answered came (is_end refl) short
+  told_refused came Read is_end short = λ more none. wanting seen _
+  told_refused came Memory is_end short = λ more none. wanting seen _
+
+  pub body_refused : (came : List ℕ) (fault : BodyFault) (told : Result Answer ReadFailed)
+      → (fault ≡ Short → ended ≡ true)
+      → BodyComes {A = List ℕ} (λ body. body) size came (Err fault)
+      → IfOk told (λ answer. reply_of answer ≡ refusal (body_status fault))
+      → IfOk told (λ answer. IsAnswerTo seen seen ended wanted came (reply_of answer))
+  body_refused came fault (Err failed) is_end short is = tt
+  body_refused came fault (Ok answer) is_end short is =
+      subst (λ reply. IsAnswerTo seen seen ended wanted came reply) (sym is)
+      (told_refused came fault is_end short)
 
 -- what answers without reading on is the answer whatever comes
 pub at_once : (old new : Seen) (ended : Bool) (asked other : Asked) (behind : List ℕ)

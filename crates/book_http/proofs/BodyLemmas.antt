@@ -60,6 +60,12 @@ same_fault one other size same came Short is few = subst (λ n. length came < n)
 same_fault one other size same came Read is failed = tt
 same_fault one other size same came Memory is none = tt
 
+-- whatever the body would have been
+pub fault_comes : {A : Type 0} (bytes : A → List ℕ) (size : ℕ) (came : List ℕ) (fault : BodyFault)
+    → BodyComes bytes size came (Err fault)
+    → BodyComes {A = List ℕ} (λ body. body) size came (Err fault)
+fault_comes bytes size came fault is = same_fault bytes (λ body. body) size size came fault refl is
+
 -- a vector, all of whose bytes were written
 pub all_written : (body rest : List ℕ) (size : ℕ) → length body ≡ size
     → take size (body ++ rest) ≡ body

@@ -1,14 +1,16 @@
 -- What requests do to the books, one after another.
 use Rattle.std.proofs.Common.{◌≡◌, ◌∙◌, ℕ, Bool, true, false, List, [], ◌++◌, length, take, None}
-use Rattle.std.proofs.Common.{ltb, refl, sym, ap, subst, inl, inr, Result, Ok, Err}
+use Rattle.std.proofs.Common.{ltb, not, refl, sym, ap, subst, inl, inr, Result, Ok, Err}
+use Rattle.std.specs.Str.{is_utf8}
 use Rattle.httparse.specs.Grammar.{RequestHead}
 use Rattle.smf_frames.specs.declared.dump.Layout.{Layout}
-use Rattle.book_model.specs.Words.{front, Book, Event, after_all, book_after, Naming}
+use Rattle.book_model.specs.Words.{front, Book, Event, Outcome, after_all, book_after, Naming}
 use Rattle.book_model.specs.MadeByCalls as history
 use Rattle.book_model.proofs.StepLemmas.{books_follow_history}
 use Rattle.book_model.specs.declared.fault.LedgerFault.{LedgerFault}
+use Rattle.book_core.specs.Calls.{Calls, listed}
 use Rattle.book_core.specs.Ledgers.{Seen}
-use Rattle.book_core.specs.Transition.{IsTransition}
+use Rattle.book_core.specs.Transition.{IsTransition, Transition}
 use Rattle.book_core.proofs.FollowLemmas.{called_events, follows, after_all-book_of}
 use Rattle.book_core.specs.Follow.{MakesAnswered}
 use Rattle.book_import.specs.declared.receipt.Receipt.{Receipt}
@@ -16,32 +18,68 @@ use Rattle.book_import.specs.Dumps.{stop_after}
 use Rattle.book_import.specs.Imports.{Imports}
 use Rattle.book_import.proofs.RepeatLemmas.{twice_is_once}
 use Rattle.book_reports.specs.declared.report.Report.{Report}
+use Rattle.book_reports.specs.declared.what_if.WhatIf.{WhatIf}
 use Rattle.book_reports.specs.BookTexts.{report_outcome}
+use Rattle.book_reports.specs.WhatIfTexts.{what_if_report}
 use Rattle.office.specs.Requests.{Dump, Response, Ruling, Count, Text, response_outcome}
 use Rattle.office.specs.Requests.{Receives, whole_dump}
 use Rattle.office.proofs.LawLemmas.{receives_answered}
 use Rattle.book_http.specs.declared.asked.Asked.{Asked}
 use Rattle.book_http.specs.declared.asked.Asked.TheVariants as asks
+use Rattle.book_http.specs.declared.answer_head.BodyKind.{BodyKind}
 use Rattle.book_http.specs.declared.answer_head.BodyKind.TheVariants as kinds
 use Rattle.book_http.specs.Asked.{asked}
-use Rattle.book_http.specs.Answer.{office_reply, AnswersReport, AnswersBody, AnswersAsked}
-use Rattle.book_http.specs.Answer.{Answers, done, no_memory, no_head, a_head}
+use Rattle.book_http.specs.Answer.{office_reply, AnswersOffice, AnswersReport, AnswersImport}
+use Rattle.book_http.specs.Answer.{AnswersWhatIf, AnswersBody, AnswersAsked, Prices, UnlessBad}
+use Rattle.book_http.specs.Answer.{Answers, done, no_memory, no_head, a_head, what_if_kind}
 use Rattle.book_http.specs.Head.{HasHead}
 use Rattle.book_http.specs.Laws.{IsUnhindered, RequestTwiceIsOnce, RequestsMakeHistory}
 use Rattle.book_http.specs.Replies.{Reply}
 use Rattle.book_http.specs.Served.{IsDone}
 use Rattle.book_http.proofs.HeadLemmas.{head_unique}
 
+-- a text that is no event makes none
+pub text_none : (kind : BodyKind) (text : Book → Outcome (List ℕ)) (reply : Reply) (was : Bool)
+    (before : Book) (events : List Event) (is : Bool) → (text before).event ≡ None
+    → AnswersOffice kind (Calls (λ (told : Response). told) (response_outcome Text text)) reply was
+    before events is → events ≡ []
+text_none kind text reply was before events is no_event answers =
+    elim (called_events (λ (told : Response). told) (response_outcome Text text before) answers.told
+    events answers.made.makes) [
+      | inl none ↦ none
+      | inr all ↦ all ∙ ap listed no_event
+    ]
+
 -- a report is no event
 pub report_none : (naming : Naming) (asked : Report) (reply : Reply) (was : Bool) (before : Book)
     (events : List Event) (is : Bool) → AnswersReport naming asked reply was before events is
     → events ≡ []
 report_none naming asked reply was before events is answers =
-    elim (called_events (λ (told : Response). told) (response_outcome Text (report_outcome naming asked) before)
-    answers.told events answers.made.makes) [
-      | inl none ↦ none
-      | inr all ↦ all
-    ]
+    text_none _ (report_outcome naming asked) reply was before events is refl answers
+
+-- where a bad request is refused, and with any other nothing is done, nothing is done
+unless_none : (bad : Bool) (Made : Transition) (reply : Reply) (was : Bool) (before : Book)
+    (events : List Event) (is : Bool) → (Made was before events is → events ≡ [])
+    → UnlessBad bad Made reply was before events is → events ≡ []
+unless_none true Made reply was before events is none made = made.none.none
+unless_none false Made reply was before events is none made = none made
+
+-- nor is what a period would have cost
+what_if_none : (what_if : WhatIf) (body : List ℕ) (reply : Reply) (was : Bool) (before : Book)
+    (events : List Event) (is : Bool) → AnswersWhatIf what_if body reply was before events is
+    → events ≡ []
+what_if_none what_if body reply was before events is =
+    unless_none (not (is_utf8 body)) (AnswersOffice (what_if_kind what_if.form) (Prices what_if body) reply)
+    reply was before events is
+    (text_none _ (what_if_report what_if body) reply was before events is refl)
+
+-- whatever came of its body
+pub what_if_body_none : (what_if : WhatIf) (size : ℕ) (behind : List ℕ) (reply : Reply) (was : Bool)
+    (before : Book) (events : List Event) (is : Bool)
+    → AnswersBody (AnswersWhatIf what_if) size behind reply was before events is → events ≡ []
+what_if_body_none what_if size behind reply was before events is =
+    unless_none (ltb (length behind) size) (AnswersWhatIf what_if (take size behind) reply) reply was
+    before events is (what_if_none what_if (take size behind) reply was before events is)
 
 -- an import answers a receipt
 pub record IsCounted (naming : Naming) (dump : Dump) (told : Result Response LedgerFault) (was : Bool)
@@ -69,9 +107,10 @@ nothing_more before first second none =
 -- the same import twice
 import_twice : (short : Bool) (naming : Naming) (layout : Layout) (body : List ℕ)
     (once twice : Reply) (before : Book) (first second : List Event) (between is : Bool)
-    → AnswersBody short naming layout body once false before first between → IsUnhindered once
-    → AnswersBody short naming layout body twice between (after_all first before) second is
-    → after_all (second ++ first) before ≡ after_all first before
+    → UnlessBad short (AnswersImport naming layout body once) once false before first between
+    → IsUnhindered once
+    → UnlessBad short (AnswersImport naming layout body twice) twice between (after_all first before)
+    second is → after_all (second ++ first) before ≡ after_all first before
 import_twice true naming layout body once twice before first second between is one unhindered two =
     nothing_more before first second two.none.none
 import_twice false naming layout body once twice before first second between is one unhindered two =
@@ -101,6 +140,10 @@ asked_twice (asks.Report report) naming behind once twice before first second be
     unhindered two =
     nothing_more before first second
     (report_none naming report twice between (after_all first before) second is two)
+asked_twice (asks.WhatIf what_if size) naming behind once twice before first second between is one
+    unhindered two =
+    nothing_more before first second
+    (what_if_body_none what_if size behind twice between (after_all first before) second is two)
 asked_twice (asks.Import layout size) naming behind once twice before first second between is one
     unhindered two =
     import_twice (ltb (length behind) size) naming layout (take size behind) once twice before
@@ -150,7 +193,7 @@ none_answered naming past events none answered =
     subst (λ (events : List Event). history.IsMadeByCalls naming (events ++ past)) (sym none) answered
 
 body_answered : (short : Bool) (naming : Naming) (layout : Layout) (body : List ℕ) (reply : Reply)
-    → MakesAnswered naming (AnswersBody short naming layout body reply)
+    → MakesAnswered naming (UnlessBad short (AnswersImport naming layout body reply) reply)
 body_answered true naming layout body reply past was events is made =
     none_answered naming past events made.none.none
 body_answered false naming layout body reply past was events is made =
@@ -165,6 +208,9 @@ asked_answered (asks.OtherMethod method) naming behind reply past was events is 
 asked_answered (asks.Report report) naming behind reply past was events is made =
     none_answered naming past events
     (report_none naming report reply was (book_after past) events is made)
+asked_answered (asks.WhatIf what_if size) naming behind reply past was events is made =
+    none_answered naming past events
+    (what_if_body_none what_if size behind reply was (book_after past) events is made)
 asked_answered (asks.Import layout size) naming behind reply past was events is made =
     body_answered (ltb (length behind) size) naming layout (take size behind) reply past was events
     is made

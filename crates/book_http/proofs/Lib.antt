@@ -6,6 +6,7 @@ pub mod FramingLemmas
 pub mod HeadLemmas
 pub mod LawLemmas
 pub mod RetryLemmas
+pub mod NamedPeriodLemmas
 pub mod NumberLemmas
 pub mod UniqueAnswerLemmas
 pub mod PeriodLemmas

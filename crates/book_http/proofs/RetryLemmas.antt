@@ -17,13 +17,13 @@ use Rattle.book_http.specs.declared.answer_head.BodyKind.TheVariants as kinds
 use Rattle.book_http.specs.declared.asked.Asked.{Asked}
 use Rattle.book_http.specs.declared.asked.Asked.TheVariants as asks
 use Rattle.book_http.specs.Asked.{asked}
-use Rattle.book_http.specs.Answer.{office_reply, AnswersBody, AnswersAsked, Answers, done, no_memory}
-use Rattle.book_http.specs.Answer.{no_head, a_head}
+use Rattle.book_http.specs.Answer.{office_reply, AnswersImport, AnswersAsked, Answers, UnlessBad}
+use Rattle.book_http.specs.Answer.{done, no_memory, no_head, a_head}
 use Rattle.book_http.specs.Head.{HasHead, HasNoHead}
 use Rattle.book_http.specs.Laws.{IsUnhindered, IsWhole, RequestsAreMended}
 use Rattle.book_http.specs.Replies.{Reply}
 use Rattle.book_http.proofs.HeadLemmas.{head_unique}
-use Rattle.book_http.proofs.LawLemmas.{import_counted, report_none}
+use Rattle.book_http.proofs.LawLemmas.{import_counted, report_none, what_if_body_none}
 
 -- three requests that did nothing
 none_at_all : (before : Book) (first second all : List Event) → first ≡ [] → second ≡ [] → all ≡ []
@@ -45,9 +45,11 @@ import_left naming stop records before told events is handled unhindered =
 import_mended : (short : Bool) (naming : Naming) (layout : Layout) (body : List ℕ)
     (once twice alone : Reply) (before : Book) (first second all : List Event)
     (between is end : Bool)
-    → (first ≡ []) ⊎ AnswersBody short naming layout body once false before first between
-    → AnswersBody short naming layout body twice false (after_all first before) second is
-    → IsWhole twice → AnswersBody short naming layout body alone false before all end
+    → (first ≡ [])
+    ⊎ UnlessBad short (AnswersImport naming layout body once) once false before first between
+    → UnlessBad short (AnswersImport naming layout body twice) twice false (after_all first before)
+    second is → IsWhole twice
+    → UnlessBad short (AnswersImport naming layout body alone) alone false before all end
     → IsUnhindered alone → after_all (second ++ first) before ≡ after_all all before
 import_mended true naming layout body once twice alone before first second all between is end one two
     whole single unhindered =
@@ -103,6 +105,15 @@ asked_mended (asks.Report report) naming behind once twice alone before first se
     ])
     (report_none naming report twice false (after_all first before) second is two)
     (report_none naming report alone false before all end single)
+asked_mended (asks.WhatIf what_if size) naming behind once twice alone before first second all
+    between is end one two whole single unhindered =
+    none_at_all before first second all
+    (elim one [
+      | inl none ↦ none
+      | inr made ↦ what_if_body_none what_if size behind once false before first between made
+    ])
+    (what_if_body_none what_if size behind twice false (after_all first before) second is two)
+    (what_if_body_none what_if size behind alone false before all end single)
 asked_mended (asks.Import layout size) naming behind once twice alone before first second all between
     is end one two whole single unhindered =
     import_mended (ltb (length behind) size) naming layout (take size behind) once twice alone before

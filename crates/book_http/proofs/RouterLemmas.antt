@@ -193,6 +193,8 @@ plain_path page.Disputes = Some (codes "/disputes")
 plain_path page.DisputesCsv = Some (codes "/disputes-csv")
 plain_path page.Rulings = Some (codes "/rulings")
 plain_path page.Tariff = None
+plain_path page.WhatIf = None
+plain_path page.WhatIfCsv = None
 plain_path page.Import = Some (codes "/import")
 plain_path page.ImportBdw = Some (codes "/import-bdw")
 
@@ -207,13 +209,19 @@ rows_are_plain = (
   tt,
   (
     tt,
-    ((refl, refl), ((refl, refl), ((refl, refl), ((refl, refl), ((refl, refl), ((refl, refl), (tt, (tt, (tt, tt))))))))),
+    ((refl, refl), ((refl, refl), ((refl, refl), ((refl, refl), ((refl, refl), ((refl, refl), (tt, (tt, (tt, (tt, (tt, tt))))))))))),
   ),
 )
 
 rows_stand : StandAt [] route_rows
 unfolding matchit_on_literals route_rows
-rows_stand = (refl, (refl, (refl, (refl, (refl, (refl, (refl, (refl, (refl, (refl, (refl, tt)))))))))))
+rows_stand = (
+  refl,
+  (
+    refl,
+    (refl, (refl, (refl, (refl, (refl, (refl, (refl, (refl, (refl, (refl, (refl, tt))))))))))),
+  ),
+)
 
 -- where both hold of a key, the path is the one of its page
 path_of_key : (path pattern : List ℕ) (text : Option (List ℕ))

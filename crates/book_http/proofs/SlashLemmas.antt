@@ -1,15 +1,13 @@
 -- Texts that a slash cuts in two.
 use Rattle.std.proofs.Common.{◌≡◌, ◌≢◌, ℕ, suc, ◌<◌, Bool, true, false, cond, List, [], ◌∷◌, ◌++◌}
 use Rattle.std.proofs.Common.{length, get_or, arith, lit<, Option, Some, None, refl, ap, ap₂, ◌∙◌, Bor}
-use Rattle.std.specs.Prelude.{option_map}
 use Rattle.std.proofs.lemmas.Bool.Decides.{nat_tests}
 use Rattle.std.proofs.lemmas.Str.Pattern.{IsSplitOnceResult, split_parts}
 use Rattle.std.specs.Option.{MatchOption}
 use Rattle.std.specs.Prelude.{◌==◌}
-use Rattle.book_reports.specs.BookTexts.{centre_named, report_of_all}
-use Rattle.book_reports.specs.declared.report.PeriodReport.{PeriodReport}
-use Rattle.book_http.specs.Routes.{after_slash, before_slash, period, report_by, report_in}
-use Rattle.book_http.specs.Routes.{report_of_centre}
+use Rattle.book_reports.specs.BookTexts.{centre_named}
+use Rattle.book_http.specs.Routes.{after_slash, before_slash, period, period_by, period_in}
+use Rattle.book_http.specs.Routes.{period_of_all, period_of_centre}
 
 -- no byte of a text is a slash
 abbrev pub HasNoSlash : List ℕ → Type 0
@@ -79,16 +77,14 @@ split_as text (Some parts) split =
     let halves = cut parts.0.now parts.1.now is.1 in
     (ap before_slash is.0 ∙ halves.0, ap after_slash is.0 ∙ halves.1)
 
--- what a text asks of a period that no slash cuts, or one does
-pub asked_whole : (asked : PeriodReport) (text : List ℕ)
-    → (before_slash text ≡ text) × (after_slash text ≡ None)
-    → report_in asked text ≡ option_map (report_of_all asked) (period text)
-unfolding report_in
-asked_whole asked text is = ap₂ (λ number name. report_by asked (period number) name) is.0 is.1
+-- the period that a text names which no slash cuts, or one does
+pub named_whole : (text : List ℕ) → (before_slash text ≡ text) × (after_slash text ≡ None)
+    → period_in text ≡ period_of_all (period text)
+unfolding period_in
+named_whole text is = ap₂ (λ number name. period_by (period number) name) is.0 is.1
 
-pub asked_cut : (asked : PeriodReport) (text number name : List ℕ)
+pub named_cut : (text number name : List ℕ)
     → (before_slash text ≡ number) × (after_slash text ≡ Some name)
-    → report_in asked text ≡ report_of_centre asked (period number) (centre_named name)
-unfolding report_in
-asked_cut asked text number name is =
-    ap₂ (λ number name. report_by asked (period number) name) is.0 is.1
+    → period_in text ≡ period_of_centre (period number) (centre_named name)
+unfolding period_in
+named_cut text number name is = ap₂ (λ number name. period_by (period number) name) is.0 is.1

@@ -1,12 +1,15 @@
 -- A request has one answer, by its bytes and the book before it.
 use Rattle.std.proofs.Common.{◌≡◌, ◌≢◌, ◌∙◌, ℕ, Bool, true, false, List, [], ◌∷◌, length, take, ltb}
-use Rattle.std.proofs.Common.{Result, Ok, Err, None, refl, sym, ap, subst}
+use Rattle.std.proofs.Common.{Result, Ok, Err, None, not, refl, sym, ap, subst}
+use Rattle.std.specs.Str.{is_utf8}
 use Rattle.httparse.specs.Grammar.{RequestHead}
 use Rattle.smf_frames.specs.declared.dump.Layout.{Layout}
 use Rattle.book_model.specs.Words.{front, Book, Event, Outcome, Naming}
 use Rattle.book_model.specs.declared.fault.LedgerFault.{LedgerFault}
-use Rattle.book_model.specs.declared.fault.LedgerFault.TheVariants.{NoSuchPeriod, NoSuchTariff}
+use Rattle.book_model.specs.declared.fault.LedgerFault.TheVariants.{Full, NoSuchPeriod}
+use Rattle.book_model.specs.declared.fault.LedgerFault.TheVariants.{NoSuchTariff, TariffRefused}
 use Rattle.book_core.specs.Calls.{Calls}
+use Rattle.book_core.specs.Transition.{Transition}
 use Rattle.book_import.specs.declared.receipt.Receipt.{Receipt}
 use Rattle.book_import.specs.declared.receipt.Stop.{Stop}
 use Rattle.book_import.specs.declared.receipt.Stop.TheVariants.{End, Frame, Read, ReadLimit, Ledger}
@@ -16,21 +19,24 @@ use Rattle.book_import.specs.Handled.{nothing_imported}
 use Rattle.book_import.specs.Imports.{Handles, GivesReceipt, whole, out_of_memory, store_failed}
 use Rattle.book_import.specs.Receipts.{is_stop_of_books}
 use Rattle.book_reports.specs.declared.report.Report.{Report}
+use Rattle.book_reports.specs.declared.what_if.WhatIf.{WhatIf}
 use Rattle.book_reports.specs.BookTexts.{report_outcome}
+use Rattle.book_reports.specs.WhatIfTexts.{what_if_report}
 use Rattle.office.specs.Requests.{Response, Text, response_outcome, whole_dump}
 use Rattle.book_http.specs.declared.answer_head.BodyKind.{BodyKind}
 use Rattle.book_http.specs.declared.answer_head.BodyKind.TheVariants as kinds
 use Rattle.book_http.specs.declared.asked.Asked.{Asked}
 use Rattle.book_http.specs.declared.asked.Asked.TheVariants as asks
 use Rattle.book_http.specs.declared.status.Status.TheVariants.{Unavailable}
-use Rattle.book_http.specs.Answer.{office_reply, body_kind, AnswersReport}
-use Rattle.book_http.specs.Answer.{AnswersImport, AnswersBody, AnswersAsked, RefusesRequest}
-use Rattle.book_http.specs.Answer.{UnlessMemory, done, no_memory, no_head, a_head}
+use Rattle.book_http.specs.Answer.{office_reply, body_kind, what_if_kind, AnswersOffice}
+use Rattle.book_http.specs.Answer.{AnswersImport, AnswersWhatIf, AnswersAsked}
+use Rattle.book_http.specs.Answer.{Prices, RefusesRequest, UnlessBad, UnlessMemory, done}
+use Rattle.book_http.specs.Answer.{no_memory, no_head, a_head}
 use Rattle.book_http.specs.Asked.{asked}
 use Rattle.book_http.specs.Laws.{IsSame, AnswersAreOne}
 use Rattle.book_http.specs.Replies.{Reply, receipt_reply, import_status}
 use Rattle.book_http.proofs.HeadLemmas.{head_unique}
-use Rattle.book_http.proofs.LawLemmas.{report_none, import_counted}
+use Rattle.book_http.proofs.LawLemmas.{text_none, import_counted}
 
 -- two refusals of one kind
 refusals_same : (refused one other : Reply) (was : Bool) (before : Book) (first second : List Event)
@@ -41,7 +47,7 @@ refusals_same refused one other was before first second is_one is_other a b = re
   events = a.none.none ∙ sym b.none.none;
 }
 
--- a report that is not unavailable is the definitions' one
+-- a text that is not unavailable is the definitions' one, or their refusal of it
 reply_tells : (kind : BodyKind) (outcome : Book → Outcome Response) (told : Result Response LedgerFault)
     (was : Bool) (before : Book) (events : List Event) (is : Bool)
     → Calls (λ (told : Response). told) outcome told was before events is
@@ -49,16 +55,19 @@ reply_tells : (kind : BodyKind) (outcome : Book → Outcome Response) (told : Re
 reply_tells kind outcome (Ok told) was before events is called served = called.makes.0
 reply_tells kind outcome (Err NoSuchPeriod) was before events is called served = called.makes.0
 reply_tells kind outcome (Err NoSuchTariff) was before events is called served = called.makes.0
+reply_tells kind outcome (Err (TariffRefused why)) was before events is called served =
+    called.makes.0
+reply_tells kind outcome (Err Full) was before events is called served = called.makes.0
 reply_tells kind outcome (Err fault) was before events is called served = absurd (served refl)
 
-reports_same : (naming : Naming) (wanted : Report) (one other : Reply) (was : Bool) (before : Book)
-    (first second : List Event) (is_one is_other : Bool)
-    → AnswersReport naming wanted one was before first is_one → one.status ≢ Unavailable
-    → AnswersReport naming wanted other was before second is_other → other.status ≢ Unavailable
-    → IsSame one other first second
-reports_same naming wanted one other was before first second is_one is_other a served b served_too =
-    let outcome = response_outcome Text (report_outcome naming wanted) in
-    let kind = body_kind wanted in
+texts_same : (kind : BodyKind) (text : Book → Outcome (List ℕ)) (one other : Reply) (was : Bool)
+    (before : Book) (first second : List Event) (is_one is_other : Bool) → (text before).event ≡ None
+    → AnswersOffice kind (Calls (λ (told : Response). told) (response_outcome Text text)) one was
+    before first is_one → one.status ≢ Unavailable
+    → AnswersOffice kind (Calls (λ (told : Response). told) (response_outcome Text text)) other was
+    before second is_other → other.status ≢ Unavailable → IsSame one other first second
+texts_same kind text one other was before first second is_one is_other no_event a served b served_too =
+    let outcome = response_outcome Text text in
     let left : (outcome before).answer ≡ a.told =
     reply_tells kind outcome a.told was before first is_one a.made
     (subst (λ (r : Reply). r.status ≢ Unavailable) a.replied served) in
@@ -68,9 +77,35 @@ reports_same naming wanted one other was before first second is_one is_other a s
     record {
       reply = a.replied ∙ ap (office_reply kind) (sym left ∙ right) ∙ sym b.replied;
       events =
-          report_none naming wanted one was before first is_one a
-          ∙ sym (report_none naming wanted other was before second is_other b);
+          text_none kind text one was before first is_one no_event a
+          ∙ sym (text_none kind text other was before second is_other no_event b);
     }
+
+-- where a bad request is refused, and with any other one thing is done, one thing is done
+unless_same : (bad : Bool) (Made : Reply → Transition) (one other : Reply) (was : Bool)
+    (before : Book) (first second : List Event) (is_one is_other : Bool)
+    → (Made one was before first is_one → one.status ≢ Unavailable
+    → Made other was before second is_other → other.status ≢ Unavailable
+    → IsSame one other first second)
+    → UnlessBad bad (Made one) one was before first is_one → one.status ≢ Unavailable
+    → UnlessBad bad (Made other) other was before second is_other → other.status ≢ Unavailable
+    → IsSame one other first second
+unless_same true Made one other was before first second is_one is_other same a served b served_too =
+    refusals_same _ one other was before first second is_one is_other a b
+unless_same false Made one other was before first second is_one is_other same a served b served_too =
+    same a served b served_too
+
+what_ifs_same : (what_if : WhatIf) (body : List ℕ) (one other : Reply) (was : Bool) (before : Book)
+    (first second : List Event) (is_one is_other : Bool)
+    → AnswersWhatIf what_if body one was before first is_one → one.status ≢ Unavailable
+    → AnswersWhatIf what_if body other was before second is_other → other.status ≢ Unavailable
+    → IsSame one other first second
+what_ifs_same what_if body one other was before first second is_one is_other =
+    let kind = what_if_kind what_if.form in
+    unless_same (not (is_utf8 body)) (AnswersOffice kind (Prices what_if body)) one other was before
+    first second is_one is_other
+    (texts_same kind (what_if_report what_if body) one other was before first second is_one is_other
+    refl)
 
 -- where a fault of the books follows the last record, the import stops with one
 stops_by_books : (answers : Answering) (fault : LedgerFault) (records : List (List ℕ))
@@ -131,19 +166,6 @@ imports_same naming layout body one other was before first second is_one is_othe
       events = sym left.events ∙ right.events;
     }
 
-bodies_same : (short : Bool) (naming : Naming) (layout : Layout) (body : List ℕ) (one other : Reply)
-    (was : Bool) (before : Book) (first second : List Event) (is_one is_other : Bool)
-    → AnswersBody short naming layout body one was before first is_one → one.status ≢ Unavailable
-    → AnswersBody short naming layout body other was before second is_other
-    → other.status ≢ Unavailable → IsSame one other first second
-bodies_same true naming layout body one other was before first second is_one is_other a served b
-    served_too =
-    refusals_same _ one other was before first second is_one is_other a b
-bodies_same false naming layout body one other was before first second is_one is_other a served b
-    served_too =
-    imports_same naming layout body one other was before first second is_one is_other a served b
-    served_too
-
 asked_same : (wanted : Asked) (naming : Naming) (behind : List ℕ) (one other : Reply) (was : Bool)
     (before : Book) (first second : List Event) (is_one is_other : Bool)
     → AnswersAsked naming wanted behind one was before first is_one → one.status ≢ Unavailable
@@ -157,12 +179,22 @@ asked_same (asks.OtherMethod method) naming behind one other was before first se
     refusals_same _ one other was before first second is_one is_other a b
 asked_same (asks.Report report) naming behind one other was before first second is_one is_other a
     served b served_too =
-    reports_same naming report one other was before first second is_one is_other a served b
+    texts_same (body_kind report) (report_outcome naming report) one other was before first second
+    is_one is_other refl a served b served_too
+asked_same (asks.WhatIf what_if size) naming behind one other was before first second is_one is_other
+    a served b served_too =
+    let body = take size behind in
+    unless_same (ltb (length behind) size) (AnswersWhatIf what_if body) one other was before first
+    second is_one is_other
+    (what_ifs_same what_if body one other was before first second is_one is_other) a served b
     served_too
 asked_same (asks.Import layout size) naming behind one other was before first second is_one is_other
     a served b served_too =
-    bodies_same (ltb (length behind) size) naming layout (take size behind) one other was before
-    first second is_one is_other a served b served_too
+    let body = take size behind in
+    unless_same (ltb (length behind) size) (AnswersImport naming layout body) one other was before
+    first second is_one is_other
+    (imports_same naming layout body one other was before first second is_one is_other) a served b
+    served_too
 
 -- what a head asks was done, where the reply is not unavailable
 was_done : (wanted : Asked) (naming : Naming) (behind : List ℕ) (reply : Reply) (was : Bool)

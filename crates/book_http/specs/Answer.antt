@@ -1,20 +1,27 @@
 -- What a request is answered, and what it does to the books: by the book before it, and by the
 -- bytes of the request.
-use Rattle.std.specs.Prelude.{◌≡◌, ◌<◌, ℕ, Bool, true, false, List, length, take, nat_lt}
+use Rattle.std.specs.Prelude.{◌≡◌, ◌<◌, ℕ, Bool, true, false, not, List, length, take, nat_lt}
 use Rattle.std.specs.Prelude.{Result, Ok, Err}
+use Rattle.std.specs.Str.{is_utf8}
 use Rattle.httparse.specs.Grammar.{RequestHead}
 use Rattle.smf_frames.specs.declared.dump.Layout.{Layout}
 use Rattle.book_model.specs.declared.fault.LedgerFault.{LedgerFault}
-use Rattle.book_model.specs.declared.fault.LedgerFault.TheVariants.{NoSuchPeriod, NoSuchTariff}
+use Rattle.book_model.specs.declared.fault.LedgerFault.TheVariants.{Full, NoSuchPeriod}
+use Rattle.book_model.specs.declared.fault.LedgerFault.TheVariants.{NoSuchTariff, TariffRefused}
 use Rattle.book_model.specs.Words.{Naming, Book, Event}
+use Rattle.book_core.specs.Calls.{Calls}
 use Rattle.book_core.specs.Transition.{Transition, NoEvent}
 use Rattle.book_reports.specs.declared.report.PeriodReport.TheVariants.{AdjustmentTable}
 use Rattle.book_reports.specs.declared.report.PeriodReport.TheVariants.{StatementTable}
 use Rattle.book_reports.specs.declared.report.Report.{Report}
 use Rattle.book_reports.specs.declared.report.Report.TheVariants as report
+use Rattle.book_reports.specs.declared.what_if.StatementForm.{StatementForm}
+use Rattle.book_reports.specs.declared.what_if.StatementForm.TheVariants as shown_as
+use Rattle.book_reports.specs.declared.what_if.WhatIf.{WhatIf}
+use Rattle.book_reports.specs.WhatIfTexts.{what_if_report}
 use Rattle.office.specs.declared.request.Asked.TheVariants as requests
 use Rattle.office.specs.Requests as tells
-use Rattle.office.specs.Requests.{Response, Asks, Receives, whole_dump, no_dump}
+use Rattle.office.specs.Requests.{Response, Asks, Receives, response_outcome, whole_dump, no_dump}
 use Rattle.book_http.specs.declared.answer_head.BodyKind.{BodyKind}
 use Rattle.book_http.specs.declared.answer_head.BodyKind.TheVariants.{Text, Csv}
 use Rattle.book_http.specs.declared.asked.Asked.{Asked}
@@ -32,12 +39,19 @@ body_kind (report.OfCentre StatementTable period centre) = Csv
 body_kind (report.OfCentre AdjustmentTable period centre) = Csv
 body_kind report = Text
 
--- What the office answered, as a reply. No ruling is asked over HTTP.
+abbrev pub what_if_kind : StatementForm → BodyKind
+what_if_kind shown_as.Text = Text
+what_if_kind shown_as.Table = Csv
+
+-- What the office answered, as a reply. No ruling is asked over HTTP. A tariff that is refused, or by
+-- which records cost more than books hold, is the request's fault.
 abbrev pub office_reply : BodyKind → Result Response LedgerFault → Reply
 office_reply kind (Ok (tells.Text text)) = success kind text
 office_reply kind (Ok (tells.Count receipt)) = receipt_reply receipt
 office_reply kind (Err NoSuchPeriod) = refusal NotFound
 office_reply kind (Err NoSuchTariff) = refusal NotFound
+office_reply kind (Err (TariffRefused why)) = refusal BadRequest
+office_reply kind (Err Full) = refusal BadRequest
 office_reply kind told = refusal Unavailable
 
 -- the office was asked, and its answer is the reply
@@ -63,10 +77,26 @@ pub record RefusesRequest (refused reply : Reply) (was : Bool) (before : Book) (
   pub none : NoEvent was before events is
   pub replied : reply ≡ refused
 
--- a body that ended early, or one that is whole
-abbrev pub AnswersBody : Bool → Naming → Layout → List ℕ → Reply → Transition
-AnswersBody true naming layout body reply = RefusesRequest (refusal BadRequest) reply
-AnswersBody false naming layout body reply = AnswersImport naming layout body reply
+-- a bad request is refused; with any other this is done
+abbrev pub UnlessBad : Bool → Transition → Reply → Transition
+UnlessBad true Made reply = RefusesRequest (refusal BadRequest) reply
+UnlessBad false Made reply = Made
+
+-- what a period would have cost by the tariff with this text
+abbrev pub Prices : WhatIf → List ℕ → Result Response LedgerFault → Transition
+Prices what_if tariff =
+    Calls (λ told. told) (response_outcome tells.Text (what_if_report what_if tariff))
+
+-- the same by a body, which is that text: bytes that are no UTF-8 are none
+abbrev pub AnswersWhatIf : WhatIf → List ℕ → Reply → Transition
+AnswersWhatIf what_if body reply =
+    UnlessBad (not (is_utf8 body))
+    (AnswersOffice (what_if_kind what_if.form) (Prices what_if body) reply) reply
+
+-- a body that ended early is bad; with one that is whole this is done
+abbrev pub AnswersBody : (List ℕ → Reply → Transition) → ℕ → List ℕ → Reply → Transition
+AnswersBody Whole size behind reply =
+    UnlessBad (nat_lt (length behind) size) (Whole (take size behind) reply) reply
 
 -- what is asked is answered, by the bytes after the head
 abbrev pub AnswersAsked : Naming → Asked → List ℕ → Reply → Transition
@@ -74,7 +104,9 @@ AnswersAsked naming (asks.Refusal status) behind reply = RefusesRequest (refusal
 AnswersAsked naming (asks.OtherMethod method) behind reply = RefusesRequest (other_method method) reply
 AnswersAsked naming (asks.Report report) behind reply = AnswersReport naming report reply
 AnswersAsked naming (asks.Import layout size) behind reply =
-    AnswersBody (nat_lt (length behind) size) naming layout (take size behind) reply
+    AnswersBody (AnswersImport naming layout) size behind reply
+AnswersAsked naming (asks.WhatIf what_if size) behind reply =
+    AnswersBody (AnswersWhatIf what_if) size behind reply
 
 -- This was done and replied; or memory ran out, nothing was done, and the reply says so.
 pub data UnlessMemory (Made : Transition) (reply : Reply) (was : Bool) (before : Book)

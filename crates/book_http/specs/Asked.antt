@@ -1,15 +1,16 @@
 -- What the head of a request asks.
 use Rattle.std.specs.Prelude.{ℕ, ◌≤◌, Bool, true, false, List, nat_lt, bytes_eq, if◌then◌else◌}
-use Rattle.std.specs.Prelude.{Option, Some, None}
-use Rattle.smf_frames.specs.declared.dump.Layout.{Layout}
+use Rattle.std.specs.Prelude.{Option, Some, None, Result, Ok, Err}
 use Rattle.httparse.specs.Grammar.{RequestHead}
 use Rattle.book_http.specs.declared.asked.Asked.{Asked}
 use Rattle.book_http.specs.declared.asked.Asked.TheVariants as asks
 use Rattle.book_http.specs.declared.framing.Framing.{Framing}
 use Rattle.book_http.specs.declared.framing.Framing.TheVariants.{Unframed, Framed, Faulty}
+use Rattle.book_http.specs.declared.method.Method.{Method}
 use Rattle.book_http.specs.declared.method.Method.TheVariants.{Get, Post}
 use Rattle.book_http.specs.declared.route.Route.{Route}
-use Rattle.book_http.specs.declared.route.Route.TheVariants.{Report, Import}
+use Rattle.book_http.specs.declared.route.Route.TheVariants.{Report, WhatIf, Import}
+use Rattle.book_http.specs.declared.status.Status.{Status}
 use Rattle.book_http.specs.declared.status.Status.TheVariants.{BadRequest, Forbidden}
 use Rattle.book_http.specs.declared.status.Status.TheVariants.{NotFound, LengthRequired, TooLarge}
 use Rattle.book_http.specs.Bodies.{most_body_bytes}
@@ -18,26 +19,43 @@ use Rattle.book_http.specs.Methods.{method_text}
 use Rattle.book_http.specs.Requests.{has_origin}
 use Rattle.book_http.specs.Routes.{path_of, route}
 
--- an import takes a body whose length the head gives
-abbrev pub asked_import : Layout → Framing → Asked
-asked_import layout Faulty = asks.Refusal BadRequest
-asked_import layout Unframed = asks.Refusal LengthRequired
-asked_import layout (Framed size) =
-    if nat_lt most_body_bytes size then asks.Refusal TooLarge else asks.Import layout size
+-- the size of a body that is taken: the head gives it, and it keeps within the limit
+abbrev pub body_size : Framing → Result ℕ Status
+body_size Faulty = Err BadRequest
+body_size Unframed = Err LengthRequired
+body_size (Framed size) = if nat_lt most_body_bytes size then Err TooLarge else Ok size
 
 -- what a page in a browser submits is refused, whatever its body's length
-abbrev pub asked_post : Layout → Bool → Framing → Asked
-asked_post layout true body = asks.Refusal Forbidden
-asked_post layout false body = asked_import layout body
+abbrev pub posted_size : Bool → Framing → Result ℕ Status
+posted_size true body = Err Forbidden
+posted_size false body = body_size body
+
+-- a body of a size that is taken, or the refusal of another
+abbrev pub asked_body : (ℕ → Asked) → Result ℕ Status → Asked
+asked_body takes (Ok size) = takes size
+asked_body takes (Err status) = asks.Refusal status
+
+-- what is asked at a route by its method: a dump and a tariff are submitted alike
+abbrev pub asked_on : Route → Bool → Framing → Asked
+asked_on (Report report) origin body = asks.Report report
+asked_on (WhatIf what_if) origin body = asked_body (asks.WhatIf what_if) (posted_size origin body)
+asked_on (Import layout) origin body = asked_body (asks.Import layout) (posted_size origin body)
 
 -- each route has one method
+abbrev pub method_of : Route → Method
+method_of (Report report) = Get
+method_of (WhatIf what_if) = Post
+method_of (Import layout) = Post
+
+-- any other is refused there
+abbrev pub asked_by : Route → List ℕ → Bool → Framing → Asked
+asked_by found method origin body =
+    if bytes_eq method (method_text (method_of found)) then asked_on found origin body
+    else asks.OtherMethod (method_of found)
+
 abbrev pub asked_at : Option Route → List ℕ → Bool → Framing → Asked
 asked_at None method origin body = asks.Refusal NotFound
-asked_at (Some (Report report)) method origin body =
-    if bytes_eq method (method_text Get) then asks.Report report else asks.OtherMethod Get
-asked_at (Some (Import layout)) method origin body =
-    if bytes_eq method (method_text Post) then asked_post layout origin body
-    else asks.OtherMethod Post
+asked_at (Some found) method origin body = asked_by found method origin body
 
 -- a faulty length is refused before anything else is looked at
 abbrev pub asked_framed : Framing → Option Route → List ℕ → Bool → Asked
@@ -51,4 +69,5 @@ asked head =
 -- a body that is asked for keeps within the limit
 abbrev pub IsServable : Asked → Type 0
 IsServable (asks.Import layout size) = size ≤ most_body_bytes
+IsServable (asks.WhatIf what_if size) = size ≤ most_body_bytes
 IsServable other = Unit {0}

@@ -3,6 +3,8 @@ use Rattle.std.specs.Prelude.{◌≡◌, ℕ, ◌<◌, ◌≤◌, Bool, false, t
 use Rattle.std.specs.Prelude.{Result, Ok, Err}
 use Rattle.book_http.specs.declared.body.BodyFault.{BodyFault}
 use Rattle.book_http.specs.declared.body.BodyFault.TheVariants.{Short, Read, Memory}
+use Rattle.book_http.specs.declared.status.Status.{Status}
+use Rattle.book_http.specs.declared.status.Status.TheVariants.{BadRequest, Unavailable}
 
 -- the most bytes of a body (the office's rule)
 abbrev pub most_body_bytes : ℕ
@@ -20,8 +22,16 @@ BodyComes bytes size behind (Err Short) = length behind < size
 BodyComes bytes size behind (Err fault) = Unit {0}
 
 -- a read failed
+abbrev pub is_failed_read : BodyFault → Bool
+is_failed_read Short = false
+is_failed_read Read = true
+is_failed_read Memory = false
+
 abbrev pub is_failed_body : {A : Type 0} → Result A BodyFault → Bool
 is_failed_body (Ok value) = false
-is_failed_body (Err Short) = false
-is_failed_body (Err Read) = true
-is_failed_body (Err Memory) = false
+is_failed_body (Err fault) = is_failed_read fault
+
+-- the status that answers a request without its whole body
+abbrev pub body_status : BodyFault → Status
+body_status Short = BadRequest
+body_status fault = Unavailable

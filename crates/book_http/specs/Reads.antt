@@ -69,9 +69,11 @@ pub record IsDueForBody (size came room : ℕ) : Type 0 where
   pub short : came < size
   pub within : came + room ≤ size
 
--- After a head that asks this, and these bytes, a read is due only for the body of an import.
+-- After a head that asks this, and these bytes, a read is due only for the body of an import or of a
+-- tariff.
 abbrev pub IsDueAfterHead : Asked → List ℕ → ℕ → Type 0
 IsDueAfterHead (asks.Import layout size) behind room = IsDueForBody size (length behind) room
+IsDueAfterHead (asks.WhatIf what_if size) behind room = IsDueForBody size (length behind) room
 IsDueAfterHead asked behind room = ⊥
 
 -- a read is due for a request of which these bytes came

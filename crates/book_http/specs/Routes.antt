@@ -1,4 +1,4 @@
--- How the route of a path is looked up, by matchit's reading of the nine route texts. That this
+-- How the route of a path is looked up, by matchit's reading of the thirteen route texts. That this
 -- finds what Paths says, and nothing else, is a clause of the function that looks it up.
 use Rattle.std.specs.Prelude.{ℕ, Bool, if◌then◌else◌, List, [], ◌∷◌, ◌==◌, codes, length, drop, nat_eq}
 use Rattle.std.specs.Prelude.{Option, Some, None, option_and_then, option_map, Result, Ok, Err}
@@ -16,6 +16,8 @@ use Rattle.book_reports.specs.declared.report.PeriodReport.{PeriodReport}
 use Rattle.book_reports.specs.declared.report.PeriodReport.TheVariants as of_period
 use Rattle.book_reports.specs.declared.report.Report.{Report}
 use Rattle.book_reports.specs.declared.report.Report.TheVariants as report_of
+use Rattle.book_reports.specs.declared.what_if.StatementForm.{StatementForm}
+use Rattle.book_reports.specs.declared.what_if.StatementForm.TheVariants as shown_as
 use Rattle.book_http.specs.declared.route.Page.{Page}
 use Rattle.book_http.specs.declared.route.Page.TheVariants as page
 use Rattle.book_http.specs.declared.route.Route.{Route}
@@ -49,24 +51,48 @@ abbrev pub after_slash : List ℕ → Option (List ℕ)
 after_slash [] = None
 after_slash (b ∷ rest) = if is_slash b then Some rest else after_slash rest
 
--- what is asked of a period, if it is one: of the centre that has the name, if that is a name
-abbrev pub report_of_centre : PeriodReport → Option ℕ → Option (List ℕ) → Option Report
-report_of_centre asked (Some number) (Some centre) = Some (report_of.OfCentre asked number centre)
-report_of_centre asked number name = None
+-- a period of the whole office, if it is one
+abbrev pub period_of_all : Option ℕ → Option (ℕ × Option (List ℕ))
+period_of_all None = None
+period_of_all (Some number) = Some (number, None)
+
+-- a period, if it is one, of the centre that has the name, if that is a name
+abbrev pub period_of_centre : Option ℕ → Option (List ℕ) → Option (ℕ × Option (List ℕ))
+period_of_centre (Some number) (Some centre) = Some (number, Some centre)
+period_of_centre number name = None
 
 -- of a centre where there is a name, and else of the whole office
-abbrev pub report_by : PeriodReport → Option ℕ → Option (List ℕ) → Option Report
-report_by asked number None = option_map (report_of_all asked) number
-report_by asked number (Some name) = report_of_centre asked number (centre_named name)
+abbrev pub period_by : Option ℕ → Option (List ℕ) → Option (ℕ × Option (List ℕ))
+period_by number None = period_of_all number
+period_by number (Some name) = period_of_centre number (centre_named name)
 
--- what a text asks of a period, which it names; a centre is named after a slash
-unfoldable pub report_in : PeriodReport → List ℕ → Option Report
-report_in asked text = report_by asked (period (before_slash text)) (after_slash text)
+-- the period that a text names, and the centre, which is named after a slash, if there is one
+unfoldable pub period_in : List ℕ → Option (ℕ × Option (List ℕ))
+period_in text = period_by (period (before_slash text)) (after_slash text)
+
+-- the same of a path, after its prefix
+abbrev pub period_after : List ℕ → List ℕ → Option (ℕ × Option (List ℕ))
+period_after prefix path = option_and_then period_in (path_rest prefix path)
+
+-- what is asked of a period, of the whole office or of a centre
+abbrev pub report_on : PeriodReport → ℕ → Option (List ℕ) → Report
+report_on asked number None = report_of_all asked number
+report_on asked number (Some centre) = report_of.OfCentre asked number centre
 
 -- what a path asks of a period after its prefix
 abbrev pub report_after : PeriodReport → List ℕ → List ℕ → Option Route
 report_after asked prefix path =
-    option_map route_to.Report (option_and_then (report_in asked) (path_rest prefix path))
+    option_map (λ named. route_to.Report (report_on asked named.0 named.1)) (period_after prefix path)
+
+-- what is asked of a period and a tariff, of the whole office or of a centre
+abbrev pub what_if_on : StatementForm → ℕ → Option (List ℕ) → Route
+what_if_on form number centre =
+    route_to.WhatIf (record { form = form; period = number; centre = centre })
+
+-- what a path asks of a period and a tariff after its prefix
+abbrev pub what_if_after : StatementForm → List ℕ → List ℕ → Option Route
+what_if_after form prefix path =
+    option_map (λ named. what_if_on form named.0 named.1) (period_after prefix path)
 
 -- the tariff of the day that a path names after its prefix
 abbrev pub tariff_after : List ℕ → List ℕ → Option Route
@@ -88,6 +114,8 @@ route_at page.Disputes path = Some (route_to.Report report_of.DisputeList)
 route_at page.DisputesCsv path = Some (route_to.Report report_of.DisputeTable)
 route_at page.Rulings path = Some (route_to.Report report_of.RulingList)
 route_at page.Tariff path = tariff_after (codes "/tariff/") path
+route_at page.WhatIf path = what_if_after shown_as.Text (codes "/what-if/") path
+route_at page.WhatIfCsv path = what_if_after shown_as.Table (codes "/what-if-csv/") path
 route_at page.Import path = Some (route_to.Import Rdw)
 route_at page.ImportBdw path = Some (route_to.Import Bdw)
 
@@ -100,11 +128,13 @@ with_scan (Err error) value rows = rows
 abbrev pub with_route : List ℕ → Page → RowsOf (RouteOf Page) → RowsOf (RouteOf Page)
 with_route text value rows = with_scan (parse_route text) value rows
 
--- the eleven routes
+-- the thirteen routes
 unfoldable pub route_rows : RowsOf (RouteOf Page)
 route_rows =
     with_route (codes "/import-bdw") page.ImportBdw
     (with_route (codes "/import") page.Import
+    (with_route (codes "/what-if-csv/{*rest}") page.WhatIfCsv
+    (with_route (codes "/what-if/{*rest}") page.WhatIf
     (with_route (codes "/tariff/{*rest}") page.Tariff
     (with_route (codes "/rulings") page.Rulings
     (with_route (codes "/disputes-csv") page.DisputesCsv
@@ -113,7 +143,7 @@ route_rows =
     (with_route (codes "/adjustments/{*rest}") page.Adjustments
     (with_route (codes "/statement-csv/{*rest}") page.StatementCsv
     (with_route (codes "/statement/{*rest}") page.Statement
-    (with_route (codes "/periods") page.Periods []))))))))))
+    (with_route (codes "/periods") page.Periods []))))))))))))
 
 -- the page of a path
 unfoldable pub page_of : List ℕ → Option Page

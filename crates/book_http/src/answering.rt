@@ -5,25 +5,23 @@ ghost use Rattle.std.specs.Prelude.{false, is_err};
 ghost use Rattle.httparse.specs.Grammar.{RequestHead};
 ghost use Rattle.streams.specs.AnswerFlags.{NothingUnread};
 ghost use Rattle.streams.specs.Sources.{reader_of, reads_of, has_failed, has_ended};
-ghost use Rattle.book_http.specs.declared.asked.Asked.TheVariants as asks;
 ghost use Rattle.book_http.specs.Asked as spec;
 ghost use Rattle.book_http.specs.Asked.{IsServable};
-ghost use Rattle.book_http.specs.Bodies.{most_body_bytes};
+ghost use Rattle.book_http.specs.Bodies.{body_status, is_failed_read, most_body_bytes};
 ghost use Rattle.book_http.specs.Head.{most_head_bytes};
 ghost use Rattle.book_http.specs.Reads.{ReadCall, bytes_read, AreReadsBetween, IsDueAfterHead};
-ghost use Rattle.book_http.specs.Replies.{reply_of};
+ghost use Rattle.book_http.specs.Replies.{refusal, reply_of};
 ghost use Rattle.book_http.specs.Requests.{DescribesHead};
 ghost use Rattle.book_http.specs.Served.{IsAnswerTo};
 
 use crate::answer::Answer;
 use crate::asked::{Asked, asked_framed};
 use crate::body::{BodyFault, read_body};
-use crate::office_answers::{answer_import, answer_report};
+use crate::office_answers::{answer_import, answer_report, answer_what_if};
 use crate::request::Request;
 use crate::route::find_route;
 use crate::status::Status;
 use book_core::{Ledger, Source};
-use smf_frames::Layout;
 use std::alloc::Global;
 use streams::Reader;
 
@@ -31,41 +29,20 @@ use streams::Reader;
 #[derive(Clone, Copy, Debug, PartialEq, Eq)]
 pub struct ReadFailed;
 
-/// Reads a body, the beginning of which was read before, and imports it. Nothing is imported of a
-/// body that ends early.
-fn answer_body<R: Reader + Drop, L: Ledger>(
-    alloc: Global,
-    source: &mut Source<R>,
-    front: &[u8],
-    layout: Layout,
-    size: usize,
-    ledger: &mut L,
-) -> Result<Answer, ReadFailed>
-    requires limit { size ≤ most_body_bytes }
-    requires asked { reads_of source.old ≤ 2 ^ 62 + most_head_bytes }
-    requires failed { has_failed source.old ≡ false }
-    requires ended { has_ended source.old ≡ false }
-    ensures answer { (reads : List (ReadCall R)) × AreReadsBetween R.remaining R.may_answer
-        (λ came room. IsDueAfterHead (asks.Import layout size) (front.now ++ came) room)
-        source.old source.new reads
-        × IfOk result (λ answer. IsAnswerTo (L.seen ledger.old) (L.seen ledger.new)
-        (has_ended source.new) (asks.Import layout size) (front.now ++ bytes_read reads)
-        (reply_of answer)) }
-    ensures none { OnErr result (ledger.new ≡ ledger.old) }
-    ensures failed { has_failed source.new ≡ is_err result }
-    ensures asked { reads_of source.new ≤ reads_of source.old + most_body_bytes }
-    ensures left { NothingUnread
-        (has_ended source.new) (R.remaining (reader_of source.new)) }
+/// Answers a request without its whole body: nothing is done of it.
+fn refuse_body(fault: BodyFault) -> Result<Answer, ReadFailed>
+    ensures refused { IfOk result (λ answer. reply_of answer ≡ refusal (body_status fault)) }
+    ensures failed { is_err result ≡ is_failed_read fault }
 {
-    match read_body(alloc, source, front, size) {
-        Ok(body) => Ok(answer_import(alloc, ledger, layout, body)),
-        Err(BodyFault::Short) => Ok(Answer::Refusal(Status::BadRequest)),
-        Err(BodyFault::Memory) => Ok(Answer::Refusal(Status::Unavailable)),
-        Err(BodyFault::Read) => Err(ReadFailed),
+    match fault {
+        BodyFault::Short => Ok(Answer::Refusal(Status::BadRequest)),
+        BodyFault::Memory => Ok(Answer::Refusal(Status::Unavailable)),
+        BodyFault::Read => Err(ReadFailed),
     }
 }
 
-/// Does what a head asks, after which these bytes were already read.
+/// Does what a head asks, after which these bytes were already read. A body is read whole before
+/// anything is done.
 fn answer_asked<R: Reader + Drop, L: Ledger>(
     alloc: Global,
     source: &mut Source<R>,
@@ -89,9 +66,14 @@ fn answer_asked<R: Reader + Drop, L: Ledger>(
 {
     match asked {
         Asked::Report(report) => Ok(answer_report(alloc, ledger, report)),
-        Asked::Import(layout, size) => {
-            answer_body(alloc, source, front, layout, size as usize, ledger)
-        }
+        Asked::WhatIf(what_if, size) => match read_body(alloc, source, front, size as usize) {
+            Ok(body) => Ok(answer_what_if(alloc, ledger, what_if, body)),
+            Err(fault) => refuse_body(fault),
+        },
+        Asked::Import(layout, size) => match read_body(alloc, source, front, size as usize) {
+            Ok(body) => Ok(answer_import(alloc, ledger, layout, body)),
+            Err(fault) => refuse_body(fault),
+        },
         Asked::Refusal(status) => Ok(Answer::Refusal(status)),
         Asked::OtherMethod(method) => Ok(Answer::OtherMethod(method)),
     }

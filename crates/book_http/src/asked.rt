@@ -1,15 +1,16 @@
 //! What a request asks, by its route, its method and the length of its body.
 
-ghost use Rattle.std.specs.Prelude.{◌≡◌};
+ghost use Rattle.std.specs.Prelude.{◌≡◌, ◌≤◌, IfOk};
 ghost use Rattle.book_http.specs.Asked as spec;
 ghost use Rattle.book_http.specs.Asked.{IsServable};
+ghost use Rattle.book_http.specs.Bodies.{most_body_bytes};
 
 use crate::body::MAX_BODY;
 use crate::framing::Framing;
 use crate::method::{Method, is_method};
 use crate::route::Route;
 use crate::status::Status;
-use office::Report;
+use office::{Report, WhatIf};
 use smf_frames::Layout;
 
 /// What the head of a request asks.
@@ -17,6 +18,8 @@ use smf_frames::Layout;
 pub enum Asked {
     /// A report.
     Report(Report),
+    /// What a period would have cost by the tariff that is a body with this many bytes.
+    WhatIf(WhatIf, u64),
     /// The import of a body with this many bytes.
     Import(Layout, u64),
     /// Nothing that is served.
@@ -25,53 +28,82 @@ pub enum Asked {
     OtherMethod(Method),
 }
 
-/// What the head of an import asks.
-fn asked_import(layout: Layout, framing: Framing) -> Asked
-    ensures asked { result ≡ spec.asked_import layout framing }
-    ensures limit { IsServable result }
+/// The size of a body, or the status of one that is not taken.
+fn body_size(framing: Framing) -> Result<u64, Status>
+    ensures size { result ≡ spec.body_size framing }
+    ensures limit { IfOk result (λ size. size ≤ most_body_bytes) }
 {
     match framing {
-        Framing::Faulty => Asked::Refusal(Status::BadRequest),
-        Framing::Unframed => Asked::Refusal(Status::LengthRequired),
-        Framing::Framed(size) if size > MAX_BODY => Asked::Refusal(Status::TooLarge),
-        Framing::Framed(size) => Asked::Import(layout, size),
+        Framing::Faulty => Err(Status::BadRequest),
+        Framing::Unframed => Err(Status::LengthRequired),
+        Framing::Framed(size) if size > MAX_BODY => Err(Status::TooLarge),
+        Framing::Framed(size) => Ok(size),
     }
 }
 
-/// What the head of an import asks that may name the origin of its sender: a page in a browser may
-/// submit no dump.
-fn asked_post(layout: Layout, has_origin: bool, framing: Framing) -> Asked
-    ensures asked { result ≡ spec.asked_post layout has_origin framing }
-    ensures limit { IsServable result }
+/// The same where the head may name the origin of its sender: a page in a browser may submit
+/// nothing.
+fn posted_size(has_origin: bool, framing: Framing) -> Result<u64, Status>
+    ensures size { result ≡ spec.posted_size has_origin framing }
+    ensures limit { IfOk result (λ size. size ≤ most_body_bytes) }
 {
     if has_origin {
-        Asked::Refusal(Status::Forbidden)
+        Err(Status::Forbidden)
     } else {
-        asked_import(layout, framing)
+        body_size(framing)
     }
 }
 
-/// What is asked at a route.
+/// What is asked at a route by its method.
+fn asked_on(route: &Route, has_origin: bool, framing: Framing) -> Asked
+    ensures asked { result ≡ spec.asked_on route.now has_origin framing }
+    ensures limit { IsServable result }
+{
+    match route {
+        Route::Report(report) => Asked::Report(*report),
+        Route::WhatIf(what_if) => match posted_size(has_origin, framing) {
+            Ok(size) => Asked::WhatIf(*what_if, size),
+            Err(status) => Asked::Refusal(status),
+        },
+        Route::Import(layout) => match posted_size(has_origin, framing) {
+            Ok(size) => Asked::Import(*layout, size),
+            Err(status) => Asked::Refusal(status),
+        },
+    }
+}
+
+/// The method of a route.
+fn method_of(route: &Route) -> Method
+    ensures { result ≡ spec.method_of route.now }
+{
+    match route {
+        Route::Report(_) => Method::Get,
+        Route::WhatIf(_) => Method::Post,
+        Route::Import(_) => Method::Post,
+    }
+}
+
+/// What is asked at a route by a method.
+fn asked_by(route: &Route, method: &[u8], has_origin: bool, framing: Framing) -> Asked
+    ensures asked { result ≡ spec.asked_by route.now method.now has_origin framing }
+    ensures limit { IsServable result }
+{
+    let due = method_of(route);
+    if is_method(method, due) {
+        asked_on(route, has_origin, framing)
+    } else {
+        Asked::OtherMethod(due)
+    }
+}
+
+/// What is asked at a route, if there is one.
 fn asked_at(found: Option<Route>, method: &[u8], has_origin: bool, framing: Framing) -> Asked
     ensures asked { result ≡ spec.asked_at found method.now has_origin framing }
     ensures limit { IsServable result }
 {
-    match found {
+    match &found {
+        Some(route) => asked_by(route, method, has_origin, framing),
         None => Asked::Refusal(Status::NotFound),
-        Some(Route::Report(report)) => {
-            if is_method(method, Method::Get) {
-                Asked::Report(report)
-            } else {
-                Asked::OtherMethod(Method::Get)
-            }
-        }
-        Some(Route::Import(layout)) => {
-            if is_method(method, Method::Post) {
-                asked_post(layout, has_origin, framing)
-            } else {
-                Asked::OtherMethod(Method::Post)
-            }
-        }
     }
 }
 

@@ -8,7 +8,7 @@ ghost use Rattle.book_http.specs.Methods.{method_text};
 pub enum Method {
     /// A report is read.
     Get,
-    /// A dump is submitted.
+    /// A dump or a tariff is submitted.
     Post,
 }
 

@@ -1,17 +1,18 @@
-//! What the office answers, as answers to requests: a report, or the import of a body.
+//! What the office answers, as answers to requests: a report, what a period would have cost by the
+//! tariff that a body is, or the import of a body.
 
 ghost use Rattle.std.specs.Prelude.{◌≡◌};
 ghost use Rattle.book_core.specs.Transition.{IsTransition};
 ghost use Rattle.office.specs.Requests.{response_by};
 ghost use Rattle.book_http.specs.Answer as spec;
-ghost use Rattle.book_http.specs.Answer.{AnswersImport, AnswersReport, office_reply};
+ghost use Rattle.book_http.specs.Answer.{AnswersImport, AnswersReport, AnswersWhatIf, office_reply};
 ghost use Rattle.book_http.specs.Replies.{reply_of};
 
 use crate::answer::Answer;
 use crate::answer_head::BodyKind;
 use crate::status::Status;
 use book_core::{Ledger, LedgerFault};
-use office::{Asked, PeriodReport, Report, ask_without_reader};
+use office::{Asked, PeriodReport, Report, StatementForm, WhatIf, ask_without_reader};
 use smf_frames::Layout;
 use std::alloc::Global;
 
@@ -31,6 +32,16 @@ fn body_kind(report: &Report) -> BodyKind
     }
 }
 
+/// The form of what a period would have cost.
+fn what_if_kind(form: StatementForm) -> BodyKind
+    ensures { result ≡ spec.what_if_kind form }
+{
+    match form {
+        StatementForm::Text => BodyKind::Text,
+        StatementForm::Table => BodyKind::Csv,
+    }
+}
+
 /// What the office answered, as an answer to the request. No ruling is asked over HTTP.
 fn answer_of(kind: BodyKind, told: Result<office::Answer, LedgerFault>) -> Answer
     ensures { reply_of result ≡ office_reply kind (response_by told) }
@@ -40,6 +51,8 @@ fn answer_of(kind: BodyKind, told: Result<office::Answer, LedgerFault>) -> Answe
         Ok(office::Answer::Receipt(receipt)) => Answer::Receipt(receipt),
         Err(LedgerFault::NoSuchPeriod) => Answer::Refusal(Status::NotFound),
         Err(LedgerFault::NoSuchTariff) => Answer::Refusal(Status::NotFound),
+        Err(LedgerFault::TariffRefused(_)) => Answer::Refusal(Status::BadRequest),
+        Err(LedgerFault::Full) => Answer::Refusal(Status::BadRequest),
         Ok(office::Answer::Ruled(_)) | Err(_) => Answer::Refusal(Status::Unavailable),
     }
 }
@@ -51,6 +64,24 @@ pub fn answer_report<L: Ledger>(alloc: Global, ledger: &mut L, report: Report) -
 {
     let kind = body_kind(&report);
     let asked = Asked::Report(report);
+    answer_of(kind, ask_without_reader(alloc, ledger, &asked))
+}
+
+/// Answers what a period would have cost by the tariff that a body is.
+pub fn answer_what_if<L: Ledger>(
+    alloc: Global,
+    ledger: &mut L,
+    report: WhatIf,
+    body: Vec<u8>,
+) -> Answer
+    ensures { IsTransition (L.seen ledger.old) (L.seen ledger.new)
+        (AnswersWhatIf report body.items (reply_of result)) }
+{
+    let Ok(tariff) = String::from_utf8(body) else {
+        return Answer::Refusal(Status::BadRequest);
+    };
+    let kind = what_if_kind(report.form);
+    let asked = Asked::WhatIf { report, tariff };
     answer_of(kind, ask_without_reader(alloc, ledger, &asked))
 }
 

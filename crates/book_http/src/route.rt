@@ -1,7 +1,6 @@
 //! The paths that are served.
 
 ghost use Rattle.std.specs.Prelude.{◌≡◌, IfOk, IfSome, IsUtf8, Some, option_map};
-ghost use Rattle.book_reports.specs.BookTexts.{report_of_all};
 ghost use Rattle.book_http.specs.Paths.{IsPathOf};
 ghost use Rattle.book_http.specs.declared.route.Route.{Route};
 ghost use Rattle.book_http.specs.Routes as spec;
@@ -9,7 +8,7 @@ ghost use Rattle.book_http.specs.Routes.{route_rows};
 
 use crate::decimal_value::decimal_value;
 use matchit::{InsertError, Router};
-use office::{PeriodReport, Report, centre_named, report_of_all};
+use office::{PeriodReport, Report, StatementForm, WhatIf, centre_named, report_of_all};
 use smf_frames::Layout;
 use smf_text::{Name, day_of_text};
 use std::alloc::{AllocError, Global};
@@ -20,6 +19,8 @@ use std::str;
 pub enum Route {
     /// A report is read there.
     Report(Report),
+    /// A tariff is submitted there: what a period would have cost by it is read.
+    WhatIf(WhatIf),
     /// A dump in this layout is submitted there.
     Import(Layout),
 }
@@ -45,6 +46,10 @@ pub enum Page {
     Rulings,
     /// The file of a tariff.
     Tariff,
+    /// What a period would have cost by a tariff that is submitted.
+    WhatIf,
+    /// The same as rows with commas.
+    WhatIfCsv,
     /// Dumps of segments are submitted.
     Import,
     /// Dumps of blocks are submitted.
@@ -75,6 +80,8 @@ fn pages(alloc: Global) -> Result<Router<Page>, InsertError>
     let router = with_page(router, "/disputes-csv", Page::DisputesCsv)?;
     let router = with_page(router, "/rulings", Page::Rulings)?;
     let router = with_page(router, "/tariff/{*rest}", Page::Tariff)?;
+    let router = with_page(router, "/what-if/{*rest}", Page::WhatIf)?;
+    let router = with_page(router, "/what-if-csv/{*rest}", Page::WhatIfCsv)?;
     let router = with_page(router, "/import", Page::Import)?;
     with_page(router, "/import-bdw", Page::ImportBdw)
 }
@@ -112,40 +119,55 @@ fn path_rest<'a>(prefix: &str, path: &'a str) -> Option<&'a str>
     path.strip_prefix(prefix)
 }
 
-/// What is asked of a period of the whole office, if there is a period.
-fn report_on_all(asked: PeriodReport, number: Option<u16>) -> Option<Report>
-    ensures { result ≡ option_map (report_of_all asked) number }
+/// A period of the whole office, if there is one.
+fn period_of_all(number: Option<u16>) -> Option<(u16, Option<Name>)>
+    ensures { result ≡ spec.period_of_all number }
 {
     match number {
-        Some(period) => Some(report_of_all(asked, period)),
+        Some(period) => Some((period, None)),
         None => None,
     }
 }
 
-/// What is asked of a period of one centre, if there are both.
-fn report_on_centre(asked: PeriodReport, number: Option<u16>, name: Option<Name>) -> Option<Report>
-    ensures { result ≡ spec.report_of_centre asked number name }
+/// A period of one centre, if there are both.
+fn period_of_centre(number: Option<u16>, name: Option<Name>) -> Option<(u16, Option<Name>)>
+    ensures { result ≡ spec.period_of_centre number name }
 {
     match (number, name) {
-        (Some(period), Some(centre)) => Some(Report::OfCentre {
-            report: asked,
-            period,
-            centre,
-        }),
+        (Some(period), Some(centre)) => Some((period, Some(centre))),
         _ => None,
     }
 }
 
-/// What a text asks of a period, which it names: of the centre that it names after a slash, or of
-/// the whole office.
-fn report_in(asked: PeriodReport, text: &str) -> Option<Report>
-    ensures { result ≡ spec.report_in asked text.now }
+/// The period that a text names, and the centre that it names after a slash, if there is a slash.
+fn period_in(text: &str) -> Option<(u16, Option<Name>)>
+    ensures { result ≡ spec.period_in text.now }
 {
     match text.split_once('/') {
-        None => report_on_all(asked, period(text.as_bytes())),
-        Some((number, name)) => {
-            report_on_centre(asked, period(number.as_bytes()), centre_named(name))
-        }
+        None => period_of_all(period(text.as_bytes())),
+        Some((number, name)) => period_of_centre(period(number.as_bytes()), centre_named(name)),
+    }
+}
+
+/// The period, and the centre if there is one, that a path names after its prefix.
+fn period_after(prefix: &str, path: &str) -> Option<(u16, Option<Name>)>
+    ensures { result ≡ spec.period_after prefix.now path.now }
+{
+    let rest = path_rest(prefix, path)?;
+    period_in(rest)
+}
+
+/// What is asked of a period, of one centre or of the whole office.
+fn report_on(asked: PeriodReport, period: u16, centre: Option<Name>) -> Report
+    ensures { result ≡ spec.report_on asked period centre }
+{
+    match centre {
+        None => report_of_all(asked, period),
+        Some(centre) => Report::OfCentre {
+            report: asked,
+            period,
+            centre,
+        },
     }
 }
 
@@ -153,9 +175,20 @@ fn report_in(asked: PeriodReport, text: &str) -> Option<Report>
 fn report_after(asked: PeriodReport, prefix: &str, path: &str) -> Option<Route>
     ensures { result ≡ spec.report_after asked prefix.now path.now }
 {
-    let rest = path_rest(prefix, path)?;
-    let report = report_in(asked, rest)?;
-    Some(Route::Report(report))
+    let (period, centre) = period_after(prefix, path)?;
+    Some(Route::Report(report_on(asked, period, centre)))
+}
+
+/// What a path asks of a period and a tariff after its prefix.
+fn what_if_after(form: StatementForm, prefix: &str, path: &str) -> Option<Route>
+    ensures { result ≡ spec.what_if_after form prefix.now path.now }
+{
+    let (period, centre) = period_after(prefix, path)?;
+    Some(Route::WhatIf(WhatIf {
+        form,
+        period,
+        centre,
+    }))
 }
 
 /// The tariff of the day that a path names after its prefix.
@@ -184,6 +217,8 @@ fn route_at(page: Page, path: &str) -> Option<Route>
         Page::DisputesCsv => Some(Route::Report(Report::DisputeTable)),
         Page::Rulings => Some(Route::Report(Report::RulingList)),
         Page::Tariff => tariff_after("/tariff/", path),
+        Page::WhatIf => what_if_after(StatementForm::Text, "/what-if/", path),
+        Page::WhatIfCsv => what_if_after(StatementForm::Table, "/what-if-csv/", path),
         Page::Import => Some(Route::Import(Layout::Rdw)),
         Page::ImportBdw => Some(Route::Import(Layout::Bdw)),
     }

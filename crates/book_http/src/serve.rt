@@ -80,8 +80,8 @@ pub fn serve_one<R: Reader + Drop, W: Write + Drop, L: Ledger>(
 
     // The books did what the request asks, and the writer has the answer, or a prefix of it: by the
     // bytes that the reads gave, whatever may follow them. Each read was due: while there was no
-    // head, or for the rest of the body of an import that is served. Where the source has ended,
-    // these are all the bytes of a reader whose bytes are known.
+    // head, or for the rest of the body of an import or a tariff that is served. Where the source
+    // has ended, these are all the bytes of a reader whose bytes are known.
     ensures served { (reads : List (ReadCall R))
         × AreReadsBetween R.remaining R.may_answer IsDue source.old source.new reads
         × IsServed (books L.seen ledger.old ledger.new) (bytes_read reads) (has_ended source.new)

@@ -10,9 +10,9 @@ use http::StatusCode;
 pub enum Status {
     /// It was done.
     Done,
-    /// It has no proper head, or its body is not as long as its head says.
+    /// It has no proper head, its body is not as long as its head says, or its tariff is refused.
     BadRequest,
-    /// A page in a browser sent it, where a dump is submitted.
+    /// A page in a browser sent it, where a dump or a tariff is submitted.
     Forbidden,
     /// Nothing has that path.
     NotFound,

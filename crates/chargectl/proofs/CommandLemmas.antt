@@ -22,8 +22,7 @@ use Rattle.command_line.specs.declared.request.BookRequest.{BookRequest}
 use Rattle.chargectl.specs.declared.command_fault.CommandFault.{CommandFault}
 use Rattle.chargectl.specs.declared.command_fault.CommandFault.TheVariants as fault
 use Rattle.chargectl.specs.declared.ended.Answered.{Answered}
-use Rattle.chargectl.specs.Commands.{AsksNothing, AsksOnceBy, ComesOf, IsShelfFault}
-use Rattle.chargectl.specs.Commands.{IsTextFault, IsWordFault}
+use Rattle.chargectl.specs.Commands.{AsksNothing, AsksOnceBy, ComesOf, IsTextFault, IsWordFault}
 use Rattle.chargectl.specs.Faults.{io_fault}
 
 -- a request with its answer
@@ -58,13 +57,15 @@ file_fault (Ok text) kind is = absurd is
 file_fault (Err why) kind is = inl (kind, is)
 
 -- a word that is there is no fault
-pub word_there : {A : Type 0} (read : Option A) (found : A) (why : CommandFault) → read ≡ Some found
-    → IsShelfFault why → IsWordFault read why
-word_there read found why is shelf =
-    subst (λ read. IsWordFault read why) (sym is) shelf
+pub word_there : {A : Type 0} (read : Option A) (found : A) (IsLater : CommandFault → Type 0)
+    (why : CommandFault) → read ≡ Some found → IsLater why → IsWordFault read IsLater why
+word_there read found IsLater why is later =
+    subst (λ read. IsWordFault read IsLater why) (sym is) later
 
-pub word_gone : {A : Type 0} (read : Option A) → read ≡ None → IsWordFault read fault.Argument
-word_gone read is = subst (λ read. IsWordFault read fault.Argument) (sym is) refl
+-- and one that is not there is
+pub word_gone : {A : Type 0} (read : Option A) (IsLater : CommandFault → Type 0) → read ≡ None
+    → IsWordFault read IsLater fault.Argument
+word_gone read IsLater is = subst (λ read. IsWordFault read IsLater fault.Argument) (sym is) refl
 
 pub not_flushed : (text : List ℕ) (output : Output) (told : Result (Unit {0}) ReportFault)
     (held has holds : Option (List ℕ)) → IsWritten text output told

@@ -43,7 +43,7 @@ use Rattle.chargectl.specs.CommandLaws.{IsListed, LeaveHistory, ListBy, ListOfHi
 use Rattle.chargectl.specs.CommandLaws.{OpenedSo, RunsOn}
 use Rattle.chargectl.specs.CommandLaws.{ServesOfHistory, place_after}
 use Rattle.chargectl.specs.Requests.{Does, DoesOrRefuses, ServesBy}
-use Rattle.chargectl.specs.RulingList.{Lists, ListsBy, listing_answered}
+use Rattle.chargectl.specs.RulingList.{ListsBy, listing_answered}
 use Rattle.chargectl.specs.Sittings.{SomeSittings}
 use Rattle.chargectl.proofs.SittingLemmas.{sittings_answered}
 

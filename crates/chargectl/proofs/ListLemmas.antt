@@ -1,5 +1,5 @@
 -- Lists of names that a reader gives, choices by them, and the tariff of a text.
-use Rattle.std.proofs.Common.{◌≡◌, ◌∙◌, ◌⊎◌, List, ℕ, Option, Result, Ok, Err, ap, inl, inr, refl}
+use Rattle.std.proofs.Common.{◌≡◌, List, ℕ, Option, Result, Ok, Err, inl, inr, refl}
 use Rattle.std.proofs.Common.{subst, sym, take, true, true≢false}
 use Rattle.std.specs.Prelude.{IfErr, IfOk, IsErr, IsErrAnd, OnErr}
 use Rattle.std.specs.declared.alloc.AllocError.{AllocError}
@@ -22,7 +22,6 @@ use Rattle.program_output.specs.Names.{IsNamesFault, names_in}
 use Rattle.chargectl.specs.declared.choices.ListAnswered.{ListAnswered}
 use Rattle.chargectl.specs.declared.command_fault.CommandFault.{CommandFault}
 use Rattle.chargectl.specs.Choices.{ChoosesBy, ChoosesNothing, ComesOfList, IsListFault}
-use Rattle.chargectl.specs.Commands.{IsPrinted}
 use Rattle.chargectl.specs.Faults.{IsFaultIn, IsTextFault, names_fault}
 use Rattle.chargectl.specs.Reading.{IsTariffRead, lasting}
 

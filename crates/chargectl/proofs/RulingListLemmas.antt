@@ -1,16 +1,15 @@
 -- The list of rulings, and the output after it was flushed.
-use Rattle.std.proofs.Common.{◌≡◌, ◌∙◌, Bool, false, true, true≢false, ℕ, List, Option, Result, Ok, Err}
+use Rattle.std.proofs.Common.{◌≡◌, ◌∙◌, false, true, true≢false, ℕ, List, Option, Result, Ok, Err}
 use Rattle.std.proofs.Common.{inl, inr, refl, sym, take}
 use Rattle.std.specs.Prelude.{IsErr}
 use Rattle.std.specs.Io.KnownBytes.{Appends, Keeps}
 use Rattle.std.proofs.KnownBytes.{Appends-kept}
-use Rattle.book_model.specs.Words.{Naming}
 use Rattle.book_reports.specs.declared.fault.ReportFault.{ReportFault}
 use Rattle.book_reports.specs.StreamedRulings.{WritesRulings, WritesSomeRulings}
 use Rattle.book_reports.specs.Writing.{WritesPrefix}
 use Rattle.office.specs.declared.repository.RepositoryFault.{RepositoryFault}
 use Rattle.office.specs.declared.repository.RepositoryFault.TheVariants.{Unseen}
-use Rattle.office.specs.Shelves.{ComesBy, IsDoneTo, IsOpened, IsUntouched, Shelf}
+use Rattle.office.specs.Shelves.{ComesBy, IsDoneTo, IsOpened, Shelf}
 use Rattle.office.proofs.ShelfLemmas.{done_as}
 use Rattle.chargectl.specs.RulingList.{list_end}
 

@@ -3,13 +3,10 @@ use Rattle.std.specs.Prelude.{◌≡◌, ◌⊎◌, ⊤, Bool, true, false, ℕ,
 use Rattle.std.specs.Prelude.{take, if◌then◌else◌}
 use Rattle.std.specs.Borrow.{Bor}
 use Rattle.std.specs.Option.{option_map}
-use Rattle.std.specs.declared.io.ErrorKind.{ErrorKind}
 use Rattle.std.specs.Io.KnownBytes.{Appends}
 use Rattle.smf_text.specs.Day.{day_of_text_of}
-use Rattle.tariff_rules.specs.declared.fault.TariffFault.{TariffFault}
 use Rattle.streams.specs.InputOutput.{Input}
 use Rattle.book_model.specs.declared.fault.LedgerFault.{LedgerFault}
-use Rattle.book_model.specs.declared.fault.LedgerFault.TheVariants as ledger
 use Rattle.book_model.specs.Words.{Book, Event, Naming}
 use Rattle.book_core.specs.Follow.{MakesAnswered}
 use Rattle.book_core.specs.Transition.{Transition}
@@ -17,6 +14,8 @@ use Rattle.book_reports.specs.declared.report.PeriodReport.{PeriodReport}
 use Rattle.book_reports.specs.declared.report.Report.{Report}
 use Rattle.book_reports.specs.declared.report.Report.TheVariants.{DisputeList, DisputeTable}
 use Rattle.book_reports.specs.declared.report.Report.TheVariants.{OfCentre, PeriodList, TariffText}
+use Rattle.book_reports.specs.declared.what_if.StatementForm.{StatementForm}
+use Rattle.book_reports.specs.declared.what_if.WhatIf.{WhatIf}
 use Rattle.book_reports.specs.BookTexts.{centre_named, report_of_all}
 use Rattle.office.specs.declared.repository.RepositoryFault.{RepositoryFault}
 use Rattle.office.specs.declared.request.Asked.{Asked}
@@ -43,6 +42,16 @@ period_report report period None = Some (report_of_all report period)
 period_report report period (Some centre) =
     option_map (OfCentre report period) (centre_named centre.now)
 
+-- a statement in this form by other prices, of one centre or of the whole office
+abbrev pub what_if_for : StatementForm → ℕ → Option (List ℕ) → WhatIf
+what_if_for form period centre = record { form = form; period = period; centre = centre }
+
+-- that of the whole office, or of the centre that is named, if that is a name
+abbrev pub what_if_of : StatementForm → ℕ → Option (Bor (List ℕ)) → Option WhatIf
+what_if_of form period None = Some (what_if_for form period None)
+what_if_of form period (Some centre) =
+    option_map (λ named. what_if_for form period (Some named)) (centre_named centre.now)
+
 -- the disputes, as a list or as a table
 abbrev pub dispute_report : Bool → Report
 dispute_report csv = if csv then DisputeTable else DisputeList
@@ -57,15 +66,18 @@ IsAskedBy (book.Choose name) (asks.Choose chosen) = name_in name.now ≡ Some ch
 IsAskedBy book.Adopt (asks.Adopt rule) = rule ≡ 2
 IsAskedBy (book.OfPeriod report period centre) (asks.Report printed) =
     period_report report period centre ≡ Some printed
+IsAskedBy (book.WhatIf form period centre file) (asks.WhatIf report text) =
+    what_if_of form period centre ≡ Some report
 IsAskedBy (book.Disputes csv) (asks.Report printed) = printed ≡ dispute_report csv
 IsAskedBy (book.TariffText date) (asks.Report printed) =
     option_map TariffText (day_of_text_of date.now) ≡ Some printed
 IsAskedBy book.Periods (asks.Report printed) = printed ≡ PeriodList
 IsAskedBy request asked = ⊥
 
--- it may change the books
+-- it may change the books: a report may not, by whatever prices it is
 abbrev pub may_change : Asked → Bool
 may_change (asks.Report report) = false
+may_change (asks.WhatIf report text) = false
 may_change asked = true
 
 -- The office was asked this once, with the dump that a reader gave, and answered this.
@@ -105,20 +117,26 @@ pub record IsAnswered (asked : Asked) (book : List ℕ) (old new : Shelf) (answe
 abbrev pub IsShelfFault : CommandFault → Type 0
 IsShelfFault why = (shelf : RepositoryFault) × (why ≡ shelf_fault shelf)
 
--- a word is not what it has to be, before anything else; or else the place of the books failed
-abbrev pub IsWordFault : {A : Type 0} → Option A → CommandFault → Type 0
-IsWordFault None why = why ≡ fault.Argument
-IsWordFault (Some read) why = IsShelfFault why
+-- that, or the file of a tariff failed, or its text is none
+abbrev pub IsTariffFault : CommandFault → Type 0
+IsTariffFault why = IsShelfFault why ⊎ IsTextFault why
+
+-- a word is not what it has to be, before anything else; or else there is a fault of this kind
+abbrev pub IsWordFault : {A : Type 0} → Option A → (CommandFault → Type 0) → CommandFault → Type 0
+IsWordFault None IsLater why = why ≡ fault.Argument
+IsWordFault (Some read) IsLater why = IsLater why
 
 -- why a command asks nothing
 abbrev pub AsksNothing : BookRequest → CommandFault → Type 0
-AsksNothing (book.Tariff file) why = IsShelfFault why ⊎ IsTextFault why
+AsksNothing (book.Tariff file) why = IsTariffFault why
 AsksNothing (book.Import dump) why = IsShelfFault why ⊎ IsFileFault why
-AsksNothing (book.Close period date) why = IsWordFault (day_of_text_of date.now) why
-AsksNothing (book.Choose name) why = IsWordFault (name_in name.now) why
+AsksNothing (book.Close period date) why = IsWordFault (day_of_text_of date.now) IsShelfFault why
+AsksNothing (book.Choose name) why = IsWordFault (name_in name.now) IsShelfFault why
 AsksNothing (book.OfPeriod report period centre) why =
-    IsWordFault (period_report report period centre) why
-AsksNothing (book.TariffText date) why = IsWordFault (day_of_text_of date.now) why
+    IsWordFault (period_report report period centre) IsShelfFault why
+AsksNothing (book.WhatIf form period centre file) why =
+    IsWordFault (what_if_of form period centre) IsTariffFault why
+AsksNothing (book.TariffText date) why = IsWordFault (day_of_text_of date.now) IsShelfFault why
 AsksNothing request why = IsShelfFault why
 
 -- a command asked what its words ask

@@ -50,10 +50,11 @@ status_by ended =
     if ended.has_log then log_status (came_status ended.came) ended.is_change
     else came_status ended.came
 
--- words that do not say together what is asked
+-- words that do not say what is asked
 abbrev pub unclear_line : Unclear → List ℕ
 unclear_line unclear.Choice = codes "error: choose takes either SHA256 or --from FILE\n"
 unclear_line unclear.Prices = codes "error: trial takes either rates or --tariff FILE\n"
+unclear_line unclear.Period = codes "error: PERIOD is a number without a sign or a leading 0\n"
 
 -- What is said of a fault: one line. Of a rate outside its limits nothing is said.
 abbrev pub fault_lines : CommandFault → List (List ℕ)

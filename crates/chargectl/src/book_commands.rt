@@ -1,6 +1,6 @@
 //! The commands on books. Faults are found in this order: a date or a name, the books, the file,
 //! what the books say, or the stop of an import, and then the output. The books are closed before
-//! their answer is written.
+//! their answer is written. `report_commands` has the reports.
 
 ghost use Rattle.std.specs.Prelude.{◌≡◌, IfErr};
 ghost use Rattle.book_core.specs.Transition.{IsTransition};
@@ -17,10 +17,7 @@ use crate::ended::{Answered, Ended};
 use crate::progress::{WatchedReader, clear_line};
 use book_core::{Ledger, LedgerFault, Sink, Source};
 use command_line::{BookRequest, DumpFile};
-use office::{
-    Answer, Asked, Opened, PeriodReport, Report, Repository, RepositoryFault, Visit, ask,
-    centre_named, report_of_all, write_answer,
-};
+use office::{Answer, Asked, Opened, Repository, RepositoryFault, Visit, ask, write_answer};
 use program_output::name_of_text;
 use smf_text::day_of_text;
 use std::alloc::Global;
@@ -81,6 +78,7 @@ fn may_change(asked: &Asked) -> bool
 {
     match asked {
         Asked::Report(_) => false,
+        Asked::WhatIf { .. } => false,
         _ => true,
     }
 }
@@ -99,7 +97,7 @@ fn answer_in(
 }
 
 /// Asks the books of a name.
-fn ask_books<S: Repository, R: Read + Drop>(
+pub(crate) fn ask_books<S: Repository, R: Read + Drop>(
     rt: &HostRuntime,
     repository: &mut S,
     book: &str,
@@ -298,101 +296,4 @@ pub(crate) fn import_dump<S: Repository>(
     let answered = ask_books(rt, repository, book, asked, input);
     clear_line(rt, is_shown);
     Ok(answered)
-}
-
-/// The disputes, as a list or as a table.
-fn dispute_report(csv: bool) -> Report
-    ensures { result ≡ spec.dispute_report csv }
-{
-    if csv {
-        Report::DisputeTable
-    } else {
-        Report::DisputeList
-    }
-}
-
-/// Makes the list of disputes, or their table.
-pub(crate) fn report_disputes<S: Repository>(
-    rt: &HostRuntime,
-    repository: &mut S,
-    book: &str,
-    csv: bool,
-) -> Result<Answered, CommandFault>
-    ensures { ComesOf (BookRequest.Disputes csv) book.now
-        (S.shelf repository.old) (S.shelf repository.new) result }
-{
-    repository.expect(book)?;
-    let asked = Asked::Report(dispute_report(csv));
-    Ok(ask_books(rt, repository, book, asked, io::empty()))
-}
-
-/// Makes the list of periods.
-pub(crate) fn report_periods<S: Repository>(
-    rt: &HostRuntime,
-    repository: &mut S,
-    book: &str,
-) -> Result<Answered, CommandFault>
-    ensures { ComesOf BookRequest.Periods book.now
-        (S.shelf repository.old) (S.shelf repository.new) result }
-{
-    repository.expect(book)?;
-    let asked = Asked::Report(Report::PeriodList);
-    Ok(ask_books(rt, repository, book, asked, io::empty()))
-}
-
-/// Gives back the tariff file that begins on a day.
-pub(crate) fn report_tariff<S: Repository>(
-    rt: &HostRuntime,
-    repository: &mut S,
-    book: &str,
-    date: &str,
-) -> Result<Answered, CommandFault>
-    ensures { ComesOf (BookRequest.TariffText date.entry) book.now
-        (S.shelf repository.old) (S.shelf repository.new) result }
-{
-    let day = match day_of_text(date) {
-        Some(day) => day,
-        None => return Err(CommandFault::Argument),
-    };
-    repository.expect(book)?;
-    let asked = Asked::Report(Report::TariffText(day));
-    Ok(ask_books(rt, repository, book, asked, io::empty()))
-}
-
-/// Makes what a period has, of one centre or of the whole office.
-pub(crate) fn report_period<S: Repository>(
-    rt: &HostRuntime,
-    repository: &mut S,
-    book: &str,
-    report: PeriodReport,
-    period: u16,
-    centre: Option<&str>,
-) -> Result<Answered, CommandFault>
-    ensures { ComesOf (BookRequest.OfPeriod report period centre.entry) book.now
-        (S.shelf repository.old) (S.shelf repository.new) result }
-{
-    let made = match period_report(report, period, centre) {
-        Some(made) => made,
-        None => return Err(CommandFault::Argument),
-    };
-    repository.expect(book)?;
-    let asked = Asked::Report(made);
-    Ok(ask_books(rt, repository, book, asked, io::empty()))
-}
-
-/// The report, of the whole office where no centre is named. `None`: the text is no name.
-fn period_report(report: PeriodReport, period: u16, centre: Option<&str>) -> Option<Report>
-    ensures { result ≡ spec.period_report report period centre.entry }
-{
-    match centre {
-        Some(text) => match centre_named(text) {
-            Some(centre) => Some(Report::OfCentre {
-                report,
-                period,
-                centre,
-            }),
-            None => None,
-        },
-        None => Some(report_of_all(report, period)),
-    }
 }

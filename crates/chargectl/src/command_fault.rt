@@ -69,13 +69,14 @@ impl CommandFault {
     }
 }
 
-/// What is said of words that do not say together what is asked.
+/// What is said of words that do not say what is asked.
 fn unclear_text(why: Unclear) -> &'static str
     ensures { result.now ≡ unclear_line why }
 {
     match why {
         Unclear::Choice => "error: choose takes either SHA256 or --from FILE\n",
         Unclear::Prices => "error: trial takes either rates or --tariff FILE\n",
+        Unclear::Period => "error: PERIOD is a number without a sign or a leading 0\n",
     }
 }
 

@@ -11,6 +11,7 @@ mod laws;
 mod port;
 mod program;
 mod progress;
+mod report_commands;
 mod ruling_list;
 mod serve;
 

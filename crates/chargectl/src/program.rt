@@ -10,14 +10,14 @@ ghost use Rattle.chargectl.specs.Reading.{check_end, lasting, trial_end};
 ghost use Rattle.chargectl.specs.Requests.{CommandsBy, Does, IsRefusedFor, Runs};
 
 use crate::audits::{audit, back_up};
-use crate::book_commands::{
-    adopt, choose, close, import_dump, report_disputes, report_period, report_periods,
-    report_tariff, tariff, tariff_text, tell,
-};
+use crate::book_commands::{adopt, choose, close, import_dump, tariff, tariff_text, tell};
 use crate::choices::choose_listed;
 use crate::command_fault::{CommandFault, ended};
 use crate::ended::Ended;
 use crate::progress::WatchedReader;
+use crate::report_commands::{
+    report_disputes, report_period, report_periods, report_tariff, what_if,
+};
 use crate::ruling_list::list_rulings;
 use crate::serve::serve;
 use book_audit::AuditedRepository;
@@ -128,6 +128,15 @@ fn run_on_books<S: AuditedRepository, O: Write + Drop>(
             centre,
         } => tell(
             report_period(rt, repository, book, report, period, centre),
+            output,
+        ),
+        BookRequest::WhatIf {
+            form,
+            period,
+            centre,
+            file,
+        } => tell(
+            what_if(rt, repository, book, form, period, centre, file),
             output,
         ),
         BookRequest::Disputes { csv } => {

@@ -4,7 +4,7 @@ use Rattle.std.proofs.Common.{◌∷◌, map, Option, Some, None, Result, Ok, Er
 use Rattle.std.specs.Borrow.{Bor}
 use Rattle.std.specs.List.{find, list_any}
 use Rattle.std.specs.Option.{option_map}
-use Rattle.std.specs.Prelude.{Box, IfSome, IsSome, IsSomeAnd, codes, is_some, pos}
+use Rattle.std.specs.Prelude.{Box, IfSome, IsSome, IsSomeAnd, codes, is_some, not, pos}
 use Rattle.std.specs.Str.{bytes_eq}
 use Rattle.std.specs.Str.Parse.{IsNumeral, ParsesBool, ParsesUnsigned, digits_value, without_leading_plus}
 use Rattle.std.proofs.lemmas.Option.{same_Some}
@@ -19,7 +19,11 @@ use Rattle.clap.specs.declared.parser.matches.SubCommand.{SubCommand}
 use Rattle.clap.proofs.CallerReads.{signed_reads}
 use Rattle.std.specs.Box.{box_value}
 use Rattle.command_line.specs.Given.{HasNumber, HasRate, NoneIs}
-use Rattle.command_line.specs.Requests.{IsCentre, IsFlag, IsLeftOut, IsNumber, IsText, Writes}
+use Rattle.command_line.specs.Requests.{IsCentre, IsFlag, IsLeftOut, IsNumber, IsOfCommand, IsRequest}
+use Rattle.command_line.specs.Requests.{IsText, Writes, has_plain_period, is_of_period_text}
+use Rattle.command_line.specs.declared.request.Request.{Request}
+use Rattle.command_line.specs.declared.request.Request.TheVariants as request
+use Rattle.command_line.specs.declared.request.Unclear.TheVariants as unclear
 use Rattle.command_line.proofs.RowLemmas.{none_some, true_false}
 
 -- ---- a text
@@ -187,3 +191,28 @@ module _ {Z : Type 0} where
       → IsSomeAnd (subcommand_rows sub) P → ⊥
   none_met P None named met = met
   none_met P (Some b) named met = none_some _ named
+
+-- ---- a period
+
+-- a request whose period is written plainly is no other
+pub plain_request : (name : Text) (rows : List Row) (asked : Request) → IsOfCommand name rows asked
+    → has_plain_period rows ≡ true → IsRequest name rows asked
+plain_request name rows asked command plain =
+    record { command = command; plain = go asked command }
+  where
+    go : (asked : Request) → IsOfCommand name rows asked
+        → has_plain_period rows ≡ not (is_of_period_text asked)
+    go (request.Trial layout cpu excp price) command = plain
+    go (request.TrialUnder layout file) command = plain
+    go (request.Check dump) command = plain
+    go (request.Explain kind value) command = plain
+    go (request.OfBooks path book) command = plain
+    go (request.Unclear unclear.Choice) command = plain
+    go (request.Unclear unclear.Prices) command = plain
+    go (request.Unclear unclear.Period) command = command
+
+pub plain_read : (name : Text) (rows : List Row) (read : Option Request)
+    → IfSome read (IsOfCommand name rows) → has_plain_period rows ≡ true
+    → IfSome read (IsRequest name rows)
+plain_read name rows None command plain = tt
+plain_read name rows (Some asked) command plain = plain_request name rows asked command plain

@@ -94,6 +94,7 @@ layouts = optional (codes "layout") (among (codes "rdw" ∷ codes "bdw" ∷ []))
 abbrev pub rate_of : Text → WordSeen
 rate_of name = optional name rate (codes "0")
 
+-- a tariff file: of a trial, or of a statement by other prices
 abbrev pub prices : WordSeen
 prices = maybe (codes "tariff") any
 
@@ -119,7 +120,7 @@ known_table = (
     (codes "close", book ∷ period ∷ date ∷ []) ∷
     (codes "choose", book ∷ digest ∷ names ∷ []) ∷
     (codes "adopt", book ∷ []) ∷
-    (codes "statement", book ∷ period ∷ csv ∷ centre ∷ []) ∷
+    (codes "statement", book ∷ period ∷ csv ∷ centre ∷ prices ∷ []) ∷
     (codes "adjustments", book ∷ period ∷ csv ∷ centre ∷ []) ∷
     (codes "disputes", book ∷ csv ∷ []) ∷
     (codes "periods", book ∷ []) ∷

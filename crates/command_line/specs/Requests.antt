@@ -1,7 +1,8 @@
 -- Which request clap's matches are: the name of a command, and what was found for its arguments.
-use Rattle.std.specs.Prelude.{◌≡◌, ◌⊎◌, ◌&&◌, ◌==◌, ℕ, Bool, true, false, List, Option, codes}
-use Rattle.std.specs.Prelude.{Some, None, IsSome, IsSomeAnd}
+use Rattle.std.specs.Prelude.{◌≡◌, ◌⊎◌, ◌&&◌, ◌||◌, ◌==◌, ℕ, Bool, true, false, List, Option, codes}
+use Rattle.std.specs.Prelude.{Some, None, IsSome, IsSomeAnd, bytes_eq, nat_lt, not, slice_get}
 use Rattle.std.specs.Borrow.{Bor}
+use Rattle.std.specs.Option.{option_map_or}
 use Rattle.std.specs.Str.Parse.{IsNumeral, digits_value, without_leading_plus}
 use Rattle.clap.specs.Matches.{found_of}
 use Rattle.clap.specs.Values.{bool_text}
@@ -11,6 +12,8 @@ use Rattle.smf_frames.specs.declared.dump.Layout.{Layout}
 use Rattle.smf_frames.specs.declared.dump.Layout.TheVariants.{Rdw, Bdw}
 use Rattle.book_reports.specs.declared.report.PeriodReport.{PeriodReport}
 use Rattle.book_reports.specs.declared.report.PeriodReport.TheVariants as of_period
+use Rattle.book_reports.specs.declared.what_if.StatementForm.{StatementForm}
+use Rattle.book_reports.specs.declared.what_if.StatementForm.TheVariants as form
 use Rattle.command_line.specs.declared.request.BookRequest.{BookRequest}
 use Rattle.command_line.specs.declared.request.BookRequest.TheVariants as book
 use Rattle.command_line.specs.declared.request.DumpFile.{DumpFile}
@@ -73,14 +76,14 @@ pub record IsDump (rows : List Row) (dump : DumpFile) : Type 0 where
   pub layout : IsLayout rows dump.layout
   pub quiet : IsFlag rows (codes "quiet") dump.quiet
 
--- what is printed of a period
+-- what is printed of a period: a statement, where no tariff is named, is of what was charged
 abbrev pub IsOfPeriod : Text → List Row → PeriodReport → ℕ → Type 0
 IsOfPeriod name rows of_period.Statement period =
     (name ≡ codes "statement") × IsNumber rows (codes "period") period
-    × IsFlag rows (codes "csv") false
+    × IsFlag rows (codes "csv") false × IsLeftOut rows (codes "tariff")
 IsOfPeriod name rows of_period.StatementTable period =
     (name ≡ codes "statement") × IsNumber rows (codes "period") period
-    × IsFlag rows (codes "csv") true
+    × IsFlag rows (codes "csv") true × IsLeftOut rows (codes "tariff")
 IsOfPeriod name rows of_period.AdjustmentList period =
     (name ≡ codes "adjustments") × IsNumber rows (codes "period") period
     × IsFlag rows (codes "csv") false
@@ -92,6 +95,14 @@ IsOfPeriod name rows of_period.AdjustmentTable period =
 abbrev pub IsCentre : List Row → Option (Bor Text) → Type 0
 IsCentre rows (Some centre) = IsText rows (codes "centre") centre
 IsCentre rows None = IsLeftOut rows (codes "centre")
+
+-- a statement is a table where `--csv` asks for one, or else a text
+abbrev pub is_table : StatementForm → Bool
+is_table form.Text = false
+is_table form.Table = true
+
+abbrev pub IsForm : List Row → StatementForm → Type 0
+IsForm rows value = IsFlag rows (codes "csv") (is_table value)
 
 -- what is asked of books
 abbrev pub IsOfBooks : Text → List Row → BookRequest → Type 0
@@ -111,6 +122,9 @@ IsOfBooks name rows (book.ChooseListed file) =
 IsOfBooks name rows book.Adopt = name ≡ codes "adopt"
 IsOfBooks name rows (book.OfPeriod asked period centre) =
     IsOfPeriod name rows asked period × IsCentre rows centre
+IsOfBooks name rows (book.WhatIf form period centre file) =
+    (name ≡ codes "statement") × IsNumber rows (codes "period") period × IsForm rows form
+    × IsCentre rows centre × IsText rows (codes "tariff") file
 IsOfBooks name rows (book.Disputes csv) =
     (name ≡ codes "disputes") × IsFlag rows (codes "csv") csv
 IsOfBooks name rows book.Periods = name ≡ codes "periods"
@@ -143,7 +157,16 @@ pub record NamesRate (rows : List Row) : Type 0 where
   pub are : AreRates rows cpu excp price
   pub some : are_none cpu excp price ≡ false
 
--- words each of which is right, and which together do not say what is asked
+-- a number is written plainly: without a sign, and without a 0 before other digits
+abbrev pub is_plain : Text → Bool
+is_plain text =
+    bytes_eq text (codes "0") || option_map_or (λ b. nat_lt 48 b && nat_lt b 58) (slice_get text 0) false
+
+-- so is the period, where one is named
+abbrev pub has_plain_period : List Row → Bool
+has_plain_period rows = option_map_or is_plain (first_of (codes "period") rows) true
+
+-- words that do not say what is asked, alone or together
 abbrev pub IsUnclear : Text → List Row → Unclear → Type 0
 IsUnclear name rows unclear.Choice =
     (name ≡ codes "choose")
@@ -151,18 +174,29 @@ IsUnclear name rows unclear.Choice =
     ⊎ (IsLeftOut rows (codes "sha256") × IsLeftOut rows (codes "from")))
 IsUnclear name rows unclear.Prices =
     (name ≡ codes "trial") × IsGiven rows (codes "tariff") × NamesRate rows
+IsUnclear name rows unclear.Period = has_plain_period rows ≡ false
 
--- what is asked of the program
-abbrev pub IsRequest : Text → List Row → Request → Type 0
-IsRequest name rows (request.Trial layout cpu excp price) =
+-- what is asked of the program, by the words of a command
+abbrev pub IsOfCommand : Text → List Row → Request → Type 0
+IsOfCommand name rows (request.Trial layout cpu excp price) =
     (name ≡ codes "trial") × IsLayout rows layout × AreRates rows cpu excp price
     × IsLeftOut rows (codes "tariff")
-IsRequest name rows (request.TrialUnder layout file) =
+IsOfCommand name rows (request.TrialUnder layout file) =
     (name ≡ codes "trial") × IsLayout rows layout × AreRates rows 0 0 0
     × IsText rows (codes "tariff") file
-IsRequest name rows (request.Check dump) = (name ≡ codes "check") × IsDump rows dump
-IsRequest name rows (request.Explain kind value) =
+IsOfCommand name rows (request.Check dump) = (name ≡ codes "check") × IsDump rows dump
+IsOfCommand name rows (request.Explain kind value) =
     (name ≡ codes "explain") × IsKind rows kind × IsNumber rows (codes "number") value
-IsRequest name rows (request.OfBooks path asked) =
+IsOfCommand name rows (request.OfBooks path asked) =
     IsText rows (codes "book") path × IsOfBooks name rows asked
-IsRequest name rows (request.Unclear why) = IsUnclear name rows why
+IsOfCommand name rows (request.Unclear why) = IsUnclear name rows why
+
+-- it is only said that a period is not written plainly
+abbrev pub is_of_period_text : Request → Bool
+is_of_period_text (request.Unclear unclear.Period) = true
+is_of_period_text asked = false
+
+-- What is asked of the program. A period that is not written plainly is refused before all else.
+pub record IsRequest (name : Text) (rows : List Row) (asked : Request) : Type 0 where
+  pub command : IsOfCommand name rows asked
+  pub plain : has_plain_period rows ≡ not (is_of_period_text asked)

@@ -189,6 +189,13 @@ const PRICES: Argument = Argument::Maybe(ValuedArgument {
     kind: ValueKind::Text,
 });
 
+const OTHER_PRICES: Argument = Argument::Maybe(ValuedArgument {
+    name: "tariff",
+    shown: "FILE",
+    help: "The same records as they would be charged by this tariff file; nothing is written",
+    kind: ValueKind::Text,
+});
+
 const PORT: Argument = Argument::Named(ValuedArgument {
     name: "port",
     shown: "PORT",
@@ -265,7 +272,7 @@ pub(crate) static KNOWN_COMMANDS: [KnownCommand; 18] = [
     KnownCommand {
         name: "statement",
         about: "Prints what a period charges",
-        words: &[BOOK, PERIOD, CSV, CENTRE],
+        words: &[BOOK, PERIOD, CSV, CENTRE, OTHER_PRICES],
     },
     KnownCommand {
         name: "adjustments",

@@ -6,13 +6,13 @@ ghost use Rattle.clap.specs.Walk.{first_of};
 ghost use Rattle.command_line.specs.Given.{HasNumber, HasRate, HasWord, HasWords, HasWordsOf};
 ghost use Rattle.command_line.specs.Given.{NoneIs};
 ghost use Rattle.command_line.specs.Known as known;
-ghost use Rattle.command_line.specs.Requests.{IsDump, IsFlag, IsKind, IsLayout, IsNumber};
-ghost use Rattle.command_line.specs.Requests.{IsLeftOut, IsOfBooks, IsOfPeriod, IsRequest};
-ghost use Rattle.command_line.specs.Requests.{IsText, rows_in};
+ghost use Rattle.command_line.specs.Requests.{IsDump, IsFlag, IsForm, IsKind, IsLayout};
+ghost use Rattle.command_line.specs.Requests.{IsLeftOut, IsNumber, IsOfBooks, IsOfPeriod};
+ghost use Rattle.command_line.specs.Requests.{IsOfCommand, IsRequest, IsText, is_table, rows_in};
 ghost use Rattle.command_line.specs.Requests as spec;
 
 use crate::request::{BookRequest, DumpFile, NumberKind, Request, Unclear};
-use book_reports::PeriodReport;
+use book_reports::{PeriodReport, StatementForm};
 use clap::ArgMatches;
 use smf_frames::Layout;
 
@@ -25,11 +25,32 @@ pub(crate) fn matched_request<'a>(matches: &ArgMatches<'a>) -> Option<Request<'a
         → IsSome result }
 {
     let (name, found) = matches.subcommand()?;
-    request_in(name, found)
+    if has_plain_period(found) {
+        request_in(name, found)
+    } else {
+        Some(Request::Unclear(Unclear::Period))
+    }
+}
+
+/// A number is written plainly: without a sign, and without a 0 before other digits.
+fn is_plain(text: &str) -> bool
+    ensures { result ≡ spec.is_plain text.now }
+{
+    text == "0" || matches!(text.as_bytes().first(), Some(b'1'..=b'9'))
+}
+
+/// So is the period, where one is named.
+fn has_plain_period(found: &ArgMatches<'_>) -> bool
+    ensures { result ≡ spec.has_plain_period (rows_in found.now) }
+{
+    match text_in(found, "period") {
+        Some(text) => is_plain(text),
+        None => true,
+    }
 }
 
 fn request_in<'a>(name: &str, found: &ArgMatches<'a>) -> Option<Request<'a>>
-    ensures request { IfSome result (IsRequest name.now (rows_in found.now)) }
+    ensures request { IfSome result (IsOfCommand name.now (rows_in found.now)) }
     ensures some { HasWordsOf name.now (rows_in found.now) → IsSome result }
 {
     match name {
@@ -42,7 +63,7 @@ fn request_in<'a>(name: &str, found: &ArgMatches<'a>) -> Option<Request<'a>>
 
 /// New books, an import or a ruling.
 fn change_in<'a>(name: &str, found: &ArgMatches<'a>) -> Option<Request<'a>>
-    ensures request { IfSome result (IsRequest name.now (rows_in found.now)) }
+    ensures request { IfSome result (IsOfCommand name.now (rows_in found.now)) }
     ensures some { HasWordsOf name.now (rows_in found.now)
         → NoneIs (codes "trial" ∷ codes "check" ∷ codes "explain" ∷ []) name.now → IsSome result }
 {
@@ -59,7 +80,7 @@ fn change_in<'a>(name: &str, found: &ArgMatches<'a>) -> Option<Request<'a>>
 
 /// A report, an audit, a backup or a service.
 fn service_in<'a>(name: &str, found: &ArgMatches<'a>) -> Option<Request<'a>>
-    ensures request { IfSome result (IsRequest name.now (rows_in found.now)) }
+    ensures request { IfSome result (IsOfCommand name.now (rows_in found.now)) }
     ensures some { HasWordsOf name.now (rows_in found.now)
         → NoneIs (codes "trial" ∷ codes "check" ∷ codes "explain" ∷ codes "init"
         ∷ codes "tariff" ∷ codes "import" ∷ codes "close" ∷ codes "choose" ∷ codes "adopt" ∷ [])
@@ -78,7 +99,7 @@ fn service_in<'a>(name: &str, found: &ArgMatches<'a>) -> Option<Request<'a>>
 
 /// The periods, or what was ruled.
 fn list_in<'a>(name: &str, found: &ArgMatches<'a>) -> Option<Request<'a>>
-    ensures request { IfSome result (IsRequest name.now (rows_in found.now)) }
+    ensures request { IfSome result (IsOfCommand name.now (rows_in found.now)) }
     ensures some { HasWordsOf name.now (rows_in found.now)
         → NoneIs (codes "trial" ∷ codes "check" ∷ codes "explain" ∷ codes "init"
         ∷ codes "tariff" ∷ codes "import" ∷ codes "close" ∷ codes "choose" ∷ codes "adopt"
@@ -96,7 +117,7 @@ fn list_in<'a>(name: &str, found: &ArgMatches<'a>) -> Option<Request<'a>>
 /// The request to books, where there is something asked of them.
 fn of_books_in<'a>(found: &ArgMatches<'a>, asked: Option<BookRequest<'a>>) -> Option<Request<'a>>
     ensures request { (name : _) → IfSome asked.entry (IsOfBooks name (rows_in found.now))
-        → IfSome result (IsRequest name (rows_in found.now)) }
+        → IfSome result (IsOfCommand name (rows_in found.now)) }
     ensures some { HasWord (rows_in found.now) known.book → IsSome asked.entry → IsSome result }
 {
     let book = text_in(found, "book")?;
@@ -153,7 +174,7 @@ fn are_none(cpu: u64, excp: u64, price: u64) -> bool
 
 /// A trial at rates, or under the tariff that is named. With both it is unclear.
 fn trial_in<'a>(found: &ArgMatches<'a>) -> Option<Request<'a>>
-    ensures request { IfSome result (IsRequest (codes "trial") (rows_in found.now)) }
+    ensures request { IfSome result (IsOfCommand (codes "trial") (rows_in found.now)) }
     ensures some { HasWords (rows_in found.now) (known.layouts ∷ known.rate_of (codes "cpu")
         ∷ known.rate_of (codes "excp") ∷ known.rate_of (codes "record") ∷ known.prices ∷ [])
         → IsSome result }
@@ -193,7 +214,7 @@ fn dump_in<'a>(found: &ArgMatches<'a>) -> Option<DumpFile<'a>>
 }
 
 fn check_in<'a>(found: &ArgMatches<'a>) -> Option<Request<'a>>
-    ensures request { IfSome result (IsRequest (codes "check") (rows_in found.now)) }
+    ensures request { IfSome result (IsOfCommand (codes "check") (rows_in found.now)) }
     ensures some { HasWord (rows_in found.now) known.file
         → HasWord (rows_in found.now) known.layouts → HasWord (rows_in found.now) known.quiet
         → IsSome result }
@@ -230,7 +251,7 @@ fn close_in<'a>(found: &ArgMatches<'a>) -> Option<BookRequest<'a>>
 
 /// One choice, or those of the list that is named. With both, or neither, it is unclear.
 fn choice_in<'a>(found: &ArgMatches<'a>) -> Option<Request<'a>>
-    ensures request { IfSome result (IsRequest (codes "choose") (rows_in found.now)) }
+    ensures request { IfSome result (IsOfCommand (codes "choose") (rows_in found.now)) }
     ensures some { HasWord (rows_in found.now) known.book → IsSome result }
 {
     let unclear = Some(Request::Unclear(Unclear::Choice));
@@ -272,16 +293,60 @@ fn adjustments_in<'a>(found: &ArgMatches<'a>) -> Option<BookRequest<'a>>
     }
 }
 
+/// What a period charged, or what it would charge by the tariff that is named.
 fn statement_in<'a>(found: &ArgMatches<'a>) -> Option<BookRequest<'a>>
     ensures asked { IfSome result (IsOfBooks (codes "statement") (rows_in found.now)) }
     ensures some { HasWord (rows_in found.now) known.period
         → HasWord (rows_in found.now) known.csv → IsSome result }
 {
     let period = number_in(found, "period")?;
-    if flag_in(found, "csv")? {
-        Some(of_period_in(found, PeriodReport::StatementTable, period))
+    let csv = flag_in(found, "csv")?;
+    match text_in(found, "tariff") {
+        Some(file) => Some(what_if_in(found, statement_form(csv), period, file)),
+        None => Some(charged_in(found, csv, period)),
+    }
+}
+
+fn statement_form(csv: bool) -> StatementForm
+    ensures { is_table result ≡ csv }
+{
+    if csv {
+        StatementForm::Table
     } else {
-        Some(of_period_in(found, PeriodReport::Statement, period))
+        StatementForm::Text
+    }
+}
+
+fn what_if_in<'a>(
+    found: &ArgMatches<'a>,
+    form: StatementForm,
+    period: u16,
+    file: &'a str,
+) -> BookRequest<'a>
+    ensures { IsNumber (rows_in found.now) (codes "period") period
+        → IsForm (rows_in found.now) form
+        → IsText (rows_in found.now) (codes "tariff") file.entry
+        → IsOfBooks (codes "statement") (rows_in found.now) result }
+{
+    let centre = text_in(found, "centre");
+    BookRequest::WhatIf {
+        form,
+        period,
+        centre,
+        file,
+    }
+}
+
+fn charged_in<'a>(found: &ArgMatches<'a>, csv: bool, period: u16) -> BookRequest<'a>
+    ensures { IsNumber (rows_in found.now) (codes "period") period
+        → IsFlag (rows_in found.now) (codes "csv") csv
+        → IsLeftOut (rows_in found.now) (codes "tariff")
+        → IsOfBooks (codes "statement") (rows_in found.now) result }
+{
+    if csv {
+        of_period_in(found, PeriodReport::StatementTable, period)
+    } else {
+        of_period_in(found, PeriodReport::Statement, period)
     }
 }
 
@@ -337,7 +402,7 @@ fn serve_in<'a>(found: &ArgMatches<'_>) -> Option<BookRequest<'a>>
 }
 
 fn explain_in<'a>(found: &ArgMatches<'_>) -> Option<Request<'a>>
-    ensures request { IfSome result (IsRequest (codes "explain") (rows_in found.now)) }
+    ensures request { IfSome result (IsOfCommand (codes "explain") (rows_in found.now)) }
     ensures some { HasWord (rows_in found.now) known.number_kind
         → HasWord (rows_in found.now) known.kind_number → IsSome result }
 {

@@ -1,4 +1,4 @@
-use book_reports::PeriodReport;
+use book_reports::{PeriodReport, StatementForm};
 use smf_frames::Layout;
 
 /// What kind of thing a number stands for.
@@ -27,13 +27,15 @@ pub struct DumpFile<'a> {
     pub quiet: bool,
 }
 
-/// Words each of which is right, and which together do not say what is asked.
+/// Words that do not say what is asked, alone or together.
 #[derive(Clone, Copy, Debug, PartialEq, Eq)]
 pub enum Unclear {
     /// Which records are chosen: a name and a list of names are given, or neither.
     Choice,
     /// What a trial prices by: a tariff and a rate are given.
     Prices,
+    /// Which period: its number has a sign, or a 0 before other digits.
+    Period,
 }
 
 /// What is asked of books in a file.
@@ -74,6 +76,16 @@ pub enum BookRequest<'a> {
         period: u16,
         /// The name of the one centre that it is of; None stands for the whole office.
         centre: Option<&'a str>,
+    },
+    /// A period's statement printed as it would be by other prices.
+    WhatIf {
+        form: StatementForm,
+        /// The number of the period.
+        period: u16,
+        /// The name of the one centre that it is of; None stands for the whole office.
+        centre: Option<&'a str>,
+        /// The path of the tariff.
+        file: &'a str,
     },
     /// The disputes printed.
     Disputes {

@@ -1,6 +1,6 @@
 use Rattle.std.proofs.Common.{◌∙◌, refl, sym}
 use Rattle.command_line.specs.declared.request.BookRequest.TheVariants as book
-use Rattle.chargectl.specs.Commands.{AsksNothing}
+use Rattle.chargectl.specs.Commands.{AsksNothing, IsShelfFault}
 use Rattle.chargectl.specs.Faults.{shelf_fault}
 use Rattle.chargectl.proofs.CommandLemmas.{not_asked, of_kind, word_gone, word_there}
 use Rattle.office.specs.declared.request.Asked.TheVariants as asks
@@ -9,7 +9,7 @@ use Rattle.chargectl.proofs.book_commands.choose.Goals as goal
 
 pub returns-in-None : goal.returns-in-None
 returns-in-None g c = (
-  word_gone _ (sym c.name_of_text.ensures.read ∙ c.in-None.is),
+  word_gone _ IsShelfFault (sym c.name_of_text.ensures.read ∙ c.in-None.is),
   untouched c.args.book.now (g.S.Repository.shelf c.args.repository.now),
 )
 
@@ -20,7 +20,7 @@ returns-in_err-expect g c =
     c.from_residual.result c.from_residual.ensures.0
     (of_kind c.from_residual.result (shelf_fault c.in_err-expect.field-0.0) (AsksNothing request)
     c.from_residual.ensures.1
-    (word_there _ c.in-Some.chosen (shelf_fault c.in_err-expect.field-0.0)
+    (word_there _ c.in-Some.chosen IsShelfFault (shelf_fault c.in_err-expect.field-0.0)
     (sym c.name_of_text.ensures.read ∙ c.in-Some.is) (c.in_err-expect.field-0.0, refl)))
 
 pub returns : goal.returns

@@ -1,6 +1,6 @@
 use Rattle.std.proofs.Common.{◌∙◌, refl, sym}
 use Rattle.command_line.specs.declared.request.BookRequest.TheVariants as book
-use Rattle.chargectl.specs.Commands.{AsksNothing}
+use Rattle.chargectl.specs.Commands.{AsksNothing, IsShelfFault}
 use Rattle.chargectl.specs.Faults.{shelf_fault}
 use Rattle.chargectl.proofs.CommandLemmas.{not_asked, of_kind, word_gone, word_there}
 use Rattle.office.proofs.ShelfLemmas.{untouched}
@@ -8,7 +8,7 @@ use Rattle.chargectl.proofs.book_commands.close.Goals as goal
 
 pub returns-in-None : goal.returns-in-None
 returns-in-None g c = (
-  word_gone _ (sym c.day_of_text.ensures.value ∙ c.in-None.is),
+  word_gone _ IsShelfFault (sym c.day_of_text.ensures.value ∙ c.in-None.is),
   untouched c.args.book.now (g.S.Repository.shelf c.args.repository.now),
 )
 
@@ -19,5 +19,5 @@ returns-in_err-expect g c =
     c.from_residual.result c.from_residual.ensures.0
     (of_kind c.from_residual.result (shelf_fault c.in_err-expect.field-0.0) (AsksNothing request)
     c.from_residual.ensures.1
-    (word_there _ c.in-Some.through (shelf_fault c.in_err-expect.field-0.0)
+    (word_there _ c.in-Some.through IsShelfFault (shelf_fault c.in_err-expect.field-0.0)
     (sym c.day_of_text.ensures.value ∙ c.in-Some.is) (c.in_err-expect.field-0.0, refl)))

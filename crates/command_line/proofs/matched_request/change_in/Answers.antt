@@ -2,7 +2,7 @@ use Rattle.std.proofs.Common.{subst, sym, refl}
 use Rattle.std.specs.Prelude.{IfSome}
 use Rattle.command_line.specs.Given.{HasWordsOf}
 use Rattle.command_line.specs.Known.{known_table}
-use Rattle.command_line.specs.Requests.{IsOfBooks, IsRequest, rows_in}
+use Rattle.command_line.specs.Requests.{IsOfBooks, IsOfCommand, rows_in}
 use Rattle.command_line.proofs.matched_request.change_in.Goals as goal
 
 pub returns-in-init-clause-some : goal.returns-in-init-clause-some
@@ -53,7 +53,7 @@ returns-in-close-clause-some c =
 
 pub returns-in-choose-clause-request : goal.returns-in-choose-clause-request
 returns-in-choose-clause-request c =
-    subst (λ n. IfSome c.choice_in.result (IsRequest n (rows_in c.args.found.now)))
+    subst (λ n. IfSome c.choice_in.result (IsOfCommand n (rows_in c.args.found.now)))
     (sym c.in-choose.is) c.choice_in.ensures.request
 
 pub returns-in-choose-clause-some : goal.returns-in-choose-clause-some

@@ -1,0 +1,159 @@
+//! The commands that ask books for a report. Faults are found in the order of `book_commands`: a
+//! date or a name, the books, the file of a tariff, and what the books say.
+
+ghost use Rattle.std.specs.Prelude.{◌≡◌};
+ghost use Rattle.chargectl.specs.Commands as spec;
+ghost use Rattle.chargectl.specs.Commands.{ComesOf};
+
+use crate::book_commands::{ask_books, tariff_text};
+use crate::command_fault::CommandFault;
+use crate::ended::Answered;
+use command_line::BookRequest;
+use office::{
+    Asked, PeriodReport, Report, Repository, StatementForm, WhatIf, centre_named, report_of_all,
+};
+use smf_text::day_of_text;
+use std::io;
+
+/// The disputes, as a list or as a table.
+fn dispute_report(csv: bool) -> Report
+    ensures { result ≡ spec.dispute_report csv }
+{
+    if csv {
+        Report::DisputeTable
+    } else {
+        Report::DisputeList
+    }
+}
+
+/// Makes the list of disputes, or their table.
+pub(crate) fn report_disputes<S: Repository>(
+    rt: &HostRuntime,
+    repository: &mut S,
+    book: &str,
+    csv: bool,
+) -> Result<Answered, CommandFault>
+    ensures { ComesOf (BookRequest.Disputes csv) book.now
+        (S.shelf repository.old) (S.shelf repository.new) result }
+{
+    repository.expect(book)?;
+    let asked = Asked::Report(dispute_report(csv));
+    Ok(ask_books(rt, repository, book, asked, io::empty()))
+}
+
+/// Makes the list of periods.
+pub(crate) fn report_periods<S: Repository>(
+    rt: &HostRuntime,
+    repository: &mut S,
+    book: &str,
+) -> Result<Answered, CommandFault>
+    ensures { ComesOf BookRequest.Periods book.now
+        (S.shelf repository.old) (S.shelf repository.new) result }
+{
+    repository.expect(book)?;
+    let asked = Asked::Report(Report::PeriodList);
+    Ok(ask_books(rt, repository, book, asked, io::empty()))
+}
+
+/// Gives back the tariff file that begins on a day.
+pub(crate) fn report_tariff<S: Repository>(
+    rt: &HostRuntime,
+    repository: &mut S,
+    book: &str,
+    date: &str,
+) -> Result<Answered, CommandFault>
+    ensures { ComesOf (BookRequest.TariffText date.entry) book.now
+        (S.shelf repository.old) (S.shelf repository.new) result }
+{
+    let day = match day_of_text(date) {
+        Some(day) => day,
+        None => return Err(CommandFault::Argument),
+    };
+    repository.expect(book)?;
+    let asked = Asked::Report(Report::TariffText(day));
+    Ok(ask_books(rt, repository, book, asked, io::empty()))
+}
+
+/// Makes what a period has, of one centre or of the whole office.
+pub(crate) fn report_period<S: Repository>(
+    rt: &HostRuntime,
+    repository: &mut S,
+    book: &str,
+    report: PeriodReport,
+    period: u16,
+    centre: Option<&str>,
+) -> Result<Answered, CommandFault>
+    ensures { ComesOf (BookRequest.OfPeriod report period centre.entry) book.now
+        (S.shelf repository.old) (S.shelf repository.new) result }
+{
+    let made = match period_report(report, period, centre) {
+        Some(made) => made,
+        None => return Err(CommandFault::Argument),
+    };
+    repository.expect(book)?;
+    let asked = Asked::Report(made);
+    Ok(ask_books(rt, repository, book, asked, io::empty()))
+}
+
+/// The report, of the whole office where no centre is named. `None`: the text is no name.
+fn period_report(report: PeriodReport, period: u16, centre: Option<&str>) -> Option<Report>
+    ensures { result ≡ spec.period_report report period centre.entry }
+{
+    match centre {
+        Some(text) => match centre_named(text) {
+            Some(centre) => Some(Report::OfCentre {
+                report,
+                period,
+                centre,
+            }),
+            None => None,
+        },
+        None => Some(report_of_all(report, period)),
+    }
+}
+
+/// Makes a period's statement by the prices of a tariff file, of one centre or of the whole office.
+/// The file is not put in force.
+pub(crate) fn what_if<S: Repository>(
+    rt: &HostRuntime,
+    repository: &mut S,
+    book: &str,
+    form: StatementForm,
+    period: u16,
+    centre: Option<&str>,
+    file: &str,
+) -> Result<Answered, CommandFault>
+    ensures { ComesOf (BookRequest.WhatIf form period centre.entry file.entry) book.now
+        (S.shelf repository.old) (S.shelf repository.new) result }
+{
+    let report = match what_if_of(form, period, centre) {
+        Some(report) => report,
+        None => return Err(CommandFault::Argument),
+    };
+    repository.expect(book)?;
+    let tariff = tariff_text(rt, file)?;
+    let asked = Asked::WhatIf { report, tariff };
+    Ok(ask_books(rt, repository, book, asked, io::empty()))
+}
+
+/// What the books are asked for, of the whole office where no centre is named. `None`: the text is
+/// no name.
+fn what_if_of(form: StatementForm, period: u16, centre: Option<&str>) -> Option<WhatIf>
+    ensures { result ≡ spec.what_if_of form period centre.entry }
+{
+    match centre {
+        Some(text) => {
+            let centre = centre_named(text)?;
+            Some(WhatIf {
+                form,
+                period,
+                centre: Some(centre),
+            })
+        }
+        None => Some(WhatIf {
+            form,
+            period,
+            centre: None,
+        }),
+    }
+}
