@@ -68,8 +68,8 @@ ledger_texts =
     -- 2 Store
     (
       codes "The file of the books could not be read or written, or its contents are not books.",
-      codes "Check the disk and the file's permissions, then run the command again; nothing "
-          ++ codes "is counted twice.",
+      codes "Make room if the disk is full, and check the file's permissions; then run the "
+          ++ codes "command again; nothing is counted twice.",
     ) ∷
     -- 3 Reopen
     (
@@ -91,8 +91,8 @@ ledger_texts =
     -- 6 TariffDate
     (
       codes "The tariff begins no later than the last close or the last tariff.",
-      codes "Date it later than both; held records that are dated on its first day or later "
-          ++ codes "are priced anew.",
+      codes "Date it later than both: what is dated by the last close can't be priced any more; "
+          ++ codes "held records from its first day on are priced anew.",
     ) ∷
     -- 7 TariffExists
     (
@@ -143,7 +143,8 @@ ledger_texts =
     -- 16 NotBooks
     (
       codes "The file holds no books.",
-      codes "Name another file, or make new books with init.",
+      codes "Look for BOOK-wal first: one of other books may lie beside BOOK, or its own where "
+          ++ codes "BOOK was copied from. Else name another file, or make new books with init.",
     ) ∷
     -- 17 is kept for files of an older form: no fault has it
     (

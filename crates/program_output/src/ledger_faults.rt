@@ -50,8 +50,8 @@ fn explanation_of(fault: LedgerFault) -> Explanation
         LedgerFault::Store => Explanation {
             meaning: "The file of the books could not be read or written, or its contents are not \
                  books.",
-            advice: "Check the disk and the file's permissions, then run the command again; nothing \
-                 is counted twice.",
+            advice: "Make room if the disk is full, and check the file's permissions; then run the \
+                 command again; nothing is counted twice.",
         },
         LedgerFault::Reopen => Explanation {
             meaning: "The books have to be opened again after a fault in their file.",
@@ -69,8 +69,8 @@ fn explanation_of(fault: LedgerFault) -> Explanation
         },
         LedgerFault::TariffDate => Explanation {
             meaning: "The tariff begins no later than the last close or the last tariff.",
-            advice: "Date it later than both; held records that are dated on its first day or later \
-                 are priced anew.",
+            advice: "Date it later than both: what is dated by the last close can't be priced any \
+                 more; held records from its first day on are priced anew.",
         },
         LedgerFault::TariffExists => Explanation {
             meaning: "Another tariff begins on the same day.",
@@ -111,7 +111,8 @@ fn explanation_of(fault: LedgerFault) -> Explanation
         },
         LedgerFault::NotBooks => Explanation {
             meaning: "The file holds no books.",
-            advice: "Name another file, or make new books with init.",
+            advice: "Look for BOOK-wal first: one of other books may lie beside BOOK, or its own \
+                 where BOOK was copied from. Else name another file, or make new books with init.",
         },
         LedgerFault::NoSuchTariff => Explanation {
             meaning: "No tariff begins on that day.",
