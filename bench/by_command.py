@@ -7,7 +7,6 @@ import resource
 import shutil
 import subprocess
 import time
-import tomllib
 
 import formats
 import inputs
@@ -136,8 +135,23 @@ class Commands:
         answers = (b"DONE\n", b"ALREADY\n") if ran.status == 0 else (b"",)
         if ran.out not in answers or ran.status not in (0, 3):
             self.fault("tariff: %r" % (ran,), file)
-        if len(file) < 10_000 and not is_toml(file) and ran.err != b"chargectl: tariff 1\n":
+        if len(file) < 10_000 and not formats.is_toml(file) and ran.err != b"chargectl: tariff 1\n":
             self.fault("no TOML: %r" % (ran,), file)
+        if rng.random() < 0.5:
+            self.what_if(rng, file, path)
+
+    def what_if(self, rng, file, path):
+        """The same file is tried: what is refused then has no answer, and nothing is kept of it."""
+        name, words = rng.choice((("what-if", []), ("what-if-csv", ["--csv"])))
+        before = self.book.read_bytes()
+        period = rng.choice(("1", "2", "3"))
+        ran = self.run(file, "statement", self.book, period, "--tariff", path, *words)
+        self.count("what-if", ran)
+        is_told = ran.status == 0 and formats.OF_COMMANDS[name].fullmatch(ran.out)
+        if not is_told and (ran.out or ran.status != 3) or self.book.read_bytes() != before:
+            self.fault("what-if: %r" % (ran,), file)
+        if ran.status == 0 and (period == "3" or formats.is_no_tariff(file)):
+            self.fault("what-if of no period, or by no tariff: %r" % (ran,), file)
 
     def words(self, rng):
         words = inputs.words(rng)
@@ -200,6 +214,8 @@ class Commands:
                 ("periods", "periods"), ("tariff-text", "tariff-text", "2024-01-01"),
                 ("adopt", "ruling"), ("choose", "ruling", name), ("statement", "statement", "1"),
                 ("statement", "statement", "2"), ("statement", "statement-csv", "1", "--csv"),
+                ("statement", "what-if", "1", "--tariff", tariff),
+                ("statement", "what-if-csv", "2", "--csv", "--tariff", tariff),
                 ("adjustments", "adjustments", "2"),
                 ("adjustments", "adjustments-csv", "2", "--csv"), ("close", "ruling", "2", "2024-02-29"),
                 ("tariff", "ruling", tariff), ("import", "import", month),
@@ -220,16 +236,6 @@ class Commands:
                 (0.70, self.tariff), (0.88, self.damaged_books), (1, self.words))
         at = rng.random()
         next(way for most, way in ways if at < most)(rng)
-
-
-def is_toml(file):
-    try:
-        tomllib.loads(file.decode())
-    except (tomllib.TOMLDecodeError, UnicodeDecodeError):
-        return False
-    except (RecursionError, ValueError):
-        return True
-    return True
 
 
 def command_all(folder, seed, indexes, outcome):

@@ -1,5 +1,6 @@
 """Hostile inputs to a server, a connection each; for `hostile`."""
 import collections
+import hashlib
 import os
 import pathlib
 import select
@@ -103,33 +104,42 @@ class Server:
         return int(status.split("VmHWM:")[1].split()[0]) / 1024
 
 
-# What a request is to be answered: the line of the server, the answer or the form of its report,
-# and the data that are kept.
-Due = collections.namedtuple("Due", "line answer form kind new",
-                             defaults=(None, None, "plain", frozenset()))
+# What a request is to be answered: the line of the server, the answer or the form of its report
+# and a line that stands in it, and the data that are kept. What may be no tariff may be refused.
+Due = collections.namedtuple("Due", "line answer form kind has new may_be_refused",
+                             defaults=(None, None, "plain", b"", frozenset(), False))
+REFUSED = "SERVED 400", formats.answer(400)
 
 
 def due_to(request, model):
     if not request:
         return Due("CLOSED", b"")
     asked = formats.asked(request, 2)
-    if asked.body is not None:
+    if asked.layout:
         line, stop, new = model.receipt(asked.body, asked.layout)
         status = 200 if stop == "END" else 422
         return Due("SERVED %d" % status, formats.answer(status, line), new=new)
     if asked.report == formats.TARIFF:
         return Due("SERVED 200", formats.answer(200, TARIFF))
+    may_be_refused = asked.body is not None and asked.body not in inputs.TARIFFS
     if asked.report:
-        kind = "csv" if asked.report[0].endswith("-csv") else "plain"
-        return Due("SERVED 200", form=formats.report_form(*asked.report), kind=kind)
-    return Due("SERVED %d" % asked.status, formats.answer(asked.status, allow=asked.allow))
+        name, *_ = asked.report
+        has = b"" if name != "what-if" else (
+            b"\nTARIFF %s\n" % hashlib.sha256(asked.body).hexdigest().encode())
+        return Due("SERVED 200", form=formats.report_form(*asked.report), has=has,
+                   kind="csv" if name.endswith("-csv") else "plain", may_be_refused=may_be_refused)
+    return Due("SERVED %d" % asked.status, formats.answer(asked.status, allow=asked.allow),
+               may_be_refused=may_be_refused)
 
 
-def is_answer(due, answer):
-    if due.form is None:
-        return answer == due.answer
+def is_answer(due, line, answer):
+    if due.may_be_refused and (line, answer) == REFUSED:
+        return True
+    if line != due.line or due.form is None:
+        return (line, answer) == (due.line, due.answer)
     body = answer.partition(b"\r\n\r\n")[2]
-    return answer == formats.answer(200, body, due.kind) and due.form.fullmatch(body) is not None
+    is_whole = answer == formats.answer(200, body, due.kind)
+    return is_whole and due.has in body and due.form.fullmatch(body) is not None
 
 
 def served(server, index, request, model, outcome):
@@ -152,9 +162,10 @@ def served(server, index, request, model, outcome):
     outcome.took("HTTP", seconds)
     outcome.answers["HTTP", line] += 1
     if index % 100 in (EARLY, GONE):
-        if line not in ("READ", "WRITE", due.line):
+        refusals = REFUSED[:1] * due.may_be_refused
+        if line not in ("READ", "WRITE", due.line, *refusals):
             outcome.fault(index, "of a client that is gone %s, not %s" % (line, due.line), request)
-    elif line != due.line or not is_answer(due, answer):
+    elif not is_answer(due, line, answer):
         told = line, answer[:300], due.line, due.answer
         outcome.fault(index, "%s with %r, not %s with %r" % told, request)
     if seconds > MOST_SECONDS:

@@ -7,10 +7,12 @@ import datetime
 import functools
 import re
 import struct
+import tomllib
 
 COMPLETE, FIRST, LAST, BETWEEN = 0, 1, 2, 3
 DESCRIPTOR, MOST_DATA, EXTENDED = 4, 65_531, 0x8000
 MOST_HEAD, MOST_FIELDS, MOST_BODY = 16_384, 64, 16_777_216
+MOST_TARIFF = 1_048_576
 DAY_END = 8_640_000
 
 # The first day of the tariff that all books here have first, as a packed date without its sign.
@@ -162,16 +164,20 @@ TOKEN = rb"[!#$%&'*+.^_`|~0-9A-Za-z-]+"
 HEAD = re.compile(rb"(?:\r?\n)*(" + TOKEN + rb") ([!-~\x80-\xff]+) HTTP/1\.[01]\r?\n"
                   rb"((?:" + TOKEN + rb":[\t -~\x80-\xff]*\r?\n)*)\r?\n")
 FIELD = re.compile(rb"([^:\r\n]+):([^\r\n]*)\r?\n")
-PATH = re.compile(rb"/(?:(periods|disputes|disputes-csv|rulings)"
-                  rb"|((?:statement|adjustments)(?:-csv)?)/([1-9][0-9]{0,3})(?:/([A-Z0-9-]{1,16}))?"
-                  rb"|(import)(-bdw)?|tariff/([0-9]{4}-[0-9]{2}-[0-9]{2}))")
+PATH = re.compile(rb"/(?:(?P<whole>periods|disputes|disputes-csv|rulings)"
+                  rb"|(?:(?P<report>(?:statement|adjustments)(?:-csv)?)"
+                  rb"|(?P<tried>what-if(?:-csv)?))"
+                  rb"/(?P<period>[1-9][0-9]{0,3})(?:/(?P<centre>[A-Z0-9-]{1,16}))?"
+                  rb"|(?P<dump>import)(?P<blocks>-bdw)?"
+                  rb"|tariff/(?P<day>[0-9]{4}-[0-9]{2}-[0-9]{2}))")
 LENGTH = re.compile(rb"[0-9]{1,19}")
 PHRASES = {200: "OK", 400: "Bad Request", 403: "Forbidden", 404: "Not Found",
            405: "Method Not Allowed", 411: "Length Required", 413: "Payload Too Large",
            422: "Unprocessable Entity", 503: "Service Unavailable"}
 
 # What a request is to be answered: the status, the method that `Allow` names, the report by its
-# name, period and centre, or the dump that is imported. The one tariff has a report of its name.
+# name, period and centre, the dump that is imported in a layout, or the tariff that is tried, for
+# which there is a report too. The one tariff of the books has a report of its name.
 Asked = collections.namedtuple("Asked", "status allow report layout body", defaults=(None,) * 4)
 TARIFF = "tariff", 0, None
 TARIFF_DAY = b"2024-01-01"
@@ -183,6 +189,21 @@ def is_day_text(text):
         return 1900 <= datetime.date.fromisoformat(text.decode()).year <= 2099
     except ValueError:
         return False
+
+
+def is_toml(text):
+    try:
+        tomllib.loads(text.decode())
+    except (tomllib.TOMLDecodeError, UnicodeDecodeError):
+        return False
+    except (RecursionError, ValueError):
+        return True
+    return True
+
+
+def is_no_tariff(text):
+    """It is too long, or no TOML. Long texts are not read here: they take their time."""
+    return len(text) > MOST_TARIFF or len(text) < 10_000 and not is_toml(text)
 
 
 def is_text(target):
@@ -204,22 +225,29 @@ def asked(request, last_period):
     if len(lengths) > 1 or lengths and not LENGTH.fullmatch(lengths[0]):
         return Asked(400)
     path = PATH.fullmatch(head[2].split(b"?")[0])
-    if not path or path[7] and not is_day_text(path[7]):
+    if not path or path["day"] and not is_day_text(path["day"]):
         return Asked(404)
-    method = b"POST" if path[5] else b"GET"
+    method = b"POST" if path["dump"] or path["tried"] else b"GET"
     if head[1] != method:
         return Asked(405, method)
     if method == b"POST":
-        return asked_import(request, head.end(), names, lengths, "bdw" if path[6] else "rdw")
-    if path[3] and int(path[3]) > last_period:
-        return Asked(404)
-    if path[7]:
-        return Asked(200, report=TARIFF) if path[7] == TARIFF_DAY else Asked(404)
-    centre = path[4] and path[4].decode()
-    return Asked(200, report=((path[1] or path[2]).decode(), int(path[3] or 0), centre))
+        return asked_by_body(request[head.end():], names, lengths, path, last_period)
+    if path["day"]:
+        return Asked(200, report=TARIFF) if path["day"] == TARIFF_DAY else Asked(404)
+    return asked_of(path, path["whole"] or path["report"], last_period)
 
 
-def asked_import(request, end, names, lengths, layout):
+def asked_of(path, name, last_period, body=None):
+    """The report that a path names, or 404 where it names a period that is not there."""
+    period, centre = int(path["period"] or 0), path["centre"] and path["centre"].decode()
+    found = period <= last_period
+    report = (name.decode(), period, centre) if found else None
+    return Asked(200 if found else 404, report=report, body=body)
+
+
+def asked_by_body(rest, names, lengths, path, last_period):
+    """What is asked of a body: of a dump, or of a tariff. What is no tariff is refused before a
+    period that is not there."""
     if b"origin" in names:
         return Asked(403)
     if not lengths or b"transfer-encoding" in names:
@@ -227,8 +255,12 @@ def asked_import(request, end, names, lengths, layout):
     length = int(lengths[0])
     if length > MOST_BODY:
         return Asked(413)
-    body = request[end:end + length]
-    return Asked(200, layout=layout, body=body) if len(body) == length else Asked(400)
+    body = rest[:length]
+    if len(body) != length or path["tried"] and is_no_tariff(body):
+        return Asked(400)
+    if path["tried"]:
+        return asked_of(path, path["tried"], last_period, body)
+    return Asked(200, layout="bdw" if path["blocks"] else "rdw", body=body)
 
 
 def answer(status, body=None, kind="plain", allow=None):
@@ -256,11 +288,14 @@ OF_PERIOD = {0: r"PERIOD [0-9]+ (?:OPEN|CLOSED THROUGH %s)\n" % DAY,
 COLUMNS = ("%-10s %-16s %-16s %8s %19s %18s %21s\n"
            % ("DAY", "CENTRE", "SHIFT", "COUNT", "CPU", "BLOCKS", "AMOUNT"))
 WIDE = r"(?=.{114}\n)"
+ROWS = COLUMNS + r"(?:%s%s %%s +%s%s)*%sTOTAL%s" % (WIDE, DAY, NAME, SUMS, WIDE, SUMS)
 TEXTS = {
-    "statement": COLUMNS + r"(?:%s%s %%s +%s%s)*%sTOTAL%s" % (WIDE, DAY, NAME, SUMS, WIDE, SUMS),
+    "statement": ROWS,
+    "what-if": r"TARIFF [0-9a-f]{64}\n" + ROWS + WIDE + "CHARGED" + SUMS,
     "adjustments": r"(?:(?:PLUS |MINUS) %s %%s +%s +-?%s [0-9a-f]{64} %s\n)*TOTAL +-?%s\n"
                    % (DAY, NAME, AMOUNT, SHOWN, AMOUNT)}
 CSV_COLUMNS = "period,day,centre,shift,count,cpu,blocks,amount"
+WHAT_IF_COLUMNS = "period,day,centre,shift,count,cpu,blocks,what_if"
 ADJUSTMENT_COLUMNS = "period,action,day,centre,shift,amount,name,job"
 DISPUTE_COLUMNS = ("dispute,system,job,reader,initiation,subtype,step,name,day,cpu,blocks,amount,"
                    "completion,jobid,program")
@@ -268,9 +303,9 @@ DISPUTE_COLUMNS = ("dispute,system,job,reader,initiation,subtype,step,name,day,c
 VALUE = r"(?:(?:(?![,\"])[ -\[\]-~]|\\[0-9A-F]{2})*|\"(?:(?!\")[ -\[\]-~]|\"\"|\\[0-9A-F]{2})*\")"
 MOMENT = r"[0-9A-F]{8} [0-9A-F]{8}"
 CLOCK = r"(?:%s [0-2][0-9]:[0-5][0-9]:[0-5][0-9]\.[0-9]{2}|%s)" % (DAY, MOMENT)
+CSV_ROWS = r"\n(?:%%s,%s,%%s,%s,[0-9]+,[0-9]+\.[0-9]{2},[0-9]+,%s\n)*" % (DAY, NAME, AMOUNT)
 TABLES = {
-    "statement-csv": CSV_COLUMNS + r"\n(?:%%s,%s,%%s,%s,[0-9]+,[0-9]+\.[0-9]{2},[0-9]+,%s\n)*"
-                     % (DAY, NAME, AMOUNT),
+    "statement-csv": CSV_COLUMNS + CSV_ROWS, "what-if-csv": WHAT_IF_COLUMNS + CSV_ROWS,
     "adjustments-csv": ADJUSTMENT_COLUMNS
                        + r"\n(?:%%s,(?:PLUS|MINUS),%s,%%s,%s,-?%s,[0-9a-f]{64},%s\n)*"
                        % (DAY, NAME, AMOUNT, VALUE)}
@@ -314,7 +349,8 @@ def report_form(name, period=0, centre=None):
     return form(WHOLE[name])
 
 
-OF_PERIODS = "statement", "statement-csv", "adjustments", "adjustments-csv"
+OF_PERIODS = ("statement", "statement-csv", "what-if", "what-if-csv", "adjustments",
+              "adjustments-csv")
 OF_COMMANDS = {name: report_form(name) for name in (*OF_PERIODS, *WHOLE)}
 OF_COMMANDS |= {
     "audit": form(SOUND + "|" + UNSOUND), "import": form(RECEIPT),
@@ -330,6 +366,8 @@ OF_COMMANDS |= {
 OF_DAMAGED = OF_COMMANDS | {
     name: form(front + r"(?s:.*)\n") for name, front in (
         ("statement", "STATEMENT " + OF_PERIOD[0] + COLUMNS), ("statement-csv", CSV_COLUMNS),
+        ("what-if", "WHAT-IF " + OF_PERIOD[0] + "TARIFF [0-9a-f]{64}\n" + COLUMNS),
+        ("what-if-csv", WHAT_IF_COLUMNS),
         ("adjustments", "ADJUSTMENTS " + OF_PERIOD[0]), ("disputes", "DISPUTES [0-9]+"),
         ("adjustments-csv", ADJUSTMENT_COLUMNS), ("disputes-csv", DISPUTE_COLUMNS),
         ("periods", "PERIODS [0-9]+"), ("rulings", "RULINGS"))}

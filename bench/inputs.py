@@ -191,7 +191,9 @@ REPORTS = [b"/periods", b"/disputes", b"/disputes-csv", b"/rulings", b"/tariff/2
            b"/statement/1", b"/statement/2", b"/statement-csv/1", b"/statement-csv/2",
            b"/adjustments/1", b"/adjustments/2", b"/adjustments-csv/2", b"/statement/1/LEDGER",
            b"/statement-csv/1/LEDGER", b"/adjustments/2/LEDGER", b"/adjustments-csv/2/LEDGER"]
-PATHS = REPORTS + [b"/import", b"/import-bdw"] * 2
+WHAT_IFS = [b"/what-if/1", b"/what-if/2", b"/what-if/3", b"/what-if-csv/1", b"/what-if/1/LEDGER",
+            b"/what-if-csv/2/STORES"]
+PATHS = REPORTS + WHAT_IFS + [b"/import", b"/import-bdw"] * 2
 TARGETS = PATHS * 3
 TARGETS += [b"/tariff/2024-01-02", b"/tariff/2024-02-30", b"/tariff/2024-1-1", b"/tariff/",
             b"/tariff", b"/tariff/2024-01-01/", b"/rulings/", b"/rulings/1", b"/disputes-csv/1",
@@ -202,6 +204,8 @@ TARGETS += [b"/statement/3", b"/statement/0", b"/statement/01", b"/statement/999
             b"/statement/1/", b"/statement/", b"/statement", b"/statement/%31", b"/statement/{n}",
             b"/statement/1/2", b"/statement/1a", b"/statement-csv", b"/adjustments/0",
             b"/statement/\xd9\xa1"]
+TARGETS += [b"/what-if/0", b"/what-if", b"/what-if/", b"/what-if/1/", b"/what-if/1/ledger",
+            b"/what-if-csv/10000", b"/what-if-table/1"]
 TARGETS += [b"/periods/", b"//periods", b"/periods?", b"/periods?a=b?c", b"/Periods", b"/%70eriods",
             b"/periods#1", b"/./periods", b"/periods?\xc3\xa9", b"/periods?\xff", b"/peri\0ds",
             b"/per iods", b"/import?x", b"/import-bdwx", b"/import/", b"*", b"/", b"?",
@@ -273,6 +277,15 @@ def upload(rng):
     return head(rng, b"POST", path, b" HTTP/1.1", lines) + body
 
 
+def tried(rng):
+    """A tariff file at the path of a what-if."""
+    body = tariff(rng)
+    lines = [b"Host: books", b"Content-Length: %d" % len(body)]
+    if rng.random() < 0.2:
+        lines = fields(rng, len(body))
+    return head(rng, b"POST", rng.choice(WHAT_IFS), b" HTTP/1.1", lines) + body
+
+
 def long_head(rng):
     """A head near one of its limits: a number of fields, or of bytes."""
     start = b"GET /periods HTTP/1.1\r\n"
@@ -293,12 +306,12 @@ def long_body(rng):
 
 
 def mutated_request(rng):
-    made = rng.choice((any_head, report, upload, upload))(rng)
-    return mutated(rng, made, rng.choice((report, upload))(rng))
+    made = rng.choice((any_head, report, upload, upload, tried))(rng)
+    return mutated(rng, made, rng.choice((report, upload, tried))(rng))
 
 
-REQUESTS = ((0.36, upload), (0.50, report), (0.70, any_head), (0.86, mutated_request),
-            (0.96, noise), (0.9998, long_head), (1, long_body))
+REQUESTS = ((0.32, upload), (0.46, report), (0.52, tried), (0.70, any_head),
+            (0.86, mutated_request), (0.96, noise), (0.9998, long_head), (1, long_body))
 
 
 def request(rng):
@@ -395,6 +408,7 @@ WORDS = ("books nothing tariff dump . .. books/ books-wal 0 1 2 3 65535 65536 -1
          "2024-01-31 2024-02-30 2024-02-29 2024-1-1 --layout --layout=bdw --layout=xyz rdw bdw "
          "--quiet --quiet=1 --csv --cpu --cpu=100000000 --cpu=100000001 --excp --record "
          "--record=-1 -- - -q --help -h --port --requests --from --tariff "
+         "--tariff=tariff --tariff=dump "
          "--centre --centre=LEDGER frame ledger tariff damaged").split()
 WORDS += ["", " ", "\n", "é", "x" * 300, "y" * 100_000, "/dev/null/x", "%s%n", "0" * 64, "ab" * 32,
           "AB" * 32, "zz" * 32]
@@ -403,7 +417,7 @@ WORDS += ["", " ", "\n", "é", "x" * 300, "y" * 100_000, "/dev/null/x", "%s%n", 
 # What a command's words are, as often as not: books, a file, a period, a date, a name, a number.
 PLACES = {
     "init": "B", "tariff": "BF", "import": "BF", "close": "BPD", "choose": "BN", "adopt": "B",
-    "statement": "BP", "adjustments": "BP", "disputes": "B", "periods": "B", "rulings": "B",
+    "statement": "BPO", "adjustments": "BP", "disputes": "B", "periods": "B", "rulings": "B",
     "tariff-text": "BD", "audit": "B", "trial": "",
     "check": "F", "explain": "KP", "serve": "B"}
 PLACED = {
@@ -412,6 +426,7 @@ PLACED = {
     "P": ("0", "1", "2", "3", "17", "65535", "65536", "-1", "x"),
     "D": ("2024-01-01", "2024-01-31", "2024-02-29", "2023-02-29", "2099-12-31", "1899-12-31", "2024-1-31", ""),
     "N": ("0" * 64, "ab" * 32, "AB" * 32, "zz" * 32, "0" * 63, ""),
+    "O": ("--csv", "--tariff=tariff", "--tariff=dump", "--tariff=nothing", "--centre=LEDGER"),
     "K": ("frame", "ledger", "tariff", "damaged", "other")}
 
 

@@ -7,7 +7,8 @@
 //!
 //! Built with `--cfg books`, `plain import BOOK FILE CPU EXCP RECORD` keeps books in a file, by SQLite's own
 //! library, `plain tariff BOOK FILE` puts a tariff in force there, `plain adopt BOOK` adopts the second rule of
-//! identity, and `plain serve BOOK PORT REQUESTS CPU EXCP RECORD` answers for them over HTTP.
+//! identity, `plain statement BOOK PERIOD --tariff FILE` prints what a period would be charged by that tariff, and
+//! `plain serve BOOK PORT REQUESTS CPU EXCP RECORD` answers for them over HTTP.
 
 #[cfg(books)]
 mod adopted;
@@ -27,6 +28,8 @@ mod sqlite;
 #[cfg(books)]
 mod tariffs;
 mod texts;
+#[cfg(books)]
+mod whatif;
 
 use books::{Books, Rates, import};
 use dumps::{Dump, Layout, Stop};
@@ -102,6 +105,22 @@ fn adopt(book: &str) -> ExitCode {
     ExitCode::SUCCESS
 }
 
+/// Prints what a period would be charged by the tariff of a file.
+#[cfg(books)]
+fn what_if(book: &str, period: i64, file: &str) -> io::Result<ExitCode> {
+    let text = std::fs::read_to_string(file)?;
+    let mut out = BufWriter::new(io::stdout().lock());
+    let db = filed::open(book);
+    let answer = whatif::write_what_if(&mut out, &db, period, &text)?;
+    db.close();
+    out.flush()?;
+    if let Err(fault) = answer {
+        eprintln!("plain: ledger {fault}");
+        return Ok(ExitCode::from(3));
+    }
+    Ok(ExitCode::SUCCESS)
+}
+
 fn main() -> ExitCode {
     let words: Vec<String> = env::args().skip(1).collect();
     let words: Vec<&str> = words.iter().map(String::as_str).collect();
@@ -120,6 +139,11 @@ fn main() -> ExitCode {
         ["tariff", book, file] => return put_in_force(book, file).unwrap_or(ExitCode::FAILURE),
         #[cfg(books)]
         ["adopt", book] => return adopt(book),
+        #[cfg(books)]
+        ["statement", book, period, "--tariff", file] => {
+            let period = period.parse().expect("a period is a number");
+            return what_if(book, period, file).unwrap_or(ExitCode::FAILURE);
+        }
         #[cfg(books)]
         ["serve", book, port, requests, cpu, excp, record] => {
             let rates = Rates { cpu: rate(cpu), excp: rate(excp), record: rate(record) };

@@ -8,7 +8,7 @@ use crate::tariffs::{Price, Tariff};
 use std::collections::BTreeMap;
 
 /// The numbers of refusals, by docs/FORMATS.md.
-const FULL: u8 = 4;
+pub const FULL: u8 = 4;
 const TARIFF_DATE: u8 = 6;
 const TARIFF_EXISTS: u8 = 7;
 

@@ -4,7 +4,7 @@ use crate::books::{Rates, Sums};
 use crate::dumps::{Dump, Layout};
 use crate::filed::{self, Filed};
 use crate::sqlite::Database;
-use crate::texts::{write_receipt, write_row};
+use crate::texts::{date_text, write_heading, write_receipt, write_row};
 use std::io;
 use std::io::{Read, Write};
 use std::net::{TcpListener, TcpStream};
@@ -48,26 +48,13 @@ fn statement(db: &Database) -> io::Result<Vec<u8>> {
     });
     let (mut out, mut total) = (Vec::new(), Sums::default());
     writeln!(out, "STATEMENT PERIOD 1 OPEN")?;
-    write!(out, "{:10} {:16} {:16} {:>8} ", "DAY", "CENTRE", "SHIFT", "COUNT")?;
-    writeln!(out, "{:>19} {:>18} {:>21}", "CPU", "BLOCKS", "AMOUNT")?;
+    write_heading(&mut out)?;
     for (day, centre, shift, sums) in &rows {
         write_row(&mut out, &date_text(*day), centre, shift, sums)?;
         total.add(sums);
     }
     write_row(&mut out, "TOTAL", "", "", &total)?;
     Ok(out)
-}
-
-/// `YYYY-MM-DD` of a day since 1970-01-01.
-fn date_text(days: u64) -> String {
-    let shifted = days + 719_468;
-    let (era, of_era) = (shifted / 146_097, shifted % 146_097);
-    let year = (of_era - of_era / 1_460 + of_era / 36_524 - of_era / 146_096) / 365;
-    let of_year = of_era - (365 * year + year / 4 - year / 100);
-    let month = (5 * of_year + 2) / 153;
-    let day = of_year - (153 * month + 2) / 5 + 1;
-    let month = if month < 10 { month + 3 } else { month - 9 };
-    format!("{:04}-{month:02}-{day:02}", year + era * 400 + u64::from(month <= 2))
 }
 
 fn answer(stream: &mut TcpStream, db: &Database, rates: &Rates) -> io::Result<()> {

@@ -56,6 +56,19 @@ pub fn money(amount: u64) -> String {
     format!("{}.{:04}", amount / 10_000, amount % 10_000)
 }
 
+/// `YYYY-MM-DD` of a day since 1970-01-01.
+#[cfg(books)]
+pub fn date_text(days: u64) -> String {
+    let shifted = days + 719_468;
+    let (era, of_era) = (shifted / 146_097, shifted % 146_097);
+    let year = (of_era - of_era / 1_460 + of_era / 36_524 - of_era / 146_096) / 365;
+    let of_year = of_era - (365 * year + year / 4 - year / 100);
+    let month = (5 * of_year + 2) / 153;
+    let day = of_year - (153 * month + 2) / 5 + 1;
+    let month = if month < 10 { month + 3 } else { month - 9 };
+    format!("{:04}-{month:02}-{day:02}", year + era * 400 + u64::from(month <= 2))
+}
+
 pub fn write_receipt(out: &mut impl Write, receipt: &Receipt, stop: &Stop) -> io::Result<()> {
     let Receipt { kept, known, other, headers, trailers, lost, continued, damaged } = receipt;
     write!(out, "KEPT {kept} KNOWN {known} UNPRICED 0 OTHER {other} HEADERS {headers} TRAILERS {trailers} ")?;
@@ -68,14 +81,19 @@ pub fn write_row(out: &mut impl Write, day: &str, centre: &str, shift: &str, sum
     writeln!(out, "{day:10} {centre:16} {shift:16} {count:8} {cpu:>19} {blocks:18} {amount:>21}")
 }
 
+/// The line above the rows of a statement.
+pub fn write_heading(out: &mut impl Write) -> io::Result<()> {
+    write!(out, "{:10} {:16} {:16} {:>8} ", "DAY", "CENTRE", "SHIFT", "COUNT")?;
+    writeln!(out, "{:>19} {:>18} {:>21}", "CPU", "BLOCKS", "AMOUNT")
+}
+
 pub fn write_statement(out: &mut impl Write, books: &Books) -> io::Result<()> {
     let mut rows: BTreeMap<Day, Sums> = BTreeMap::new();
     for usage in books.held.iter().filter(|usage| books.is_alone(usage)) {
         rows.entry(usage.day).or_default().add(&usage.sums);
     }
     writeln!(out, "STATEMENT PERIOD 1 OPEN")?;
-    write!(out, "{:10} {:16} {:16} {:>8} ", "DAY", "CENTRE", "SHIFT", "COUNT")?;
-    writeln!(out, "{:>19} {:>18} {:>21}", "CPU", "BLOCKS", "AMOUNT")?;
+    write_heading(out)?;
     let mut total = Sums::default();
     for (day, sums) in &rows {
         write_row(out, &day.text(), "UNASSIGNED", "BASE", sums)?;
