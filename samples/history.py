@@ -57,6 +57,10 @@ TEXTS = {
 RULES = ("free_jobs evenings by_job", "paid_jobs nights weekends by_field", "no_fee", "below_zero", "no_toml",
          "free_jobs no_name", "free_jobs evenings other_nights by_job")
 
+# A tariff by which it is asked what periods would have cost, and which is never handed in: it begins later than any
+# record, at prices, and with shifts and centres, that none of the others has together.
+OTHER_PRICES = ("next_year", 'effective = "2025-01-01"\n[rates]\nstep_cpu = 30000\n'), "paid_jobs nights by_job"
+
 # What has to come, each of it more than once.
 NEEDED = ["import " + kind for kind in (
     "repeated", "unpriced", "in time", "late", "variant", "variant of a late record", "variant of a posted record",
@@ -340,16 +344,26 @@ class History:
         self.shown = texts
         return changed
 
-    def ask_more(self):
-        """Asks for a table, and of periods that are not there."""
+    def ask_what_if(self, verb, period):
+        """Asks what a period would have cost by other prices."""
+        (front, text), rules = OTHER_PRICES
+        file = (text + "".join(self.texts[name] for name in rules.split())).encode()
+        words = "%s %d %s %s" % (verb, period, front, rules)
+        self.ask(words, self.books.what_if(file, period, as_table=verb == "what-if-table"))
+
+    def ask_more(self, turn):
+        """Asks for a table, and of periods that are not there; and what some would have cost."""
         books, later = self.books, self.books.open + 1
         for period in (max(1, books.open - 1), 0, later):
             self.ask("table %d" % period, books.of_period(books.table, period))
         self.ask("statement %d" % later, books.of_period(books.statement, later))
         self.ask("adjustments 0", books.of_period(books.adjustments, 0))
+        for period in sorted({1 + turn // 10 % books.open, max(1, books.open - 1)}):
+            self.ask_what_if("what-if", period)
 
     def ask_lists(self):
-        """Asks by requests for the rulings, for each tariff's file, and for the lists as comma-separated values."""
+        """Asks by requests for the rulings, for each tariff's file, and for the lists as comma-separated values; and what
+        each period would have cost."""
         books = self.books
         self.ask("get /rulings", served(200, list(books.rulings())))
         for tariff in books.tariffs:
@@ -357,6 +371,8 @@ class History:
         for period in range(1, books.open + 1):
             self.ask("get /adjustments-csv/%d" % period, served(200, list(books.adjustment_table(period)), "csv"))
         self.ask("get /disputes-csv", served(200, list(books.dispute_table()), "csv"))
+        for period in range(0, books.open + 2):
+            self.ask_what_if("what-if-table", period)
 
     def ask_books(self, words, answer, body=()):
         """A command, or a list of some, and what changed."""
@@ -375,7 +391,7 @@ class History:
             words = self.words(turn)
             self.ask_books(words, self.answer(words))
         if turn % 10 == 9:
-            self.ask_more()
+            self.ask_more(turn)
 
 
 def history(sample):
@@ -386,6 +402,7 @@ def history(sample):
         made.name_dump(name, words)
     for name, text in TEXTS.items():
         made.name_text(name, text)
+    made.name_text(*OTHER_PRICES[0])
     made.lines += ["", "> row long_history new"]
     for turn in range(TURNS):
         made.play(turn)

@@ -2,7 +2,8 @@
 close, of choices among records in dispute, of the second rule of identity, and as each report. `samples/make` writes
 by it what a month of commands has to print, history.py the answers to a long history, and rows.py those to worked rows
 and the rows of their tables; `samples/recompute` recomputes the reports of any books. Only what these need is here: no
-dump is torn, no books are full, and five faults of a tariff file are known."""
+dump is torn, no books are full, though by another tariff a period may cost more than they hold, and six faults of a
+tariff file are known."""
 import collections
 import datetime
 import hashlib
@@ -13,14 +14,19 @@ import tomllib
 Record = collections.namedtuple(
     "Record", "name identity day minute job centre shift cpu blocks amount code job_id program")
 ADJUSTMENT_COLUMNS = "period,action,day,centre,shift,amount,name,job"
+STATEMENT_COLUMNS = "period,day,centre,shift,count,cpu,blocks,"
 DISPUTE_COLUMNS = ("dispute,system,job,reader,initiation,subtype,step,name,day,cpu,blocks,amount,completion,jobid,"
                    "program")
 EPOCH = datetime.date(1970, 1, 1)
 RATES = ["%s_%s" % (kind, unit) for kind in ("step", "job") for unit in ("cpu", "excp", "record")]
-MEMORY = 1
+MEMORY, FULL = 1, 4
 (TARIFF_DATE, TARIFF_EXISTS, _, WRONG_PERIOD, NOT_LATER, NO_SUCH_PERIOD, NO_SUCH_RECORD, NOT_DISPUTED,
  OLD_RULE) = range(6, 15)
 NO_SUCH_TARIFF = 19
+# The most that all records of books may cost together.
+MOST_COST = 4000000000000000000
+# The most bytes that a tariff file has.
+MOST_TARIFF = 1048576
 ACTIONS = {1: "PLUS", -1: "MINUS"}
 # How many bytes say whose work a record measures, by the first rule of identity and by the second.
 IDENTITY_LENGTHS = {1: 24, 2: 32}
@@ -130,11 +136,14 @@ def is_name(text):
 
 
 def fault_of(file):
-    """The number of what is wrong with a tariff file, and the key, if it is one of these: no TOML, a key of its front
-    that is not there, a price out of its range, a shift that has no name, shifts of one name with two percents."""
+    """The number of what is wrong with a tariff file, and the key, if it is one of these: too many bytes, no TOML, a key
+    of its front that is not there, a price out of its range, a shift that has no name, shifts of one name with two
+    percents."""
+    if len(file) > MOST_TARIFF:
+        return "6"
     try:
         terms = tomllib.loads(file.decode())
-    except tomllib.TOMLDecodeError:
+    except (tomllib.TOMLDecodeError, UnicodeDecodeError):
         return "1"
     if "effective" not in terms or "rates" not in terms:
         return "2 effective" if "effective" not in terms else "2 rates"
@@ -191,6 +200,48 @@ class Tariff:
 def decimals(number, places):
     digits = str(abs(number)).rjust(places + 1, "0")
     return ("-" if number < 0 else "") + digits[:-places] + "." + digits[-places:]
+
+
+def charge_rows(records, centre=None):
+    """The charge rows of records: of all centres, or of one."""
+    groups = {}
+    for record in records:
+        if centre in (None, record.centre):
+            sums = groups.setdefault((str(record.day), record.centre, record.shift), [0, 0, 0, 0])
+            for at, more in enumerate((1, record.cpu, record.blocks, record.amount)):
+                sums[at] += more
+    return sorted(groups.items())
+
+
+def columns(day, centre, shift, count, cpu, blocks, amount):
+    """A line of a statement."""
+    return "%-10s %-16s %-16s %8s %19s %18s %21s" % (day, centre, shift, count, cpu, blocks, amount)
+
+
+def row_line(place, sums):
+    """The line of a charge row."""
+    count, cpu, blocks, amount = sums
+    return columns(*place, count, decimals(cpu, 2), blocks, decimals(amount, 4))
+
+
+def total_line(word, rows):
+    """The line of what charge rows come to."""
+    return row_line((word, "", ""), [sum(sums[at] for _, sums in rows) for at in range(4)])
+
+
+def row_lines(rows):
+    """Charge rows below the names of their columns, and their total."""
+    yield columns("DAY", "CENTRE", "SHIFT", "COUNT", "CPU", "BLOCKS", "AMOUNT")
+    for place, sums in rows:
+        yield row_line(place, sums)
+    yield total_line("TOTAL", rows)
+
+
+def row_table(period, rows, amount):
+    """Charge rows as comma-separated values, of which the last has this name."""
+    yield STATEMENT_COLUMNS + amount
+    for place, (count, cpu, blocks, cost) in rows:
+        yield comma_line(period, *place, count, decimals(cpu, 2), blocks, decimals(cost, 4))
 
 
 class Books:
@@ -318,34 +369,41 @@ class Books:
     def before(self, period):
         return self.closes[period - 2] if period > 1 else datetime.date.min
 
+    def counted(self, period):
+        """The names of the records that a period's statement counts: those that it charges of its own days."""
+        return [name for name in self.charged(period) if self.held[name].day > self.before(period)]
+
     def rows(self, period, centre=None):
         """The charge rows of a period: of all centres, or of one."""
-        groups = {}
-        for name in self.charged(period):
-            record = self.held[name]
-            if record.day > self.before(period) and centre in (None, record.centre):
-                sums = groups.setdefault((str(record.day), record.centre, record.shift), [0, 0, 0, 0])
-                for at, more in enumerate((1, record.cpu, record.blocks, record.amount)):
-                    sums[at] += more
-        return sorted(groups.items())
+        return charge_rows((self.held[name] for name in self.counted(period)), centre)
 
     def title(self, report, period, centre):
         return "%s%s PERIOD %d %s" % (report, " CENTRE " + centre if centre else "", period, self.head(period))
 
     def statement(self, period, centre=None):
-        def line(key, count, cpu, blocks, amount):
-            return "%-10s %-16s %-16s %8s %19s %18s %21s" % (key + (count, cpu, blocks, amount))
         yield self.title("STATEMENT", period, centre)
-        yield line(("DAY", "CENTRE", "SHIFT"), "COUNT", "CPU", "BLOCKS", "AMOUNT")
-        rows = self.rows(period, centre)
-        total = ("TOTAL", "", ""), [sum(sums[at] for _, sums in rows) for at in range(4)]
-        for key, (count, cpu, blocks, amount) in rows + [total]:
-            yield line(key, count, decimals(cpu, 2), blocks, decimals(amount, 4))
+        yield from row_lines(self.rows(period, centre))
 
     def table(self, period, centre=None):
-        yield "period,day,centre,shift,count,cpu,blocks,amount"
-        for key, (count, cpu, blocks, amount) in self.rows(period, centre):
-            yield "%d,%s,%s,%s,%d,%s,%d,%s" % ((period,) + key + (count, decimals(cpu, 2), blocks, decimals(amount, 4)))
+        yield from row_table(period, self.rows(period, centre), "amount")
+
+    def what_if(self, file, period, centre=None, as_table=False):
+        """What a period would have cost by a tariff file: the records that its statement counts, each priced anew by the
+        file, whatever its first day is. The last line has what they cost by the rulings. Nothing is kept of it."""
+        fault = fault_of(file)
+        if fault:
+            return ["chargectl: tariff " + fault]
+        if not 0 < period <= self.open:
+            return refused(NO_SUCH_PERIOD)
+        tariff = Tariff(file)
+        priced = [tariff.record(self.data[name]) for name in self.counted(period)]
+        if sum(record.amount for record in priced) > MOST_COST:
+            return refused(FULL)
+        rows = charge_rows(priced, centre)
+        if as_table:
+            return list(row_table(period, rows, "what_if"))
+        return [self.title("WHAT-IF", period, centre), "TARIFF " + hashlib.sha256(file).hexdigest(), *row_lines(rows),
+                total_line("CHARGED", self.rows(period, centre))]
 
     def posted(self):
         """At the last close."""

@@ -151,6 +151,10 @@ TABLES = "book closed tariffs rows lines marks choices identities index".split()
 ASKS = {"statement": 2, "table": 1, "adjustments": 2, "adjustment_table": 1, "disputes": 1, "dispute_table": 1,
         "periods": 1}
 
+# The same of what a period would have cost by a tariff: for the days of the closes, before the tariff is read; for what
+# it would have cost; and, for a text, for what it is charged.
+WHAT_IFS = {"what-if": 3, "what-if-table": 2}
+
 # The report of a path, and the form of its text.
 PATHS = {"statement": ("statement", "plain"), "statement-csv": ("table", "csv"),
          "adjustments": ("adjustments", "plain"), "adjustments-csv": ("adjustment_table", "csv"),
@@ -159,7 +163,10 @@ PATHS = {"statement": ("statement", "plain"), "statement-csv": ("table", "csv"),
 
 OF_PERIODS = "statement table adjustments adjustment_table".split()
 
-PHRASES = {200: "OK", 404: "Not Found", 503: "Service Unavailable"}
+# The paths at which a tariff is handed in: of what form the answer is, and of which period, and which centre, if of one.
+WHAT_IF_PATH = re.compile(r"/what-if(-csv)?/([1-9][0-9]{0,3}(?:/[A-Z0-9-]{1,16})?)")
+
+PHRASES = {200: "OK", 400: "Bad Request", 404: "Not Found", 503: "Service Unavailable"}
 
 
 def bytes_of(text):
@@ -198,9 +205,9 @@ def output_shown(verb, words, output):
 
 
 class Rows:
-    """Scripts, one after the other: what one names is named in those after it."""
-    def __init__(self):
-        self.dumps, self.texts = {}, {}
+    """Scripts, one after the other: what one names is named in those after it. Beside them in their folder lie files."""
+    def __init__(self, folder):
+        self.folder, self.dumps, self.texts = folder, {}, {}
         self.books, self.shown, self.files, self.input = None, {}, {}, b""
         # How many calls of the books come before one that is refused for memory, if one is to be.
         self.calls_left, self.is_counted = None, False
@@ -237,6 +244,17 @@ class Rows:
         if words:
             return self.books.of_period(getattr(self.books, verb), int(words[0]), *words[1:])
         return list(getattr(self.books, verb)())
+
+    def what_if(self, verb, place, file):
+        """What a period would have cost by a tariff file, or why that is not told: of all centres, or of the one that is
+        named after a slash."""
+        period, _, centre = place.partition("/")
+        text = self.books.what_if(file, int(period), centre or None, verb == "what-if-table")
+        is_tariff = not text[0].startswith("chargectl: tariff ")
+        asks = WHAT_IFS[verb] if not text[0].startswith("chargectl: ") else 2 if is_tariff else 1
+        if any(self.is_refused() for _ in range(asks)):
+            return office.refused(office.MEMORY)
+        return text
 
     def name_of(self, word):
         if len(word) == 64:
@@ -309,6 +327,19 @@ class Rows:
         text = self.take(dump_of(self.dumps, parts))
         return served(200 if text[0].endswith(" END") else 503, text)
 
+    def post_tariff(self, path, file):
+        """The answer to a request that hands in a tariff file, to be told what a period would have cost by it."""
+        asked = WHAT_IF_PATH.fullmatch(path)
+        if asked is None:
+            return served(404, [])
+        text = self.what_if("what-if-table" if asked[1] else "what-if", asked[2], file)
+        if text == office.refused(office.MEMORY):
+            return served(503, [])
+        if text == office.refused(office.NO_SUCH_PERIOD):
+            return served(404, [])
+        is_refused = text[0].startswith("chargectl: ")
+        return served(400, []) if is_refused else served(200, text, "csv" if asked[1] else "plain")
+
     def each_call(self, verb, words, body):
         """The answers where the first call of the books is refused, then the second, and so on up to where none is;
         with each, what it changed."""
@@ -344,8 +375,14 @@ class Rows:
             return list(told(answers, "COMMANDS")) if words else sum(answers, [])
         if verb == "get":
             return self.get(*words)
+        if verb in WHAT_IFS:
+            return self.what_if(verb, words[0], self.text(words[1:], body).encode())
         if verb == "post" and words[0] == "/import":
             return self.post(words[1:])
+        if verb == "post":
+            return self.post_tariff(words[0], dump_of(self.dumps, words[1:]))
+        if verb == "post-text":
+            return self.post_tariff(words[0], self.text(words[1:], body).encode())
         if verb == "each-call":
             return self.each_call(words[0], words[1:], body)
         if verb == "records":
@@ -353,6 +390,14 @@ class Rows:
         if verb in ("stops", "refuses"):
             return self.swept("STOPS" if verb == "stops" else "REFUSED", body)
         return self.command(verb, words, body)
+
+    def file(self, name):
+        """The bytes of a file: one of the row alone, whose name begins with @, if it is there, or one beside the scripts.
+        In the file of the books is what their tables have to hold, and nothing else."""
+        if name == "@books":
+            tables = Tables(self.books)
+            return bytes_of(line for verb in TABLES[:-1] for line in getattr(tables, verb)())
+        return self.files.get(name) if name.startswith("@") else (self.folder / name).read_bytes()
 
     def session(self, verb, words, body):
         """The answer to a line of a session, which has the books @books alone."""
@@ -365,6 +410,11 @@ class Rows:
         if verb == "input":
             self.input = dump_of(self.dumps, words)
             return []
+        if verb == "copy":
+            self.files[words[1]] = self.file(words[0])
+            return []
+        if verb == "same":
+            return ["SAME" if self.file(words[0]) == self.file(words[1]) else "OTHER"]
         if verb != "chargectl" and "chargectl" not in words:
             raise NotKnown
         at = words.index("chargectl") if verb != "chargectl" else -1
@@ -373,7 +423,8 @@ class Rows:
         if not isinstance(output, bytes):
             errors = [line for line in output if line.startswith("chargectl")]
             output = bytes_of(line for line in output if line not in errors)
-        refusal = ["! " + line for line in errors] + ["STATUS 3"] * len(errors)
+        refusal = ["! " + line for line in errors]
+        refusal += ["STATUS %d" % (1 if line == "chargectl: io" else 3) for line in errors]
         return output_shown(verb, words[:at + 1], output) + refusal
 
     def output(self, words):
@@ -391,6 +442,15 @@ class Rows:
             if centre is not None and not office.is_name(centre):
                 return ["chargectl: word"]
             return books.of_period(table if "--csv" in given else report, int(period), centre)
+
+        def statement(period, *_):
+            """A statement, or what it would say by a tariff file. The name of the centre is looked at before the file, and
+            the file before the books."""
+            file, centre = given.get("--tariff"), given.get("--centre")
+            if file is None or centre is not None and not office.is_name(centre):
+                return of_period(books.statement, books.table, period)
+            file = self.file(file)
+            return ["chargectl: io"] if file is None else books.what_if(file, int(period), centre, "--csv" in given)
 
         def tariff_text(word):
             """The file of a tariff, by the day on which it begins. What is no day is a wrong word."""
@@ -412,16 +472,16 @@ class Rows:
             return books.choose_each(name.lower() for name in names)
 
         return {"init": lambda: [],
-                "tariff": lambda file: books.tariff(self.files[file]),
+                "tariff": lambda file: books.tariff(self.file(file)),
                 "tariff-text": tariff_text,
-                "import": lambda file: books.take(self.files[file]),
+                "import": lambda file: books.take(self.file(file)),
                 "choose": choose,
                 "adopt": lambda: books.adopt(2),
                 "rulings": lambda: list(books.rulings()),
                 "periods": lambda: list(books.periods()),
                 "disputes": lambda *_: list(books.dispute_table() if "--csv" in given else books.disputes()),
                 "audit": lambda: list(Tables(books).audit()),
-                "statement": lambda period, *_: of_period(books.statement, books.table, period),
+                "statement": statement,
                 "adjustments": lambda period, *_: of_period(books.adjustments, books.adjustment_table, period)
                 }.get(verb, lambda *words: self.command(verb, words))(*words)
 
@@ -453,7 +513,7 @@ class Rows:
 
 def played(data, script):
     """The lines of a script with its answers made anew. It names what the script of all samples names."""
-    rows = Rows()
+    rows = Rows(data)
     list(rows.play((data / "samples.rows").read_text()))
     return rows.play(script)
 

@@ -13,6 +13,10 @@ pub(crate) const SAMPLE_ROW: &str = "\
     2024-01-31 UNASSIGNED       BASE                    1               12.34               \
     5000               24.9300";
 
+pub(crate) const PAYROLL_ROW: &str = "\
+    2024-01-31 PAYROLL          BASE                    1               12.34               \
+    5000               24.9300";
+
 pub(crate) const ROW_OF_BOTH_RUNS: &str = "\
     2024-01-31 UNASSIGNED       BASE                    2               24.68              \
     10000               49.8600";
@@ -24,6 +28,13 @@ pub(crate) const FEBRUARY_ROW: &str = "\
 pub(crate) const TOTAL_OF_ONE: &str = "\
     TOTAL                                               1               12.34               \
     5000               24.9300";
+
+pub(crate) const CHARGED_ONE: &str = "\
+    CHARGED                                             1               12.34               \
+    5000               24.9300";
+
+pub(crate) const TARIFF_OF_NEXT_YEAR: &str = "\
+    TARIFF 5333fff7f441af3c7b1a3e5a257cf7bc48373d6d529d988799f481e02c45c315";
 
 pub(crate) const TOTAL_OF_BOTH_RUNS: &str = "\
     TOTAL                                               2               24.68              \

@@ -28,6 +28,18 @@ const TOTAL: &str = "\n\
     TOTAL                                               1               12.34               \
     5000               24.9300\n";
 
+/// Submits a tariff with another price for CPU time, to be told what the period would have cost.
+const WHAT_IF: &str = "POST /what-if/1 HTTP/1.1\r\nContent-Length: 122\r\n\r\n\
+    effective = \"2024-03-01\"\n[rates]\nstep_cpu = 40000\nstep_excp = 500\nstep_record = 0\n\
+    job_cpu = 0\njob_excp = 0\njob_record = 0\n";
+
+/// What the record would have cost, and what it is charged.
+const WHAT_IF_TOTALS: &str = "\n\
+    TOTAL                                               1               12.34               \
+    5000               49.6100\n\
+    CHARGED                                             1               12.34               \
+    5000               24.9300\n";
+
 /// Serves a request that comes in pieces, and gives what was served and written.
 fn served<L: Ledger>(alloc: Global, ledger: &mut L, request: &[u8], size: usize) -> (Served, Page) {
     let mut source = Source::new(Pieces::new(request, size));
@@ -57,7 +69,8 @@ fn is_answered<L: Ledger>(
         && text.ends_with(end.as_bytes())
 }
 
-/// Submits the sample, whose answer is lost, once more byte by byte, and asks for the statement.
+/// Submits the sample, whose answer is lost, once more byte by byte, and asks for the statement, also
+/// by another tariff.
 fn post_twice<L: Ledger>(rt: &impl Abort, alloc: Global, ledger: &mut L) {
     let mut post = [0; REQUEST];
     post[..HEAD].copy_from_slice(&POST);
@@ -66,6 +79,8 @@ fn post_twice<L: Ledger>(rt: &impl Abort, alloc: Global, ledger: &mut L) {
     assert!(rt; is_answered(alloc, ledger, &post, REQUEST, KEPT));
     assert!(rt; is_answered(alloc, ledger, &post, 1, KNOWN));
     assert!(rt; is_answered(alloc, ledger, get, get.len(), TOTAL));
+    let other = WHAT_IF.as_bytes();
+    assert!(rt; is_answered(alloc, ledger, other, other.len(), WHAT_IF_TOTALS));
 }
 
 /// New books under one tariff.

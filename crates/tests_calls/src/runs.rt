@@ -6,11 +6,11 @@ ghost use Rattle.std.specs.Prelude.{IfSome};
 ghost use Rattle.office.specs.Runs.{IsAskableWithoutReader};
 
 use crate::sample::Record;
-use crate::tariffs::tariff_text;
+use crate::tariffs::{NEXT_YEAR, TO_PAYROLL, tariff_text};
 use crate::test_streams::has_lines;
 use book_core::{Ledger, LedgerFault, Ruled};
 use book_import::{Receipt, Stop};
-use office::{Answer, Asked, Report, run};
+use office::{Answer, Asked, Report, StatementForm, WhatIf, run};
 use smf_frames::Layout;
 use smf_text::day_of_text;
 use std::alloc::{AllocError, Global};
@@ -50,6 +50,8 @@ pub(crate) enum Step {
     Choose(Record),
     Adopt(u8),
     Report(OfficeReport),
+    /// What a period would have cost by a tariff that is not submitted.
+    WhatIf(u16),
 }
 
 /// What a request is answered.
@@ -76,6 +78,20 @@ fn dump_of(alloc: Global, records: &[Record]) -> Result<Vec<u8>, AllocError> {
     Ok(dump)
 }
 
+/// The request for what a period would have cost by the tariff of a later year; none where memory
+/// was refused.
+fn what_if_by(alloc: Global, period: u16) -> Option<Asked>
+    ensures { IfSome result IsAskableWithoutReader }
+{
+    let report = WhatIf {
+        form: StatementForm::Text,
+        period,
+        centre: None,
+    };
+    let tariff = tariff_text(alloc, NEXT_YEAR, TO_PAYROLL).ok()?;
+    Some(Asked::WhatIf { report, tariff })
+}
+
 /// The request of a step; none where memory was refused.
 fn request_of(alloc: Global, step: Step) -> Option<Asked>
     ensures { IfSome result IsAskableWithoutReader }
@@ -93,6 +109,7 @@ fn request_of(alloc: Global, step: Step) -> Option<Asked>
         Step::Choose(record) => Some(Asked::Choose(record.name())),
         Step::Adopt(rule) => Some(Asked::Adopt(rule)),
         Step::Report(report) => Some(Asked::Report(report.report())),
+        Step::WhatIf(period) => what_if_by(alloc, period),
     }
 }
 

@@ -11,6 +11,15 @@ pub(crate) const JANUARY_AGAIN: &str = "# again\neffective = \"2024-01-01\"\n";
 /// From the day before on.
 pub(crate) const DECEMBER: &str = "effective = \"2023-12-31\"\n";
 
+/// From a later day on than any record is dated.
+pub(crate) const NEXT_YEAR: &str = "effective = \"2025-01-01\"\n";
+
+/// A centre for the jobs that begin so.
+pub(crate) const TO_PAYROLL: &str = r#"[[centre]]
+name = "PAYROLL"
+job = "PAY"
+"#;
+
 /// Two currency units for a CPU second, and a twentieth for 1,000 blocks.
 const RATES: &str = "[rates]
 step_cpu = 20000

@@ -10,6 +10,7 @@ use crate::names::name_in;
 use crate::request_lists::{push_answers, push_repeated};
 use crate::text_writing::push_text;
 use crate::texts::{BookText, TextOf};
+use crate::what_ifs::push_what_if;
 use book_core::{Ledger, Ruled, Source};
 use book_import::import;
 use smf_frames::{Layout, split};
@@ -189,6 +190,7 @@ impl BookLines {
             "import-each-read" => import_each_read(named, ledger, reading, words, out),
             "list" => push_list(named, reading.layout, ledger, ask, out),
             "changes" => self.push_new_texts(alloc, ledger, words, out),
+            "what-if" | "what-if-table" => push_what_if(named, ledger, ask, out),
             _ => self.push_book_text(alloc, ledger, ask, out),
         }
     }

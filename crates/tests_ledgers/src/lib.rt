@@ -16,6 +16,9 @@
 //! | `list TIMES`, with such a body, all of it that many times in one list | the same |
 //! | `statement PERIOD`, `table PERIOD`, `adjustments PERIOD`, `disputes`, `periods` | the text |
 //! | the first three with `PERIOD CENTRE` | the text of the centre |
+//! | `what-if PERIOD TEXT..`, with a body before the texts | what it would have cost by that |
+//! | `what-if-table PERIOD TEXT..` | the same as comma-separated values |
+//! | these two with `PERIOD/CENTRE` | the same of the centre |
 //! | `changes` | each text, but for tables, that is not as at the last `changes` of the row |
 //!
 //! | A line that needs no books | Is answered with |
@@ -63,6 +66,7 @@ mod standalone;
 mod standalone_texts;
 mod text_writing;
 mod texts;
+mod what_ifs;
 
 pub use books::answer;
 pub use lines::BookLines;

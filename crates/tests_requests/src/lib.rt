@@ -4,6 +4,7 @@
 //!
 //! - `get PATH` asks for a report.
 //! - `post PATH PARTS..` submits a dump.
+//! - `post-text PATH TEXT..` submits a body, and the texts that are named after it.
 //! - `request PARTS..` sends a head whose lines are its body, and after it the dump of the parts.
 //! - `send PARTS..` sends the lines of its body and the parts, with no end of a head between.
 //! - `each-length REQUEST` sends each prefix of such a request that is not all of it.

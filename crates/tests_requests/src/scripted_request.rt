@@ -30,17 +30,22 @@ impl<'a> ScriptedRequest<'a> {
         }
     }
 
-    /// A request that submits the dump of parts.
-    fn post(self, path: &str, parts: &[&str]) -> LineResult<Vec<u8>> {
-        let dump = self.named.read_dump(parts)?;
-        let size = dump.len();
+    /// A request that submits bytes.
+    fn post(self, path: &str, bytes: &[u8]) -> LineResult<Vec<u8>> {
+        let size = bytes.len();
         let mut request = Vec::new(self.alloc());
         write!(
             request,
             "POST {path} HTTP/1.1\r\nContent-Length: {size}\r\n\r\n"
         )?;
-        request.extend_from_slice(&dump)?;
+        request.extend_from_slice(bytes)?;
         Ok(request)
+    }
+
+    /// A request that submits texts.
+    fn post_text(self, path: &str, names: &[&str]) -> LineResult<Vec<u8>> {
+        let text = self.named.read_texts(names, self.script_line.body)?;
+        self.post(path, text.as_bytes())
     }
 
     /// The lines of the body, each ended as HTTP ends them, a last line, and the dump of parts.
@@ -54,15 +59,17 @@ impl<'a> ScriptedRequest<'a> {
         Ok(request)
     }
 
-    /// The bytes of the request: `get PATH`, `post PATH PARTS..`, `request PARTS..` with the lines
-    /// of its head, or `send PARTS..`, which has no more than the lines and the parts.
+    /// The bytes of the request: `get PATH`, `post PATH PARTS..`, `post-text PATH TEXT..`,
+    /// `request PARTS..` with the lines of its head, or `send PARTS..`, which has no more than the
+    /// lines and the parts.
     pub(crate) fn request(self) -> LineResult<Vec<u8>> {
         match (self.script_line.verb, self.script_line.words) {
             ("get", [path]) => {
                 let head = format!(in self.alloc(); "GET {path} HTTP/1.1\r\n\r\n")?;
                 Ok(head.into_bytes())
             }
-            ("post", [path, parts @ ..]) => self.post(path, parts),
+            ("post", [path, parts @ ..]) => self.post(path, &self.named.read_dump(parts)?),
+            ("post-text", [path, names @ ..]) => self.post_text(path, names),
             ("request", parts) => self.lines_and(b"\r\n", parts),
             ("send", parts) => self.lines_and(b"", parts),
             _ => Err(LineFault::NotUnderstood),

@@ -1,0 +1,53 @@
+//! What periods would have cost by other tariffs.
+
+use crate::answers::push_fault;
+use book_core::Ledger;
+use book_reports::{StatementForm, WhatIf, centre_named, what_if_text};
+use smf_text::Name;
+use tests_scripts::{Ask, LineFault, LineResult, Named};
+
+/// The form in which a verb asks for it.
+fn form_of(verb: &str) -> StatementForm {
+    match verb {
+        "what-if-table" => StatementForm::Table,
+        _ => StatementForm::Text,
+    }
+}
+
+/// The centre that a word names.
+fn centre_of(word: &str) -> LineResult<Name> {
+    centre_named(word).ok_or(LineFault::NotUnderstood)
+}
+
+/// What is asked of a period, of all centres, or of the one that is named after a slash.
+fn asked_by(form: StatementForm, place: &str) -> LineResult<WhatIf> {
+    let (period, centre) = match place.split_once('/') {
+        Some((period, centre)) => (period, Some(centre_of(centre)?)),
+        None => (place, None),
+    };
+    let period = period.parse::<u16>()?;
+    Ok(WhatIf {
+        form,
+        period,
+        centre,
+    })
+}
+
+/// Adds what a period would have cost by a tariff, or why that is not told.
+pub(crate) fn push_what_if<L: Ledger>(
+    named: &Named,
+    ledger: &mut L,
+    ask: Ask<'_>,
+    out: &mut Vec<u8>,
+) -> LineResult {
+    let [place, names @ ..] = ask.words else {
+        return Err(LineFault::NotUnderstood);
+    };
+    let asked = asked_by(form_of(ask.verb), place)?;
+    let tariff = named.read_texts(names, ask.body)?;
+    match what_if_text(named.alloc(), ledger, asked, tariff.as_str()) {
+        Ok(text) => out.extend_from_slice(&text)?,
+        Err(fault) => push_fault(out, fault),
+    }
+    Ok(())
+}
