@@ -1,18 +1,21 @@
 -- What records cost by another tariff, one record at a time.
 use Rattle.std.proofs.Common.{◌≡◌, ◌∙◌, ℕ, ◌+◌, ◌<◌, ◌≤◌, List, [], ◌∷◌, ◌++◌, map, refl, sym, ap}
-use Rattle.std.proofs.Common.{subst, true, false, cond, Option, Some, None, unwrap_or, arith, length}
-use Rattle.std.proofs.Common.{append-nil, length-append}
+use Rattle.std.proofs.Common.{subst, true, false, cond, Some, None, unwrap_or, arith, length}
+use Rattle.std.proofs.Common.{append-nil, append_assoc, length-append}
 use Rattle.std.specs.Prelude.{All, filter, sum_by, nat_lt, Vec, Ok, Err, if◌then◌else◌}
 use Rattle.std.specs.BTreeMap.{insert_entry, is_at}
-use Rattle.std.specs.FinMap.{entries}
+use Rattle.std.specs.FinMap.{entries, get}
 use Rattle.std.specs.Global.{Global}
 use Rattle.std.specs.Map.{lookup}
 use Rattle.std.proofs.lemmas.Bool.Decides.{nat_tests}
 use Rattle.std.proofs.lemmas.List.{length-map, map-append}
-use Rattle.std.proofs.lemmas.List.Elements.{All-push, filter-append}
+use Rattle.std.proofs.lemmas.List.Elements.{All-head, All-push, All-tail, filter-append}
 use Rattle.std.proofs.lemmas.List.Sums.{count_by-le-length, length-filter, sum_by-append}
 use Rattle.std.proofs.lemmas.List.Sums.{sum_by_push}
+use Rattle.std.proofs.lemmas.Cmp.{nat_list_cmp_total}
 use Rattle.std.proofs.lemmas.Simd.{map-map}
+use Rattle.sqlite_trees.specs.View.{View}
+use Rattle.sqlite_value.specs.Order.{Row}
 use Rattle.tariff_rules.specs.declared.priced.Priced.{Priced}
 use Rattle.book_model.specs.declared.fault.LedgerFault.TheVariants.{Full}
 use Rattle.book_model.specs.declared.row.ChargeRow.{ChargeRow}
@@ -27,11 +30,9 @@ use Rattle.table_model.specs.Tables.{Tables}
 use Rattle.table_laws.specs.BookIn.{row_record}
 use Rattle.table_laws.specs.CountedRead.{row_costs}
 use Rattle.table_laws.specs.DisputesRead.{NamedRow}
-use Rattle.tree_rows.specs.Changes.{above}
-use Rattle.tree_tables.specs.Answers.{FindsNext}
-use Rattle.tree_tables.specs.Stored.{stored_entry}
-use Rattle.tree_tables.specs.declared.stored_record.StoredRecord.{StoredRecord}
-use Rattle.tree_tables.proofs.WalkNames.{next_above, none_left}
+use Rattle.tree_tables.specs.Columns.{record_columns}
+use Rattle.tree_tables.specs.Passes.{HasRecordsLeft, TakesFirst, TakesNext}
+use Rattle.tree_tables.proofs.FoundNames.{entries_had}
 use Rattle.table_ledger.specs.OtherPrices.{AreRowsOf, AreSumsOf, CostsFit, SumsUp, costs_of}
 use Rattle.table_ledger.specs.OtherPrices.{keyed_rows, passes}
 use Rattle.table_ledger.specs.TotalsFit.{FitsPrice}
@@ -126,6 +127,13 @@ rows_summed {sums} costs rows are is =
       are.priced,
     )
 
+-- what holds of all of a list holds of one within it
+all_within : {A : Type 0} (Holds : A → Type 0) (front : List A) (one : A) (others : List A)
+    → All Holds (front ++ one ∷ others) → Holds one
+all_within Holds [] one others all = All-head Holds one others all
+all_within Holds (first ∷ front) one others all =
+    all_within Holds front one others (All-tail Holds first (front ++ one ∷ others) all)
+
 module _ (terms : Terms) (test : CountTest) where
   -- a row that is passed, and is not counted, adds nothing
   pub costs_same : (passed : List NamedRow) (row : NamedRow) → passes test row ≡ false
@@ -167,95 +175,110 @@ module _ (terms : Terms) (test : CountTest) where
       (costs_of terms test others) in
       omega arith
 
-  -- What a walk knows of tables where it has come to a name in so many steps: the sums are those of
-  -- the rows that it has passed.
-  pub record PassedSo (last : Option (List ℕ)) (sums : RowSums) (steps : ℕ) (tables : Tables) : Type 0
-    where
-      pub passed : List NamedRow
-      pub many : length passed ≡ steps
-      pub whole : passed ++ above last tables.records ≡ entries tables.records
-      pub sums_are : AreSumsOf sums (costs_of terms test passed)
+  -- What a pass knows of tables after so many steps: the sums are those of the rows that it has
+  -- passed, and the others are still to come.
+  pub record PassedSo (view : View) (sums : RowSums) (steps : ℕ) (tables : Tables) : Type 0 where
+    pub passed : List NamedRow
+    pub left : List NamedRow
+    pub many : length passed ≡ steps
+    pub whole : passed ++ left ≡ entries tables.records
+    pub to_come : HasRecordsLeft view left
+    pub sums_are : AreSumsOf sums (costs_of terms test passed)
 
   -- none at first
-  pub passed_none : (sums : RowSums) (tables : Tables) → AreSumsOf sums []
-      → PassedSo None sums 0 tables
-  passed_none sums tables are =
-      record { passed = []; many = refl; whole = refl; sums_are = are }
+  pub passed_none : (view : View) (sums : RowSums) (tables : Tables) → AreSumsOf sums []
+      → HasRecordsLeft view (entries tables.records) → PassedSo view sums 0 tables
+  passed_none view sums tables are has = record {
+    passed = [];
+    left = entries tables.records;
+    many = refl;
+    whole = refl;
+    to_come = has;
+    sums_are = are;
+  }
 
   -- there are no more steps than rows
-  pub passed_few : (last : Option (List ℕ)) (sums : RowSums) (steps : ℕ) (tables : Tables)
-      → PassedSo last sums steps tables → steps ≤ length (entries tables.records)
-  passed_few last sums steps tables so_far =
-      let both = length-append so_far.passed (above last tables.records) in
+  pub passed_few : (view : View) (sums : RowSums) (steps : ℕ) (tables : Tables)
+      → PassedSo view sums steps tables → steps ≤ length (entries tables.records)
+  passed_few view sums steps tables so_far =
+      let both = length-append so_far.passed so_far.left in
       let all = ap length so_far.whole in
       let many = so_far.many in
       omega (arith, both, all, many)
 
-  module _ (last : Option (List ℕ)) (sums : RowSums) (steps : ℕ) (tables : Tables)
-      (stored : StoredRecord) (found : FindsNext last tables (Some stored)) where
-    -- and fewer, where one is still to come
-    pub passed_with : (so_far : PassedSo last sums steps tables)
-        → length so_far.passed < length (entries tables.records)
-    passed_with so_far =
-        let both = length-append so_far.passed (above last tables.records) in
-        let next = ap length (next_above last tables stored found) in
-        let all = ap length so_far.whole in
-        omega (arith, both, next, all)
+  -- The next row is the first of those that are still to come.
+  module _ (old new : View) (sums : RowSums) (steps : ℕ) (tables : Tables) (row : Row)
+      (so_far : PassedSo old sums steps tables) (takes : TakesNext old new row true) where
+    abbrev it : TakesFirst so_far.left new row true
+    it = takes so_far.left so_far.to_come
 
-  module _ (last : Option (List ℕ)) (sums : RowSums) (steps : ℕ) (more : RowSums) (tables : Tables)
-      (stored : StoredRecord) (found : FindsNext last tables (Some stored)) where
-    -- the rows that are passed with the next one, and those that are left after it, are all
-    with_next : (so_far : PassedSo last sums steps tables)
-        → (so_far.passed ++ stored_entry stored ∷ []) ++ above (Some stored.name) tables.records
-        ≡ entries tables.records
-    with_next so_far =
-        push_front so_far.passed
-        ∙ ap (λ left. so_far.passed ++ left) (sym (next_above last tables stored found))
-        ∙ so_far.whole
-      where
-        push_front : (rows : List NamedRow)
-            → (rows ++ stored_entry stored ∷ []) ++ above (Some stored.name) tables.records
-            ≡ rows ++ (stored_entry stored ∷ above (Some stored.name) tables.records)
-        push_front [] = refl
-        push_front (row ∷ rows) = ap (λ rest. row ∷ rest) (push_front rows)
+    abbrev entry : NamedRow
+    entry = it.0
 
-    -- the walk goes on
-    pub passed_on : PassedSo last sums steps tables
-        → ((passed : List NamedRow) → SumsUp sums (costs_of terms test passed) true
-        → SumsUp more (costs_of terms test (passed ++ stored_entry stored ∷ [])) true)
-        → PassedSo (Some stored.name) more (steps + 1) tables
-    passed_on so_far adds = record {
-      passed = so_far.passed ++ stored_entry stored ∷ [];
-      many = length-append so_far.passed (stored_entry stored ∷ [])
-          ∙ ap (λ n. n + 1) so_far.many;
-      whole = with_next so_far;
-      sums_are = adds so_far.passed so_far.sums_are;
-    }
+    abbrev others : List NamedRow
+    others = it.1
 
-    -- or stops, since with the next record all are too dear
-    pub passed_dear : PassedSo last sums steps tables
-        → ((passed : List NamedRow) → SumsUp sums (costs_of terms test passed) true
-        → SumsUp more (costs_of terms test (passed ++ stored_entry stored ∷ [])) false)
-        → AreRowsOf (costs_of terms test (entries tables.records)) None
-    passed_dear so_far adds =
-        let passed : List NamedRow = so_far.passed ++ stored_entry stored ∷ [] in
-        let left : List NamedRow = above (Some stored.name) tables.records in
-        let some = adds so_far.passed so_far.sums_are in
-        let within = costs_within passed left in
-        let all = ap (λ rows. sum_by (λ (one : Priced). one.amount) (costs_of terms test rows))
-        (with_next so_far) in
-        let costs : List Priced = costs_of terms test (entries tables.records) in
-        let dear = too_dear most_cost (sum_by (λ (one : Priced). one.amount) costs) (omega arith) in
-        ap (λ dear. if dear then Err Full else Ok (rows_of costs)) dear
+    -- those that are passed, it and the others are all
+    whole : so_far.passed ++ (entry ∷ others) ≡ entries tables.records
+    whole = ap (λ left. so_far.passed ++ left) (sym it.2) ∙ so_far.whole
+
+    -- so it is in the tables
+    pub entry_there : get tables.records entry.0 ≡ Some entry.1
+    entry_there =
+        all_within (λ (one : NamedRow). get tables.records one.0 ≡ Some one.1) so_far.passed entry
+        others (subst (All (λ (one : NamedRow). get tables.records one.0 ≡ Some one.1)) (sym whole)
+        (entries_had nat_list_cmp_total tables.records))
+
+    -- and fewer are passed than there are
+    pub passed_with : length so_far.passed < length (entries tables.records)
+    passed_with =
+        let both = length-append so_far.passed (entry ∷ others) in
+        let all = ap length whole in
+        omega (arith, both, all)
+
+    -- those that are passed with it, and the others, are all
+    with_it : (so_far.passed ++ entry ∷ []) ++ others ≡ entries tables.records
+    with_it = append_assoc so_far.passed (entry ∷ []) others ∙ whole
+
+    module _ (more : RowSums) where
+      -- the pass goes on
+      pub passed_on : ((passed : List NamedRow) (one : NamedRow) → row ≡ record_columns one
+          → SumsUp sums (costs_of terms test passed) true
+          → SumsUp more (costs_of terms test (passed ++ one ∷ [])) true)
+          → PassedSo new more (steps + 1) tables
+      passed_on adds = record {
+        passed = so_far.passed ++ entry ∷ [];
+        left = others;
+        many = length-append so_far.passed (entry ∷ []) ∙ ap (λ n. n + 1) so_far.many;
+        whole = with_it;
+        to_come = it.4;
+        sums_are = adds so_far.passed entry it.3 so_far.sums_are;
+      }
+
+      -- or stops, since with the next record all are too dear
+      pub passed_dear : ((passed : List NamedRow) (one : NamedRow) → row ≡ record_columns one
+          → SumsUp sums (costs_of terms test passed) true
+          → SumsUp more (costs_of terms test (passed ++ one ∷ [])) false)
+          → AreRowsOf (costs_of terms test (entries tables.records)) None
+      passed_dear adds =
+          let some = adds so_far.passed entry it.3 so_far.sums_are in
+          let within = costs_within (so_far.passed ++ entry ∷ []) others in
+          let all = ap (λ rows. sum_by (λ (one : Priced). one.amount) (costs_of terms test rows))
+          with_it in
+          let costs : List Priced = costs_of terms test (entries tables.records) in
+          let dear = too_dear most_cost (sum_by (λ (one : Priced). one.amount) costs)
+          (omega (arith, some, within, all)) in
+          ap (λ dear. if dear then Err Full else Ok (rows_of costs)) dear
 
   -- no record is left: the rows are those of all
-  pub passed_all : (last : Option (List ℕ)) (sums : RowSums) (steps : ℕ) (tables : Tables)
-      (rows : Vec ChargeRow Global) → FindsNext last tables None → PassedSo last sums steps tables
+  pub passed_all : (old new : View) (sums : RowSums) (steps : ℕ) (tables : Tables) (row : Row)
+      (rows : Vec ChargeRow Global) → TakesNext old new row false
+      → PassedSo old sums steps tables
       → ((costs : List Priced) → AreSumsOf sums costs → AreRowsOf costs (Some rows))
       → AreRowsOf (costs_of terms test (entries tables.records)) (Some rows)
-  passed_all last sums steps tables rows none so_far answers =
+  passed_all old new sums steps tables row rows takes so_far answers =
       subst (λ all. AreRowsOf (costs_of terms test all) (Some rows))
       (sym (append-nil so_far.passed)
-      ∙ ap (λ left. so_far.passed ++ left) (sym (none_left last tables none))
+      ∙ ap (λ left. so_far.passed ++ left) (sym (takes so_far.left so_far.to_come).0)
       ∙ so_far.whole)
       (answers (costs_of terms test so_far.passed) so_far.sums_are)

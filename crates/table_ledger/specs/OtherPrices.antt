@@ -17,15 +17,21 @@ use Rattle.table_laws.specs.CountedRead.{row_costs}
 use Rattle.table_laws.specs.DisputesRead.{NamedRow}
 use Rattle.table_laws.specs.ListsRead.{is_period}
 use Rattle.tree_tables.specs.Fits.{LinesFit}
+use Rattle.tree_tables.specs.Stored.{mark_of}
+use Rattle.tree_tables.specs.declared.stored_record.RecordMark.{RecordMark}
 use Rattle.table_ledger.specs.RecordReads.{CanBeRead}
 use Rattle.table_ledger.specs.declared.count_test.CountTest.{CountTest}
 use Rattle.table_ledger.specs.declared.other_prices.RowSums.{RowSums}
 
--- a test of a record's row: its day is between the two closes, and it was charged before the lines
+-- a test of a record's mark: its day is between the two closes, and it was charged before the lines
+abbrev pub passes_mark : CountTest → RecordMark → Bool
+passes_mark test mark =
+    is_day_between test.last test.through mark.day
+    && charged_before_lines (get by_bytes test.lines mark.name) mark.charged
+
+-- of its row
 abbrev pub passes : CountTest → NamedRow → Bool
-passes test entry =
-    is_day_between test.last test.through entry.1.priced.day
-    && charged_before_lines (get by_bytes test.lines entry.0) entry.1.charged
+passes test entry = passes_mark test (mark_of entry)
 
 -- it is the test of which records a period counts
 abbrev pub IsTestOf : ℕ → Rulings → Tables → CountTest → Type 0

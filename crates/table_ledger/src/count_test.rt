@@ -18,7 +18,7 @@ use sqlite_trees::error::StoreError;
 use sqlite_trees::store::Store;
 use std::alloc::{AllocError, Global};
 use std::collections::BTreeMap;
-use tree_tables::{StoredLine, StoredRecord, TreeTables};
+use tree_tables::{RecordMark, StoredLine, TreeTables};
 
 /// Tells which records a period counts.
 #[derive(Drop)]
@@ -75,8 +75,7 @@ impl CountTest {
     ghost use Rattle.table_laws.specs.ListsRead.{is_period};
     ghost use Rattle.tree_tables.specs.States.{state};
     ghost use Rattle.tree_tables.specs.Steps.{FailsByStore, Looks};
-    ghost use Rattle.tree_tables.specs.Stored.{stored_entry};
-    ghost use Rattle.table_ledger.specs.OtherPrices.{AllLinesFit, IsTestOf, passes};
+    ghost use Rattle.table_ledger.specs.OtherPrices.{AllLinesFit, IsTestOf, passes_mark};
 
     /// Looks for what tells it of a period.
     pub(crate) fn of_period<S: Store>(
@@ -101,16 +100,15 @@ impl CountTest {
 
     /// The period counts the record: it is dated in the period, and was charged at its end. Before
     /// a plus line it was not charged, and before a minus line it was.
-    pub(crate) fn counts(&self, stored: &StoredRecord) -> bool
-        ensures { result ≡ passes self.now (stored_entry stored.now) }
+    pub(crate) fn counts(&self, mark: &RecordMark) -> bool
+        ensures { result ≡ passes_mark self.now mark.now }
     {
-        let day = stored.priced.day;
-        if !is_after(self.last, day) || !is_through(self.through, day) {
+        if !is_after(self.last, mark.day) || !is_through(self.through, mark.day) {
             return false;
         }
-        match self.lines.get(&stored.name) {
+        match self.lines.get(&mark.name) {
             Some(plus) => !*plus,
-            None => stored.charged,
+            None => mark.charged,
         }
     }
 }

@@ -3,9 +3,10 @@
 ghost use Rattle.std.specs.Prelude.{◌≡◌, ◌<◌, ◌++◌, ◌∷◌, [], List, IfErr, IfOk, OnOk, length, true};
 ghost use Rattle.book_model.specs.Words.{AreRows, Naming, most_held, what_if_outcome};
 ghost use Rattle.table_laws.specs.DisputesRead.{NamedRow};
+ghost use Rattle.tree_tables.specs.Columns.{record_columns};
+ghost use Rattle.tree_tables.specs.Fits.{RecordFits};
 ghost use Rattle.tree_tables.specs.States.{state};
 ghost use Rattle.tree_tables.specs.Steps.{FailsByStore, Looks};
-ghost use Rattle.tree_tables.specs.Stored.{stored_entry};
 ghost use Rattle.tree_tables.specs.UsageData.{IsUsageData};
 ghost use Rattle.table_ledger.specs.Attempts.{IsWhatIfRefusal, TriesBut};
 ghost use Rattle.table_ledger.specs.OtherPrices.{CanBeWalked, Costs, CostsFit, FindsRowsUnder};
@@ -21,10 +22,11 @@ use book_core::{ChargeRow, LedgerFault, MAX_COST, RowKey, empty_row};
 use smf_type30::Type30;
 use sqlite_trees::error::StoreError;
 use sqlite_trees::store::Store;
+use sqlite_value::row::Row;
 use std::alloc::{AllocError, Global};
 use std::collections::BTreeMap;
 use tariff_rules::{Priced, Tariff, price};
-use tree_tables::{StoredRecord, TreeTables, usage_bytes};
+use tree_tables::{TreeTables, data_of, read_mark, usage_bytes};
 
 /// The most records that are walked over: more than any tree of a sound store has.
 const MOST_STEPS: u64 = 1 << 32;
@@ -44,11 +46,11 @@ fn add_price(rows: &mut BTreeMap<RowKey, ChargeRow>, priced: &Priced) -> Result<
         → CostsFit (costs ++ priced.now ∷ []) → error ≡ StoreError.OutOfMemory) }
 {
     let key = key_of(priced);
-    let row = rows.get(&key).copied().unwrap_or(empty_row(key));
-    let Some(more) = with_price(&row, priced) else {
+    let row = rows.entry(key)?.or_insert(empty_row(key));
+    let Some(more) = with_price(row, priced) else {
         return Err(StoreError::Corrupt);
     };
-    rows.insert(key, more)?;
+    *row = more;
     Ok(())
 }
 
@@ -96,27 +98,31 @@ impl RowSums {
     }
 }
 
-/// A record joins the sums at its price by a tariff, if it is counted; or the answer is that with
-/// it they are more than the books hold.
+/// The record of a row joins the sums at its price by a tariff, if it is counted; or the answer is
+/// that with it they are more than the books hold.
 fn add_counted(
     sums: &mut RowSums,
     alloc: Global,
     tariff: &Tariff,
     test: &CountTest,
-    stored: &StoredRecord,
+    row: &Row,
 ) -> Result<bool, StoreError>
-    ensures counted { IfOk result (λ room. (passed : List NamedRow)
+    ensures counted { IfOk result (λ room. (passed : List NamedRow) (entry : NamedRow)
+        → row.now ≡ record_columns entry
         → SumsUp sums.old (costs_of tariff.now test.now passed) true
-        → SumsUp sums.new (costs_of tariff.now test.now (passed ++ stored_entry stored.now ∷ []))
-        room) }
-    ensures taken { IfErr result (λ error. (passed : List NamedRow)
+        → SumsUp sums.new (costs_of tariff.now test.now (passed ++ entry ∷ [])) room) }
+    ensures taken { IfErr result (λ error. (passed : List NamedRow) (entry : NamedRow)
+        → row.now ≡ record_columns entry
         → SumsUp sums.old (costs_of tariff.now test.now passed) true → length passed < most_held
-        → IsUsageData stored.now.data_bytes.items → error ≡ StoreError.OutOfMemory) }
+        → RecordFits row.now → IsUsageData entry.1.data_bytes
+        → error ≡ StoreError.OutOfMemory) }
 {
-    if !test.counts(stored) {
+    // Whether it is counted is told first, so that of a record that is not no data are copied.
+    let mark = read_mark(row)?;
+    if !test.counts(&mark) {
         return Ok(true);
     }
-    let bytes = usage_bytes(alloc, &stored.data_bytes)?;
+    let bytes = usage_bytes(alloc, data_of(row)?)?;
     sums.add(&price(tariff, &Type30::of_usage(&bytes)))
 }
 
@@ -134,16 +140,18 @@ fn rows_under<S: Store>(
         (state S.Store tables.new.store) CanBeWalked }
 {
     let mut sums = RowSums::new(alloc);
-    let mut last = None;
+    let mut row = Row::new(alloc);
+    tables.start_pass()?;
     'records: for _steps in 0..MOST_STEPS {
-        let Some(stored) = tables.find_next(alloc, last)? else {
+        let there = tables.next_record(&mut row)?;
+        if !there {
             let rows = sums.into_rows(alloc)?;
             return Ok(Some(rows));
-        };
-        if !add_counted(&mut sums, alloc, tariff, test, &stored)? {
+        }
+        let room = add_counted(&mut sums, alloc, tariff, test, &row)?;
+        if !room {
             return Ok(None);
         }
-        last = Some(stored.name);
     }
     // Only a disk that lies has more rows.
     Err(StoreError::Corrupt)

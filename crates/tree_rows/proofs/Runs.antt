@@ -17,7 +17,7 @@ use Rattle.std.specs.declared.cmp.Ordering.{Ordering}
 use Rattle.std.specs.declared.cmp.Ordering.TheVariants.{Less, Equal, Greater}
 use Rattle.sqlite_trees.specs.Tree.{from_key, order_of, sought, up_to_key}
 use Rattle.sqlite_trees.specs.View.{Advances, View, with_cursor}
-use Rattle.sqlite_trees.specs.declared.store.Direction.TheVariants.{Backward}
+use Rattle.sqlite_trees.specs.declared.store.Direction.TheVariants.{Backward, Forward}
 use Rattle.sqlite_trees.specs.declared.store.Shape.{Shape}
 use Rattle.sqlite_trees.specs.declared.store.Shape.TheVariants.{Index}
 use Rattle.sqlite_value.proofs.OrderLemmas.{value_cmp-Blob, value_cmp-Int, then-Equal}
@@ -46,7 +46,25 @@ up_to_no_part : (rows : List Row) → up_to_key plain [] rows ≡ rows
 up_to_no_part [] = refl
 up_to_no_part (row ∷ rows) = ap (λ more. row ∷ more) (up_to_no_part rows)
 
--- so a walk back from it begins with the last row of all
+-- so a cursor that is placed at it has all rows left
+pub all_sought : (old new : View) (cursor tree : ℕ) (key : Row) → key ≡ []
+    → old.shape tree ≡ Index plain
+    → new ≡ with_cursor old cursor (sought (order_of (old.shape tree)) Forward key (old.trees tree))
+    → new.cursors cursor ≡ Some (old.trees tree)
+all_sought old new cursor tree key whole shape placed =
+    ap (λ (v : View). v.cursors cursor) placed
+    ∙ ap (λ b. cond b (Some left) (old.cursors cursor)) (same cursor)
+    ∙ ap (λ (s : Shape). Some (sought (order_of s) Forward key (old.trees tree))) shape
+    ∙ ap (λ part. Some (from_key plain part (old.trees tree))) whole
+    ∙ ap Some (from_no_part (old.trees tree))
+  where
+    left : List Row
+    left = sought (order_of (old.shape tree)) Forward key (old.trees tree)
+
+    same : (n : ℕ) → (n == n) ≡ true
+    same n = grind (arith, nat_tests)
+
+-- and a walk back from it begins with the last row of all
 pub last_sought : (old mid new : View) (cursor tree : ℕ) (key row : Row) (there : Bool) → key ≡ []
     → old.shape tree ≡ Index plain
     → mid ≡ with_cursor old cursor (sought (order_of (old.shape tree)) Backward key

@@ -21,6 +21,7 @@ pub mod Prices
 pub mod Keying
 pub mod WalkNames
 pub mod Walked
+pub mod Passes
 pub mod DayRows
 pub mod DaySteps
 pub mod LineRows

@@ -14,6 +14,7 @@ use Rattle.tree_tables.specs.declared.choice_rows.StoredChoice.{StoredChoice}
 use Rattle.tree_tables.specs.declared.closed_rows.Close.{Close}
 use Rattle.tree_tables.specs.declared.line_rows.StoredLine.{StoredLine}
 use Rattle.tree_tables.specs.declared.record_rows.NewRecord.{NewRecord}
+use Rattle.tree_tables.specs.declared.stored_record.RecordMark.{RecordMark}
 use Rattle.tree_tables.specs.declared.stored_record.StoredRecord.{StoredRecord}
 use Rattle.tree_tables.specs.declared.tariff_rows.StoredTariff.{StoredTariff}
 
@@ -69,6 +70,11 @@ stored_entry stored = (
     posted = stored.posted;
   },
 )
+
+-- what its row says that tells whether a period counts it
+abbrev pub mark_of : List ℕ × RecordRow → RecordMark
+mark_of entry =
+    record { name = entry.0; day = entry.1.priced.day; charged = entry.1.charged }
 
 -- it, where it costs this
 abbrev pub priced_entry : StoredRecord → Priced → List ℕ × RecordRow

@@ -31,7 +31,7 @@ pub use day_rows::{DayKey, DayRow};
 pub use line_rows::{LineKey, StoredLine};
 pub use memory::trees_in_memory;
 pub use record_rows::NewRecord;
-pub use stored_record::{StoredRecord, read_record};
+pub use stored_record::{RecordMark, StoredRecord, data_of, read_mark, read_record};
 pub use stored_usage::{record_with, usage_bytes};
 pub use tables::TreeTables;
 pub use tariff_rows::{StoredTariff, TariffText};

@@ -1,4 +1,4 @@
-//! Walks over all records, by name.
+//! Walks and passes over all records, by name.
 
 ghost use Rattle.std.specs.Prelude.{◌≡◌, ◌∷◌, [], IfErr, IfOk, OnErr, OnOk};
 ghost use Rattle.std.specs.Prelude.{slice_set};
@@ -19,7 +19,7 @@ use sqlite_trees::error::StoreError;
 use sqlite_trees::store::Store;
 use sqlite_value::row::Row;
 use std::alloc::Global;
-use tree_rows::{change_row, first_after, first_from};
+use tree_rows::{change_row, first_after, first_from, next_row, start_pass};
 
 /// The column of a record's name.
 pub(crate) const NAME: usize = 0;
@@ -102,12 +102,15 @@ fn post_row(row: &mut Row, before: &Row, through: i32) -> Result<bool, StoreErro
 }
 
 impl<S: Store> TreeTables<S> {
-    ghost use Rattle.std.specs.Prelude.{IfOk, OnErr};
+    ghost use Rattle.std.specs.Prelude.{IfOk, OnErr, OnOk};
+    ghost use Rattle.std.specs.FinMap.{entries};
     ghost use Rattle.sqlite_trees.specs.View.{IsClean};
     ghost use Rattle.tree_rows.specs.Calls.{CommitsNothing, LeavesCommitted};
+    ghost use Rattle.tree_rows.specs.Passes.{IsPassing};
     ghost use Rattle.table_model.specs.Steps as step;
     ghost use Rattle.tree_tables.specs.Answers.{FindsNext};
     ghost use Rattle.tree_tables.specs.Fits.{EachFits};
+    ghost use Rattle.tree_tables.specs.Passes.{HasRecordsLeft, TakesNext};
     ghost use Rattle.tree_tables.specs.States.{state};
     ghost use Rattle.tree_tables.specs.Steps.{Always, Does, FailsByStore, Looks};
     ghost use Rattle.tree_tables.specs.Walks.{RenewsNext};
@@ -130,6 +133,31 @@ impl<S: Store> TreeTables<S> {
             return Ok(None);
         }
         Ok(Some(read_record(&self.before, alloc)?))
+    }
+
+    /// Starts a pass over all records, by name. It goes on as long as nothing is written.
+    pub fn start_pass(&mut self) -> Result<(), StoreError>
+        ensures passing { OnOk result (IsPassing (S.Store.view self.new.store)) }
+        ensures looks { Looks result (state S.Store self.old.store) (state S.Store self.new.store)
+            (λ tables started.
+            HasRecordsLeft (S.Store.view self.new.store) (entries tables.records)) }
+        ensures cause { FailsByStore result (state S.Store self.old.store)
+            (state S.Store self.new.store) Always }
+    {
+        start_pass(&mut self.store, RECORDS, &mut self.before)
+    }
+
+    /// Writes the row of the next record of a pass over `row`, or answers that none is left.
+    pub fn next_record(&mut self, row: &mut Row) -> Result<bool, StoreError>
+        requires { IsPassing (S.Store.view self.old.store) }
+        ensures passing { OnOk result (IsPassing (S.Store.view self.new.store)) }
+        ensures looks { Looks result (state S.Store self.old.store) (state S.Store self.new.store)
+            (λ tables there.
+            TakesNext (S.Store.view self.old.store) (S.Store.view self.new.store) row.new there) }
+        ensures cause { FailsByStore result (state S.Store self.old.store)
+            (state S.Store self.new.store) Always }
+    {
+        next_row(&mut self.store, row)
     }
 
     /// Posts the first record after that of the key by a day, and makes its name the key; or

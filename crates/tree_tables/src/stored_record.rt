@@ -6,9 +6,9 @@ ghost use Rattle.sqlite_value.specs.declared.value.Value.TheVariants.{Int, Text}
 ghost use Rattle.table_model.specs.Tables.{RecordRow};
 ghost use Rattle.tree_tables.specs.Columns.{record_columns};
 ghost use Rattle.tree_tables.specs.Fits.{PriceFits, RecordFits};
-ghost use Rattle.tree_tables.specs.Stored.{stored_entry};
+ghost use Rattle.tree_tables.specs.Stored.{mark_of, stored_entry};
 
-use crate::column_values::{bytes_at, counts_at, day_at, hash_at, mark_at, name_at};
+use crate::column_values::{blob_at, bytes_at, counts_at, day_at, hash_at, mark_at, name_at};
 use sqlite_trees::error::StoreError;
 use sqlite_value::row::Row;
 use std::alloc::Global;
@@ -27,6 +27,16 @@ pub struct StoredRecord {
     pub charged: bool,
     /// The last close charged it.
     pub posted: bool,
+}
+
+/// What tells of a record whether a period counts it.
+#[derive(Clone, Copy, Debug, PartialEq, Eq)]
+pub struct RecordMark {
+    /// The name of the record's data.
+    pub name: [u8; 32],
+    pub day: i32,
+    /// It is charged now.
+    pub charged: bool,
 }
 
 /// What the row of a record says that it costs.
@@ -66,4 +76,26 @@ pub fn read_record(row: &Row, alloc: Global) -> Result<StoredRecord, StoreError>
         identity: bytes_at(row, 1, alloc)?,
         data_bytes: bytes_at(row, 2, alloc)?,
     })
+}
+
+/// What the row of a record says that tells whether a period counts it.
+pub fn read_mark(row: &Row) -> Result<RecordMark, StoreError>
+    ensures read { IfOk result (λ mark. (entry : List ℕ × RecordRow)
+        → row.now ≡ record_columns entry → mark ≡ mark_of entry) }
+    ensures taken { IfErr result (λ error. ¬ RecordFits row.now) }
+{
+    Ok(RecordMark {
+        name: hash_at(row, 0)?,
+        day: day_at(row, 3)?,
+        charged: mark_at(row, 9)?,
+    })
+}
+
+/// The data in the row of a record, after the descriptor; they are lent.
+pub fn data_of<'a>(row: &'a Row) -> Result<&'a [u8], StoreError>
+    ensures read { IfOk result (λ data_bytes. (entry : List ℕ × RecordRow)
+        → row.now ≡ record_columns entry → data_bytes.now ≡ entry.1.data_bytes) }
+    ensures taken { IfErr result (λ error. ¬ RecordFits row.now) }
+{
+    Ok(blob_at(row, 2)?)
 }

@@ -1,54 +1,66 @@
 use Rattle.std.proofs.Common.{◌≡◌, ◌∙◌, ◌++◌, ◌∷◌, [], sym, ap, arith, subst}
 use Rattle.std.proofs.lemmas.Result.{IfOk-weaker}
-use Rattle.tree_tables.specs.Stored.{stored_entry}
 use Rattle.tree_tables.specs.UsageData.{IsUsageData}
 use Rattle.tree_tables.proofs.Looking.{err_on, err_so}
 use Rattle.tariff_rules.specs.declared.priced.Priced.{Priced}
 use Rattle.book_model.specs.Words.{price_by, record_with}
 use Rattle.table_laws.specs.BookIn.{row_record}
-use Rattle.table_ledger.specs.OtherPrices.{AreSumsOf, Costs, SumsUp, costs_of}
+use Rattle.table_ledger.specs.OtherPrices.{AreSumsOf, Costs, SumsUp, costs_of, passes_mark}
 use Rattle.table_ledger.proofs.OtherPriceLemmas.{costs_few, costs_more, costs_same}
 use Rattle.table_ledger.proofs.other_prices.add_counted.Goals as goal
 
 -- a record that is not counted leaves them
 pub returns-then-not-counts-clause-counted : goal.returns-then-not-counts-clause-counted
-returns-then-not-counts-clause-counted c = λ passed are.
-    let entry = stored_entry c.args.stored.now in
+returns-then-not-counts-clause-counted c = λ passed entry is are.
     subst (AreSumsOf c.args.sums.now)
     (sym (costs_same c.args.tariff.now c.args.test.now passed entry
-    (sym c.counts.ensures ∙ c.if-not-counts.true))) are
+    (ap (passes_mark c.args.test.now) (sym (c.in_ok-mark.ensures.read entry is))
+    ∙ sym c.counts.ensures ∙ c.if-not-counts.true))) are
 
 -- one that is counted joins them
 pub returns-clause-counted : goal.returns-clause-counted
 returns-clause-counted c =
     let terms = c.args.tariff.now in
     let test = c.args.test.now in
-    let entry = stored_entry c.args.stored.now in
     let more = c.add.new.self in
-    let counted = sym c.counts.ensures ∙ c.if-not-counts.false in
-    let price : c.price.result ≡ price_by terms (row_record entry.1) =
-    c.price.ensures.value
-    ∙ ap (price_by terms) (c.of_usage.ensures ∙ c.deref-2.ensures.value
-    ∙ c.in_ok-bytes.ensures.bytes ∙ ap record_with c.deref.ensures.value) in
     IfOk-weaker c.add.result (λ room. (costs : Costs) → AreSumsOf c.args.sums.now costs
     → SumsUp more (costs ++ c.price.result ∷ []) room) _
-    (λ room adds passed are.
+    (λ room adds passed entry is are.
+    let counted = ap (passes_mark test) (sym (c.in_ok-mark.ensures.read entry is))
+    ∙ sym c.counts.ensures ∙ c.if-not-counts.false in
+    let price : c.price.result ≡ price_by terms (row_record entry.1) =
+    c.price.ensures.value
+    ∙ ap (price_by terms) (c.of_usage.ensures ∙ c.deref.ensures.value
+    ∙ c.in_ok-bytes.ensures.bytes ∙ ap record_with (c.in_ok-data_of.ensures.read entry is)) in
     subst (λ costs. SumsUp more costs room)
     (ap (λ (one : Priced). costs_of terms test passed ++ one ∷ []) price
     ∙ sym (costs_more terms test passed entry counted))
     (adds (costs_of terms test passed) are)) c.add.ensures.sums
 
--- the data are those of a usage record
+-- a row that fits says whether it is counted
+pub returns-in_err-mark-clause-taken : goal.returns-in_err-mark-clause-taken
+returns-in_err-mark-clause-taken c =
+    err_on _ c.from_residual.result c.from_residual.ensures.1 (λ passed entry is are few fits usage.
+    absurd (c.in_err-mark.ensures.taken fits))
+
+-- and has data
+pub returns-in_err-data_of-clause-taken : goal.returns-in_err-data_of-clause-taken
+returns-in_err-data_of-clause-taken c =
+    err_on _ c.from_residual-in_err-data_of.result c.from_residual-in_err-data_of.ensures.1
+    (λ passed entry is are few fits usage. absurd (c.in_err-data_of.ensures.taken fits))
+
+-- those of a usage record
 pub returns-in_err-bytes-clause-taken : goal.returns-in_err-bytes-clause-taken
 returns-in_err-bytes-clause-taken c =
-    err_on _ c.from_residual.result c.from_residual.ensures.1 (λ passed are few usage.
-    c.in_err-bytes.ensures.taken (subst IsUsageData (sym c.deref.ensures.value) usage))
+    err_on _ c.from_residual-in_err-bytes.result c.from_residual-in_err-bytes.ensures.1
+    (λ passed entry is are few fits usage. c.in_err-bytes.ensures.taken
+    (subst IsUsageData (sym (c.in_ok-data_of.ensures.read entry is)) usage))
 
 -- and there are no more costs than records that were passed
 pub returns-clause-taken : goal.returns-clause-taken
 returns-clause-taken c =
     let terms = c.args.tariff.now in
     let test = c.args.test.now in
-    err_so c.add.result c.add.ensures.taken (λ error takes passed are few usage.
+    err_so c.add.result c.add.ensures.taken (λ error takes passed entry is are few fits usage.
     let some = costs_few terms test passed in
     takes (costs_of terms test passed) are (omega (arith, some, few)))
