@@ -81,12 +81,20 @@ impl Name {
         })
     }
 
+    /// The characters of its text.
+    fn characters(&self) -> &[u8]
+        ensures value { result.now ≡ self.now }
+        ensures name { IsName result.now }
+    {
+        &self.letters[..self.len as usize]
+    }
+
     /// The text, as tariff files have it and reports print it.
     pub fn text(&self) -> &str
         ensures value { result.now ≡ self.now }
         ensures name { IsName result.now }
     {
-        match str::from_utf8(&self.letters[..self.len as usize]) {
+        match str::from_utf8(self.characters()) {
             Ok(text) => text,
             Err(_) => unreachable!(),
         }
@@ -99,7 +107,7 @@ impl PartialEq for Name {
     ghost laws = { partial_equiv_from_equiv nat_list_eq_equiv };
 
     fn eq(&self, other: &Name) -> bool {
-        self.text() == other.text()
+        self.characters() == other.characters()
     }
 }
 
@@ -127,7 +135,7 @@ impl Ord for Name {
     ghost matches_eq = { texts_ties };
 
     fn cmp(&self, other: &Name) -> Ordering {
-        self.text().cmp(other.text())
+        self.characters().cmp(other.characters())
     }
 }
 
