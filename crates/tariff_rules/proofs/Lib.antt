@@ -1,2 +1,4 @@
 pub mod ReadEachLemmas
 pub mod EntryLemmas
+pub mod RefusedLemmas
+pub mod FaultLemmas

@@ -1,6 +1,6 @@
 -- Read in this order: the office's limits, what a tariff says, and what a record costs by it. Then
--- the file: its faults and keys, what its tables have at a key, its shifts and its centres, and the
--- whole of it.
+-- the file: its faults and keys, what its tables have at a key, its shifts and its centres, the whole
+-- of it, and the entry at which it has a fault.
 pub mod Limits
 pub mod Terms
 pub mod Price
@@ -12,3 +12,4 @@ pub mod ShiftConflict
 pub mod Prefix
 pub mod CentreEntry
 pub mod TariffFile
+pub mod Entry

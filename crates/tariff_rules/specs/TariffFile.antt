@@ -17,6 +17,7 @@ use Rattle.tariff_rules.specs.declared.fault.TariffFault.TheVariants.{Range, Shi
 use Rattle.tariff_rules.specs.declared.fault.TariffFault.TheVariants.{TooMany}
 use Rattle.tariff_rules.specs.declared.key.Key.{Key}
 use Rattle.tariff_rules.specs.declared.key.Key.TheVariants as key
+use Rattle.tariff_rules.specs.declared.tariff.file.Head.{Head}
 
 -- the rates of one kind of record, by their keys
 unfoldable pub rates_at : Members → Key → Key → Key → Result RatesOf TariffFault
@@ -42,16 +43,28 @@ shifts_at document = do
   rules ← rules_at document key.Shift most_shifts shift_rule_in
   agreed rules
 
--- the terms of a document, by its keys in the order in which they are tested
-unfoldable pub terms_of : Members → Result Terms TariffFault
-terms_of document = do
+-- what a document says before its lists of rules, by its keys in the order in which they are tested
+unfoldable pub head_of : Members → Result Head TariffFault
+head_of document = do
   effective ← effective_at document
   table ← read_at document key.Rates as_table
   step ← rates_at table key.StepCpu key.StepExcp key.StepRecord
   job ← rates_at table key.JobCpu key.JobExcp key.JobRecord
+  Ok (record { effective = effective; step = step; job = job })
+
+-- the terms of a document: its head, then its shifts, then its centres
+unfoldable pub terms_of : Members → Result Terms TariffFault
+terms_of document = do
+  head ← head_of document
   shifts ← shifts_at document
   centres ← rules_at document key.Centre most_centres centre_rule_in
-  Ok (record { effective = effective; step = step; job = job; shifts = shifts; centres = centres })
+  Ok (record {
+    effective = head.effective;
+    step = head.step;
+    job = head.job;
+    shifts = shifts;
+    centres = centres;
+  })
 
 -- the same, where the text is a document at all
 abbrev pub terms_of_document : Option Members → Result Terms TariffFault

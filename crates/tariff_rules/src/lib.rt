@@ -18,4 +18,4 @@ pub use key::Key;
 pub use priced::{Priced, price};
 pub use rates::MAX_RATE;
 pub use shift::MAX_PERCENT;
-pub use tariff::{MAX_CENTRES, MAX_SHIFTS, MAX_TEXT, Tariff};
+pub use tariff::{Entry, MAX_CENTRES, MAX_SHIFTS, MAX_TEXT, Tariff};

@@ -7,11 +7,13 @@ ghost use Rattle.tariff_rules.specs.Price as spec;
 ghost use Rattle.tariff_rules.specs.Terms.{AreRates, IsShift, flat_terms, rates_of};
 ghost use Rattle.tariff_rules.specs.Terms as terms;
 
+mod entry;
 mod file;
 
 use crate::centre::{CentreRule, centre_of};
 use crate::rates::Rates;
 use crate::shift::{Shift, ShiftRule, shift_at};
+pub use entry::Entry;
 pub use file::{MAX_CENTRES, MAX_SHIFTS, MAX_TEXT};
 use smf_text::{FIRST_DAY, Name};
 use smf_type30::{Moment, STEP_END, Type30};

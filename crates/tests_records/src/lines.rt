@@ -7,7 +7,9 @@ use crate::joiner_calls::push_joined;
 use crate::pieces::{push_pieces, split_of};
 use crate::spelled_words::text_of;
 use crate::stream_calls::{push_reads, push_writes};
-use crate::tariffs::{push_file, push_file_of, push_flat, push_message, push_prices};
+use crate::tariffs::{
+    push_entry_of, push_file, push_file_of, push_flat, push_message, push_prices,
+};
 use crate::texts::{push_date, push_day_of, push_encoded, push_name, push_packed, push_shown};
 use smf_frames::{Joiner, Layout};
 use std::alloc::{AllocError, Global};
@@ -73,6 +75,7 @@ fn push_price(named: &Named, out: &mut Answer, name: &str, dump: &[u8]) -> LineR
 fn push_alone(named: &Named, out: &mut Answer, ask: Ask<'_>) -> LineResult {
     match ask.verb {
         "file" | "changed" | "repeated" => push_file_of(named, out, ask),
+        "entry" => push_entry_of(named, out, ask),
         "header" | "class" | "work" => push_of_dump(named, out, ask),
         "field" | "price" | "source" => push_of_word(named, out, ask),
         "flat" => push_flat(named, out, ask.words),

@@ -26,6 +26,7 @@
 //! | `changed NAME TEXT -> TEXT` | the same of a text with one place changed, its first |
 //! | `repeated COUNT PIECE NAME..` | the same of texts and that many copies of a piece |
 //! | `line TEXT` | the same of the row's lines so far |
+//! | `entry LINE` | the entry at fault of the file of such a line: `file`, `changed`, `repeated` |
 //! | `say memory` | what is said where there is no memory for a tariff file |
 //! | `flat CPU EXCP RECORD DUMP` | the tariff of three rates, and what records cost by it |
 //! | `price NAME DUMP` | what records cost by a tariff file |

@@ -1,11 +1,12 @@
-//! Tariff files: which are read, the first fault of one that is not, and what records cost by them.
+//! Tariff files: which are read, the first fault of one that is not and its entry, and what records
+//! cost by them.
 
 use crate::answer::Answer;
 use crate::spelled_words::{split_words, text_of};
 use smf_frames::{Layout, split};
 use smf_type30::{Class, Type30, class};
 use std::alloc::Global;
-use tariff_rules::{Priced, Tariff, TariffFault, price};
+use tariff_rules::{Entry, Priced, Tariff, TariffFault, price};
 use tests_scripts::{Ask, LineFault, LineResult, Named};
 
 /// The most copies of a piece.
@@ -102,6 +103,28 @@ pub(crate) fn push_file(out: &mut Answer, text: &str) -> LineResult {
 /// Adds what is read of the tariff file that a line gives.
 pub(crate) fn push_file_of(named: &Named, out: &mut Answer, ask: Ask<'_>) -> LineResult {
     push_file(out, file_of(named, ask)?.as_str())
+}
+
+/// Adds the entry at which a tariff file has its fault.
+fn push_entry(out: &mut Answer, text: &str) -> LineResult {
+    match Tariff::entry_at_fault(out.alloc(), text) {
+        Some(Entry::Shift(place)) => out.value_line("AT shift ", place),
+        Some(Entry::Centre(place)) => out.value_line("AT centre ", place),
+        None => out.line("NO ENTRY"),
+    }
+}
+
+/// Adds the entry at fault of the tariff file that the rest of a line gives.
+pub(crate) fn push_entry_of(named: &Named, out: &mut Answer, ask: Ask<'_>) -> LineResult {
+    let [verb, words @ ..] = ask.words else {
+        return Err(LineFault::NotUnderstood);
+    };
+    let file = Ask {
+        verb: *verb,
+        words,
+        body: ask.body,
+    };
+    push_entry(out, file_of(named, file)?.as_str())
 }
 
 /// Adds a price: the day, the centre, the shift, hundredths of a second of CPU time, blocks, and

@@ -27,6 +27,14 @@ pub const MAX_SHIFTS: usize = 64;
 /// The most centres of a tariff file.
 pub const MAX_CENTRES: usize = 2000;
 
+/// What a tariff file says before its lists of rules.
+#[derive(Clone, Copy, Debug)]
+pub(super) struct Head {
+    effective: i32,
+    step: Rates,
+    job: Rates,
+}
+
 /// The first day, at the key `effective`.
 #[tactic(auto, unfolding(crate::specs::TariffFile::effective_at))]
 fn effective_at(document: &Table) -> Result<i32, TariffFault>
@@ -37,9 +45,26 @@ fn effective_at(document: &Table) -> Result<i32, TariffFault>
     day_of_text(text).ok_or(TariffFault::Range(Key::Effective))
 }
 
+/// What comes before the lists.
+#[tactic(auto, unfolding(crate::specs::TariffFile::head_of))]
+pub(super) fn head_of(document: &Table) -> Result<Head, TariffFault>
+    ensures value { result ≡ spec.head_of (table_view document.now) }
+    ensures day { IfOk result (λ head. IsDay head.effective) }
+{
+    let effective = effective_at(document)?;
+    let rates = table_at(document, Key::Rates)?;
+    let step = Rates::at(rates, Key::StepCpu, Key::StepExcp, Key::StepRecord)?;
+    let job = Rates::at(rates, Key::JobCpu, Key::JobExcp, Key::JobRecord)?;
+    Ok(Head {
+        effective,
+        step,
+        job,
+    })
+}
+
 /// The shifts, which agree on what each charges.
 #[tactic(auto, unfolding(crate::specs::TariffFile::shifts_at))]
-fn shifts_at(alloc: Global, document: &Table) -> Result<Vec<ShiftRule>, TariffFault>
+pub(super) fn shifts_at(alloc: Global, document: &Table) -> Result<Vec<ShiftRule>, TariffFault>
     ensures { AreUnlessMemory result (spec.shifts_at (table_view document.now)) }
 {
     let rules = rules_at(alloc, document, Key::Shift, MAX_SHIFTS)?;
@@ -55,16 +80,13 @@ impl Tariff {
     fn of_document(alloc: Global, document: &Table) -> Result<Tariff, TariffFault>
         ensures { IsUnlessMemory result (spec.terms_of (table_view document.now)) }
     {
-        let effective = effective_at(document)?;
-        let rates = table_at(document, Key::Rates)?;
-        let step = Rates::at(rates, Key::StepCpu, Key::StepExcp, Key::StepRecord)?;
-        let job = Rates::at(rates, Key::JobCpu, Key::JobExcp, Key::JobRecord)?;
+        let head = head_of(document)?;
         let shifts = shifts_at(alloc, document)?;
         let centres = rules_at(alloc, document, Key::Centre, MAX_CENTRES)?;
         Ok(Tariff {
-            effective,
-            step,
-            job,
+            effective: head.effective,
+            step: head.step,
+            job: head.job,
             shifts,
             centres,
         })
