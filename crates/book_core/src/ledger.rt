@@ -4,7 +4,7 @@ ghost use Rattle.book_model.specs.Words.{dispute_shown, accept_outcome, close_ou
 ghost use Rattle.book_model.specs.Words.{tariff_outcome, adjustments_outcome, charges_outcome};
 ghost use Rattle.book_model.specs.Words.{choose_outcome, disputes_outcome, periods_outcome};
 ghost use Rattle.book_model.specs.Words.{adopt_outcome, ruling_outcome, ruling_shown, ShowsDays};
-ghost use Rattle.book_model.specs.Words.{what_if_outcome};
+ghost use Rattle.book_model.specs.Words.{ShowsDispute, dispute_outcome, what_if_outcome};
 ghost use Rattle.book_core.specs.Ledgers.{StopIsHarmless, Seen};
 ghost use Rattle.book_core.specs.Calls.{IsCall};
 ghost use Rattle.book_core.specs.Submissions.{Takes, records_in};
@@ -91,6 +91,15 @@ pub trait Ledger {
         ensures disputes { IsCall (λ found. map dispute_shown found.items)
             (seen self.old) (seen self.new) result (disputes_outcome (seen self.old).naming) }
         ensures shown { IfOk result (λ found. AreDisputes (map dispute_shown found.items)) };
+
+    /// The first of the disputes whose identity is these bytes or comes after them; `None` where
+    /// there are no more. From no bytes on it is the first of all, and from an identity with a zero
+    /// byte behind it the next one: so a list of any length is read with one dispute in memory.
+    fn dispute_from(&mut self, from: &[u8]) -> Result<Option<Dispute>, LedgerFault>
+        ensures dispute { IsCall (λ found. option_map dispute_shown found)
+            (seen self.old) (seen self.new) result
+            (dispute_outcome (seen self.old).naming from.now) }
+        ensures shown { IfOk result ShowsDispute };
 
     /// The days through which periods were closed, in order, from 1970-01-01. The open period comes
     /// after them.

@@ -147,6 +147,10 @@ impl<N: Naming + Drop> Ledger for PlainLedger<N> {
         self.disputes_held()
     }
 
+    fn dispute_from(&mut self, from: &[u8]) -> Result<Option<Dispute>, LedgerFault> {
+        self.dispute_held(from)
+    }
+
     fn periods(&mut self) -> Result<Vec<i32>, LedgerFault> {
         self.close_days()
     }

@@ -33,4 +33,5 @@ pub mod StepLemmas
 pub mod ChosenHeld
 pub mod AdoptedLemmas
 pub mod DisputeLemmas
+pub mod FromLemmas
 pub mod OrderLemmas

@@ -37,9 +37,10 @@ pub use Rattle.book_model.specs.Periods.{Period, period_by}
 pub use Rattle.book_model.specs.Rows.{AreRows, FitSums, by_key, charged_at, key_of, keys_of, row_at}
 pub use Rattle.book_model.specs.Rows.{rows_for, rows_of, same_key}
 pub use Rattle.book_model.specs.Lines.{AreLines, by_line, lines_for, lines_of, plus_first}
-pub use Rattle.book_model.specs.Disputes.{AreDisputes, Disputed, IsDispute, by_name, dispute_at}
-pub use Rattle.book_model.specs.Disputes.{dispute_shown, disputes_in, identities, is_in_dispute}
-pub use Rattle.book_model.specs.Disputes.{is_settled, records_of, variant_of}
+pub use Rattle.book_model.specs.Disputes.{AreDisputes, Disputed, IsDispute, ShowsDispute, by_name}
+pub use Rattle.book_model.specs.Disputes.{dispute_at, dispute_from, dispute_shown, disputes_in}
+pub use Rattle.book_model.specs.Disputes.{identities, is_from, is_in_dispute, is_settled}
+pub use Rattle.book_model.specs.Disputes.{records_of, variant_of}
 pub use Rattle.book_model.specs.Books.{Book, all_periods, charged_of, flat_book, new_book}
 pub use Rattle.book_model.specs.Books.{open_number, open_period, period_of}
 pub use Rattle.book_model.specs.Events.{Event, PeriodClosed, RecordChosen, RecordKept}
@@ -58,7 +59,8 @@ pub use Rattle.book_model.specs.RulingLists.{tariff_seen, tariff_text_on, tariff
 pub use Rattle.book_model.specs.Outcomes.{Outcome, accept_event, accept_outcome}
 pub use Rattle.book_model.specs.Outcomes.{adjustments_outcome, adopt_event, adopt_outcome}
 pub use Rattle.book_model.specs.Outcomes.{charges_outcome, choose_event, choose_outcome}
-pub use Rattle.book_model.specs.Outcomes.{close_event, close_outcome, disputes_outcome}
+pub use Rattle.book_model.specs.Outcomes.{close_event, close_outcome, dispute_outcome}
+pub use Rattle.book_model.specs.Outcomes.{disputes_outcome}
 pub use Rattle.book_model.specs.Outcomes.{periods_outcome, no_event, ruling_outcome, tariff_event}
 pub use Rattle.book_model.specs.Outcomes.{tariff_outcome, what_if_outcome}
 pub use Rattle.book_model.specs.OtherPrices.{costs_under, rows_if_room, what_if_answer}

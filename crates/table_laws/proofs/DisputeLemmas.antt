@@ -10,20 +10,21 @@ use Rattle.std.proofs.lemmas.Bool.Decides.{nat_tests}
 use Rattle.std.proofs.lemmas.List.Elements.{filter_map-append}
 use Rattle.book_model.specs.Words.{Book, Disputed, dispute_at, disputes_in, identities}
 use Rattle.book_model.specs.Words.{is_in_dispute, is_settled, no_event, Naming, by_bytes, same_bytes}
-use Rattle.book_model.specs.Words.{identity_by, has}
-use Rattle.book_model.proofs.RecordSets.{first_of, second_of}
+use Rattle.book_model.specs.Words.{identity_by}
+use Rattle.book_model.proofs.RecordSets.{first_of}
 use Rattle.table_model.specs.TablesOf.{tables_of}
 use Rattle.table_laws.specs.ListLaws.{DisputesFollow}
 use Rattle.table_laws.specs.DisputesRead.{NamedRow, grouped, disputes_read, disputed_among}
 use Rattle.table_laws.specs.DisputesRead.{has_none_charged, uncharged_among}
 use Rattle.table_laws.specs.Readable.{IsReadable}
 use Rattle.table_laws.proofs.DisputedIdentities.{disputed, disputed_rises, is_shared}
-use Rattle.table_laws.proofs.DisputedRecords.{block, block_own, in_block, flat}
+use Rattle.table_laws.proofs.DisputedRecords.{block, block_own, flat}
 use Rattle.table_laws.proofs.DisputedRows.{AreListed, listed_entries, first_entry, each_entry}
 use Rattle.table_laws.proofs.DisputedRows.{disputed_are, all_shown}
 use Rattle.table_laws.proofs.GroupingLemmas.{grouped-push, grouped-append, join_all, one_group}
 use Rattle.table_laws.proofs.GroupingLemmas.{of_rows, StartsOther}
 use Rattle.table_laws.proofs.ListOrder.{all_passing}
+use Rattle.table_laws.proofs.NextDispute.{next_found, works_held}
 use Rattle.table_laws.proofs.RecordReading.{entry}
 use Rattle.table_laws.proofs.RowOrder.{rows_in_order, rows_left}
 use Rattle.table_laws.proofs.Texts.{same_is}
@@ -40,12 +41,6 @@ module _ (naming : Naming) (book : Book) (whole : IsReadable naming book) where
   -- the rows of records
   abbrev rows_of_records : List (List ℕ) → List NamedRow
   rows_of_records ks = listed_entries naming book whole.sound ks
-
-  -- the records of an identity are held
-  pub works_held : (id : List ℕ) → AreListed naming book whole.sound (works_of id)
-  works_held id bytes among =
-      second_of (same_bytes (identity_by book.rulings bytes) id) (has book.held bytes)
-      (sym (in_block naming book.rulings book.held id bytes) ∙ among)
 
   -- where there is a record, there is a row
   some_row : (ks : List (List ℕ)) → AreListed naming book whole.sound ks → 0 < length ks
@@ -84,11 +79,11 @@ module _ (naming : Naming) (book : Book) (whole : IsReadable naming book) where
       let own = each_entry naming book whole.sound (λ row. row.1.identity ≡ id)
       (λ bytes. identity_by book.rulings bytes ≡ id) (λ bytes priced there price its. its)
       (works_of id)
-      (works_held id) (block_own naming book.rulings book.held id) in
+      (works_held naming book whole id) (block_own naming book.rulings book.held id) in
       let shown = all_shown naming book whole.sound whole.lines.framed (works_of id)
-      (works_held id) in
+      (works_held naming book whole id) in
       rows_grouped id (rows_of_records (works_of id)) others
-      (some_row (works_of id) (works_held id) some) own other
+      (some_row (works_of id) (works_held naming book whole id) some) own other
       ∙ (λ i. record { identity = id; members = shown i } ∷ others)
 
   -- so are those of several identities,
@@ -126,4 +121,5 @@ disputes_follow = record {
       rows_left (has_none_charged (tables_of naming book).records) rows
       (uncharged_among (tables_of naming book).records) same rising;
   push = grouped-push;
+  next = λ naming book from found whole finds. next_found naming book whole from found finds;
 }

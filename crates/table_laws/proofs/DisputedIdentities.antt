@@ -65,7 +65,7 @@ module _ (naming : Naming) (rulings : Rulings) (held : Records) where
       (members_rise nat_list_cmp_total held))
 
   -- so they differ in their names,
-  named_distinct : (p : List ℕ → Bool)
+  pub named_distinct : (p : List ℕ → Bool)
       → IsDistinct (eq_by_cmp (by_name naming)) (filter p (members held))
   named_distinct p =
       let ties = same_ties (by_name_total naming) (by_name_exact naming) nat_list_cmp_total
@@ -97,7 +97,7 @@ module _ (naming : Naming) (rulings : Rulings) (held : Records) where
       one_more n = grind (arith, nat_tests)
 
   -- which identities are in dispute
-  in_disputed : (k : List ℕ) → list_any (same_bytes k) disputed
+  pub in_disputed : (k : List ℕ) → list_any (same_bytes k) disputed
       ≡ (is_in_dispute naming rulings held k
       && list_any (same_bytes k) (map identity (members held)))
   in_disputed k =
@@ -109,7 +109,7 @@ module _ (naming : Naming) (rulings : Rulings) (held : Records) where
 
   module _ (uncharged : AreUncharged) where
     -- a held record's identity is in dispute if nothing of it is charged
-    disputed_where : (q : List ℕ) → has held q ≡ true
+    pub disputed_where : (q : List ℕ) → has held q ≡ true
         → list_any (same_bytes (identity q)) disputed ≡ unsettled q
     disputed_where q there =
         let settled : Bool = is_settled rulings (identity q) in

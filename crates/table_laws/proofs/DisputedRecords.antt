@@ -87,7 +87,7 @@ module _ (naming : Naming) (rulings : Rulings) (held : Records) where
       gather false b h = refl
 
   -- records of one identity that rise by name rise
-  one_identity : (id : List ℕ) (ks : List (List ℕ)) → IsStrictlySortedBy (by_name naming) ks
+  pub one_identity : (id : List ℕ) (ks : List (List ℕ)) → IsStrictlySortedBy (by_name naming) ks
       → AllByRecursion (λ bytes. identity bytes ≡ id) ks → IsStrictlySortedBy by_work ks
   unfolding IsStrictlySortedBy
   one_identity id [] rising own = tt

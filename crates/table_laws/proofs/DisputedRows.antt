@@ -178,7 +178,7 @@ module _ (naming : Naming) (book : Book) (sound : IsSound naming book) where
       ∙ ap (list_any share) charged_among
 
   -- so a row is in dispute if nothing of its record's identity is charged
-  disputed_row : (bytes : List ℕ) (priced : Priced)
+  pub disputed_row : (bytes : List ℕ) (priced : Priced)
       → (has_none_charged (tables_of naming book).records (entry_at naming book sound bytes priced)
       && not (has charged bytes))
       ≡ unsettled naming book.rulings book.held bytes

@@ -2,8 +2,8 @@
 -- lists; records that have rivals; books that calls made, what their calls passed, and that they
 -- can be read back; the rulings, the records, the choices, their list, and the lines that are
 -- read, and the book; the rows of an identity; the answers to records, choices and other rulings,
--- the lists of a period, and which records it counts; rows in groups and in order, and the
--- disputes; the numbers that fit; the rows that a period would have by another tariff; how long an
+-- the lists of a period, and which records it counts; rows in groups and in order, the next
+-- dispute from some bytes on, and the disputes; the numbers that fit; the rows that a period would have by another tariff; how long an
 -- identity is; the tables under the second rule of it; and the lists that can be shown.
 pub mod Texts
 pub mod ListOrder
@@ -32,6 +32,7 @@ pub mod DisputedRecords
 pub mod DisputedIdentities
 pub mod RowOrder
 pub mod DisputedRows
+pub mod NextDispute
 pub mod DisputeLemmas
 pub mod PriceSums
 pub mod FitsLemmas

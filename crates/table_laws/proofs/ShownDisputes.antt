@@ -12,7 +12,8 @@ use Rattle.table_model.specs.TablesOf.{tables_of}
 use Rattle.table_laws.specs.DisputesRead.{NamedRow, disputes_read, variant_read}
 use Rattle.table_laws.specs.Readable.{IsReadable}
 use Rattle.table_laws.specs.ListLaws.{ListsShow}
-use Rattle.table_laws.proofs.DisputeLemmas.{disputes_are, two_or_more, works_held}
+use Rattle.table_laws.proofs.DisputeLemmas.{disputes_are, two_or_more}
+use Rattle.table_laws.proofs.NextDispute.{works_held}
 use Rattle.table_laws.proofs.DisputedIdentities.{disputed, is_shared}
 use Rattle.table_laws.proofs.DisputedRecords.{block, block_own}
 use Rattle.table_laws.proofs.DisputedRows.{AreListed, first_listed, listed_entries, each_entry}

@@ -1,11 +1,12 @@
 -- The disputes, as they are answered from the tables.
-use Rattle.std.specs.Prelude.{ℕ, Bool, not, if◌then◌else◌, List, [], ◌∷◌, ◌++◌, filter}
-use Rattle.std.specs.FinMap.{entries}
+use Rattle.std.specs.Prelude.{◌≡◌, ℕ, Bool, true, false, not, if◌then◌else◌, List, [], ◌∷◌, ◌++◌}
+use Rattle.std.specs.Prelude.{filter, map, Option, None, Some}
+use Rattle.std.specs.FinMap.{entries, get}
 use Rattle.std.specs.List.{list_any}
 use Rattle.std.specs.Ordering.{ordering_then}
 use Rattle.std.specs.declared.cmp.Ordering.{Ordering}
 use Rattle.book_model.specs.Words.{record_with, job_id_of, program_of, completion_of, Disputed}
-use Rattle.book_model.specs.Words.{by_bytes, initiation_of, same_bytes, set_of, members}
+use Rattle.book_model.specs.Words.{by_bytes, initiation_of, is_from, same_bytes, set_of, members}
 use Rattle.book_model.specs.declared.dispute.Variant.{Variant}
 use Rattle.table_model.specs.Tables.{RecordRow, RecordTable, Tables}
 use Rattle.table_model.specs.Views.{rows_with}
@@ -76,3 +77,30 @@ disputed_rows tables = members (set_of by_identity (disputed_among tables.record
 -- the disputes
 abbrev pub disputes_read : Tables → List Disputed
 disputes_read tables = grouped (disputed_rows tables)
+
+-- ---- one dispute
+
+-- the row of a record in dispute, with an identity that is some bytes or comes after them
+pub record IsDisputedFrom (from : List ℕ) (records : RecordTable) (row : NamedRow) : Type 0 where
+  pub there : get records row.0 ≡ Some row.1
+  pub uncharged : row.1.charged ≡ false
+  pub unsettled : has_none_charged records row ≡ true
+  pub reached : is_from from row.1.identity ≡ true
+
+-- the least identity from some bytes on that a record in dispute has
+pub record IsNextDisputed (from : List ℕ) (records : RecordTable) (identity : List ℕ) : Type 0 where
+  pub row : NamedRow
+  pub disputed : IsDisputedFrom from records row
+  pub own : row.1.identity ≡ identity
+  pub least : (other : NamedRow) → IsDisputedFrom from records other
+      → is_from identity other.1.identity ≡ true
+
+-- that identity, if there is one
+abbrev pub FindsDisputed : List ℕ → RecordTable → Option (List ℕ) → Type 0
+FindsDisputed from records None = (row : NamedRow) → IsDisputedFrom from records row → ⊥
+FindsDisputed from records (Some identity) = IsNextDisputed from records identity
+
+-- the dispute of an identity: all rows that have it
+abbrev pub dispute_with : RecordTable → List ℕ → Disputed
+dispute_with records identity =
+    record { identity = identity; members = map variant_read (rows_with identity records) }

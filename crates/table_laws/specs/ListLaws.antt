@@ -1,7 +1,7 @@
 -- The laws of lists: what is answered for a period, for rulings and for disputes is what the tables
 -- say, and can be shown.
 use Rattle.std.specs.Prelude.{◌≡◌, ◌+◌, ◌≤◌, ℕ, filter, map, List, [], ◌∷◌, ◌++◌, Ok, Some, length}
-use Rattle.std.specs.Prelude.{All, slice_get, true}
+use Rattle.std.specs.Prelude.{All, Option, slice_get, true}
 use Rattle.std.specs.FinMap.{entries, values}
 use Rattle.std.specs.List.Sorted.{IsPermutation, IsStrictlySortedBy}
 use Rattle.std.specs.Option.{option_map}
@@ -9,11 +9,12 @@ use Rattle.book_model.specs.declared.row.ChargeRow.{ChargeRow}
 use Rattle.book_model.specs.Words.{Book, charges_outcome, adjustments_outcome, disputes_outcome}
 use Rattle.book_model.specs.Words.{periods_outcome, no_event, Naming, AreDisputes, AreLines}
 use Rattle.book_model.specs.Words.{AreRows, IsPriced, Period, Terms, by_bytes, choice_seen}
-use Rattle.book_model.specs.Words.{most_held, period_of, ruling_outcome, set_of, what_if_outcome}
+use Rattle.book_model.specs.Words.{dispute_outcome, most_held, period_of, ruling_outcome, set_of}
+use Rattle.book_model.specs.Words.{what_if_outcome}
 use Rattle.table_model.specs.TablesOf.{tables_of}
-use Rattle.table_laws.specs.DisputesRead.{NamedRow, by_identity, disputed_among, disputed_rows}
-use Rattle.table_laws.specs.DisputesRead.{disputes_read, grouped, has_none_charged, join_last}
-use Rattle.table_laws.specs.DisputesRead.{uncharged_among}
+use Rattle.table_laws.specs.DisputesRead.{FindsDisputed, NamedRow, by_identity, dispute_with}
+use Rattle.table_laws.specs.DisputesRead.{disputed_among, disputed_rows, disputes_read, grouped}
+use Rattle.table_laws.specs.DisputesRead.{has_none_charged, join_last, uncharged_among}
 use Rattle.table_laws.specs.ListsRead.{charges_read, adjustments_read, choice_read_at, is_period}
 use Rattle.table_laws.specs.ListsRead.{rulings_read}
 use Rattle.table_laws.specs.BookIn.{row_record}
@@ -47,7 +48,8 @@ pub record ListsFollow : Type 0 where
 -- The disputes are the rows of identities that have no charged row, in groups; rows that are in
 -- order are these if they are the same rows; so the rows that are not charged, in order, are
 -- these without those of an identity that was settled; and a row after others joins the last group
--- or starts one.
+-- or starts one. The first dispute from some bytes on is that of the least identity from there on
+-- that a row in dispute has.
 pub record DisputesFollow : Type 0 where
   pub disputes :
       (naming : Naming) (book : Book) → IsReadable naming book
@@ -65,6 +67,11 @@ pub record DisputesFollow : Type 0 where
       ≡ disputed_rows (tables_of naming book)
   pub push : (rows : List NamedRow) (row : NamedRow)
       → grouped (rows ++ row ∷ []) ≡ join_last (grouped rows) row
+  pub next :
+      (naming : Naming) (book : Book) (from : List ℕ) (found : Option (List ℕ))
+      → IsReadable naming book → FindsDisputed from (tables_of naming book).records found
+      → dispute_outcome naming from book
+      ≡ no_event (Ok (option_map (dispute_with (tables_of naming book).records) found))
 
 -- Which records a period counts is read from the marks of their rows and from their lines; and by
 -- another tariff the period would have the charge rows of what these rows cost. Where each costs

@@ -22,12 +22,13 @@ use Rattle.table_laws.proofs.CountedLemmas.{counted_follows}
 use Rattle.table_laws.proofs.ListOrder.{all_so}
 use Rattle.table_laws.proofs.ReadableLemmas.{calls_read}
 use Rattle.table_laws.proofs.ShownDisputes.{lists_show}
-use Rattle.tree_tables.specs.Answers.{ListsDays, ListsLines, ListsUncharged}
+use Rattle.table_laws.specs.DisputesRead.{IsNextDisputed}
+use Rattle.tree_tables.specs.Answers.{ListsDays, ListsLines, ListsSharing, ListsUncharged}
 use Rattle.tree_tables.specs.Fits.{DaysFit, LinesFit}
 use Rattle.tree_tables.specs.Stored.{signed_name, stored_entry}
 use Rattle.tree_tables.specs.declared.line_rows.StoredLine.{StoredLine}
 use Rattle.tree_tables.specs.declared.stored_record.StoredRecord.{StoredRecord}
-use Rattle.table_ledger.specs.DisputeReads.{IsShownRow}
+use Rattle.table_ledger.specs.DisputeReads.{IsIdentity, IsShownRow}
 use Rattle.table_ledger.specs.LineReads.{NamesRise, lines_stored}
 use Rattle.table_ledger.specs.OtherPrices.{CanBeWalked}
 use Rattle.table_ledger.specs.Ready.{IsReadyAt}
@@ -38,7 +39,7 @@ use Rattle.table_ledger.specs.declared.summary.Summary.{Summary}
 use Rattle.table_ledger.proofs.LineReadings.{line_with, lines_listed}
 use Rattle.table_ledger.proofs.Remembered.{rulings_are}
 use Rattle.table_ledger.proofs.BookRows.{IsTaken, can_be_read, days_fit, lines_fit, lines_rise}
-use Rattle.table_ledger.proofs.BookRows.{uncharged_taken}
+use Rattle.table_ledger.proofs.BookRows.{row_taken, sharing_taken, uncharged_taken}
 
 -- ---- the names of lines that are read rise where those of the stored lines do
 
@@ -161,3 +162,30 @@ module _ {naming : Naming} {summary : Summary} {view : View} {book : Book}
         All-from_recursion (λ (row : StoredRecord). IsUsageData row.data_bytes.items) rows
         (all_so (λ (row : StoredRecord). IsTaken (stored_entry row))
         (λ row. IsUsageData row.data_bytes.items) (λ row its. its.data_bytes) rows taken)
+
+  module _ (wide : HasWideNames naming) (from identity : List ℕ)
+      (next : IsNextDisputed from (tables_of naming book).records identity) where
+    -- the identity of a record is one
+    pub own_identity : IsIdentity identity
+    own_identity =
+        subst IsIdentity next.own
+        (row_taken naming book whole wide next.row.0 next.row.1 next.disputed.there).shown.identity
+
+  module _ (wide : HasWideNames naming) (identity : List ℕ) (rows : List StoredRecord)
+      (lists : ListsSharing identity (tables_of naming book) rows) where
+    its_taken : AllByRecursion (λ (row : StoredRecord). IsTaken (stored_entry row)) rows
+    its_taken = sharing_taken naming book whole wide identity rows lists
+
+    -- the records of an identity can be shown
+    pub own_sharing : All (λ (row : StoredRecord). IsShownRow (stored_entry row)) rows
+    own_sharing =
+        All-from_recursion (λ (row : StoredRecord). IsShownRow (stored_entry row)) rows
+        (all_so (λ (row : StoredRecord). IsTaken (stored_entry row))
+        (λ row. IsShownRow (stored_entry row)) (λ row its. its.shown) rows its_taken)
+
+    -- and their data are those of usage records
+    pub own_data : All (λ (row : StoredRecord). IsUsageData row.data_bytes.items) rows
+    own_data =
+        All-from_recursion (λ (row : StoredRecord). IsUsageData row.data_bytes.items) rows
+        (all_so (λ (row : StoredRecord). IsTaken (stored_entry row))
+        (λ row. IsUsageData row.data_bytes.items) (λ row its. its.data_bytes) rows its_taken)

@@ -22,7 +22,7 @@ use Rattle.tariff_rules.specs.declared.priced.Priced.{Priced}
 use Rattle.book_model.specs.Words.{AreAmong, AreHeld, Book, IsUsage}
 use Rattle.book_model.specs.Words.{Naming, Period, Records, all_periods, by_bytes, by_key, has, key_of}
 use Rattle.book_model.specs.Words.{keys_of, members, most_held, name_of, price_in, row_at, rows_of}
-use Rattle.book_model.specs.Words.{set_of, those}
+use Rattle.book_model.specs.Words.{same_bytes, set_of, those}
 use Rattle.book_model.specs.Sets.{Set}
 use Rattle.book_model.specs.declared.row.ChargeRow.{ChargeRow}
 use Rattle.book_model.specs.declared.row.RowKey.{RowKey}
@@ -49,7 +49,7 @@ use Rattle.table_laws.proofs.ListLemmas.{period_there}
 use Rattle.table_laws.proofs.ListOrder.{all_joined}
 use Rattle.table_laws.proofs.PriceSums.{costs, some_within}
 use Rattle.table_laws.proofs.RecordReading.{all_entries, all_permuted, entry_at}
-use Rattle.tree_tables.specs.Answers.{ListsUncharged, is_uncharged}
+use Rattle.tree_tables.specs.Answers.{ListsSharing, ListsUncharged, is_uncharged}
 use Rattle.tree_tables.specs.Columns.{day_columns, line_columns, record_columns}
 use Rattle.tree_tables.specs.Fits.{ChargeFits, DaysFit, LineFits, LinesFit, RecordFits, RowsFit}
 use Rattle.tree_tables.specs.Stored.{stored_entry}
@@ -197,7 +197,7 @@ module _ (naming : Naming) (book : Book) (whole : IsReadable naming book) where
       (nothing_asked (members book.held))
 
   -- and each that the table has
-  row_taken : HasWideNames naming → (name : List ℕ) (row : RecordRow)
+  pub row_taken : HasWideNames naming → (name : List ℕ) (row : RecordRow)
       → get (tables_of naming book).records name ≡ Some row → IsTaken (name, row)
   row_taken wide name row there =
       find_one by_bytes exact_bytes (λ name row. IsTaken (name, row)) name row
@@ -228,6 +228,20 @@ module _ (naming : Naming) (book : Book) (whole : IsReadable naming book) where
       (all-permutation IsTaken (filter is_uncharged rows) (map stored_entry list)
       (IsPermutation-sym (map stored_entry list) (filter is_uncharged rows) lists.same)
       (all-filter IsTaken is_uncharged rows all))
+
+  -- so are those of an identity
+  pub sharing_taken : HasWideNames naming → (identity : List ℕ) (list : List StoredRecord)
+      → ListsSharing identity (tables_of naming book) list
+      → AllByRecursion (λ (row : StoredRecord). IsTaken (stored_entry row)) list
+  sharing_taken wide identity list lists =
+      let rows = entries (tables_of naming book).records in
+      let all = all-permutation IsTaken (all_entries naming book whole.sound) rows
+      (IsPermutation-sym rows (all_entries naming book whole.sound)
+      (all_permuted naming book whole.sound)) (all_taken wide) in
+      all_from_map IsTaken stored_entry list
+      (subst (AllByRecursion IsTaken) (sym lists)
+      (all-filter IsTaken (λ (row : List ℕ × RecordRow). same_bytes row.1.identity identity) rows
+      all))
 
 -- ---- charge rows
 

@@ -34,6 +34,7 @@ mod OtherPriceLemmas
 mod WhatIfTries
 mod RisingNames
 mod JoinLemmas
+mod DisputeTries
 mod OpenLemmas
 mod LoadLemmas
 mod OwnBooks

@@ -1,13 +1,14 @@
 //! Identities that two or more records have, and for which none was chosen.
 
-ghost use Rattle.std.specs.Prelude.{◌≡◌, All, IfErr, IfOk, IsTrue, false, filter, map};
+ghost use Rattle.std.specs.Prelude.{◌≡◌, All, IfErr, IfOk, IsTrue, false, filter, map, option_map};
 ghost use Rattle.tree_tables.specs.States.{state};
 ghost use Rattle.book_model.specs.Words.{AreDisputes, dispute_shown, disputes_outcome, Naming};
+ghost use Rattle.book_model.specs.Words.{ShowsDispute, dispute_outcome};
 ghost use Rattle.tree_tables.specs.Stored.{stored_entry};
 ghost use Rattle.table_laws.specs.DisputesRead as reading;
 ghost use Rattle.table_laws.specs.DisputesRead.{join_last, dispute_of_one, variant_read};
-ghost use Rattle.tree_tables.specs.Steps.{FailsByStore, Looks};
-ghost use Rattle.table_ledger.specs.DisputeReads.{IsShownRow};
+ghost use Rattle.tree_tables.specs.Steps.{Always, FailsByStore, Looks};
+ghost use Rattle.table_ledger.specs.DisputeReads.{FindsNext, IsIdentity, IsShownRow, dispute_made};
 ghost use Rattle.table_ledger.specs.RecordReads.{HasWideNames};
 ghost use Rattle.tree_tables.specs.UsageData.{IsUsageData};
 ghost use Rattle.table_ledger.specs.Attempts.{TriesItsOwn};
@@ -28,14 +29,23 @@ pub(crate) const IDENTITY_LENGTH: usize = 24;
 /// The bytes of an identity by the second rule.
 const IDENTITY2_LENGTH: usize = 32;
 
-/// The record can be shown: its identity has the length that its parts need by one of the two
-/// rules, and it is dated on a day.
+/// The most identities that are passed over: more than any books have records.
+const MOST_STEPS: u64 = 1 << 32;
+
+/// The bytes are as many as the parts of an identity need by one of the two rules.
+fn is_identity(bytes: &[u8]) -> bool
+    ensures is { IsTrue result → IsIdentity bytes.now }
+    ensures is_not { result ≡ false → ¬ IsIdentity bytes.now }
+{
+    bytes.len() == IDENTITY_LENGTH || bytes.len() == IDENTITY2_LENGTH
+}
+
+/// The record can be shown: its identity is one, and it is dated on a day.
 fn is_shown(row: &StoredRecord) -> bool
     ensures shown { IsTrue result → IsShownRow (stored_entry row.now) }
     ensures refused { result ≡ false → ¬ IsShownRow (stored_entry row.now) }
 {
-    let len = row.identity.len();
-    (len == IDENTITY_LENGTH || len == IDENTITY2_LENGTH) && is_day(row.priced.day)
+    is_identity(&row.identity) && is_day(row.priced.day)
 }
 
 /// All of the records can be shown.
@@ -147,4 +157,81 @@ pub(crate) fn try_disputes<S: Store>(
         return Err(StoreError::Corrupt);
     }
     Ok(Ok(grouped(tables, alloc, &rows)?))
+}
+
+/// The least identity in dispute that is these bytes or comes after them. An identity of which a
+/// record is charged is passed over: that one was chosen.
+fn next_disputed<S: Store>(
+    tables: &mut TreeTables<S>,
+    alloc: Global,
+    from: &[u8],
+) -> Result<Option<Vec<u8>>, StoreError>
+    ensures looks { Looks result (state S.Store tables.old.store) (state S.Store tables.new.store)
+        (FindsNext from.now) }
+    ensures cause { FailsByStore result (state S.Store tables.old.store)
+        (state S.Store tables.new.store) Always }
+{
+    let mut reached = Vec::from_slice(alloc, from)?;
+    'identities: for _steps in 0..MOST_STEPS {
+        let Some(mut identity) = tables.find_uncharged(alloc, &reached)? else {
+            return Ok(None);
+        };
+        let settled = tables.has_charged(&identity)?;
+        if !settled {
+            return Ok(Some(identity));
+        }
+        // With a zero byte behind, it is the first bytes after itself.
+        identity.push(0)?;
+        reached = identity;
+    }
+    // So many are never held.
+    Err(StoreError::OutOfMemory)
+}
+
+/// The dispute of an identity with these records.
+fn dispute_of(
+    alloc: Global,
+    identity: Vec<u8>,
+    rows: &[StoredRecord],
+) -> Result<Dispute, StoreError>
+    ensures made { IfOk result (λ made. dispute_shown made ≡ dispute_made identity.items rows.now) }
+    ensures taken { IfErr result (λ error. All (λ row. IsUsageData row.data_bytes.items) rows.now
+        → error ≡ StoreError.OutOfMemory) }
+{
+    let mut members = Vec::new(alloc);
+    for stored in rows {
+        let member = variant(alloc, stored)?;
+        members.push(member)?;
+    }
+    Ok(Dispute { identity, members })
+}
+
+/// The first dispute whose identity is these bytes or comes after them: the records of one identity
+/// are read, and no others.
+pub(crate) fn try_dispute<S: Store>(
+    tables: &mut TreeTables<S>,
+    summary: &Summary,
+    alloc: Global,
+    from: &[u8],
+) -> Result<Result<Option<Dispute>, LedgerFault>, StoreError>
+    ensures tries { (naming : Naming) → AttemptsOne (λ found. option_map dispute_shown found) naming
+        summary.now summary.now (state S.Store tables.old.store) (state S.Store tables.new.store)
+        (dispute_outcome naming from.now) result }
+    ensures shown { IfOk result (λ answer. IfOk answer ShowsDispute) }
+    ensures own { (naming : Naming) → HasWideNames naming
+        → TriesItsOwn naming summary.now (state S.Store tables.old.store)
+        (state S.Store tables.new.store) result }
+{
+    let Some(identity) = next_disputed(tables, alloc, from)? else {
+        return Ok(Ok(None));
+    };
+    let rows = tables.list_sharing(alloc, &identity)?;
+    if !is_identity(&identity) {
+        return Err(StoreError::Corrupt);
+    }
+    if !can_show(&rows) {
+        return Err(StoreError::Corrupt);
+    }
+    let dispute = dispute_of(alloc, identity, &rows)?;
+    Ok(Ok(Some(dispute)))
 }

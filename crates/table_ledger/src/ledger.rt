@@ -12,7 +12,7 @@ use crate::adoption::try_adopt;
 use crate::charges::try_charges;
 use crate::choices::try_choose;
 use crate::close::try_close;
-use crate::disputes::try_disputes;
+use crate::disputes::{try_dispute, try_disputes};
 use crate::finish::finish;
 use crate::listed_rulings::try_ruling;
 use crate::other_prices::try_charges_under;
@@ -59,7 +59,7 @@ impl<S: Store, N: Naming + Drop> Ledger for TableLedger<S, N> {
     ghost use Rattle.book_model.specs.Words.{adjustments_outcome, charges_outcome, dispute_shown};
     ghost use Rattle.book_model.specs.Words.{disputes_outcome, periods_outcome, IsUsageRecord};
     ghost use Rattle.book_model.specs.Words.{ShowsDays, ruling_outcome, ruling_shown};
-    ghost use Rattle.book_model.specs.Words.{what_if_outcome};
+    ghost use Rattle.book_model.specs.Words.{ShowsDispute, dispute_outcome, what_if_outcome};
     ghost use Rattle.book_core.specs.Calls.{IsCall};
     ghost use Rattle.book_core.specs.Submissions.{Takes, records_in};
     ghost use Rattle.book_core.specs.Transition.{IsTransition};
@@ -206,6 +206,21 @@ impl<S: Store, N: Naming + Drop> Ledger for TableLedger<S, N> {
             return Err(LedgerFault::Reopen);
         }
         let tried = try_disputes(&mut self.tables, &self.summary, self.alloc);
+        finish(&mut self.tables, &mut self.must_reopen, tried)
+    }
+
+    fn dispute_from(&mut self, from: &[u8]) -> Result<Option<Dispute>, LedgerFault>
+        ensures dispute { IsCall (λ found. option_map dispute_shown found)
+            (seen_in S.Store N.name_of self.old) (seen_in S.Store N.name_of self.new) result
+            (dispute_outcome (N.name_of self.old.naming) from.now) }
+        ensures shown { IfOk result ShowsDispute }
+        ensures own { FailsAsItsOwn result (ledger_state S.Store N.name_of self.old)
+            (ledger_state S.Store N.name_of self.new) }
+    {
+        if self.must_reopen {
+            return Err(LedgerFault::Reopen);
+        }
+        let tried = try_dispute(&mut self.tables, &self.summary, self.alloc, from);
         finish(&mut self.tables, &mut self.must_reopen, tried)
     }
 

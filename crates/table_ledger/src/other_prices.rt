@@ -26,7 +26,7 @@ use sqlite_value::row::Row;
 use std::alloc::{AllocError, Global};
 use std::collections::BTreeMap;
 use tariff_rules::{Priced, Tariff, price};
-use tree_tables::{TreeTables, data_of, read_mark, usage_bytes};
+use tree_tables::{TreeTables, data_of, put_usage, read_mark};
 
 /// The most records that are walked over: more than any tree of a sound store has.
 const MOST_STEPS: u64 = 1 << 32;
@@ -99,10 +99,10 @@ impl RowSums {
 }
 
 /// The record of a row joins the sums at its price by a tariff, if it is counted; or the answer is
-/// that with it they are more than the books hold.
+/// that with it they are more than the books hold. What is in `bytes` is lost.
 fn add_counted(
     sums: &mut RowSums,
-    alloc: Global,
+    bytes: &mut Vec<u8>,
     tariff: &Tariff,
     test: &CountTest,
     row: &Row,
@@ -122,8 +122,8 @@ fn add_counted(
     if !test.counts(&mark) {
         return Ok(true);
     }
-    let bytes = usage_bytes(alloc, data_of(row)?)?;
-    sums.add(&price(tariff, &Type30::of_usage(&bytes)))
+    put_usage(bytes, data_of(row)?)?;
+    sums.add(&price(tariff, &Type30::of_usage(bytes)))
 }
 
 /// The charge rows of all records that are counted, each by a tariff, unless they cost more than
@@ -141,6 +141,7 @@ fn rows_under<S: Store>(
 {
     let mut sums = RowSums::new(alloc);
     let mut row = Row::new(alloc);
+    let mut bytes = Vec::new(alloc);
     tables.start_pass()?;
     'records: for _steps in 0..MOST_STEPS {
         let there = tables.next_record(&mut row)?;
@@ -148,7 +149,7 @@ fn rows_under<S: Store>(
             let rows = sums.into_rows(alloc)?;
             return Ok(Some(rows));
         }
-        let room = add_counted(&mut sums, alloc, tariff, test, &row)?;
+        let room = add_counted(&mut sums, &mut bytes, tariff, test, &row)?;
         if !room {
             return Ok(None);
         }

@@ -45,20 +45,20 @@ use Rattle.tree_tables.proofs.RecordIndexes.{mark_named}
 use Rattle.tree_tables.proofs.RecordLists.{mark_rows}
 
 -- a key of the tree of marks, and its prefix: the mark and the identity
-abbrev Key : Type 0
+abbrev pub Key : Type 0
 Key = ℕ × (List ℕ × List ℕ)
 
-abbrev Front : Type 0
+abbrev pub Front : Type 0
 Front = ℕ × List ℕ
 
-abbrev front_of : Key → Front
+abbrev pub front_of : Key → Front
 front_of key = (key.0, key.1.0)
 
-abbrev front_columns : Front → Row
+abbrev pub front_columns : Front → Row
 front_columns front = Int (pos front.0) ∷ Blob front.1 ∷ []
 
 -- prefixes are ordered by the mark, then by the identity
-abbrev by_front : Front → Front → Ordering
+abbrev pub by_front : Front → Front → Ordering
 by_front = by_parts nat_cmp by_bytes
 
 by_front_total : IsTotalOrder by_front
@@ -70,7 +70,7 @@ fronts_first : (k l : Key) → by_mark k l
 fronts_first k l = then_assoc (nat_cmp k.0 l.0) (by_bytes k.1.0 l.1.0) (by_bytes k.1.1 l.1.1)
 
 -- and prefixes as their columns do
-fronts_compare : (a b : Front) → row_cmp (front_columns a) (front_columns b) ≡ by_front a b
+pub fronts_compare : (a b : Front) → row_cmp (front_columns a) (front_columns b) ≡ by_front a b
 fronts_compare a b =
     ap₂ ordering_then (value_cmp-Int (pos a.0) (pos b.0) ∙ numbers a.0 b.0)
     (then-Equal _ ∙ value_cmp-Blob a.1 b.1)

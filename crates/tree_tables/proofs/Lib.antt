@@ -16,6 +16,7 @@ pub mod Records
 pub mod FoundNames
 pub mod RecordLists
 pub mod ChargedRows
+pub mod IdentityLooks
 pub mod Renewing
 pub mod Prices
 pub mod Keying

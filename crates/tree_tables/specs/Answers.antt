@@ -1,13 +1,14 @@
 -- What each look answers of the tables.
-use Rattle.std.specs.Prelude.{◌≡◌, ℕ, Bool, not, List, map, filter, take, Option, Some, None}
-use Rattle.std.specs.Prelude.{slice_get, unwrap_or}
+use Rattle.std.specs.Prelude.{◌≡◌, ℕ, Bool, true, false, not, List, map, filter, take, Option, Some}
+use Rattle.std.specs.Prelude.{None, Vec, slice_get, unwrap_or}
 use Rattle.std.specs.FinMap.{entries, get, keys}
+use Rattle.std.specs.Global.{Global}
 use Rattle.std.specs.List.{AllZip, last_or, list_any}
 use Rattle.std.specs.List.Sorted.{IsPermutation, IsStrictlySortedBy}
 use Rattle.std.specs.Option.{option_map}
 use Rattle.std.specs.Ordering.{ordering_then}
 use Rattle.std.specs.declared.cmp.Ordering.{Ordering}
-use Rattle.book_model.specs.Words.{by_bytes}
+use Rattle.book_model.specs.Words.{by_bytes, is_from}
 use Rattle.book_model.specs.declared.row.ChargeRow.{ChargeRow}
 use Rattle.book_model.specs.declared.row.RowKey.{RowKey}
 use Rattle.table_model.specs.PeriodRows.{rows_under}
@@ -53,6 +54,10 @@ abbrev pub FindsSharing : List ℕ → Tables → List StoredRecord → Type 0
 FindsSharing identity tables found =
     map stored_entry found ≡ take 2 (rows_with identity tables.records)
 
+-- all records that have an identity, by name
+abbrev pub ListsSharing : List ℕ → Tables → List StoredRecord → Type 0
+ListsSharing identity tables list = map stored_entry list ≡ rows_with identity tables.records
+
 -- the record with the least name after one, or with the least of all, if there is such a record
 abbrev pub FindsNext : Option (List ℕ) → Tables → Option StoredRecord → Type 0
 FindsNext last tables found =
@@ -71,6 +76,26 @@ is_uncharged entry = not entry.1.charged
 pub record ListsUncharged (tables : Tables) (list : List StoredRecord) : Type 0 where
   pub same : IsPermutation (map stored_entry list) (filter is_uncharged (entries tables.records))
   pub sorted : IsStrictlySortedBy by_identity (map stored_entry list)
+
+-- the row of a record that is not charged, with an identity that is some bytes or comes after them
+pub record IsUnchargedFrom (from : List ℕ) (tables : Tables) (row : List ℕ × RecordRow) : Type 0 where
+  pub there : get tables.records row.0 ≡ Some row.1
+  pub uncharged : row.1.charged ≡ false
+  pub reached : is_from from row.1.identity ≡ true
+
+-- the least identity from some bytes on that a record has which is not charged
+pub record IsNextUncharged (from : List ℕ) (tables : Tables) (identity : List ℕ) : Type 0 where
+  pub row : List ℕ × RecordRow
+  pub uncharged : IsUnchargedFrom from tables row
+  pub own : row.1.identity ≡ identity
+  pub least : (other : List ℕ × RecordRow) → IsUnchargedFrom from tables other
+      → is_from identity other.1.identity ≡ true
+
+-- that identity, if there is one
+abbrev pub FindsUncharged : List ℕ → Tables → Option (Vec ℕ Global) → Type 0
+FindsUncharged from tables None =
+    (row : List ℕ × RecordRow) → IsUnchargedFrom from tables row → ⊥
+FindsUncharged from tables (Some identity) = IsNextUncharged from tables identity.items
 
 -- the records that have an identity and are charged, by name
 abbrev pub is_charged : List ℕ × RecordRow → Bool

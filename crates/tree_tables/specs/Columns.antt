@@ -1,5 +1,5 @@
 -- The rows of the tables: the columns in which each kind of row is kept, those of its key first.
-use Rattle.std.specs.Prelude.{ℕ, ℤ, pos, Bool, true, List, [], ◌∷◌, Option, Some, None}
+use Rattle.std.specs.Prelude.{ℕ, ℤ, pos, Bool, true, false, List, [], ◌∷◌, Option, Some, None}
 use Rattle.std.specs.Prelude.{if◌then◌else◌}
 use Rattle.sqlite_value.specs.Order.{Row}
 use Rattle.sqlite_value.specs.declared.value.Value.{Value}
@@ -75,3 +75,7 @@ mark_columns entry = Int (pos entry.0.0) ∷ Blob entry.0.1.0 ∷ Blob entry.0.1
 -- the first of these columns, of charged records that have an identity
 abbrev pub charged_part : List ℕ → Row
 charged_part identity = Int (pos (flag true)) ∷ Blob identity ∷ []
+
+-- and of records that are not
+abbrev pub uncharged_part : List ℕ → Row
+uncharged_part identity = Int (pos (flag false)) ∷ Blob identity ∷ []

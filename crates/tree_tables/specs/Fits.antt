@@ -105,6 +105,11 @@ pub record RecordFits (row : Row) : Type 0 where
   pub charged : HasMark (column row 9)
   pub posted : HasMark (column row 10)
 
+-- a row has the mark and the identity of a record
+pub record MarkFits (row : Row) : Type 0 where
+  pub mark : HasMark (column row 0)
+  pub identity : HasBytes (column row 1)
+
 -- a row ends in the name of a record
 abbrev pub EndsInName : Row → Type 0
 EndsInName row = HasHash (column row (length row - 1))

@@ -1,6 +1,8 @@
 -- Rows that code passes on and gets back, as rows of the tables under their keys.
-use Rattle.std.specs.Prelude.{◌≡◌, ℕ, ℤ, pos, List, Bool, Option, Some, string_bytes}
+use Rattle.std.specs.Prelude.{◌≡◌, ℕ, ℤ, pos, List, Bool, true, false, Option, None, Some, Vec}
+use Rattle.std.specs.Prelude.{string_bytes}
 use Rattle.std.specs.FinMap.{get}
+use Rattle.std.specs.Global.{Global}
 use Rattle.sqlite_value.specs.Order.{Row, column}
 use Rattle.sqlite_value.specs.declared.value.Value.TheVariants.{Blob, Int}
 use Rattle.book_model.specs.declared.row.ChargeRow.{ChargeRow}
@@ -84,6 +86,12 @@ priced_entry stored priced =
 -- it is in the tables as it was read
 abbrev pub IsAsRead : StoredRecord → Tables → Type 0
 IsAsRead stored tables = get tables.records stored.name ≡ Some (stored_entry stored).1
+
+-- a row of the tree of marks says this identity, where its record is not charged
+abbrev pub SaysUncharged : Row → Option (Vec ℕ Global) → Type 0
+SaysUncharged row None = column row 0 ≡ Int (pos (flag true))
+SaysUncharged row (Some identity) =
+    (column row 0 ≡ Int (pos (flag false))) × (column row 1 ≡ Blob identity.items)
 
 -- a charge row of a period as an entry of its table
 abbrev pub day_entry : ℕ → ChargeRow → (ℕ × RowKey) × ChargeRow

@@ -1,6 +1,6 @@
 //! The bytes of records that are stored.
 
-ghost use Rattle.std.specs.Prelude.{◌≡◌, ◌≤◌, IfErr, IfOk, length};
+ghost use Rattle.std.specs.Prelude.{◌≡◌, ◌≤◌, IfErr, IfOk, OnOk, length};
 ghost use Rattle.smf_frames.specs.Framed as framed;
 ghost use Rattle.book_model.specs.Words.{IsUsage};
 ghost use Rattle.tree_tables.specs.UsageData.{IsUsageData};
@@ -10,16 +10,44 @@ use smf_type30::{Class, class};
 use sqlite_trees::error::StoreError;
 use std::alloc::{AllocError, Global};
 
+/// Writes the record with that data, after the descriptor that their length gives, over `bytes`.
+fn put_record(bytes: &mut Vec<u8>, data_bytes: &[u8]) -> Result<(), AllocError>
+    requires { length data_bytes.now ≤ framed.most_data }
+    ensures { OnOk result (bytes.new.items ≡ framed.record_with data_bytes.now) }
+{
+    let len = 4 + data_bytes.len();
+    bytes.clear();
+    bytes.reserve(len)?;
+    bytes.extend_from_slice(&[(len / 256) as u8, (len % 256) as u8, 0, 0])?;
+    bytes.extend_from_slice(data_bytes)
+}
+
 /// The record with that data, after the descriptor that their length gives.
 pub fn record_with(alloc: Global, data_bytes: &[u8]) -> Result<Vec<u8>, AllocError>
     requires { length data_bytes.now ≤ framed.most_data }
     ensures { IfOk result (λ made. made.items ≡ framed.record_with data_bytes.now) }
 {
-    let len = 4 + data_bytes.len();
-    let mut bytes = Vec::with_capacity(alloc, len)?;
-    bytes.extend_from_slice(&[(len / 256) as u8, (len % 256) as u8, 0, 0])?;
-    bytes.extend_from_slice(data_bytes)?;
+    let mut bytes = Vec::new(alloc);
+    put_record(&mut bytes, data_bytes)?;
     Ok(bytes)
+}
+
+/// Writes the usage record with that data over `bytes`, so that a walk over many needs memory once.
+/// Data that are those of no usage record are an ill-formed row.
+pub fn put_usage(bytes: &mut Vec<u8>, data_bytes: &[u8]) -> Result<(), StoreError>
+    ensures bytes { OnOk result (bytes.new.items ≡ framed.record_with data_bytes.now) }
+    ensures usage { OnOk result (IsUsage bytes.new.items) }
+    ensures taken { IfErr result (λ error. IsUsageData data_bytes.now
+        → error ≡ StoreError.OutOfMemory) }
+{
+    if data_bytes.len() > MAX_DATA {
+        return Err(StoreError::Corrupt);
+    }
+    put_record(bytes, data_bytes)?;
+    if class(bytes) != Class::Usage {
+        return Err(StoreError::Corrupt);
+    }
+    Ok(())
 }
 
 /// The usage record with that data. Data that are those of no usage record are an ill-formed row.
@@ -29,12 +57,7 @@ pub fn usage_bytes(alloc: Global, data_bytes: &[u8]) -> Result<Vec<u8>, StoreErr
     ensures taken { IfErr result (λ error. IsUsageData data_bytes.now
         → error ≡ StoreError.OutOfMemory) }
 {
-    if data_bytes.len() > MAX_DATA {
-        return Err(StoreError::Corrupt);
-    }
-    let bytes = record_with(alloc, data_bytes)?;
-    if class(&bytes) != Class::Usage {
-        return Err(StoreError::Corrupt);
-    }
+    let mut bytes = Vec::new(alloc);
+    put_usage(&mut bytes, data_bytes)?;
     Ok(bytes)
 }

@@ -3,7 +3,7 @@
 use super::PlainLedger;
 use crate::charge_rows::{are_too_dear, charge_rows};
 use crate::choices::last_chosen;
-use crate::identities::{disputes, shared_identities};
+use crate::identities::{disputes, first_from, shared_identities};
 use crate::lines::sort_lines;
 use crate::period::Period;
 use crate::period_end::PeriodEnd;
@@ -12,11 +12,11 @@ use std::alloc::AllocError;
 use tariff_rules::Tariff;
 
 impl<N: Naming + Drop> PlainLedger<N> {
-    ghost use Rattle.std.specs.Prelude.{◌≡◌, All, IfOk, map, ok_or};
+    ghost use Rattle.std.specs.Prelude.{◌≡◌, All, IfOk, map, ok_or, option_map};
     ghost use Rattle.book_model.specs.Words.{IsDay, Answers, period_of, AreDisputes, dispute_shown};
     ghost use Rattle.book_model.specs.Words.{AreLines, adjustments_outcome, charges_outcome};
     ghost use Rattle.book_model.specs.Words.{disputes_outcome, periods_outcome, AreRows};
-    ghost use Rattle.book_model.specs.Words.{what_if_outcome};
+    ghost use Rattle.book_model.specs.Words.{ShowsDispute, dispute_outcome, what_if_outcome};
     ghost use Rattle.book_core.specs.Treatments.{IsPeriodEnd};
     ghost use Rattle.book_core.specs.PlainBook.{book_in, naming_in, period_in};
 
@@ -97,6 +97,17 @@ impl<N: Naming + Drop> PlainLedger<N> {
     {
         let adopted = self.rulings.adopted();
         Ok(disputes(self.alloc, &self.held, &self.choices, adopted)?)
+    }
+
+    /// The first dispute from some bytes on. All are made for it, as the books are in memory anyway.
+    pub(super) fn dispute_held(&self, from: &[u8]) -> Result<Option<Dispute>, LedgerFault>
+        ensures dispute { Answers (λ found. option_map dispute_shown found) result
+            (dispute_outcome (N.name_of (naming_in self.now)) from.now (book_in self.now)).answer }
+        ensures shown { IfOk result ShowsDispute }
+    {
+        let rule = self.rulings.adopted();
+        let found = disputes(self.alloc, &self.held, &self.choices, rule)?;
+        Ok(first_from(found, from))
     }
 
     /// The days of the closes.

@@ -31,7 +31,7 @@ returns-clause-counted c =
     let price : c.price.result ≡ price_by terms (row_record entry.1) =
     c.price.ensures.value
     ∙ ap (price_by terms) (c.of_usage.ensures ∙ c.deref.ensures.value
-    ∙ c.in_ok-bytes.ensures.bytes ∙ ap record_with (c.in_ok-data_of.ensures.read entry is)) in
+    ∙ c.in_ok-put_usage.ensures.bytes ∙ ap record_with (c.in_ok-data_of.ensures.read entry is)) in
     subst (λ costs. SumsUp more costs room)
     (ap (λ (one : Priced). costs_of terms test passed ++ one ∷ []) price
     ∙ sym (costs_more terms test passed entry counted))
@@ -50,10 +50,10 @@ returns-in_err-data_of-clause-taken c =
     (λ passed entry is are few fits usage. absurd (c.in_err-data_of.ensures.taken fits))
 
 -- those of a usage record
-pub returns-in_err-bytes-clause-taken : goal.returns-in_err-bytes-clause-taken
-returns-in_err-bytes-clause-taken c =
-    err_on _ c.from_residual-in_err-bytes.result c.from_residual-in_err-bytes.ensures.1
-    (λ passed entry is are few fits usage. c.in_err-bytes.ensures.taken
+pub returns-in_err-put_usage-clause-taken : goal.returns-in_err-put_usage-clause-taken
+returns-in_err-put_usage-clause-taken c =
+    err_on _ c.from_residual-in_err-put_usage.result c.from_residual-in_err-put_usage.ensures.1
+    (λ passed entry is are few fits usage. c.in_err-put_usage.ensures.taken
     (subst IsUsageData (sym (c.in_ok-data_of.ensures.read entry is)) usage))
 
 -- and there are no more costs than records that were passed

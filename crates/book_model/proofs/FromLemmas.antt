@@ -1,0 +1,191 @@
+-- Bytes from some bytes on, what is found first from there, and a walk over disputes.
+use Rattle.std.proofs.Common.{◌≡◌, ◌∙◌, ℕ, List, [], ◌∷◌, ◌++◌, map, Bool, true, false, not, cond}
+use Rattle.std.proofs.Common.{None, Some, refl, sym, ap, subst, true≢false, arith}
+use Rattle.std.specs.Prelude.{filter, find, slice_get}
+use Rattle.std.specs.Cmp.{nat_cmp_total, tied_itself}
+use Rattle.std.specs.List.{AllByRecursion}
+use Rattle.std.specs.List.Sorted.{IsStrictlySortedBy}
+use Rattle.std.specs.Option.{option_map}
+use Rattle.std.specs.Ordering.{is_lt, nat_cmp, ordering_reverse, ordering_then}
+use Rattle.std.specs.declared.cmp.Ordering.TheVariants.{Less, Equal, Greater}
+use Rattle.std.proofs.lemmas.Bool.Decides.{nat_tests}
+use Rattle.std.proofs.lemmas.Cmp.{nat_list_cmp_total}
+use Rattle.std.proofs.lemmas.List.{map-id}
+use Rattle.std.proofs.lemmas.List.Kept.{IsStrictlySortedBy-filter}
+use Rattle.std.proofs.lemmas.Map.Lookups.{exact_bytes}
+use Rattle.std.proofs.lemmas.Simd.{map-map}
+use Rattle.book_model.specs.Disputes.{Disputed, dispute_at, dispute_from, disputes_in, identities}
+use Rattle.book_model.specs.Disputes.{is_from, is_in_dispute}
+use Rattle.book_model.specs.Records.{Naming, Records, by_bytes}
+use Rattle.book_model.specs.Rulings.{Rulings, identity_by}
+use Rattle.book_model.specs.Sets.{members, set_of}
+use Rattle.book_model.proofs.SetLemmas.{members_rise}
+
+-- what is below some bytes is not from them on
+pub not_from : (bytes other : List ℕ) → by_bytes other bytes ≡ Less → is_from bytes other ≡ true → ⊥
+not_from bytes other below from =
+    true≢false (sym from ∙ ap (λ o. not (is_lt o)) below)
+
+-- with a byte more, bytes come after themselves
+pub longer_after : (bytes : List ℕ) → by_bytes (bytes ++ 0 ∷ []) bytes ≡ Greater
+longer_after [] = refl
+longer_after (byte ∷ bytes) =
+    ap (λ o. ordering_then o (by_bytes (bytes ++ 0 ∷ []) bytes)) (tied_itself nat_cmp_total byte)
+    ∙ longer_after bytes
+
+-- so they are from themselves on,
+pub longer_from : (bytes : List ℕ) → is_from bytes (bytes ++ 0 ∷ []) ≡ true
+longer_from bytes = ap (λ o. not (is_lt o)) (longer_after bytes)
+
+-- as without it
+pub same_from : (bytes : List ℕ) → is_from bytes bytes ≡ true
+same_from bytes = ap (λ o. not (is_lt o)) (tied_itself nat_list_cmp_total bytes)
+
+-- no number is below zero, and no bytes are below none
+none_below : (n : ℕ) → is_lt (nat_cmp n 0) ≡ false
+none_below n = grind (arith, nat_tests)
+
+not_below_none : (bytes : List ℕ) → not (is_lt (by_bytes bytes [])) ≡ true
+not_below_none [] = refl
+not_below_none (byte ∷ bytes) = refl
+
+-- What comes after some bytes comes from them on with a zero byte behind.
+pub next_from : (bytes other : List ℕ) → by_bytes other bytes ≡ Greater
+    → is_from (bytes ++ 0 ∷ []) other ≡ true
+next_from [] [] after = cc
+next_from [] (first ∷ other) after =
+    elim (nat_cmp first 0) as (λ o. nat_cmp first 0 ≡ o
+    → not (is_lt (ordering_then o (by_bytes other []))) ≡ true) [
+      | Less ↦ λ below. absurd (true≢false (sym (ap is_lt below) ∙ none_below first))
+      | Equal ↦ λ tied. not_below_none other
+      | Greater ↦ λ above. refl
+    ] refl
+next_from (byte ∷ bytes) [] after = cc
+next_from (byte ∷ bytes) (first ∷ other) after =
+    elim (nat_cmp first byte) as (λ o. ordering_then o (by_bytes other bytes) ≡ Greater
+    → not (is_lt (ordering_then o (by_bytes other (bytes ++ 0 ∷ [])))) ≡ true) [
+      | Less ↦ λ after. cc
+      | Equal ↦ λ after. next_from bytes other after
+      | Greater ↦ λ after. refl
+    ] after
+
+-- from the second on is from the first on, where the second is
+pub from_then : (one other third : List ℕ) → is_from one other ≡ true → is_from other third ≡ true
+    → is_from one third ≡ true
+from_then one other third from more =
+    elim (by_bytes third one) as (λ o. by_bytes third one ≡ o → not (is_lt o) ≡ true) [
+      | Less ↦ λ below. absurd (never below)
+      | Equal ↦ λ tied. refl
+      | Greater ↦ λ above. refl
+    ] refl
+  where
+    never : by_bytes third one ≡ Less → ⊥
+    never below =
+        elim (by_bytes other one) as (λ o. by_bytes other one ≡ o → ⊥) [
+          | Less ↦ λ is. not_from one other is from
+          | Equal ↦ λ is. not_from other third
+              (ap (by_bytes third) (exact_bytes other one is) ∙ below) more
+          | Greater ↦ λ is. not_from other third
+              (nat_list_cmp_total.trans third one other below
+              (nat_list_cmp_total.antisymm one other ∙ ap ordering_reverse is)) more
+        ] refl
+
+-- what is from some bytes on, and others, comes after them
+pub after_others : (bytes other : List ℕ) → is_from bytes other ≡ true → (other ≡ bytes → ⊥)
+    → by_bytes other bytes ≡ Greater
+after_others bytes other from apart =
+    elim (by_bytes other bytes) as (λ o. by_bytes other bytes ≡ o → o ≡ Greater) [
+      | Less ↦ λ below. absurd (not_from bytes other below from)
+      | Equal ↦ λ tied. absurd (apart (exact_bytes other bytes tied))
+      | Greater ↦ λ above. refl
+    ] refl
+
+-- what is found first of the results of a function
+pub find-map : {X Y : Type 0} (f : X → Y) (p : Y → Bool) (xs : List X)
+    → find p (map f xs) ≡ option_map f (find (λ x. p (f x)) xs)
+find-map f p [] = refl
+find-map f p (x ∷ xs) =
+    elim (p (f x)) as (λ b. cond b (Some (f x)) (find p (map f xs))
+    ≡ option_map f (cond b (Some x) (find (λ x. p (f x)) xs))) [
+      | true ↦ refl
+      | false ↦ find-map f p xs
+    ]
+
+-- ---- a walk over disputes
+
+-- the bytes from which a walk goes on that has read these disputes
+abbrev pub bytes_after : List Disputed → List ℕ
+bytes_after [] = []
+bytes_after (dispute ∷ []) = dispute.identity ++ 0 ∷ []
+bytes_after (dispute ∷ next ∷ more) = bytes_after (next ∷ more)
+
+-- with one more
+pub bytes_after-push : (read : List Disputed) (dispute : Disputed)
+    → bytes_after (read ++ dispute ∷ []) ≡ dispute.identity ++ 0 ∷ []
+bytes_after-push [] dispute = refl
+bytes_after-push (first ∷ []) dispute = refl
+bytes_after-push (first ∷ next ∷ more) dispute = bytes_after-push (next ∷ more) dispute
+
+-- the identities of disputes
+abbrev pub identities_of : List Disputed → List (List ℕ)
+identities_of disputes = map (λ (dispute : Disputed). dispute.identity) disputes
+
+-- bytes are below themselves with a byte more
+below_longer : (bytes : List ℕ) → by_bytes bytes (bytes ++ 0 ∷ []) ≡ Less
+below_longer bytes =
+    nat_list_cmp_total.antisymm bytes (bytes ++ 0 ∷ []) ∙ ap ordering_reverse (longer_after bytes)
+
+-- what is below the identities of some disputes is below the bytes after them
+below_after : (bytes : List ℕ) (first : Disputed) (front rest : List Disputed)
+    → AllByRecursion (λ other. by_bytes bytes other ≡ Less) (identities_of (first ∷ front ++ rest))
+    → by_bytes bytes (bytes_after (first ∷ front)) ≡ Less
+below_after bytes first [] rest below =
+    nat_list_cmp_total.trans bytes first.identity (first.identity ++ 0 ∷ []) below.0
+    (below_longer first.identity)
+below_after bytes first (next ∷ front) rest below = below_after bytes next front rest below.1
+
+-- what is below bytes is not found from them on
+not_found : (from : List ℕ) (dispute : Disputed) (others : List Disputed)
+    → by_bytes dispute.identity from ≡ Less
+    → dispute_from from (dispute ∷ others) ≡ dispute_from from others
+not_found from dispute others below =
+    ap (λ o. cond (not (is_lt o)) (Some dispute) (dispute_from from others)) below
+
+-- what is not below is found first
+found_first : (from : List ℕ) (dispute : Disputed) (others : List Disputed)
+    → is_from from dispute.identity ≡ true
+    → dispute_from from (dispute ∷ others) ≡ Some dispute
+found_first from dispute others from_there =
+    ap (λ b. cond b (Some dispute) (dispute_from from others)) from_there
+
+-- Where the identities of disputes rise, the first from the bytes after some of them on is the next.
+pub walk_on : (front rest : List Disputed) → IsStrictlySortedBy by_bytes (identities_of (front ++ rest))
+    → dispute_from (bytes_after front) (front ++ rest) ≡ slice_get rest 0
+unfolding IsStrictlySortedBy
+walk_on [] [] rise = refl
+walk_on [] (dispute ∷ rest) rise =
+    found_first [] dispute rest (not_below_none dispute.identity)
+walk_on (first ∷ []) [] rise =
+    not_found (first.identity ++ 0 ∷ []) first [] (below_longer first.identity)
+walk_on (first ∷ []) (dispute ∷ rest) rise =
+    not_found (first.identity ++ 0 ∷ []) first (dispute ∷ rest) (below_longer first.identity)
+    ∙ found_first (first.identity ++ 0 ∷ []) dispute rest
+    (next_from first.identity dispute.identity
+    (nat_list_cmp_total.antisymm dispute.identity first.identity ∙ ap ordering_reverse rise.0.0))
+walk_on (first ∷ next ∷ more) rest rise =
+    not_found (bytes_after (next ∷ more)) first (next ∷ more ++ rest)
+    (below_after first.identity next more rest rise.0)
+    ∙ walk_on (next ∷ more) rest rise.1
+
+-- The identities of the disputes of any books rise.
+pub disputes_rise : (naming : Naming) (rulings : Rulings) (held : Records)
+    → IsStrictlySortedBy by_bytes (identities_of (disputes_in naming rulings held))
+disputes_rise naming rulings held =
+    let ids : List (List ℕ) = filter (is_in_dispute naming rulings held) (identities rulings held) in
+    subst (IsStrictlySortedBy by_bytes)
+    (sym (map-map (λ (dispute : Disputed). dispute.identity) (dispute_at naming rulings held) ids
+    ∙ map-id ids))
+    (IsStrictlySortedBy-filter by_bytes (is_in_dispute naming rulings held)
+    (identities rulings held)
+    (members_rise nat_list_cmp_total
+    (set_of by_bytes (map (identity_by rulings) (members held)))))

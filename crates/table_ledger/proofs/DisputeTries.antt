@@ -1,0 +1,174 @@
+-- The next identity in dispute, where identities that were settled are passed over, and its dispute.
+use Rattle.std.proofs.Common.{◌≡◌, ◌∙◌, ◌+◌, ◌<◌, ℕ, List, [], ◌∷◌, ◌++◌, Bool, true, false, not}
+use Rattle.std.proofs.Common.{true≢false, None, Some, Ok, length, map, refl, sym, ap, subst, take}
+use Rattle.std.proofs.Common.{slice_index_or}
+use Rattle.std.specs.Prelude.{All, Err, IsErrAnd, Option, Result}
+use Rattle.std.specs.List.{AllByRecursion, list_any}
+use Rattle.std.proofs.lemmas.List.{map-append, take_more}
+use Rattle.std.proofs.lemmas.List.Elements.{All-from_recursion, recursion_from_All}
+use Rattle.sqlite_trees.specs.View.{View}
+use Rattle.sqlite_trees.specs.declared.error.StoreError.{StoreError}
+use Rattle.sqlite_trees.specs.declared.error.StoreError.TheVariants.{OutOfMemory}
+use Rattle.book_model.specs.declared.dispute.Dispute.{Dispute}
+use Rattle.book_model.specs.declared.fault.LedgerFault.{LedgerFault}
+use Rattle.book_model.specs.declared.dispute.Variant.{Variant}
+use Rattle.book_model.specs.Words.{Book, Disputed, IsDay, IsDispute, Naming, Outcome, dispute_outcome}
+use Rattle.book_model.specs.Words.{dispute_shown, is_from, same_bytes}
+use Rattle.book_model.proofs.FromLemmas.{after_others, from_then, longer_from, next_from, same_from}
+use Rattle.table_model.specs.Tables.{Tables}
+use Rattle.table_model.specs.TablesOf.{tables_of}
+use Rattle.table_model.specs.Views.{rows_with}
+use Rattle.table_laws.specs.DisputesRead.{FindsDisputed, IsDisputedFrom, IsNextDisputed, NamedRow}
+use Rattle.table_laws.specs.DisputesRead.{dispute_with, variant_read}
+use Rattle.table_laws.specs.Readable.{IsReadable}
+use Rattle.table_laws.proofs.DisputeLemmas.{disputes_follow}
+use Rattle.table_laws.proofs.ReadableLemmas.{calls_read}
+use Rattle.tree_tables.specs.Answers.{IsNextUncharged, IsUnchargedFrom, ListsSharing, is_charged}
+use Rattle.tree_tables.specs.Stored.{stored_entry}
+use Rattle.tree_tables.specs.declared.stored_record.StoredRecord.{StoredRecord}
+use Rattle.tree_tables.specs.States.{HasCleanDisk, State}
+use Rattle.tree_tables.proofs.Looking.{caused_memory}
+use Rattle.table_ledger.specs.Attempts.{TriesBut}
+use Rattle.table_ledger.specs.DisputeReads.{IsIdentity, IsShownRow, dispute_made}
+use Rattle.table_ledger.specs.Ready.{IsReadyAt}
+use Rattle.table_ledger.specs.Stages.{IsAt}
+use Rattle.table_ledger.specs.declared.summary.Summary.{Summary}
+
+-- ---- identities that are passed over
+
+-- What is known where a walk has come to some bytes: they are from its first ones on, and each row in
+-- dispute from there on is from them on.
+pub record PassedTo (from at : List ℕ) (tables : Tables) : Type 0 where
+  pub beyond : is_from from at ≡ true
+  pub passed : (row : NamedRow) → IsDisputedFrom from tables.records row
+      → is_from at row.1.identity ≡ true
+
+-- none is passed at first
+pub passed_none : (from : List ℕ) (tables : Tables) → PassedTo from from tables
+passed_none from tables = record { beyond = same_from from; passed = λ row is. is.reached }
+
+module _ (from at : List ℕ) (tables : Tables) (so_far : PassedTo from at tables) where
+  -- a row in dispute is not charged
+  not_charged : (row : NamedRow) → IsDisputedFrom from tables.records row
+      → IsUnchargedFrom at tables row
+  not_charged row is =
+      record { there = is.there; uncharged = is.uncharged; reached = so_far.passed row is }
+
+  -- where no record is left that is not charged, none is in dispute
+  pub passed_all : ((row : NamedRow) → IsUnchargedFrom at tables row → ⊥)
+      → FindsDisputed from tables.records None
+  passed_all none = λ row is. none row (not_charged row is)
+
+  module _ (identity : List ℕ) (next : IsNextUncharged at tables identity) where
+    -- the next identity is from the first bytes on
+    identity_from : is_from from identity ≡ true
+    identity_from =
+        from_then from at identity so_far.beyond
+        (ap (is_from at) (sym next.own) ∙ next.uncharged.reached)
+
+    -- it is in dispute where none of its records is charged
+    pub next_is : list_any is_charged (rows_with identity tables.records) ≡ false
+        → IsNextDisputed from tables.records identity
+    next_is open_still = record {
+      row = next.row;
+      disputed = record {
+        there = next.uncharged.there;
+        uncharged = next.uncharged.uncharged;
+        unsettled = ap (λ k. not (list_any is_charged (rows_with k tables.records))) next.own
+            ∙ ap not open_still;
+        reached = ap (is_from from) next.own ∙ identity_from;
+      };
+      own = next.own;
+      least = λ row is. next.least row (not_charged row is);
+    }
+
+    -- and else it is passed
+    pub passed_on : (more : List ℕ) → more ≡ identity ++ 0 ∷ []
+        → list_any is_charged (rows_with identity tables.records) ≡ true
+        → PassedTo from more tables
+    passed_on more is_more settled =
+        subst (λ at. PassedTo from at tables) (sym is_more) (record {
+          beyond = from_then from identity (identity ++ 0 ∷ []) identity_from
+              (longer_from identity);
+          passed = λ row is. next_from identity row.1.identity
+              (after_others identity row.1.identity (next.least row (not_charged row is))
+              (λ same. true≢false (sym is.unsettled
+              ∙ ap (λ k. not (list_any is_charged (rows_with k tables.records))) same
+              ∙ ap not settled)));
+        })
+
+-- ---- the dispute of an identity
+
+-- records as the list of disputes shows them
+abbrev variants : List StoredRecord → List Variant
+variants rows = map variant_read (map stored_entry rows)
+
+-- with one more, there is one more
+pub variants_more : (rows : List StoredRecord) (at : ℕ) (one : StoredRecord) (read : Variant)
+    (olds news : List Variant) → at < length rows → one ≡ slice_index_or rows at one
+    → read ≡ variant_read (stored_entry one) → news ≡ olds ++ read ∷ []
+    → olds ≡ variants (take at rows) → news ≡ variants (take (at + 1) rows)
+variants_more rows at one read olds news within is told more before =
+    more ∙ (λ i. before i ++ told i ∷ [])
+    ∙ sym (map-append variant_read (map stored_entry (take at rows)) (stored_entry one ∷ []))
+    ∙ ap (map variant_read) (sym (map-append stored_entry (take at rows) (one ∷ []))
+    ∙ ap (λ (last : StoredRecord). map stored_entry (take at rows ++ last ∷ [])) is
+    ∙ ap (map stored_entry) (sym (take_more rows at one within)))
+
+-- records that can be shown are dated on days
+days_shown : (rows : List StoredRecord)
+    → AllByRecursion (λ (row : StoredRecord). IsShownRow (stored_entry row)) rows
+    → AllByRecursion (λ (member : Variant). IsDay member.priced.day) (variants rows)
+days_shown [] shown = tt
+days_shown (row ∷ rows) shown = (shown.0.day, days_shown rows shown.1)
+
+-- so a dispute of an identity and of records that can be shown can be shown
+pub made_shows : (made : Dispute) (identity : List ℕ) (rows : List StoredRecord)
+    → dispute_shown made ≡ dispute_made identity rows → IsIdentity identity
+    → All (λ (row : StoredRecord). IsShownRow (stored_entry row)) rows
+    → IsDispute (dispute_shown made)
+made_shows made identity rows is long shown =
+    subst IsDispute (sym is) (record {
+      identity = long;
+      days = All-from_recursion (λ (member : Variant). IsDay member.priced.day) (variants rows)
+          (days_shown rows
+          (recursion_from_All (λ (row : StoredRecord). IsShownRow (stored_entry row)) rows shown));
+    })
+
+-- ---- the answer
+
+module _ {naming : Naming} {summary : Summary} {view : View} {book : Book}
+    (at : IsAt naming summary view book) (from : List ℕ) where
+  whole : IsReadable naming book
+  whole = calls_read naming book at.kept.calls
+
+  -- no dispute is left
+  pub none_left : FindsDisputed from (tables_of naming book).records None
+      → (dispute_outcome naming from book).answer ≡ Ok None
+  none_left none =
+      ap (λ (of : Outcome (Option Disputed)). of.answer)
+      (disputes_follow.next naming book from None whole none)
+
+  -- or this one is the first
+  pub one_left : (identity : List ℕ) (made : Dispute) (rows : List StoredRecord)
+      → FindsDisputed from (tables_of naming book).records (Some identity)
+      → ListsSharing identity (tables_of naming book) rows
+      → dispute_shown made ≡ dispute_made identity rows
+      → (dispute_outcome naming from book).answer ≡ Ok (Some (dispute_shown made))
+  one_left identity made rows next lists is =
+      ap (λ (of : Outcome (Option Disputed)). of.answer)
+      (disputes_follow.next naming book from (Some identity) whole next)
+      ∙ ap (λ (one : Disputed). Ok (Some one))
+      ((λ i. record { identity = identity; members = map variant_read (sym lists i) }) ∙ sym is)
+
+-- What fails for want of memory alone is the store's own.
+pub own_memory : {V : Type 0} {naming : Naming} {summary : Summary} {error : StoreError}
+    (old new : State) (Refuses : LedgerFault → Type 0)
+    (result : Result (Result V LedgerFault) StoreError)
+    → IsErrAnd result (λ other. other ≡ error)
+    → (HasCleanDisk new → (book : Book) → IsReadyAt naming summary old.view book
+    → error ≡ OutOfMemory)
+    → TriesBut Refuses naming summary old new result
+own_memory old new Refuses (Err other) is wants =
+    λ clean book ready. caused_memory old new other (is ∙ wants clean book ready)
+own_memory old new Refuses (Ok answer) is wants = absurd is

@@ -1,0 +1,93 @@
+//! Identities of records that are not charged, one after another, and all records of one.
+
+ghost use Rattle.std.specs.Prelude.{◌≡◌, IfErr, IfOk, OnOk};
+ghost use Rattle.tree_tables.specs.Columns.{uncharged_part};
+ghost use Rattle.tree_tables.specs.Fits.{MarkFits};
+ghost use Rattle.tree_tables.specs.Stored.{SaysUncharged};
+
+use crate::column_values::{bytes_at, mark_at};
+use crate::keys::{bytes_key, number_key};
+use crate::record_rows::{IDENTITIES, MARKS};
+use crate::stored_record::StoredRecord;
+use crate::tables::TreeTables;
+use sqlite_trees::error::StoreError;
+use sqlite_trees::store::Store;
+use sqlite_value::row::Row;
+use sqlite_value::value::ValueRef;
+use std::alloc::Global;
+use tree_rows::{first_from, list_run};
+
+/// The mark of a record that is not charged.
+const NOT_CHARGED: i64 = 0;
+
+/// The columns of a mark's row: whether the record is charged, and its identity.
+const MARK: usize = 0;
+
+const IDENTITY: usize = 1;
+
+/// The first columns of the marks of records that are not charged and have an identity.
+fn uncharged_key(key: &mut Row, identity: &[u8]) -> Result<(), StoreError>
+    ensures made { OnOk result (key.new ≡ uncharged_part identity.now) }
+    ensures memory { IfErr result (λ error. error ≡ StoreError.OutOfMemory) }
+{
+    number_key(key, NOT_CHARGED)?;
+    key.push(ValueRef::Blob(identity))?;
+    Ok(())
+}
+
+/// The identity that a mark's row says, where the record is not charged.
+fn read_uncharged(row: &Row, alloc: Global) -> Result<Option<Vec<u8>>, StoreError>
+    ensures says { IfOk result (SaysUncharged row.now) }
+    ensures taken { IfErr result (λ error. MarkFits row.now → error ≡ StoreError.OutOfMemory) }
+{
+    let charged = mark_at(row, MARK)?;
+    if charged {
+        return Ok(None);
+    }
+    let identity = bytes_at(row, IDENTITY, alloc)?;
+    Ok(Some(identity))
+}
+
+impl<S: Store> TreeTables<S> {
+    ghost use Rattle.tree_tables.specs.Answers.{FindsUncharged, ListsSharing};
+    ghost use Rattle.tree_tables.specs.Fits.{RecordsFit};
+    ghost use Rattle.tree_tables.specs.States.{state};
+    ghost use Rattle.tree_tables.specs.Steps.{Always, FailsByStore, Looks};
+
+    /// The least identity that is these bytes or comes after them, of the identities of records
+    /// that are not charged: one look, however many there are.
+    #[tactic(auto, using(crate::proofs::Looking::caused_memory))]
+    pub fn find_uncharged(
+        &mut self,
+        alloc: Global,
+        from: &[u8],
+    ) -> Result<Option<Vec<u8>>, StoreError>
+        ensures looks { Looks result (state S.Store self.old.store) (state S.Store self.new.store)
+            (FindsUncharged from.now) }
+        ensures cause { FailsByStore result (state S.Store self.old.store)
+            (state S.Store self.new.store) Always }
+    {
+        uncharged_key(&mut self.key, from)?;
+        if !first_from(&mut self.store, MARKS, &self.key, &mut self.row)? {
+            return Ok(None);
+        }
+        read_uncharged(&self.row, alloc)
+    }
+
+    /// All records that have an identity, by name.
+    #[tactic(auto, using(crate::proofs::Looking::caused_memory))]
+    pub fn list_sharing(
+        &mut self,
+        alloc: Global,
+        identity: &[u8],
+    ) -> Result<Vec<StoredRecord>, StoreError>
+        ensures looks { Looks result (state S.Store self.old.store) (state S.Store self.new.store)
+            (λ tables list. ListsSharing identity.now tables list.items) }
+        ensures cause { FailsByStore result (state S.Store self.old.store)
+            (state S.Store self.new.store) RecordsFit }
+    {
+        bytes_key(&mut self.key, identity)?;
+        let names = list_run(&mut self.store, IDENTITIES, &self.key, &mut self.row, alloc)?;
+        self.read_named(alloc, &names)
+    }
+}
