@@ -6,6 +6,10 @@ pub mod ReadingLemmas
 pub mod ReportLemmas
 pub mod RulingReading
 pub mod StreamedLemmas
+pub mod StreamingLemmas
 pub mod RulingLemmas
+pub mod DisputeReading
+pub mod DisputeLemmas
 pub mod TariffLemmas
 pub mod WhatIfLemmas
+pub mod FigureLemmas

@@ -4,32 +4,32 @@ use Rattle.std.proofs.Common.{take, drop, refl, sym, ap, subst, append_assoc, ap
 use Rattle.std.proofs.Common.{Option, Some, None, Result, Ok, Err, Vec, Global, inl, inr}
 use Rattle.std.specs.Prelude.{IfErr, flat_map, option_map, slice_get}
 use Rattle.std.specs.Io.KnownBytes.{Appends}
-use Rattle.std.proofs.KnownBytes.{Appends-nil}
 use Rattle.std.proofs.lemmas.Grind.{flat_map-append}
 use Rattle.std.proofs.lemmas.List.{take-append-drop}
 use Rattle.book_model.specs.declared.fault.LedgerFault.{LedgerFault}
 use Rattle.book_model.specs.declared.fault.LedgerFault.TheVariants as ledger
 use Rattle.book_model.specs.declared.listed_ruling.ListedRuling.{ListedRuling}
-use Rattle.book_model.specs.Words.{Book, Event, Naming, Outcome, RulingSeen, after_all, ruling_outcome}
+use Rattle.book_model.specs.Words.{Book, Event, Naming, Outcome, RulingSeen, ruling_outcome}
 use Rattle.book_model.specs.Words.{ruling_shown, rulings_listed}
 use Rattle.book_core.specs.Ledgers.{Seen}
 use Rattle.book_core.specs.Calls.{Calls, IsCall, Makes, Reopens}
-use Rattle.book_core.specs.Transition.{IsTransition, Then}
-use Rattle.book_core.proofs.TransitionLemmas.{work_as, work_then}
+use Rattle.book_core.specs.Transition.{IsTransition}
+use Rattle.book_core.proofs.TransitionLemmas.{work_as}
 use Rattle.report_texts.specs.RulingLists.{ruling_line, ruling_list_head, ruling_list_text}
 use Rattle.book_reports.specs.declared.fault.ReportFault.{ReportFault}
 use Rattle.book_reports.specs.declared.fault.ReportFault.TheVariants as report
 use Rattle.book_reports.specs.declared.report.Report.TheVariants.{RulingList}
-use Rattle.book_reports.specs.BookTexts.{report_outcome}
+use Rattle.book_reports.specs.BookTexts.{report_outcome, ruling_text}
 use Rattle.book_reports.specs.Faults.{report_fault_of}
 use Rattle.book_reports.specs.StreamedRulings.{WritesFirst, WritesRulings, is_hindrance, refusal_in}
 use Rattle.book_reports.specs.StreamedRulings.{WritesSomeRulings, text_by}
 use Rattle.book_reports.specs.Writing.{WritesPrefix, is_write_or_memory}
-use Rattle.book_reports.proofs.ReadingLemmas.{IsAlike, goes_on, reopens_alike}
+use Rattle.book_reports.proofs.ReadingLemmas.{IsAlike, reopens_alike}
 use Rattle.book_reports.proofs.RulingReading.{HasRead, all_taken, first_read, first_rulings}
 use Rattle.book_reports.proofs.RulingReading.{next_taken, one_more_read, read_and, read_parts}
 use Rattle.book_reports.proofs.StreamedLemmas.{is_prefix, none_written, rest_written, then_written}
 use Rattle.book_reports.proofs.StreamedLemmas.{written_as, written_of_more}
+use Rattle.book_reports.proofs.StreamingLemmas.{report_refused, report_unread, report_written}
 
 -- ---- texts
 
@@ -82,27 +82,6 @@ line_written read ruling waits left held had has lines line =
 
 -- ---- what the calls did
 
--- a result that is no refusal of the ledger is like an answer of it
-unrefused : {V : Type 0} (value : V) (result : Result (Unit {0}) ReportFault)
-    → IfErr result (λ fault. is_write_or_memory fault ≡ true)
-    → IsAlike (Ok value) (refusal_in result)
-unrefused value (Ok done) plain = record { reopen = refl; store = refl }
-unrefused value (Err report.Write) plain = record { reopen = refl; store = refl }
-unrefused value (Err report.Memory) plain = record { reopen = refl; store = refl }
-unrefused value (Err (report.Ledger fault)) plain = cc
-
-unrefused_hinders : (result : Result (Unit {0}) ReportFault)
-    → IfErr result (λ fault. is_write_or_memory fault ≡ true)
-    → IfErr result (λ fault. is_hindrance fault ≡ true)
-unrefused_hinders (Ok done) plain = tt
-unrefused_hinders (Err report.Write) plain = refl
-unrefused_hinders (Err report.Memory) plain = refl
-unrefused_hinders (Err (report.Ledger fault)) plain = cc
-
--- books that answered were open
-was_open : {P : Type 0} (was : Bool) → false ≡ was → was ≡ true → P
-was_open was is reopen = absurd (true≢false (sym reopen ∙ sym is))
-
 module _ {old new : Seen} {count : ℕ} {read : List RulingSeen} {next : Option ListedRuling}
     (far : HasRead old new count read next) (held holds : Option (List ℕ))
     (result : Result (Unit {0}) ReportFault)
@@ -114,38 +93,11 @@ module _ {old new : Seen} {count : ℕ} {read : List RulingSeen} {next : Option 
         → WritesPrefix (ruling_list_text all) held holds result)
         → IsTransition old new (WritesRulings old.naming held holds result)
     read_written writes =
-        work_as old new (Calls (read_and read) (first_rulings old.naming count) (Ok next))
-        (WritesRulings old.naming held holds result)
-        (λ was before events is called.
-        let all = rulings_listed old.naming before.rulings in
-        let parts = read_parts all read count next called.makes.0 in
-        record {
-          none = called.makes.1;
-          written = writes all parts.0 parts.1;
-          unread = was_open was called.reopens.reopen;
-          reopens = reopens_alike (Ok next) (refusal_in result) was is (unrefused next result plain)
-              called.reopens;
-          hindered = unrefused_hinders result plain;
-        })
-        far.call.work
-
--- a refusal, as a report passes it on
-alike_refusal : {V : Type 0} (fault : LedgerFault)
-    → IsAlike {V = V} (Err fault) (refusal_in (Err (report_fault_of fault)))
-alike_refusal ledger.Memory = record { reopen = refl; store = refl }
-alike_refusal ledger.Store = record { reopen = refl; store = refl }
-alike_refusal ledger.Reopen = record { reopen = refl; store = refl }
-alike_refusal fault = record { reopen = refl; store = refl }
-
--- where a ruling is not read, memory or the store hindered it, and no event was made
-hindered_by : (naming : Naming) (number : ℕ) (before : Book) (fault : LedgerFault) (events : List Event)
-    → Makes (option_map ruling_shown) (ruling_outcome naming number before) (Err fault) events
-    → (events ≡ []) × (is_hindrance (report_fault_of fault) ≡ true)
-hindered_by naming number before ledger.Memory events makes = (makes, refl)
-hindered_by naming number before ledger.Store events (inl makes) = (makes, refl)
-hindered_by naming number before ledger.Store events (inr makes) = (makes, refl)
-hindered_by naming number before ledger.Reopen events makes = (makes, refl)
-hindered_by naming number before fault events makes = absurd (cc makes.0)
+        report_written (λ book. refl) far.call ruling_text held holds result plain
+        (λ book is.
+        let all = rulings_listed old.naming book.rulings in
+        let parts = read_parts all read count next is in
+        writes all parts.0 parts.1)
 
 module _ {old new : Seen} (fault : LedgerFault)
     (call : IsCall (option_map ruling_shown) old new (Err fault) (ruling_outcome old.naming 0))
@@ -154,19 +106,8 @@ module _ {old new : Seen} (fault : LedgerFault)
     -- no ruling was read, and nothing was written
     pub none_read : IsTransition old new (WritesRulings old.naming held held (Err (report_fault_of fault)))
     none_read =
-        work_as old new (Calls (option_map ruling_shown) (ruling_outcome old.naming 0) (Err fault))
-        (WritesRulings old.naming held held (Err (report_fault_of fault)))
-        (λ was before events is called.
-        let said = hindered_by old.naming 0 before fault events called.makes in
-        record {
-          none = said.0;
-          written = (0, Appends-nil held);
-          unread = λ reopen. refl;
-          reopens = reopens_alike (Err fault) (refusal_in (Err (report_fault_of fault))) was is
-              (alike_refusal fault) called.reopens;
-          hindered = said.1;
-        })
-        call.work
+        report_unread (λ book. slice_get (rulings_listed old.naming book.rulings) 0) fault call
+        ruling_text held
 
 module _ {old mid new : Seen} {count : ℕ} {read : List RulingSeen} {next : Option ListedRuling}
     (far : HasRead old mid count read next) (number : ℕ) (fault : LedgerFault)
@@ -179,28 +120,13 @@ module _ {old mid new : Seen} {count : ℕ} {read : List RulingSeen} {next : Opt
         → (prefix : ℕ) × Appends held holds (take prefix (ruling_list_text all)))
         → IsTransition old new (WritesRulings old.naming held holds (Err (report_fault_of fault)))
     refused_written writes =
-        work_as old new
-        (Then (Calls (read_and read) (first_rulings old.naming count) (Ok next))
-        (Calls (option_map ruling_shown) (ruling_outcome mid.naming number) (Err fault)))
-        (WritesRulings old.naming held holds (Err (report_fault_of fault)))
-        (λ was before events is both.
-        let all = rulings_listed old.naming before.rulings in
-        let parts = read_parts all read count next both.first.makes.0 in
-        let late = hindered_by mid.naming number (after_all both.early before) fault both.late
-        both.next.makes in
-        record {
-          none = both.all ∙ ap (λ events. events ++ both.early) late.0 ∙ both.first.makes.1;
-          written = writes all parts.0 parts.1;
-          unread = was_open was both.first.reopens.reopen;
-          reopens = reopens_alike (Err fault) (refusal_in (Err (report_fault_of fault))) was is
-              (alike_refusal fault)
-              (subst (λ between. Reopens (Err fault) between is)
-              (goes_on next was both.between both.first.reopens) both.next.reopens);
-          hindered = late.1;
-        })
-        (work_then old mid new (Calls (read_and read) (first_rulings old.naming count) (Ok next))
-        (Calls (option_map ruling_shown) (ruling_outcome mid.naming number) (Err fault))
-        far.call.work call.work)
+        report_refused (λ book. refl) far.call
+        (λ book. slice_get (rulings_listed mid.naming book.rulings) number) fault call ruling_text
+        held holds
+        (λ book is.
+        let all = rulings_listed old.naming book.rulings in
+        let parts = read_parts all read count next is in
+        writes all parts.0 parts.1)
 
 -- ---- the list, line by line
 

@@ -1,11 +1,13 @@
 -- Read in this order: the lines of receipts and of check lists, the texts that books answer, also
--- by another tariff, the faults, what a writer gains, a report as a whole, and a list that is
--- written while it is read.
+-- by another tariff, the figures of a period, the faults, what a writer gains, a report as a whole,
+-- and lists that are written while they are read.
 pub mod ReceiptLines
 pub mod CheckLists
 pub mod BookTexts
 pub mod WhatIfTexts
+pub mod Figures
 pub mod Faults
 pub mod Writing
 pub mod Reports
 pub mod StreamedRulings
+pub mod StreamedDisputes

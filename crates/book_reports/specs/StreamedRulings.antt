@@ -37,21 +37,30 @@ is_hindrance (Ledger ledger.Store) = true
 is_hindrance (Ledger ledger.Reopen) = true
 is_hindrance (Ledger fault) = false
 
--- The list of the book's rulings was written, or a prefix of it before such a fault, and no event was
--- made. Of books that are to be opened again nothing is written.
-pub record WritesRulings (naming : Naming) (held holds : Option (List ℕ))
-    (result : Result (Unit {0}) ReportFault) (was : Bool) (before : Book) (events : List Event)
-    (is : Bool) : Type 0 where
+-- A text about the book was written, or a prefix of it before such a fault, and no event was made. Of
+-- books that are to be opened again nothing is written.
+pub record WritesReport (text : Naming → Book → List ℕ) (naming : Naming)
+    (held holds : Option (List ℕ)) (result : Result (Unit {0}) ReportFault) (was : Bool)
+    (before : Book) (events : List Event) (is : Bool) : Type 0 where
   pub none : events ≡ []
-  pub written : WritesPrefix (ruling_text naming before) held holds result
+  pub written : WritesPrefix (text naming before) held holds result
   pub unread : was ≡ true → holds ≡ held
   pub reopens : Reopens (refusal_in result) was is
   pub hindered : IfErr result (λ fault. is_hindrance fault ≡ true)
 
--- whatever the book is, what was written is the list of some rulings, or a prefix of one
+-- the list of its rulings was written so
+abbrev pub WritesRulings : Naming → Option (List ℕ) → Option (List ℕ)
+    → Result (Unit {0}) ReportFault → Bool → Book → List Event → Bool → Type 0
+WritesRulings = WritesReport ruling_text
+
+-- whatever the book is, what was written is such a text, or a prefix of one
+abbrev pub WritesSome : {X : Type 0} → (X → List ℕ) → Option (List ℕ) → Option (List ℕ)
+    → Result (Unit {0}) ReportFault → Type 0
+WritesSome {X} text held holds result = (made : X) × WritesPrefix (text made) held holds result
+
+-- the list of some rulings
 abbrev pub WritesSomeRulings : Option (List ℕ) → Option (List ℕ) → Result (Unit {0}) ReportFault → Type 0
-WritesSomeRulings held holds result =
-    (rulings : List RulingSeen) × WritesPrefix (ruling_list_text rulings) held holds result
+WritesSomeRulings = WritesSome {X = List RulingSeen} ruling_list_text
 
 -- the text that was written into memory, or why it was not: a lack of memory has one form there
 abbrev pub text_by : {T : Type 0} → T → Result (Unit {0}) ReportFault → Result T LedgerFault

@@ -5,17 +5,20 @@
 mod book_texts;
 mod check_lists;
 mod fault;
+mod figures;
 mod output;
 mod receipt_lines;
 mod report;
 mod reports;
 mod ruling_texts;
+mod streamed_disputes;
 mod streamed_rulings;
 mod what_if;
 
 pub use book_texts::report_text;
 pub use check_lists::{push_last_line, push_record_line};
 pub use fault::ReportFault;
+pub use figures::{OpenPeriod, open_period, period_figures, rows_of_period};
 pub use output::{write_bytes, write_text};
 pub use receipt_lines::receipt_line_text;
 pub use report::{PeriodReport, Report, centre_named, report_of_all};
@@ -28,5 +31,6 @@ pub use reports::{
     adjustment_list, dispute_list, period_list, receipt_line, statement, statement_csv,
     write_report,
 };
+pub use streamed_disputes::{DisputeForm, write_disputes};
 pub use streamed_rulings::write_rulings;
 pub use what_if::{StatementForm, WhatIf, what_if_text};

@@ -16,7 +16,7 @@ use Rattle.office.specs.declared.request.Asked.TheVariants.{Tariff, Close, Choos
 use Rattle.office.specs.declared.request.Asked.TheVariants.{ImportBytes, Report, WhatIf}
 use Rattle.office.specs.declared.request.Answer.{Answer}
 use Rattle.office.specs.Requests.{Dump, Response, response_outcome, response_by, IsAskable, IsAskableUnread, Gives, Asks}
-use Rattle.office.specs.Requests.{IsAsked}
+use Rattle.office.specs.Requests.{IsAskableRuling, IsAsked}
 use Rattle.office.specs.Runs.{AsksWithoutReader, IsAskableWithoutReader}
 
 -- a call of the ledger, as an answer
@@ -83,6 +83,28 @@ askable_once (Import layout) = hlevel props
 askable_once (ImportBytes layout bytes) = hlevel props
 askable_once (Report report) = hlevel props
 askable_once (WhatIf report tariff) = hlevel props
+
+-- nor more than one that it is a ruling that may be
+pub ruling_once : (asked : Asked) → IsProp (IsAskableRuling asked)
+ruling_once (Tariff text) = hlevel props
+ruling_once (Close period through) = hlevel props
+ruling_once (Choose name) = hlevel props
+ruling_once (Adopt rule) = hlevel props
+ruling_once (Import layout) = hlevel props
+ruling_once (ImportBytes layout bytes) = hlevel props
+ruling_once (Report report) = hlevel props
+ruling_once (WhatIf report tariff) = hlevel props
+
+-- a ruling may be asked with no reader at hand
+pub ruling_alone : (asked : Asked) → IsAskableRuling asked → IsAskableWithoutReader asked
+ruling_alone (Tariff text) may = tt
+ruling_alone (Close period through) may = may
+ruling_alone (Choose name) may = tt
+ruling_alone (Adopt rule) may = tt
+ruling_alone (Import layout) may = absurd may
+ruling_alone (ImportBytes layout bytes) may = absurd may
+ruling_alone (Report report) may = absurd may
+ruling_alone (WhatIf report tariff) may = absurd may
 
 -- a reader that was not asked yet may be asked
 pub askable_anew : (asked : Asked) (reader : ReaderSeen) → IsAskableUnread asked → reader.reads ≡ 0

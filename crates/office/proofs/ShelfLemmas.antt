@@ -7,7 +7,7 @@ use Rattle.book_core.proofs.TransitionLemmas.{after_all-append}
 use Rattle.office.specs.declared.repository.RepositoryFault.{RepositoryFault}
 use Rattle.office.specs.declared.repository.RepositoryFault.TheVariants.{Unseen}
 use Rattle.office.specs.Shelves.{Shelf, unknown, OpenedAnew, GoOn, IsDoneTo, IsOpened, IsMade}
-use Rattle.office.specs.Shelves.{ComesBy, IsUntouched, WhereUnopened}
+use Rattle.office.specs.Shelves.{ComesBy, IsTried, IsUntouched, WhereUnopened}
 
 -- books that nothing was done to
 pub stays : (Held : List Event → Type 0) → GoOn NoEvent Held Held
@@ -112,6 +112,13 @@ pub unknown_opened : {A : Type 0} (work : A → Transition) (book : List ℕ) (n
     → IsOpened work book (unknown naming) (unknown naming) answer
 unknown_opened work book naming (Ok answer) = unknown_done book naming (work answer)
 unknown_opened work book naming (Err fault) = unknown_unopened work book naming fault
+
+pub unknown_tried : {A : Type 0} (work : A → Transition) (book : List ℕ) (naming : Naming)
+    (answer : Result A RepositoryFault)
+    → IsTried work book (unknown naming) (unknown naming) answer
+unknown_tried work book naming (Ok answer) =
+    (unknown_untouched book naming, λ history held. absurd held)
+unknown_tried work book naming (Err fault) = unknown_untouched book naming
 
 pub unknown_made : (book : List ℕ) (naming : Naming) (result : Result (Unit {0}) RepositoryFault)
     → IsMade book (unknown naming) (unknown naming) result

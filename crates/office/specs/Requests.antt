@@ -68,6 +68,14 @@ abbrev pub IsAskable : Asked → ReaderSeen → Type 0
 IsAskable (Import layout) reader = IsReady reader
 IsAskable asked reader = IsAskableUnread asked
 
+-- it is a ruling, and may be asked
+abbrev pub IsAskableRuling : Asked → Type 0
+IsAskableRuling (Tariff text) = Unit {0}
+IsAskableRuling (Close period through) = IsDay through
+IsAskableRuling (Choose name) = Unit {0}
+IsAskableRuling (Adopt rule) = Unit {0}
+IsAskableRuling asked = ⊥
+
 -- what cut the reading short, if anything did
 abbrev pub cut_by : ReaderSeen → Option Stop
 cut_by reader =

@@ -65,6 +65,18 @@ IsOpened {A} work book old new (Err fault) =
     WhereUnopened ((answer : A) × IsDoneTo book (work answer) old new)
     (IsUntouched book old new) fault
 
+-- Books of a name were visited as a copy: what a visit did, it did to the book that they hold, whatever
+-- history that is of.
+abbrev pub TriesOn : Transition → List ℕ → Shelf → Type 0
+TriesOn Made book shelf = (history : List Event) → shelf.holds book history
+    → (events : List Event) × (is : Bool) × Made false (book_after history) events is
+
+-- They are as they were, whatever it made of the copy; so they are where none was visited.
+abbrev pub IsTried : {A : Type 0} → (A → Transition) → List ℕ → Shelf → Shelf
+    → Result A RepositoryFault → Type 0
+IsTried work book old new (Ok answer) = IsUntouched book old new × TriesOn (work answer) book old
+IsTried work book old new (Err fault) = IsUntouched book old new
+
 -- What is so by what came of an opening: this of the visit's answer; or the visit is as it was.
 abbrev pub ComesBy : {A : Type 0} → (A → Type 0) → Type 0 → Result A RepositoryFault → Type 0
 ComesBy Came Same (Ok answer) = Came answer

@@ -59,6 +59,10 @@ impl Ledger for AwayBooks {
         Err(LedgerFault::Reopen)
     }
 
+    fn dispute_from(&mut self, _from: &[u8]) -> Result<Option<Dispute>, LedgerFault> {
+        Err(LedgerFault::Reopen)
+    }
+
     fn periods(&mut self) -> Result<Vec<i32>, LedgerFault> {
         Err(LedgerFault::Reopen)
     }

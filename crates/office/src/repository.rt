@@ -58,7 +58,7 @@ pub enum RepositoryFault {
 /// Where books are kept by their names.
 pub trait Repository {
     ghost use Rattle.std.specs.Prelude.{◌≡◌};
-    ghost use Rattle.office.specs.Shelves.{Shelf, ComesBy, IsMade, IsOpened};
+    ghost use Rattle.office.specs.Shelves.{Shelf, ComesBy, IsMade, IsOpened, IsTried};
 
     /// What is known of them.
     ghost shelf: { Self → Shelf };
@@ -74,6 +74,14 @@ pub trait Repository {
     /// before the books were open, or as they were closed.
     fn open<V: Visit>(&mut self, book: &str, visit: &mut V) -> Opened<V::Answer>
         ensures opened { IsOpened (V.Visit.work (shelf self.old).naming visit.old visit.new) book.now
+            (shelf self.old) (shelf self.new) result.answer }
+        ensures log { (shelf self.new).has_log book.now result.has_log }
+        ensures came { ComesBy (V.Visit.comes visit.old visit.new) (visit.new ≡ visit.old)
+            result.answer };
+
+    /// Does the same with a copy of the books, and lets the copy go: the books are as they were.
+    fn try_out<V: Visit>(&mut self, book: &str, visit: &mut V) -> Opened<V::Answer>
+        ensures tried { IsTried (V.Visit.work (shelf self.old).naming visit.old visit.new) book.now
             (shelf self.old) (shelf self.new) result.answer }
         ensures log { (shelf self.new).has_log book.now result.has_log }
         ensures came { ComesBy (V.Visit.comes visit.old visit.new) (visit.new ≡ visit.old)

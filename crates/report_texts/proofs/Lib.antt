@@ -4,3 +4,4 @@ pub mod TableLemmas
 pub mod RowLemmas
 pub mod AmountLemmas
 pub mod CentreLemmas
+pub mod FigureLemmas

@@ -67,7 +67,11 @@ member_line member =
 unfoldable pub dispute_lines : Disputed → List ℕ
 dispute_lines dispute = identity_line dispute.identity ++ flat_map member_line dispute.members
 
+-- what stands above so many of them
+unfoldable pub dispute_list_head : ℕ → List ℕ
+dispute_list_head count = codes "DISPUTES " ++ decimal count ++ newline
+
 -- their number, and then the lines of each
 abbrev pub dispute_list_text : List Disputed → List ℕ
 dispute_list_text disputes =
-    codes "DISPUTES " ++ decimal (length disputes) ++ newline ++ flat_map dispute_lines disputes
+    dispute_list_head (length disputes) ++ flat_map dispute_lines disputes

@@ -1,6 +1,6 @@
 -- Read in this order: columns and numbers, how a period is named, each text of a whole period, those
--- of one centre, what-ifs, the disputes as a list and as a table, and the lists of periods and of
--- rulings.
+-- of one centre, what-ifs, the disputes as a list and as a table, the lists of periods and of
+-- rulings, and what a dry run of a ruling shows: its figures, and its text.
 pub mod Columns
 pub mod Periods
 pub mod Statements
@@ -15,3 +15,5 @@ pub mod Moments
 pub mod DisputeTables
 pub mod PeriodLists
 pub mod RulingLists
+pub mod Figures
+pub mod DryRuns

@@ -126,7 +126,7 @@ fn push_lines(alloc: Global, out: &mut String, lines: &[Line]) -> Result<(), All
 
 /// What lines charge, and what they reverse.
 #[tactic(auto, using(std::proofs::lemmas::List::Sums::sum_by_more_le, crate::proofs::AmountLemmas::charged_within, crate::proofs::AmountLemmas::reversed_within))]
-fn sums(lines: &[Line]) -> (u64, u64)
+pub(crate) fn sums(lines: &[Line]) -> (u64, u64)
     requires { AreLines lines.now }
     ensures { result ≡ (sum_by spec.charged_amount lines.now, sum_by spec.reversed_amount lines.now) }
 {

@@ -160,7 +160,7 @@ fn push_members(alloc: Global, out: &mut String, members: &[Variant]) -> Result<
 
 /// Appends the lines of an identity and its records.
 #[tactic(auto, unfolding(crate::specs::DisputeLists::dispute_lines))]
-fn push_dispute(alloc: Global, out: &mut String, dispute: &Dispute) -> Result<(), AllocError>
+pub fn push_dispute(alloc: Global, out: &mut String, dispute: &Dispute) -> Result<(), AllocError>
     requires { IsDispute (dispute_shown dispute.now) }
     ensures { OnOk result (string_bytes out.new
         ≡ string_bytes out.old ++ spec.dispute_lines (dispute_shown dispute.now)) }
@@ -182,15 +182,24 @@ fn push_disputes(alloc: Global, out: &mut String, disputes: &[Dispute]) -> Resul
     Ok(())
 }
 
+/// What stands above the lines of so many disputes.
+#[tactic(auto, unfolding(crate::specs::DisputeLists::dispute_list_head))]
+pub fn dispute_list_head(alloc: Global, count: u64) -> Result<String, AllocError>
+    ensures { IfOk result (λ text. string_bytes text ≡ spec.dispute_list_head count) }
+{
+    let mut out = String::from_str(alloc, "DISPUTES ")?;
+    push_number(&mut out, count)?;
+    out.push('\n')?;
+    Ok(out)
+}
+
 /// The list of disputes, in the order in which the books give them.
 pub fn dispute_list_text(alloc: Global, disputes: &[Dispute]) -> Result<String, AllocError>
     requires { AreDisputes (map dispute_shown disputes.now) }
     ensures { IfOk result (λ text.
         string_bytes text ≡ spec.dispute_list_text (map dispute_shown disputes.now)) }
 {
-    let mut out = String::from_str(alloc, "DISPUTES ")?;
-    push_number(&mut out, disputes.len() as u64)?;
-    out.push('\n')?;
+    let mut out = dispute_list_head(alloc, disputes.len() as u64)?;
     push_disputes(alloc, &mut out, disputes)?;
     Ok(out)
 }

@@ -2,7 +2,8 @@
 
 ghost use Rattle.std.specs.Prelude.{◌≡◌, [], ◌∷◌, ◌++◌, ◌≤◌, All, IfOk, OnOk};
 ghost use Rattle.std.specs.Prelude.{flat_map, length, map};
-ghost use Rattle.book_model.specs.Words.{IsDay, AreDisputes, dispute_shown, identity_length};
+ghost use Rattle.book_model.specs.Words.{IsDay, IsDispute, AreDisputes, dispute_shown};
+ghost use Rattle.book_model.specs.Words.{identity_length};
 ghost use Rattle.csv.specs.Records.{fields_of};
 ghost use Rattle.report_texts.specs.DisputeLists.{completion_text};
 ghost use Rattle.report_texts.specs.DisputeTables as spec;
@@ -185,6 +186,32 @@ fn write_disputes(
         write_members(alloc, table, number, &dispute.identity, &dispute.members)?;
     }
     Ok(())
+}
+
+/// The names of the columns, which stand above the rows.
+pub fn dispute_table_head(alloc: Global) -> Result<Vec<u8>, AllocError>
+    ensures { IfOk result (λ head. head.items ≡ spec.member_heading) }
+{
+    let mut table = new_table(alloc);
+    write_heading(&mut table)?;
+    into_bytes(table)
+}
+
+/// The rows of a dispute of this number.
+pub fn dispute_rows(alloc: Global, number: u64, dispute: &Dispute) -> Result<Vec<u8>, AllocError>
+    requires { IsDispute (dispute_shown dispute.now) }
+    ensures { IfOk result (λ rows.
+        rows.items ≡ spec.dispute_rows number (dispute_shown dispute.now)) }
+{
+    let mut table = new_table(alloc);
+    write_members(
+        alloc,
+        &mut table,
+        number,
+        &dispute.identity,
+        &dispute.members,
+    )?;
+    into_bytes(table)
 }
 
 /// The disputes as a table: a heading, and a row for each record in dispute, in the order in which

@@ -7,7 +7,9 @@ mod centres;
 mod columns;
 mod dispute_lists;
 mod dispute_tables;
+mod dry_runs;
 mod fields;
+mod figures;
 mod moments;
 mod parts;
 mod period_lists;
@@ -24,8 +26,10 @@ pub use centres::{
     centre_adjustment_table, centre_adjustments_text, centre_statement_table, centre_statement_text,
 };
 pub use columns::push_number;
-pub use dispute_lists::dispute_list_text;
-pub use dispute_tables::dispute_table;
+pub use dispute_lists::{dispute_list_head, dispute_list_text, push_dispute};
+pub use dispute_tables::{dispute_rows, dispute_table, dispute_table_head};
+pub use dry_runs::{TriedRuling, dry_run_text};
+pub use figures::{Figures, figures_of, record_count, record_count_from};
 pub use period_lists::period_list_text;
 pub use ruling_lists::{push_ruling_line, ruling_list_head};
 pub use statement_tables::statement_table;

@@ -105,7 +105,7 @@ fn push_rows(alloc: Global, out: &mut String, rows: &[ChargeRow]) -> Result<(), 
 
 /// The sums of rows: how many records there are, their CPU time, their blocks, and what they cost.
 #[tactic(auto, using(std::proofs::lemmas::List::Sums::sum_by_more_le))]
-fn sums(rows: &[ChargeRow]) -> (u64, u64, u64, u64)
+pub(crate) fn sums(rows: &[ChargeRow]) -> (u64, u64, u64, u64)
     requires { AreRows rows.now }
     ensures { result ≡ (
       sum_by (λ row. row.count) rows.now,

@@ -1,0 +1,303 @@
+-- The text of the disputes, which is written as they are read.
+use Rattle.std.proofs.Common.{◌≡◌, ◌∙◌, ℕ, zero, suc, ◌+◌, ◌-◌, ◌≤◌, ◌<◌, List, [], ◌∷◌, ◌++◌, length}
+use Rattle.std.proofs.Common.{true, take, drop, refl, sym, ap, subst, append_assoc, append-nil, arith, rules}
+use Rattle.std.proofs.Common.{length-append, take_all, Option, Some, None, Result, Ok, Err}
+use Rattle.std.specs.Prelude.{IfErr, flat_map, option_map}
+use Rattle.std.specs.Io.KnownBytes.{Appends}
+use Rattle.std.proofs.lemmas.List.{take-append-drop}
+use Rattle.book_model.specs.declared.dispute.Dispute.{Dispute}
+use Rattle.book_model.specs.declared.fault.LedgerFault.{LedgerFault}
+use Rattle.book_model.specs.Words.{Book, Disputed, dispute_from, dispute_outcome, dispute_shown}
+use Rattle.book_model.proofs.FromLemmas.{bytes_after, bytes_after-push}
+use Rattle.book_core.specs.Ledgers.{Seen}
+use Rattle.book_core.specs.Calls.{IsCall}
+use Rattle.book_core.specs.Transition.{IsTransition}
+use Rattle.report_texts.specs.DisputeLists.{dispute_lines}
+use Rattle.report_texts.specs.DisputeTables.{member_heading, rows_from}
+use Rattle.book_reports.specs.declared.fault.ReportFault.{ReportFault}
+use Rattle.book_reports.specs.declared.streamed_disputes.DisputeForm.{DisputeForm}
+use Rattle.book_reports.specs.declared.streamed_disputes.DisputeForm.TheVariants as form
+use Rattle.book_reports.specs.Faults.{report_fault_of}
+use Rattle.book_reports.specs.StreamedDisputes.{WritesDisputes, WritesSomeDisputes, dispute_report}
+use Rattle.book_reports.specs.StreamedDisputes.{dispute_count_outcome, disputes_head, disputes_part}
+use Rattle.book_reports.specs.StreamedDisputes.{disputes_text}
+use Rattle.book_reports.specs.StreamedRulings.{WritesFirst}
+use Rattle.book_reports.specs.Writing.{WritesPrefix, is_write_or_memory}
+use Rattle.book_reports.proofs.DisputeReading.{HasReadOf, all_of, both_parts, none_read_of}
+use Rattle.book_reports.proofs.DisputeReading.{none_more_of, one_more_of}
+use Rattle.book_reports.proofs.StreamedLemmas.{is_prefix, none_written, rest_written, then_written}
+use Rattle.book_reports.proofs.StreamedLemmas.{written_as, written_of_more}
+use Rattle.book_reports.proofs.StreamingLemmas.{report_refused, report_written}
+
+-- ---- texts
+
+-- the lines of disputes; the first has this number
+abbrev pub lines_from : DisputeForm → ℕ → List Disputed → List ℕ
+lines_from form number [] = []
+lines_from form number (dispute ∷ others) =
+    disputes_part form number dispute ++ lines_from form (number + 1) others
+
+-- those of a list are the lines of each, and those of a table its rows
+list_lines : (number : ℕ) (disputes : List Disputed)
+    → lines_from form.List number disputes ≡ flat_map dispute_lines disputes
+list_lines number [] = refl
+list_lines number (dispute ∷ others) =
+    ap (λ lines. dispute_lines dispute ++ lines) (list_lines (number + 1) others)
+
+table_rows : (number : ℕ) (disputes : List Disputed)
+    → lines_from form.Table number disputes ≡ rows_from number disputes
+table_rows number [] = refl
+table_rows number (dispute ∷ others) =
+    ap (λ rows. disputes_part form.Table number dispute ++ rows) (table_rows (number + 1) others)
+
+-- what was written so far, where there are so many disputes
+abbrev pub so_far : DisputeForm → ℕ → List Disputed → List ℕ
+so_far form total read = disputes_head form total ++ lines_from form 1 read
+
+-- with all of them it is the text
+whole_text : (form : DisputeForm) (disputes : List Disputed)
+    → so_far form (length disputes) disputes ≡ disputes_text form disputes
+whole_text form.List disputes =
+    ap (λ lines. disputes_head form.List (length disputes) ++ lines) (list_lines 1 disputes)
+whole_text form.Table disputes = ap (λ rows. member_heading ++ rows) (table_rows 1 disputes)
+
+-- lines of disputes and of others
+lines_more : (form : DisputeForm) (number : ℕ) (front rest : List Disputed)
+    → lines_from form number (front ++ rest)
+    ≡ lines_from form number front ++ lines_from form (number + length front) rest
+lines_more form number [] rest =
+    let same : number ≡ number + 0 = omega arith in
+    ap (λ n. lines_from form n rest) same
+lines_more form number (dispute ∷ front) rest =
+    let same : (number + 1) + length front ≡ number + suc (length front) = omega arith in
+    ap (λ lines. disputes_part form number dispute ++ lines)
+    (lines_more form (number + 1) front rest
+    ∙ ap (λ n. lines_from form (number + 1) front ++ lines_from form n rest) same)
+    ∙ sym (append_assoc (disputes_part form number dispute) (lines_from form (number + 1) front)
+    (lines_from form (number + suc (length front)) rest))
+
+-- so what was written so far, with the lines of others, is so with the others
+so_far_more : (form : DisputeForm) (total : ℕ) (read rest : List Disputed)
+    → so_far form total read ++ lines_from form (1 + length read) rest
+    ≡ so_far form total (read ++ rest)
+so_far_more form total read rest =
+    append_assoc (disputes_head form total) (lines_from form 1 read)
+    (lines_from form (1 + length read) rest)
+    ∙ ap (λ lines. disputes_head form total ++ lines) (sym (lines_more form 1 read rest))
+
+-- with one more
+so_far_with : (form : DisputeForm) (total count : ℕ) (read : List Disputed) (dispute : Disputed)
+    → length read ≡ count
+    → so_far form total read ++ disputes_part form (count + 1) dispute
+    ≡ so_far form total (read ++ dispute ∷ [])
+so_far_with form total count read dispute many =
+    let next : count + 1 ≡ 1 + length read = omega (arith, many) in
+    ap (λ n. so_far form total read ++ disputes_part form n dispute) next
+    ∙ ap (λ part. so_far form total read ++ part)
+    (sym (append-nil (disputes_part form (1 + length read) dispute)))
+    ∙ so_far_more form total read (dispute ∷ [])
+
+-- if the first bytes of it were written, a prefix of the text of all was
+cut_before : (form : DisputeForm) (all read : List Disputed) (total count : ℕ) (left : List ℕ)
+    (held holds : Option (List ℕ)) → length all ≡ total → take count all ≡ read
+    → WritesFirst (so_far form total read) left held holds
+    → (prefix : ℕ) × Appends held holds (take prefix (disputes_text form all))
+cut_before form all read total count left held holds counted front written =
+    let rest = drop count all in
+    let more = lines_from form (1 + length read) rest in
+    is_prefix (disputes_text form all) (left ++ more) held holds
+    (written_as (so_far form total read ++ more) (disputes_text form all) (left ++ more) held holds
+    (so_far_more form total read rest
+    ∙ ap (λ some. so_far form total (some ++ rest)) (sym front)
+    ∙ ap (so_far form total) (take-append-drop count all)
+    ∙ ap (λ n. so_far form n all) (sym counted)
+    ∙ whole_text form all)
+    (written_of_more (so_far form total read) left more held holds written))
+
+-- some disputes, so many
+blank : ℕ → List Disputed
+blank zero = []
+blank (suc n) = record { identity = []; members = [] } ∷ blank n
+
+many_blank : (n : ℕ) → length (blank n) ≡ n
+unfolding blank
+many_blank zero = refl
+many_blank (suc n) = ap suc (many_blank n)
+
+-- a prefix of the text of some disputes was, whatever was read
+cut_some : (form : DisputeForm) (read : List Disputed) (total : ℕ) (left : List ℕ)
+    (held holds : Option (List ℕ)) → length read ≤ total
+    → WritesFirst (so_far form total read) left held holds
+    → (some : List Disputed) × ((prefix : ℕ) × Appends held holds (take prefix (disputes_text form some)))
+cut_some form read total left held holds few written =
+    let rest = blank (total - length read) in
+    let more = lines_from form (1 + length read) rest in
+    let all : List Disputed = read ++ rest in
+    let both = length-append read rest in
+    let long = many_blank (total - length read) in
+    let counted : length all ≡ total = omega (arith, both, long, few) in (
+      all,
+      is_prefix (disputes_text form all) (left ++ more) held holds
+          (written_as (so_far form total read ++ more) (disputes_text form all) (left ++ more) held holds
+          (so_far_more form total read rest ∙ ap (λ n. so_far form n all) (sym counted)
+          ∙ whole_text form all)
+          (written_of_more (so_far form total read) left more held holds written)),
+    )
+
+-- ---- the text, dispute by dispute
+
+-- so many disputes were read, of so many there are, and their lines were written but for what waits
+pub record WritesSoFar (form : DisputeForm) (old new : Seen) (total count : ℕ) (from waits : List ℕ)
+    (held holds : Option (List ℕ)) : Type 0 where
+  pub read : List Disputed
+  pub many : length read ≡ count
+  pub few : count ≤ total
+  pub far : HasReadOf old new total count read
+  pub after : from ≡ bytes_after read
+  pub lines : WritesFirst (so_far form total read) waits held holds
+
+-- they were counted, and what stands above them waits
+pub text_begun : (form : DisputeForm) (old new : Seen) (total : ℕ) (from waits : List ℕ)
+    (held : Option (List ℕ)) → waits ≡ disputes_head form total → from ≡ []
+    → IsCall (λ count. count) old new (Ok total) (dispute_count_outcome old.naming)
+    → WritesSoFar form old new total 0 from waits held held
+text_begun form old new total from waits held is start call = record {
+  read = [];
+  many = refl;
+  few = omega arith;
+  far = none_read_of old new total call;
+  after = start;
+  lines = subst (λ text. WritesFirst text waits held held)
+      (is ∙ sym (append-nil (disputes_head form total))) (none_written waits held);
+}
+
+module _ {form : DisputeForm} {old mid : Seen} {total count : ℕ} {from waits : List ℕ}
+    {held had : Option (List ℕ)} (it : WritesSoFar form old mid total count from waits held had)
+  where
+    -- it went no further
+    pub text_stopped : (fault : ReportFault) → is_write_or_memory fault ≡ true
+        → IsTransition old mid (WritesDisputes form old.naming held had (Err fault))
+    text_stopped fault plain =
+        report_written (λ book. refl) it.far.call (dispute_report form) held had (Err fault) plain
+        (λ book is.
+        let all = all_of old.naming book in
+        let parts = both_parts (length all) total (take count all) it.read is in
+        cut_before form all it.read total count waits held had parts.0 parts.1 it.lines)
+
+    pub some_stopped : (fault : ReportFault) → WritesSomeDisputes form held had (Err fault)
+    some_stopped fault =
+        let many = it.many in
+        let few = it.few in
+        cut_some form it.read total waits held had (omega (arith, many, few)) it.lines
+
+    -- it has ended, and what waits was written, or a prefix of that
+    pub text_ended : (has : Option (List ℕ)) (result : Result (Unit {0}) ReportFault)
+        → total ≤ count → IfErr result (λ fault. is_write_or_memory fault ≡ true)
+        → WritesPrefix waits had has result
+        → IsTransition old mid (WritesDisputes form old.naming held has result)
+    text_ended has result last plain flushed =
+        report_written (λ book. refl) it.far.call (dispute_report form) held has result plain
+        (λ book is.
+        let all = all_of old.naming book in
+        let parts = both_parts (length all) total (take count all) it.read is in
+        let counted = parts.0 in
+        let same : it.read ≡ all =
+        sym parts.1 ∙ take_all count all (omega (arith, counted, last)) in
+        subst (λ text. WritesPrefix text held has result)
+        (ap (so_far form total) same ∙ ap (λ n. so_far form n all) (sym counted)
+        ∙ whole_text form all)
+        (rest_written (so_far form total it.read) waits held had has result it.lines flushed))
+
+    pub some_ended : (has : Option (List ℕ)) (result : Result (Unit {0}) ReportFault)
+        → total ≤ count → WritesPrefix waits had has result
+        → WritesSomeDisputes form held has result
+    some_ended has result last flushed =
+        let many = it.many in
+        let few = it.few in
+        let counted : total ≡ length it.read = omega (arith, many, few, last) in (
+          it.read,
+          subst (λ text. WritesPrefix text held has result)
+              (ap (λ n. so_far form n it.read) counted ∙ whole_text form it.read)
+              (rest_written (so_far form total it.read) waits held had has result it.lines flushed),
+        )
+
+    -- the ledger refused the next call
+    pub text_refused : (new : Seen) (fault : LedgerFault)
+        → IsCall (option_map dispute_shown) mid new (Err fault) (dispute_outcome mid.naming from)
+        → IsTransition old new (WritesDisputes form old.naming held had (Err (report_fault_of fault)))
+    text_refused new fault call =
+        report_refused (λ book. refl) it.far.call
+        (λ book. dispute_from from (all_of mid.naming book)) fault call (dispute_report form) held had
+        (λ book is.
+        let all = all_of old.naming book in
+        let parts = both_parts (length all) total (take count all) it.read is in
+        cut_before form all it.read total count waits held had parts.0 parts.1 it.lines)
+
+    -- the ledger found no more, though there should be
+    pub text_fewer : (new : Seen)
+        → IsCall (option_map dispute_shown) mid new (Ok None) (dispute_outcome mid.naming from)
+        → WritesSoFar form old new total count from waits held had
+    text_fewer new call = record {
+      read = it.read;
+      many = it.many;
+      few = it.few;
+      far = none_more_of old mid new total count it.read from it.far call;
+      after = it.after;
+      lines = it.lines;
+    }
+
+    module _ (new : Seen) (next : Dispute) (more : count < total)
+        (call : IsCall (option_map dispute_shown) mid new (Ok (Some next))
+        (dispute_outcome mid.naming from))
+      where
+        -- one more was read
+        abbrev read_more : List Disputed
+        read_more = it.read ++ dispute_shown next ∷ []
+
+        -- its lines
+        abbrev part : List ℕ
+        part = disputes_part form (count + 1) (dispute_shown next)
+
+        far_more : HasReadOf old new total (count + 1) read_more
+        far_more = one_more_of old mid new total count it.read next from it.after it.far call
+
+        many_more : length read_more ≡ count + 1
+        many_more = length-append it.read (dispute_shown next ∷ []) ∙ ap (λ n. n + 1) it.many
+
+        module _ (left : List ℕ) (has : Option (List ℕ)) (wrote : WritesFirst (waits ++ part) left had has)
+          where
+            lines_more_written : WritesFirst (so_far form total read_more) left held has
+            lines_more_written =
+                written_as (so_far form total it.read ++ part) (so_far form total read_more) left held
+                has (so_far_with form total count it.read (dispute_shown next) it.many)
+                (then_written (so_far form total it.read ++ part) (waits ++ part) left held had has
+                (written_of_more (so_far form total it.read) waits part held had it.lines) wrote)
+
+            -- they were not written, or not whole
+            pub text_cut : (fault : ReportFault) → is_write_or_memory fault ≡ true
+                → IsTransition old new (WritesDisputes form old.naming held has (Err fault))
+            text_cut fault plain =
+                report_written (λ book. refl) far_more.call (dispute_report form) held has (Err fault)
+                plain (λ book is.
+                let all = all_of old.naming book in
+                let parts = both_parts (length all) total (take (count + 1) all) read_more is in
+                cut_before form all read_more total (count + 1) left held has parts.0 parts.1
+                lines_more_written)
+
+            pub some_cut : (fault : ReportFault) → WritesSomeDisputes form held has (Err fault)
+            some_cut fault =
+                let many = many_more in
+                cut_some form read_more total left held has (omega (arith, many, more))
+                lines_more_written
+
+            -- or it goes on
+            pub text_more : (after : List ℕ) → after ≡ next.identity.items ++ 0 ∷ []
+                → WritesSoFar form old new total (count + 1) after left held has
+            text_more after is = record {
+              read = read_more;
+              many = many_more;
+              few = omega (arith, more);
+              far = far_more;
+              after = is ∙ sym (bytes_after-push it.read (dispute_shown next));
+              lines = lines_more_written;
+            }

@@ -1,0 +1,160 @@
+//! The disputes, written as they are read: with a million records in dispute the list has 150 MB, and
+//! is never made whole. What is held of it is one dispute, and the lines that wait to be written.
+
+ghost use Rattle.std.specs.Prelude.{◌≡◌, ◌++◌, ◌∷◌, [], IfErr, IfOk, OnOk, false, true};
+ghost use Rattle.streams.specs.Sinks.{has_failed, writer_of};
+ghost use Rattle.book_model.specs.Words.{IsDispute, dispute_shown};
+ghost use Rattle.book_core.specs.Calls.{IsCall, Reopens};
+ghost use Rattle.book_core.specs.Transition.{IsTransition};
+ghost use Rattle.book_reports.specs.StreamedDisputes.{WritesDisputes, WritesSomeDisputes};
+ghost use Rattle.book_reports.specs.StreamedDisputes.{dispute_count_outcome, disputes_head};
+ghost use Rattle.book_reports.specs.StreamedDisputes.{disputes_part};
+ghost use Rattle.book_reports.specs.StreamedRulings.{WritesAllBut, refusal_in};
+ghost use Rattle.book_reports.specs.Writing.{WritesPrefix, is_write_fault, is_write_or_memory};
+
+use crate::fault::ReportFault;
+use crate::output::write_bytes;
+use book_core::{Dispute, Ledger, LedgerFault, Sink};
+use report_texts::{dispute_list_head, dispute_rows, dispute_table_head, push_dispute};
+use std::alloc::{AllocError, Global};
+use std::io::Write;
+
+/// How the disputes are written.
+#[derive(Clone, Copy, Debug, PartialEq, Eq)]
+pub enum DisputeForm {
+    /// A list for people.
+    List,
+    /// A table of comma-separated values.
+    Table,
+}
+
+/// More disputes than any books have.
+const MOST_DISPUTES: u64 = 1 << 32;
+
+/// How many bytes wait to be written, at most, before those of one more dispute.
+const MOST_WAITING: usize = 65_536;
+
+/// What stands above so many disputes.
+fn head_of(alloc: Global, form: DisputeForm, count: u64) -> Result<Vec<u8>, AllocError>
+    ensures { IfOk result (λ head. head.items ≡ disputes_head form count) }
+{
+    match form {
+        DisputeForm::List => Ok(dispute_list_head(alloc, count)?.into_bytes()),
+        DisputeForm::Table => dispute_table_head(alloc),
+    }
+}
+
+/// The lines of the dispute of this number.
+fn part_of(
+    alloc: Global,
+    form: DisputeForm,
+    number: u64,
+    dispute: &Dispute,
+) -> Result<Vec<u8>, AllocError>
+    requires { IsDispute (dispute_shown dispute.now) }
+    ensures { IfOk result (λ part.
+        part.items ≡ disputes_part form number (dispute_shown dispute.now)) }
+{
+    match form {
+        DisputeForm::List => {
+            let mut text = String::new(alloc);
+            push_dispute(alloc, &mut text, dispute)?;
+            Ok(text.into_bytes())
+        }
+        DisputeForm::Table => dispute_rows(alloc, number, dispute),
+    }
+}
+
+/// The bytes from which the dispute after this one is the first: a zero byte behind its identity.
+fn bytes_after(dispute: Dispute) -> Result<Vec<u8>, AllocError>
+    ensures { IfOk result (λ bytes. bytes.items ≡ dispute.identity.items ++ 0 ∷ []) }
+{
+    let mut bytes = dispute.identity;
+    bytes.push(0)?;
+    Ok(bytes)
+}
+
+/// How many disputes there are. Each is read for it, one at a time.
+fn count_disputes<L: Ledger>(ledger: &mut L) -> Result<u64, LedgerFault>
+    ensures { IsCall (λ count. count) (L.seen ledger.old) (L.seen ledger.new) result
+        (dispute_count_outcome (L.seen ledger.old).naming) }
+{
+    let mut next = ledger.dispute_from(&[])?;
+    for before in 0..MOST_DISPUTES {
+        let Some(dispute) = next else {
+            return Ok(before);
+        };
+        let from = bytes_after(dispute)?;
+        next = ledger.dispute_from(&from)?;
+    }
+    Err(LedgerFault::Memory)
+}
+
+/// Writes what waits.
+fn flush<W: Write + Drop>(waiting: &mut Vec<u8>, sink: &mut Sink<W>) -> Result<(), ReportFault>
+    requires { has_failed sink.old ≡ false }
+    ensures written { WritesPrefix waiting.old.items
+        (W.contents (writer_of sink.old)) (W.contents (writer_of sink.new)) result }
+    ensures waits { OnOk result (waiting.new.items ≡ []) }
+    ensures failed { has_failed sink.new ≡ is_write_fault result }
+    ensures fault { IfErr result (λ fault. fault ≡ ReportFault.Write) }
+{
+    write_bytes(sink, waiting.as_slice())?;
+    waiting.clear();
+    Ok(())
+}
+
+/// Adds a part to what waits, and writes it where enough waits.
+fn push_part<W: Write + Drop>(
+    waiting: &mut Vec<u8>,
+    part: &[u8],
+    sink: &mut Sink<W>,
+) -> Result<(), ReportFault>
+    requires { has_failed sink.old ≡ false }
+    ensures written { WritesAllBut (waiting.old.items ++ part.now) waiting.new.items
+        (W.contents (writer_of sink.old)) (W.contents (writer_of sink.new)) result }
+    ensures failed { has_failed sink.new ≡ is_write_fault result }
+    ensures fault { IfErr result (λ fault. is_write_or_memory fault ≡ true) }
+{
+    waiting.extend_from_slice(part)?;
+    if waiting.len() > MOST_WAITING {
+        flush(waiting, sink)?;
+    }
+    Ok(())
+}
+
+/// Writes the disputes: all of them, or a prefix before a fault. They are counted first, since their
+/// number stands above the list, so what the ledger refuses comes before any byte; nobody changes
+/// the books meanwhile. Nothing is written after a write that failed.
+pub fn write_disputes<L: Ledger, W: Write + Drop>(
+    alloc: Global,
+    ledger: &mut L,
+    form: DisputeForm,
+    sink: &mut Sink<W>,
+) -> Result<(), ReportFault>
+    ensures written { IsTransition (L.seen ledger.old) (L.seen ledger.new)
+        (WritesDisputes form (L.seen ledger.old).naming
+        (W.contents (writer_of sink.old)) (W.contents (writer_of sink.new)) result) }
+    ensures reopens { Reopens (refusal_in result)
+        (L.seen ledger.old).must_reopen (L.seen ledger.new).must_reopen }
+    ensures some { WritesSomeDisputes form
+        (W.contents (writer_of sink.old)) (W.contents (writer_of sink.new)) result }
+    ensures failed { has_failed sink.old ≡ false → has_failed sink.new ≡ is_write_fault result }
+{
+    let count = count_disputes(ledger)?;
+    if sink.failed() {
+        return Err(ReportFault::Write);
+    }
+    let mut waiting = head_of(alloc, form, count)?;
+    let mut from = Vec::new(alloc);
+    for before in 0..count {
+        // There are as many as were counted: only a ledger that lies has fewer.
+        let Some(dispute) = ledger.dispute_from(&from)? else {
+            return Err(ReportFault::Memory);
+        };
+        let part = part_of(alloc, form, before + 1, &dispute)?;
+        push_part(&mut waiting, &part, sink)?;
+        from = bytes_after(dispute)?;
+    }
+    flush(&mut waiting, sink)
+}

@@ -1,0 +1,32 @@
+use Rattle.std.proofs.Common.{◌≡◌, ℕ, List, [], Ok, Err, Result}
+use Rattle.std.specs.Prelude.{IfOk, Vec}
+use Rattle.std.specs.Global.{Global}
+use Rattle.std.specs.declared.alloc.AllocError.{AllocError}
+use Rattle.csv.specs.declared.writer.Writer.{Writer}
+use Rattle.report_texts.specs.Tables.{IsBetweenRows}
+use Rattle.book_model.specs.Words.{dispute_shown}
+use Rattle.report_texts.proofs.RowLemmas.{long_enough}
+use Rattle.report_texts.proofs.dispute_tables.dispute_rows.Goals as goal
+
+-- the dispute can be shown
+pub write_members-requires-clause-identity : goal.write_members-requires-clause-identity
+write_members-requires-clause-identity c =
+    rw c.deref.ensures.value (long_enough (dispute_shown c.args.dispute.now) c.requires)
+
+pub write_members-requires-clause-days : goal.write_members-requires-clause-days
+write_members-requires-clause-days c = rw c.deref-2.ensures.value c.requires.days
+
+-- what the table was made of is what it holds
+made_of : (table : Writer (Vec ℕ Global)) (result : Result (Vec ℕ Global) AllocError)
+    (bytes : List ℕ)
+    → IfOk result (λ made. (some : List ℕ) → IsBetweenRows table some → made.items ≡ some)
+    → IsBetweenRows table bytes → IfOk result (λ made. made.items ≡ bytes)
+made_of table (Ok made) bytes is between = is bytes between
+made_of table (Err error) bytes is between = tt
+
+-- its rows are those of the records
+pub returns : goal.returns
+returns c =
+    made_of _ c.into_bytes.result _ c.into_bytes.ensures
+    (rw (c.deref.ensures.value, c.deref-2.ensures.value) at
+    (c.in_ok-write_members.ensures [] c.new_table-table.ensures))
