@@ -70,6 +70,27 @@ mapped_err Other to result (Ok answer) is one so = tt
 mapped_err Other to (Ok answer) (Err other) is one so = absurd (cc)
 mapped_err Other to (Err fault) (Err other) is one so = subst Other (sym is) (so fault one)
 
+-- what is said of an answer is said of it where its error is taken for another
+pub mapped_ok : {A E F : Type 0} (Says : A → Type 0) (to : E → F) (result : Result A E)
+    (mapped : Result A F)
+    → MatchResult result (λ answer. mapped ≡ Ok answer)
+    (λ fault. IsErrAnd mapped (λ other. other ≡ to fault))
+    → IfOk result Says → IfOk mapped Says
+mapped_ok Says to (Ok answer) mapped is one = subst (λ mapped. IfOk mapped Says) (sym is) one
+mapped_ok Says to (Err fault) (Ok answer) is one = absurd is
+mapped_ok Says to (Err fault) (Err other) is one = tt
+
+-- and so is what came of a visit
+pub mapped_came : {A E F : Type 0} (Came : A → Type 0) (Same : Type 0) (to : E → F)
+    (result : Result A E) (mapped : Result A F)
+    → MatchResult result (λ answer. mapped ≡ Ok answer)
+    (λ fault. IsErrAnd mapped (λ other. other ≡ to fault))
+    → MatchResult result Came (λ fault. Same) → MatchResult mapped Came (λ fault. Same)
+mapped_came Came Same to (Ok answer) mapped is came =
+    subst (λ mapped. MatchResult mapped Came (λ fault. Same)) (sym is) came
+mapped_came Came Same to (Err fault) (Ok answer) is same = absurd is
+mapped_came Came Same to (Err fault) (Err other) is same = same
+
 -- a count that rose is not 0
 pub since_none : (old new : ℕ) → MoreFaults old new → MoreFaults 0 new
 since_none old new more = omega arith

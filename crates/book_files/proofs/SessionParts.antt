@@ -2,7 +2,7 @@
 use Rattle.std.proofs.Common.{◌≡◌, IsTrue, List, [], ◌++◌, ℕ, refl, sym, ap, subst, inl, inr}
 use Rattle.std.proofs.Common.{Option, None, Some, Result, Ok, Err, false}
 use Rattle.std.proofs.Math.Logic.{∥∥₁_elim, ∥∥₁_map, ∥∥₁_prop}
-use Rattle.std.specs.Prelude.{IfSome, MatchResult}
+use Rattle.std.specs.Prelude.{IfOk, IfSome, MatchResult}
 use Rattle.office.specs.declared.repository.RepositoryFault.{RepositoryFault}
 use Rattle.office.specs.Shelves.{ComesBy}
 use Rattle.office.proofs.ShelfLemmas.{same_where}
@@ -18,17 +18,19 @@ use Rattle.sqlite_wal.specs.Recovery.{Image}
 use Rattle.book_model.specs.Words.{Book, Event, book_after, IsMadeByCalls, Naming}
 use Rattle.book_core.specs.Follow.{MakesAnswered}
 use Rattle.book_core.specs.Transition.{Transition, NoEvent}
+use Rattle.book_trees.proofs.ClosedFiles.{both_true, first_true, second_true}
+use Rattle.book_trees.specs.Copies.{AreOnlyRead}
 use Rattle.book_trees.specs.Closing.{IsShort, IsWithoutLog, LeavesLog, MayBeFound}
 use Rattle.book_trees.specs.declared.closing.Closed.{Closed}
 use Rattle.book_trees.specs.LedgerFiles.{HoldsBooks, trees_held, without_log}
 use Rattle.book_trees.specs.Refusals.{IsAsFound, MayLeave}
-use Rattle.book_trees.proofs.ShortLogs.{holds_alone}
+use Rattle.book_trees.proofs.UnusedLogs.{short_alone}
 use Rattle.table_ledger.specs.Ready.{IsStoredIn}
 use Rattle.book_restarts.specs.FileBooks.{HoldsBook, LeavesBook, LeavesTrees}
-use Rattle.book_restarts.specs.FileBooks.{GoesOn, StandsAt, done_by}
+use Rattle.book_restarts.specs.FileBooks.{GoesOn, StandsAt, done_by, file_names}
 use Rattle.book_restarts.proofs.SessionLemmas.{book_goes_on, found_goes_on, held_as_found}
 use Rattle.book_restarts.proofs.SessionLemmas.{held_leaves}
-use Rattle.book_files.specs.Sessions.{IsFileAlone, MayFollow}
+use Rattle.book_files.specs.Sessions.{IsFileAlone, MayFollow, WereOnlyRead}
 use Rattle.book_files.specs.declared.session.Ended.TheVariants.{Refused}
 use Rattle.book_files.specs.declared.session.Ended.TheVariants as ended
 
@@ -106,7 +108,7 @@ held_alone g names book files image alone held =
     let same : without_log whole ≡ image =
     ap (λ (log : List ℕ). record { log = log; db = image.db }) (sym alone.gone) in
     subst (HoldsBook names book) same (∥∥₁_map held λ found.
-    let kept = holds_alone whole alone.short found.0 in
+    let kept = short_alone whole alone.short found.0 in
     (kept.0, subst (IsStoredIn names book) (sym kept.1) found.1))
 
 -- files that were refused go on as they were
@@ -149,12 +151,30 @@ held_goes_on names first image store ready found each history held =
       };
     }) ∣₁
 
--- where nothing was done to open books, nothing was made of them, whatever was answered
-pub looked_only : {A F : Type 0} (names : Naming) (result : Result A F) (book : Book) (image : Image)
-    → ∥ LeavesBook names (done_by (λ (answer : A). NoEvent) result) book image ∥₁
-    → ∥ LeavesBook names NoEvent book image ∥₁
-looked_only names (Ok answer) book image left = left
-looked_only names (Err fault) book image left = left
+-- what is said of the work of a visit, whatever was answered, is said where it was done
+pub where_answered : {A F : Type 0} (work : A → Transition) (Says : Transition → Type 0)
+    (result : Result A F) → Says (done_by work result) → IfOk result (λ answer. Says (work answer))
+where_answered work Says (Ok answer) says = says
+where_answered work Says (Err fault) says = tt
+
+-- files of which a stop leaves what was found, and that were read since
+pub were_only_read : {D : Type 0} (g : Ghosts D) → ((file : D) → g.may_leave file (g.seen file))
+    → (found : Image) (first files : Files D)
+    → ((left : Image) → MayLeave g first left → left ≡ found) → AreOnlyRead g first files
+    → WereOnlyRead g found files
+were_only_read g stays found first files kept read =
+    let same : (left : Image) → MayLeave g files left → left ≡ found =
+    (λ left may. kept left (
+      both_true (g.is_clean first.log) (g.is_clean first.db)
+          (read.log.clean (first_true (g.is_clean files.log) (g.is_clean files.db) may.0))
+          (read.db.clean (second_true (g.is_clean files.log) (g.is_clean files.db) may.0)),
+      (read.log.crash left.log may.1.0, read.db.crash left.db may.1.1),
+    )) in
+    record {
+      same = same;
+      history = λ image may. refused_goes_on g stays file_names found (Some files)
+          (λ left may. inl (same left may)) image may;
+    }
 
 -- what came of a visit, where its answer is handed on, or was not seen
 pub comes_on : {A : Type 0} (Came : A → Type 0) (Same : Type 0)

@@ -73,6 +73,12 @@ abbrev pub not_copied : LookFault → CopyFault
 not_copied Pages = copies.Pages
 not_copied (Open fault) = copies.Refused (open_fault fault)
 
+-- what is answered of a copy that was visited in place of the books
+abbrev pub tried_answer : {A : Type 0} → Result A CopyFault → Result A RepositoryFault
+tried_answer (Ok answer) = Ok answer
+tried_answer (Err copies.Pages) = Err (Ledger ledger.Store)
+tried_answer (Err (copies.Refused fault)) = Err fault
+
 -- the files hold the books of some history, whose tariffs are texts, as calls are given them
 pub record HoldsOurBooks (naming : Naming) (image : Image) : Type 0 where
   pub history : List Event

@@ -4,7 +4,10 @@ use Rattle.sqlite_disk.specs.declared.Disk.{Ghosts}
 use Rattle.sqlite_disk.specs.declared.files.Files.{Files}
 use Rattle.sqlite_wal.specs.Reads.{AreClean}
 use Rattle.sqlite_wal.specs.Recovery.{Image}
+use Rattle.book_restarts.specs.FileBooks.{GoesOn, file_names}
+use Rattle.book_core.specs.Transition.{NoEvent}
 use Rattle.book_trees.specs.Closing.{MayBeFound}
+use Rattle.book_trees.specs.Refusals.{MayLeave}
 use Rattle.book_trees.specs.declared.closing.LogLeft.TheVariants.{Short}
 use Rattle.book_files.specs.declared.session.Ended.{Ended}
 use Rattle.book_files.specs.declared.session.Ended.TheVariants.{Closed, Refused}
@@ -28,3 +31,9 @@ IsFileAlone g (Refused files) image = ⊥
 abbrev pub AreHonest : {D : Type 0} (g : Ghosts D) → Option (Files D) → Type 0
 AreHonest g (Some files) = AreClean g files.log files.db
 AreHonest g None = ⊥
+
+-- Files that were found so were read, and nothing else: a stop leaves what was found; and the history
+-- that they held they hold, also where their log is short and is deleted.
+pub record WereOnlyRead {D : Type 0} (g : Ghosts D) (found : Image) (files : Files D) : Type 0 where
+  pub same : (image : Image) → MayLeave g files image → image ≡ found
+  pub history : (image : Image) → MayBeFound g files image → GoesOn file_names NoEvent found image

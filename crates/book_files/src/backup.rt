@@ -4,7 +4,7 @@
 use crate::copies::{Copied, CopyFault, copy_at};
 use crate::log::{Log, sync_folder};
 use crate::new_books::beside;
-use crate::repository::{Files, failed, not_looked_through, released, without_log};
+use crate::repository::{Files, failed, not_looked_through, released, unopened, without_log};
 use book_audit::{Audited, AuditedRepository, Watch};
 use book_core::LedgerFault;
 use book_trees::LookFault;
@@ -28,7 +28,7 @@ impl Files<'_> {
         };
         let begun = match self.begin_copy(copy) {
             Ok(begun) => begun,
-            Err(fault) => return without_log(Err(fault)),
+            Err(fault) => return unopened(&log, fault),
         };
         let (copied, has_log) = self.copy_into(book, &log, begun.as_str(), seed);
         let answer = match copied {
@@ -47,7 +47,12 @@ impl Files<'_> {
     /// of the copy.
     fn begin_copy(&self, copy: &str) -> Result<String, RepositoryFault> {
         self.expect_none(copy)?;
-        let begun = beside(self.rt, copy, "new").map_err(|error| failed(&error))?;
+        self.begin_beside(copy, "new")
+    }
+
+    /// Makes an empty file beside another, and says its name, which nothing may have.
+    pub(crate) fn begin_beside(&self, path: &str, what: &str) -> Result<String, RepositoryFault> {
+        let begun = beside(self.rt, path, what).map_err(|error| failed(&error))?;
         self.expect_none(begun.as_str())?;
         match File::create_new(self.rt, begun.as_str()) {
             Ok(_) => Ok(begun),

@@ -1,17 +1,17 @@
 //! A copy of the books in a file, made while nobody else has them.
 
-ghost use Rattle.std.specs.Prelude.{◌≡◌, IfErr, IsOk};
+ghost use Rattle.std.specs.Prelude.{◌≡◌, IfErr, IfOk, IfSome, IsOk, IsSome, MatchResult};
 ghost use Rattle.sqlite_wal.specs.Files.{image_at};
 ghost use Rattle.sqlite_wal.specs.Recovery.{Image};
 ghost use Rattle.book_core.specs.Transition.{NoEvent};
-ghost use Rattle.book_files.specs.Faults.{HasNoCopyFor, not_copied};
-ghost use Rattle.book_files.specs.Sessions.{AreHonest, MayFollow};
+ghost use Rattle.book_files.specs.Faults.{HasNoCopyFor, not_copied, tried_answer};
+ghost use Rattle.book_files.specs.Sessions.{AreHonest, MayFollow, WereOnlyRead};
 ghost use Rattle.book_restarts.specs.FileBooks.{GoesOn, file_names};
 
 use crate::books::visit_and_close;
 use crate::repository::refused;
 use crate::session::Ended;
-use book_core::Ledger;
+use book_core::{Ledger, LedgerFault};
 use book_trees::{LookFault, copy_to, lock_at};
 use office::{RepositoryFault, Visit};
 use sqlite_disk::{Disk, Files, Start};
@@ -48,27 +48,38 @@ pub enum CopyFault {
 
 /// What came of a copy, with the files that were copied.
 #[derive(Drop)]
-pub struct Copied<A: Disk, B: Disk> {
-    pub answer: Result<(), CopyFault>,
+pub struct Copied<T: Drop, A: Disk, B: Disk> {
+    pub answer: Result<T, CopyFault>,
     /// None are in hand where they were not opened.
     pub original: Option<Files<A>>,
     pub copy: Ended<B>,
 }
 
 /// Copies the books in the file at a path over the file at another, looks through the copy, opens
-/// the books in it, and closes it. `S` and `T` stand for what the two files hold. Where no disk
-/// lied, what may be found of the copy holds the history that was found of the books.
-pub fn copy_at<S: Start, T: Start>(
+/// and visits the books in it, and closes it. `S` and `T` stand for what the two files hold. Where no
+/// disk lied, what may be found of the copy holds the history that was found of the books, gone on
+/// with what the visit made.
+pub fn visit_copy_at<S: Start, T: Start, V: Visit>(
     rt: &HostRuntime,
     path: &str,
     start: S,
     copy: &str,
     held: T,
     seed: u64,
-) -> Copied<FileFrom<S>, FileFrom<T>>
-    ensures history { IsOk result.answer → AreHonest ⟦<FileFrom<S> as Disk>⟧ result.original
+    visit: &mut V,
+) -> Copied<V::Answer, FileFrom<S>, FileFrom<T>>
+    ensures history { IfOk result.answer (λ answer.
+        AreHonest ⟦<FileFrom<S> as Disk>⟧ result.original
         → (image : Image) → MayFollow ⟦<FileFrom<T> as Disk>⟧ result.copy image
-        → GoesOn file_names NoEvent (image_at S.Start) image }
+        → GoesOn file_names (V.Visit.work file_names visit.old visit.new answer) (image_at S.Start)
+        image) }
+
+    // The books that are copied were only read.
+    ensures original { IfSome result.original
+        (WereOnlyRead ⟦<FileFrom<S> as Disk>⟧ (image_at S.Start)) }
+    ensures in_hand { IsOk result.answer → IsSome result.original }
+    ensures came { MatchResult result.answer (V.Visit.comes visit.old visit.new)
+        (λ _. visit.new ≡ visit.old) }
 
     // Of books that a ledger left there is no copy only because of memory, a call on either pair of
     // files that failed, and the limits of the format.
@@ -87,7 +98,7 @@ pub fn copy_at<S: Start, T: Start>(
     };
     match copy_to(rt, &mut files, copy, seed, held) {
         Ok(store) => {
-            let (opened, closed) = visit_and_close(rt.alloc(), store, &mut Look);
+            let (opened, closed) = visit_and_close(rt.alloc(), store, visit);
             Copied {
                 answer: opened.map_err(CopyFault::Refused),
                 original: Some(files),
@@ -102,6 +113,28 @@ pub fn copy_at<S: Start, T: Start>(
     }
 }
 
+/// The same, where the copy is only opened: it holds the history that was found of the books.
+pub fn copy_at<S: Start, T: Start>(
+    rt: &HostRuntime,
+    path: &str,
+    start: S,
+    copy: &str,
+    held: T,
+    seed: u64,
+) -> Copied<(), FileFrom<S>, FileFrom<T>>
+    ensures history { IfOk result.answer (λ copied.
+        AreHonest ⟦<FileFrom<S> as Disk>⟧ result.original
+        → (image : Image) → MayFollow ⟦<FileFrom<T> as Disk>⟧ result.copy image
+        → GoesOn file_names NoEvent (image_at S.Start) image) }
+    ensures original { IfSome result.original
+        (WereOnlyRead ⟦<FileFrom<S> as Disk>⟧ (image_at S.Start)) }
+    ensures in_hand { IsOk result.answer → IsSome result.original }
+    ensures cause { IfErr result.answer (λ fault. HasNoCopyFor ⟦<FileFrom<S> as Disk>⟧
+        ⟦<FileFrom<T> as Disk>⟧ (image_at S.Start) fault result.original result.copy) }
+{
+    visit_copy_at(rt, path, start, copy, held, seed, &mut Look)
+}
+
 /// What it means that a copy was not looked through.
 fn copy_fault(fault: LookFault) -> CopyFault
     ensures { result ≡ not_copied fault }
@@ -109,5 +142,17 @@ fn copy_fault(fault: LookFault) -> CopyFault
     match fault {
         LookFault::Pages => CopyFault::Pages,
         LookFault::Open(fault) => CopyFault::Refused(refused(fault)),
+    }
+}
+
+/// What is answered of a copy that was visited in place of the books. Pages that are wrong are a
+/// store that can't be read.
+pub(crate) fn tried_answer<T: Drop>(answer: Result<T, CopyFault>) -> Result<T, RepositoryFault>
+    ensures { result ≡ tried_answer answer }
+{
+    match answer {
+        Ok(answer) => Ok(answer),
+        Err(CopyFault::Pages) => Err(RepositoryFault::Ledger(LedgerFault::Store)),
+        Err(CopyFault::Refused(fault)) => Err(fault),
     }
 }

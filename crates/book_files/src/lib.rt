@@ -4,12 +4,15 @@
 mod backup;
 mod books;
 mod copies;
+mod dry_runs;
 mod log;
+mod names;
 mod new_books;
 mod repository;
 mod session;
 
 pub use books::visit_in;
-pub use copies::{Copied, CopyFault, copy_at};
+pub use copies::{Copied, CopyFault, copy_at, visit_copy_at};
+pub use names::is_log_name;
 pub use repository::Files;
 pub use session::{Ended, audit_at, make_at, resume_at, visit_at};

@@ -1,9 +1,15 @@
 //! The log that lies beside a file of books while a command runs, and what a command leaves of it.
 
-use book_trees::{Closed, LogLeft, is_short, needs_no_log};
-use sqlite_disk::{Disk, Files};
+use crate::repository::{failed, refused};
+use book_trees::{Closed, LogLeft, is_short, is_unused, lock_at, needs_no_log};
+use office::RepositoryFault;
+use sqlite_disk::{Disk, Files, Unknown};
 use std::fs::File;
+use std::io::{ErrorKind, Read};
 use std::{fs, io};
+
+/// What every database of SQLite begins with, and so each file of books from the first on.
+const MAGIC: [u8; 16] = *b"SQLite format 3\0";
 
 /// The log of a file, by its path, and whether it was there before the file was opened.
 #[derive(Drop)]
@@ -11,22 +17,70 @@ pub(crate) struct Log<'a> {
     rt: &'a HostRuntime,
     path: String,
     was_there: bool,
+    /// What was there held nothing of the books, and was given another name.
+    is_kept: bool,
 }
 
 impl<'a> Log<'a> {
     /// The log of a file that is there. It lies beside the file to which a link leads. Opening
     /// makes it, and then syncs the names in the folder to the disk: a folder that refuses this
-    /// refuses it here, before there is a log that would stay.
+    /// refuses it here, before there is a log that would stay. Where the log's name is that of a
+    /// file of books nothing is opened, since they would be taken for the log.
     pub(crate) fn of(rt: &'a HostRuntime, book: &str) -> io::Result<Log<'a>> {
         let real = fs::canonicalize(rt, book)?;
         let path = format!(in rt.alloc(); "{}-wal", real.as_str())?;
         let was_there = is_there(rt, path.as_str())?;
+        if was_there && are_books(rt, path.as_str())? {
+            return Err(ErrorKind::AlreadyExists.into());
+        }
         sync_folder(rt, book)?;
         Ok(Log {
             rt,
             path,
             was_there,
+            is_kept: false,
         })
+    }
+
+    /// Gives a log that was there another name, where recovery would take nothing of it and write
+    /// over it: it is somebody's, or damaged, or a stopped command's. By `is_unused` the file alone
+    /// holds the same books, so a stop on the way harms nothing. The two are locked meanwhile: it
+    /// is not the log of a command that runs.
+    pub(crate) fn keep_unused(&mut self, book: &str) -> Result<(), RepositoryFault> {
+        if !self.was_there {
+            return Ok(());
+        }
+        let mut files = match lock_at(self.rt, book, Unknown) {
+            Ok(files) => files,
+            Err(fault) => return Err(refused(fault)),
+        };
+        let is_unused = match is_unused(self.rt.alloc(), &mut files.log) {
+            Ok(is_unused) => is_unused,
+            Err(fault) => return Err(refused(fault)),
+        };
+        if is_unused {
+            return self.keep().map_err(|error| failed(&error));
+        }
+        Ok(())
+    }
+
+    /// Renames the log, to a name that nothing has. The opening that follows syncs the folder too,
+    /// and fails where it can't.
+    fn keep(&mut self) -> io::Result<()> {
+        let kept = format!(in self.rt.alloc(); "{}-kept", self.path.as_str())?;
+        if is_there(self.rt, kept.as_str())? {
+            return Err(ErrorKind::AlreadyExists.into());
+        }
+        fs::rename(self.rt, self.path.as_str(), kept.as_str())?;
+        self.is_kept = true;
+        self.was_there = false;
+        let _ = sync_folder(self.rt, kept.as_str());
+        Ok(())
+    }
+
+    /// Whether a log that held nothing of the books was given another name.
+    pub(crate) fn is_kept(&self) -> bool {
+        self.is_kept
     }
 
     /// Takes the log away where it holds nothing, and says whether none is left. The caller still
@@ -40,12 +94,13 @@ impl<'a> Log<'a> {
                 fs::remove_file(self.rt, path).is_ok()
             }
             Ok(_) => false,
-            Err(error) => error.kind() == io::ErrorKind::NotFound,
+            Err(error) => error.kind() == ErrorKind::NotFound,
         }
     }
 
     /// Drops the files of books that were closed, with their log where it holds nothing, and says
-    /// whether it holds a part of the books. A log that was not to be moved is left as it was.
+    /// whether it holds a part of the books, or one that held nothing was kept. A log that was not to
+    /// be moved is left as it was.
     pub(crate) fn release<D: Disk + Drop>(&self, closed: Closed<D>) -> bool {
         if closed.log == LogLeft::Unmoved {
             return self.leave(Some(closed.files));
@@ -55,7 +110,7 @@ impl<'a> Log<'a> {
             self.remove_if_empty();
         }
         drop(closed);
-        has_log
+        has_log || self.is_kept
     }
 
     /// Takes the log of new books away, whatever it holds, where these could not be made.
@@ -63,19 +118,41 @@ impl<'a> Log<'a> {
         let _ = fs::remove_file(self.rt, self.path.as_str());
     }
 
-    /// Drops the files of an opening that must leave them as they were, and says whether their log
-    /// may hold a part of them: a log that the opening made is removed. Where there are no files
-    /// another program may have them, and nothing is touched.
+    /// Drops the files of an opening that must leave them as they were, and says the same: a log that
+    /// the opening made is removed. Where there are no files another program may have them, and
+    /// nothing is touched.
     pub(crate) fn leave<D: Disk + Drop>(&self, files: Option<Files<D>>) -> bool {
         let Some(mut files) = files else {
-            return false;
+            return self.is_kept;
         };
         let has_log = !is_short(&mut files.log);
         if !has_log && !self.was_there {
             self.remove_if_empty();
         }
         drop(files);
-        has_log
+        has_log || self.is_kept
+    }
+}
+
+/// Whether a file begins as books do. What is not a regular file is not read: it might never end.
+pub(crate) fn begins_as_books(rt: &HostRuntime, path: &str) -> io::Result<bool> {
+    if !fs::metadata(rt, path)?.is_file() {
+        return Err(ErrorKind::Unsupported.into());
+    }
+    let mut file = fs::open(rt, path)?;
+    let mut first = [0; 16];
+    match file.read_exact(&mut first) {
+        Ok(()) => Ok(first == MAGIC),
+        Err(error) if error.kind() == ErrorKind::UnexpectedEof => Ok(false),
+        Err(error) => Err(error),
+    }
+}
+
+/// The same of a file that may be gone by now.
+fn are_books(rt: &HostRuntime, path: &str) -> io::Result<bool> {
+    match begins_as_books(rt, path) {
+        Err(error) if error.kind() == ErrorKind::NotFound => Ok(false),
+        begins => begins,
     }
 }
 
@@ -83,7 +160,7 @@ impl<'a> Log<'a> {
 pub(crate) fn is_there(rt: &HostRuntime, path: &str) -> io::Result<bool> {
     match fs::symlink_metadata(rt, path) {
         Ok(_) => Ok(true),
-        Err(error) if error.kind() == io::ErrorKind::NotFound => Ok(false),
+        Err(error) if error.kind() == ErrorKind::NotFound => Ok(false),
         Err(error) => Err(error),
     }
 }

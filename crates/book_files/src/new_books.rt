@@ -2,6 +2,7 @@
 //! moment leaves whole books under that name, or nothing.
 
 use crate::log::{Log, is_there, sync_folder};
+use crate::names::is_log_name;
 use crate::repository::{Files, failed};
 use crate::session::{Ended, make_at, resume_at};
 use book_core::LedgerFault;
@@ -75,8 +76,12 @@ impl Files<'_> {
     }
 
     /// Nothing may have the name, nor that of a log or a journal beside it, whose contents would be
-    /// taken for new books' own.
+    /// taken for new books' own. Nor may the name be that of a log, for which new books would be
+    /// taken.
     pub(crate) fn expect_none(&self, book: &str) -> Result<(), RepositoryFault> {
+        if is_log_name(book) {
+            return Err(RepositoryFault::Exists);
+        }
         match has_traces(self.rt, book) {
             Ok(false) => Ok(()),
             Ok(true) => Err(RepositoryFault::Exists),

@@ -1,10 +1,10 @@
 //! The files of one machine, by their paths.
 
-ghost use Rattle.std.specs.Prelude.{◌≡◌};
+ghost use Rattle.std.specs.Prelude.{◌≡◌, Err};
 ghost use Rattle.std.specs.IoError.{error_kind};
 ghost use Rattle.book_files.specs.Faults.{IsReleased, file_fault, look_answer, open_fault};
 
-use crate::log::Log;
+use crate::log::{Log, begins_as_books};
 use crate::session::{Ended, audit_at, visit_at};
 use book_audit::{Audited, AuditedRepository, Finding, Place, Watch, Wrong};
 use book_core::LedgerFault;
@@ -12,11 +12,8 @@ use book_trees::{LookFault, OpenFault};
 use office::{Opened, Repository, RepositoryFault, Visit};
 use sqlite_disk::{Disk, Unknown};
 use std::hash::{BuildHasher, RandomState};
-use std::io::{ErrorKind, Read};
+use std::io::ErrorKind;
 use std::{fs, io};
-
-/// What every database of SQLite begins with, and so each file of books from the first on.
-const MAGIC: [u8; 16] = *b"SQLite format 3\0";
 
 /// Files, each with the books of one office. Nothing is known about what they hold: what is proved
 /// of an opening is proved whatever that is, as long as it is nothing, or what a ledger left.
@@ -51,25 +48,13 @@ impl<'a> Files<'a> {
     }
 
     /// What a session on a file that may hold books begins with: its log, and a number for the
-    /// digests.
+    /// digests. A log that holds nothing of them is kept under another name.
     pub(crate) fn begin_with(&self, book: &str) -> Result<(Log<'a>, u64), RepositoryFault> {
-        let log = self.log_of(book)?;
         let seed = self.seed()?;
+        let mut log = self.log_of(book)?;
+        // The last step, since from here on the caller tells of the log.
+        log.keep_unused(book)?;
         Ok((log, seed))
-    }
-}
-
-/// Whether a file begins as books do. What is not a regular file is not read: it might never end.
-fn begins_as_books(rt: &HostRuntime, book: &str) -> io::Result<bool> {
-    if !fs::metadata(rt, book)?.is_file() {
-        return Err(ErrorKind::Unsupported.into());
-    }
-    let mut file = fs::open(rt, book)?;
-    let mut first = [0; 16];
-    match file.read_exact(&mut first) {
-        Ok(()) => Ok(first == MAGIC),
-        Err(error) if error.kind() == ErrorKind::UnexpectedEof => Ok(false),
-        Err(error) => Err(error),
     }
 }
 
@@ -142,6 +127,12 @@ impl Repository for Files<'_> {
             Err(fault) => without_log(Err(fault)),
         }
     }
+
+    /// Visits a copy of the books of a file that is there. The copy lies beside them, and is removed
+    /// however the visit ends.
+    fn try_out<V: Visit>(&mut self, book: &str, visit: &mut V) -> Opened<V::Answer> {
+        self.try_out_books(book, visit)
+    }
 }
 
 impl AuditedRepository for Files<'_> {
@@ -190,6 +181,16 @@ pub(crate) fn released<T: Drop, D: Disk + Drop>(
             let has_log = log.leave(files);
             Opened { answer, has_log }
         }
+    }
+}
+
+/// What came of books that were not opened, whose log was looked at.
+pub(crate) fn unopened<T: Drop>(log: &Log<'_>, fault: RepositoryFault) -> Opened<T>
+    ensures { result.answer ≡ Err fault }
+{
+    Opened {
+        answer: Err(fault),
+        has_log: log.is_kept(),
     }
 }
 

@@ -20,7 +20,7 @@ use Rattle.sqlite_wal.specs.Reads.{IsClean as IsCleanFile}
 use Rattle.sqlite_wal.specs.Recovery.{Image}
 use Rattle.book_trees.proofs.EachLeft.{left_by}
 use Rattle.book_trees.proofs.FileParts.{clean_is, faults_are, left_by_files, named}
-use Rattle.book_trees.proofs.ShortLogs.{holds_alone}
+use Rattle.book_trees.proofs.UnusedLogs.{short_alone}
 use Rattle.book_trees.specs.Closing.{HasBooksSchema, HaveFailed, IsStuckFor, IsWithoutLog}
 use Rattle.book_trees.specs.Closing.{LeavesLog, MayBeFound}
 use Rattle.book_trees.specs.declared.closing.LogLeft.{LogLeft}
@@ -30,7 +30,7 @@ use Rattle.book_trees.specs.LedgerFiles.{without_log}
 use Rattle.book_trees.specs.Refusals.{faults_in, MayLeave}
 
 -- both are true
-both_true : (a b : Bool) → IsTrue a → IsTrue b → IsTrue (a && b)
+pub both_true : (a b : Bool) → IsTrue a → IsTrue b → IsTrue (a && b)
 both_true true true one two = refl
 both_true true false one two = two
 both_true false b one two = one
@@ -119,7 +119,7 @@ module _ {D : Type 0} {g : Ghosts D} (store end : FileStore D g) (given : Files 
           ap (λ (log : List ℕ). record { log = log; db = image.db }) (sym alone.gone) in
           ∥∥₁_map (left_whole whole (alone.clean, (stays log, alone.file))) λ found.
           subst (λ (image : Image). (held : HoldsBooks image) × recovers store (trees_held held))
-          same (let held = holds_alone whole alone.short found.0 in
+          same (let held = short_alone whole alone.short found.0 in
           (held.0, subst (recovers store) (sym held.1) found.1))
 
       -- so whatever may be found holds what the store counts

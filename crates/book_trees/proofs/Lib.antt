@@ -1,7 +1,7 @@
 -- The lemmas: the trees of books; the list that a sound file has; why an open fails, and a look; what
 -- the state of a store says of its files; files that hold no database yet; files that a ledger left,
--- and what an open shows of them; that books can be made; what a store over books leaves; logs that
--- are too short to hold anything; files that were just opened; files that were closed; what a stop
+-- and what an open shows of them; that books can be made; what a store over books leaves; logs of
+-- which recovery takes nothing; files that were just opened; files that were closed; what a stop
 -- within the making of books leaves; a log whose pages were moved; pieces of a file that are copied.
 pub mod Trees
 pub mod ListingLemmas
@@ -12,7 +12,7 @@ pub mod BlankFiles
 pub mod Opened
 pub mod Buildable
 pub mod EachLeft
-pub mod ShortLogs
+pub mod UnusedLogs
 pub mod FreshFiles
 pub mod ClosedFiles
 pub mod Begun

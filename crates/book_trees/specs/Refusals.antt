@@ -1,5 +1,5 @@
 -- Why books are not opened or made, and what is left of the files then.
-use Rattle.std.specs.Prelude.{◌≡◌, ◌⊎◌, ◌+◌, ◌≤◌, ℕ, ⊤}
+use Rattle.std.specs.Prelude.{◌≡◌, ◌⊎◌, ◌+◌, ◌≤◌, ℕ, ⊤, Bool, false, Result, Ok, Err}
 use Rattle.sqlite_disk.specs.Disk.{MoreFaults}
 use Rattle.sqlite_disk.specs.declared.Disk.{Ghosts}
 use Rattle.sqlite_disk.specs.declared.files.Files.{Files}
@@ -11,6 +11,8 @@ use Rattle.sqlite_store.specs.declared.store.open.Unopened.{Unopened}
 use Rattle.sqlite_wal.specs.Files.{outcomes}
 use Rattle.sqlite_wal.specs.Reads.{AreClean}
 use Rattle.sqlite_wal.specs.Recovery.{Image}
+use Rattle.sqlite_wal.specs.declared.error.Error.{Error}
+use Rattle.sqlite_wal.specs.declared.error.Error.TheVariants as wal
 use Rattle.book_trees.specs.LedgerFiles.{image_of, page_size, HoldsEmptyBooks, HoldsNothing}
 use Rattle.book_trees.specs.declared.faults.OpenFault.{OpenFault}
 use Rattle.book_trees.specs.declared.faults.OpenFault.TheVariants.{NotBooks, Memory, Store, Busy}
@@ -22,6 +24,13 @@ fault_for store.Refused = NotBooks
 fault_for store.OutOfMemory = Memory
 fault_for store.Io = Store
 fault_for store.Full = Store
+
+-- Whether recovery passes over a log of which it does not say what it would take: not where it
+-- refuses the log.
+abbrev pub probe_answer : Error → Result Bool OpenFault
+probe_answer wal.Corrupt = Ok false
+probe_answer wal.OutOfMemory = Err Memory
+probe_answer _ = Err Store
 
 -- A fault has its cause: the files do not hold what they have to; or memory ran out, about which a
 -- store says no more; or a disk failed during the call, or a format's limit was met. Files that

@@ -7,11 +7,12 @@ ghost use Rattle.sqlite_disk.specs.Disk.{MoreFaults};
 ghost use Rattle.sqlite_store.specs.FileStore.{state, view, schema_of, IsReady};
 ghost use Rattle.sqlite_wal.specs.Files.{image_at};
 ghost use Rattle.sqlite_wal.specs.Reads.{AreClean};
+ghost use Rattle.sqlite_wal.specs.Recovery.{Image};
 ghost use Rattle.book_trees.specs.Copies.{copy_fault_for, AreCopiesOf, AreOnlyRead, BeginsAs};
 ghost use Rattle.book_trees.specs.Copies.{IsCopyOf, IsCopyRefusedFor, IsOnlyRead, StopsCopy};
 ghost use Rattle.book_trees.specs.LedgerFiles.{image_of, page_size, HoldsBooks, trees_held};
 ghost use Rattle.book_trees.specs.Looks.{IsUnopenedLook};
-ghost use Rattle.book_trees.specs.Refusals.{faults_in, IsUnopened};
+ghost use Rattle.book_trees.specs.Refusals.{faults_in, IsUnopened, MayLeave};
 ghost use Rattle.book_trees.specs.Schema.{books_schema};
 ghost use Rattle.tree_tables.specs.Holds.{HasShapes};
 
@@ -166,6 +167,10 @@ pub fn lock_at<S: Start>(
     ensures log { IfOk result (λ files. IsTrue (⟦<FileFrom<S> as Disk>⟧.is_usable files.log)) }
     ensures db { IfOk result (λ files. IsTrue (⟦<FileFrom<S> as Disk>⟧.is_usable files.db)) }
     ensures held { IfOk result (λ files. image_of ⟦<FileFrom<S> as Disk>⟧ files ≡ image_at S.Start) }
+
+    // A stop leaves what they hold.
+    ensures kept { IfOk result (λ files. (left : Image)
+        → MayLeave ⟦<FileFrom<S> as Disk>⟧ files left → left ≡ image_at S.Start) }
     ensures cause { IfErr result IsUnopened }
 {
     match open(rt, path, start) {

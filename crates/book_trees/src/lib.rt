@@ -14,6 +14,7 @@ mod outcomes;
 mod reopening;
 mod schema;
 mod unopened;
+mod unused_logs;
 
 pub use closing::{
     Closed, LogLeft, checkpoint_log, close_books, close_unchanged, is_short, needs_no_log,
@@ -27,3 +28,4 @@ pub use opening::{open_at, open_files, open_left};
 pub use outcomes::{finds_each, leaves_books};
 pub use reopening::{close_and_open, crash_and_open, keeps_books};
 pub use schema::books_objects;
+pub use unused_logs::is_unused;

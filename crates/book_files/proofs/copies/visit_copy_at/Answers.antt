@@ -1,0 +1,96 @@
+use Rattle.std.proofs.Common.{◌≡◌, Some, inl, refl, subst, sym}
+use Rattle.sqlite_disk.specs.contracts.modelled.ModelledDisk.TheImpl as modelled
+use Rattle.sqlite_std_file.specs.contracts.host.Host.{the_row}
+use Rattle.sqlite_std_file.specs.contracts.host.HostCalls.TheImpl as host
+use Rattle.sqlite_store.specs.FileStore.{view}
+use Rattle.sqlite_wal.specs.Files.{image_at}
+use Rattle.sqlite_wal.specs.Recovery.{Image}
+use Rattle.book_core.specs.Transition.{Transition}
+use Rattle.book_restarts.specs.FileBooks.{GoesOn, done_by, file_names}
+use Rattle.book_trees.specs.LedgerFiles.{HoldsBooks, trees_held}
+use Rattle.book_files.specs.Faults.{HasNoCopyFor, IsWithoutFiles, open_fault}
+use Rattle.book_files.specs.Sessions.{AreHonest, MayFollow}
+use Rattle.book_files.specs.declared.copies.CopyFault.TheVariants as copies
+use Rattle.book_files.specs.declared.session.Ended.TheVariants.{Closed, Refused}
+use Rattle.book_files.proofs.Causes.{mapped_came, mapped_err, mapped_ok, uncopied_cause}
+use Rattle.book_files.proofs.Causes.{visited_cause, without_files}
+use Rattle.book_files.proofs.SessionParts.{done_answered, session_goes_on, were_only_read}
+use Rattle.book_files.proofs.SessionParts.{where_answered}
+use Rattle.book_files.proofs.copies.visit_copy_at.Goals as goal
+
+pub returns-in-Ok-copy_to-clause-history : goal.returns-in-Ok-copy_to-clause-history
+returns-in-Ok-copy_to-clause-history g c =
+    let one = modelled.ghosts the_row g.row.S host.ghosts host.dict g.S.Start g.S.Start-dict
+    g.S.Destruct-dict in
+    let two = modelled.ghosts the_row g.row.T host.ghosts host.dict g.T.Start g.T.Start-dict
+    g.T.Destruct-dict in
+    let visited = c.visit_and_close-opened in
+    let work = g.V.Visit.work file_names c.args.visit.now visited.new.visit in
+    let original = Some c.copy_to.new.from in
+    let copy = Closed visited.result.1 in
+    let first = image_at g.S.Start in
+    mapped_ok (λ answer. AreHonest one original → (image : Image) → MayFollow two copy image
+    → GoesOn file_names (work answer) first image) copies.Refused visited.result.0 c.map_err.result
+    c.map_err.ensures.cases
+    (where_answered work (λ (Made : Transition). AreHonest one original → (image : Image)
+    → MayFollow two copy image → GoesOn file_names Made first image) visited.result.0
+    (λ honest image may. session_goes_on file_names (done_by work visited.result.0) first image
+    c.in-Ok-copy_to.store c.in-Ok-copy_to.ensures.ready
+    (λ clean. subst (λ (i : Image). (held : HoldsBooks i) → (view c.in-Ok-copy_to.store).trees
+    ≡ trees_held held) c.in-Ok.ensures.held (c.in-Ok-copy_to.ensures.found clean honest))
+    (done_answered work file_names
+    (g.met.V.Visit.answered file_names c.args.visit.now visited.new.visit) visited.result.0)
+    (λ book stands. visited.ensures.left may.0 book stands image may.1)))
+
+pub returns-in-Ok-copy_to-clause-original : goal.returns-in-Ok-copy_to-clause-original
+returns-in-Ok-copy_to-clause-original g c =
+    were_only_read (modelled.ghosts the_row g.row.S host.ghosts host.dict g.S.Start g.S.Start-dict
+    g.S.Destruct-dict) (λ file. inl refl) (image_at g.S.Start) c.in-Ok.files c.copy_to.new.from
+    c.in-Ok.ensures.kept c.copy_to.ensures.read
+
+pub returns-in-Err-copy_to-clause-original : goal.returns-in-Err-copy_to-clause-original
+returns-in-Err-copy_to-clause-original g c =
+    were_only_read (modelled.ghosts the_row g.row.S host.ghosts host.dict g.S.Start g.S.Start-dict
+    g.S.Destruct-dict) (λ file. inl refl) (image_at g.S.Start) c.in-Ok.files c.copy_to.new.from
+    c.in-Ok.ensures.kept c.copy_to.ensures.read
+
+pub returns-in-Ok-copy_to-clause-came : goal.returns-in-Ok-copy_to-clause-came
+returns-in-Ok-copy_to-clause-came g c =
+    let visited = c.visit_and_close-opened in
+    mapped_came (g.V.Visit.comes c.args.visit.now visited.new.visit)
+    (visited.new.visit ≡ c.args.visit.now) copies.Refused visited.result.0 c.map_err.result
+    c.map_err.ensures.cases visited.ensures.came
+
+pub returns-in-Err-clause-cause : goal.returns-in-Err-clause-cause
+returns-in-Err-clause-cause g c =
+    subst IsWithoutFiles (sym c.refused.ensures)
+    (without_files open_fault refl refl refl c.in-Err.fault c.in-Err.ensures.cause)
+
+pub returns-in-Err-copy_to-clause-cause : goal.returns-in-Err-copy_to-clause-cause
+returns-in-Err-copy_to-clause-cause g c =
+    let one = modelled.ghosts the_row g.row.S host.ghosts host.dict g.S.Start g.S.Start-dict
+    g.S.Destruct-dict in
+    let two = modelled.ghosts the_row g.row.T host.ghosts host.dict g.T.Start g.T.Start-dict
+    g.T.Destruct-dict in
+    let original = c.copy_to.new.from in
+    let copy = c.in-Err-copy_to.copies in
+    subst (λ fault. HasNoCopyFor one two (image_at g.S.Start) fault (Some original) (Refused copy))
+    (sym c.copy_fault.ensures)
+    (uncopied_cause one two (image_at g.S.Start) c.in-Ok.files original c.in-Ok.ensures.held
+    c.in-Err-copy_to.fault copy c.in-Err-copy_to.ensures.cause)
+
+pub returns-in-Ok-copy_to-clause-cause : goal.returns-in-Ok-copy_to-clause-cause
+returns-in-Ok-copy_to-clause-cause g c =
+    let one = modelled.ghosts the_row g.row.S host.ghosts host.dict g.S.Start g.S.Start-dict
+    g.S.Destruct-dict in
+    let two = modelled.ghosts the_row g.row.T host.ghosts host.dict g.T.Start g.T.Start-dict
+    g.T.Destruct-dict in
+    let visited = c.visit_and_close-opened in
+    let store = c.in-Ok-copy_to.store in
+    mapped_err (λ fault. HasNoCopyFor one two (image_at g.S.Start) fault (Some c.copy_to.new.from)
+    (Closed visited.result.1)) copies.Refused visited.result.0 c.map_err.result c.map_err.ensures.cases
+    visited.ensures.cause (λ fault cause honest clean.
+    visited_cause file_names (image_at g.S.Start) store c.in-Ok-copy_to.ensures.ready
+    (λ clean. subst (λ (i : Image). (held : HoldsBooks i) → (view store).trees ≡ trees_held held)
+    c.in-Ok.ensures.held (c.in-Ok-copy_to.ensures.found clean honest))
+    (visited.ensures.clean clean) _ fault (cause clean))

@@ -1,0 +1,53 @@
+//! What a visit would make of books is tried on a copy of them, which is removed.
+
+ghost use Rattle.std.specs.Prelude.{◌≡◌};
+ghost use Rattle.office.specs.Shelves.{ComesBy};
+
+use crate::copies::{Copied, tried_answer, visit_copy_at};
+use crate::log::Log;
+use crate::repository::{Files, failed, released, unopened, without_log};
+use office::{Opened, RepositoryFault, Visit};
+use sqlite_disk::Unknown;
+use std::fs;
+
+impl Files<'_> {
+    /// Visits a copy of the books of a file, made while nobody else has them. They are only read. The
+    /// copy lies beside them, and is removed however the visit ends.
+    pub(crate) fn try_out_books<V: Visit>(&self, book: &str, visit: &mut V) -> Opened<V::Answer>
+        ensures came { ComesBy (V.Visit.comes visit.old visit.new) (visit.new ≡ visit.old)
+            result.answer }
+    {
+        let (log, seed) = match self.begin_with(book) {
+            Ok(begun) => begun,
+            Err(fault) => return without_log(Err(fault)),
+        };
+        let (begun, begun_log) = match self.begin_trial(book) {
+            Ok(begun) => begun,
+            Err(fault) => return unopened(&log, fault),
+        };
+        let Copied {
+            answer,
+            original,
+            copy,
+        } = visit_copy_at(self.rt, book, Unknown, begun.as_str(), Unknown, seed, visit);
+        let answer = released(&begun_log, tried_answer(answer), copy).answer;
+        begun_log.remove();
+        let _ = fs::remove_file(self.rt, begun.as_str());
+        // Until here nobody else has the books, nor begins a copy.
+        let has_log = log.leave(original);
+        Opened { answer, has_log }
+    }
+
+    /// Makes the file in which a copy is tried, and says its name and its log. Nothing may have that
+    /// name: what a stopped dry run left there may be somebody's as well.
+    fn begin_trial(&self, book: &str) -> Result<(String, Log<'_>), RepositoryFault> {
+        let begun = self.begin_beside(book, "try")?;
+        match Log::of(self.rt, begun.as_str()) {
+            Ok(begun_log) => Ok((begun, begun_log)),
+            Err(error) => {
+                let _ = fs::remove_file(self.rt, begun.as_str());
+                Err(failed(&error))
+            }
+        }
+    }
+}

@@ -1,0 +1,119 @@
+-- A log of which recovery takes nothing: the file alone holds the same tables.
+use Rattle.std.proofs.Common.{◌≡◌, ◌∙◌, ◌==◌, ◌<◌, ◌↔◌, [], IsTrue, List, ap, arith, inl, inr, length}
+use Rattle.std.proofs.Common.{Err, Ok, Result, refl, subst, sym, true≢false, ℕ, Bool}
+use Rattle.std.specs.Prelude.{IfErr, IfOk, ⊤}
+use Rattle.sqlite_wal.proofs.FileLemmas.{pages_without_frames}
+use Rattle.sqlite_wal.proofs.RecoveryLemmas.{replays_once}
+use Rattle.sqlite_disk.specs.declared.Disk.{Ghosts}
+use Rattle.sqlite_wal.specs.Opening.{RefusesLog}
+use Rattle.sqlite_wal.specs.Outcome as wal
+use Rattle.sqlite_wal.specs.Reads.{OnlyReads}
+use Rattle.sqlite_wal.specs.Recovery as raw
+use Rattle.sqlite_wal.specs.Recovery.{Image, Pages, Replays, pages_after}
+use Rattle.sqlite_wal.specs.declared.error.Error.{Error}
+use Rattle.sqlite_wal.specs.declared.error.Error.TheVariants.{Io, OutOfMemory, Closed, NoSuchPage}
+use Rattle.sqlite_wal.specs.declared.error.Error.TheVariants.{Full, Corrupt, Exists}
+use Rattle.book_trees.specs.Copies.{IsOnlyRead}
+use Rattle.book_trees.specs.LedgerFiles.{page_size, shortest_log, without_log}
+use Rattle.book_trees.specs.LedgerFiles.{HoldsBooks, IsHugeLog, trees_held}
+use Rattle.book_trees.specs.Refusals.{probe_answer, HasCause}
+
+-- the file alone stands for the same pages
+recovers_alone : (size : ℕ) (image : Image) (pages : Pages) → Replays size image.log 0
+    → raw.Recovers size image pages → raw.Recovers size (without_log image) pages
+recovers_alone size image pages none found =
+    let same = replays_once size image.log found.frames 0 found.replays none in
+    record {
+      frames = 0;
+      replays = inl (inl (omega arith), refl);
+      present = found.present;
+      gives = pages_without_frames size [] image.log image.db
+          ∙ ap (λ k. pages_after size image.log image.db k) (sym same) ∙ found.gives;
+    }
+
+-- and holds the same books
+pub unused_alone : (image : Image) → Replays page_size image.log 0 → (held : HoldsBooks image)
+    → (alone : HoldsBooks (without_log image)) × (trees_held alone ≡ trees_held held)
+unused_alone image none held =
+    let found = held.found in (
+      record {
+        pages = held.pages;
+        found = record {
+          stored = found.stored;
+          found = recovers_alone _ image found.stored none found.found;
+          whole = found.whole;
+          sealed = found.sealed;
+          shows = found.shows;
+          present = found.present;
+        };
+        file = held.file;
+      },
+      refl,
+    )
+
+-- so it does where the log is too short for a page
+pub short_alone : (image : Image) → length image.log < shortest_log → (held : HoldsBooks image)
+    → (alone : HoldsBooks (without_log image)) × (trees_held alone ≡ trees_held held)
+short_alone image short held = unused_alone image (inl (inl short, refl)) held
+
+-- a log that was read, as files are that are copied
+pub only_read : {D : Type 0} {g : Ghosts D} (one two : D) → OnlyReads g one two → IsOnlyRead g one two
+only_read one two read = record { seen = read.seen; clean = read.clean; crash = read.crash }
+
+-- so where recovery is said to take nothing of it the file alone holds the same books
+pub passed_alone : {E : Type 0} (Clean : Type 0) (log read : List ℕ) (result : Result Bool E)
+    → read ≡ log → IfOk result (λ is. Clean → (IsTrue is ↔ Replays page_size read 0))
+    → IfOk result (λ is. Clean → IsTrue is → (image : Image) → image.log ≡ log
+    → (held : HoldsBooks image)
+    → (alone : HoldsBooks (without_log image)) × (trees_held alone ≡ trees_held held))
+passed_alone Clean log read (Ok is) whole told = λ clean yes image same held.
+    unused_alone image
+    (subst (λ log. Replays page_size log 0) (whole ∙ sym same) ((told clean).0 yes)) held
+passed_alone Clean log read (Err error) whole told = tt
+
+-- recovery takes as many frames as it lists, so it takes none where it lists none
+pub lists_none : (size : ℕ) (log numbers : List ℕ) (many : ℕ) (is : Bool) → is ≡ (many == 0)
+    → many ≡ length numbers → Replays size log (length numbers) → IsTrue is ↔ Replays size log 0
+lists_none size log numbers many is told same replays = (
+  λ none. subst (Replays size log) (grind (arith, told, none, same)) replays,
+  λ none.
+      let once = replays_once size log (length numbers) 0 replays none in
+      grind (arith, told, once, same),
+)
+
+-- what an error of recovery says of a log, where no disk lied
+module _ (Clean : Type 0) (old new : ℕ) (log : List ℕ) where
+  -- a log that recovery refuses it does not pass over
+  pub none_refused : (error : Error) → (Clean → wal.HasCause old new (RefusesLog page_size log) error)
+      → IfOk (probe_answer error) (λ is. Clean → (IsTrue is ↔ Replays page_size log 0))
+  none_refused Corrupt cause = λ clean. (
+    λ is. absurd (true≢false (sym is)),
+    λ none. elim (cause clean) [
+      | inl refused ↦ absurd (refused.1 0 none)
+      | inr full ↦ absurd (let same = full.0 in cc)
+    ],
+  )
+  none_refused other cause = tt
+
+  -- and any other error has its cause
+  pub cause_refused : (error : Error) → (Clean → wal.HasCause old new (RefusesLog page_size log) error)
+      → IfErr (probe_answer error) (λ fault. Clean → HasCause old new (IsHugeLog log) ⊤ fault)
+  cause_refused (Io error) cause = λ clean. inl (cause clean)
+  cause_refused OutOfMemory cause = λ clean. tt
+  cause_refused Corrupt cause = tt
+  cause_refused Full cause = λ clean. elim (cause clean) [
+    | inl refused ↦ absurd (let same = refused.0 in cc)
+    | inr full ↦ inr full.1
+  ]
+  cause_refused Closed cause = λ clean. elim (cause clean) [
+    | inl refused ↦ absurd (let same = refused.0 in cc)
+    | inr full ↦ absurd (let same = full.0 in cc)
+  ]
+  cause_refused NoSuchPage cause = λ clean. elim (cause clean) [
+    | inl refused ↦ absurd (let same = refused.0 in cc)
+    | inr full ↦ absurd (let same = full.0 in cc)
+  ]
+  cause_refused Exists cause = λ clean. elim (cause clean) [
+    | inl refused ↦ absurd (let same = refused.0 in cc)
+    | inr full ↦ absurd (let same = full.0 in cc)
+  ]

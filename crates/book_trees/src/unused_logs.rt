@@ -1,0 +1,71 @@
+//! A log of which books take nothing.
+
+ghost use Rattle.std.specs.Prelude.{◌≡◌, ◌↔◌, ◌≤◌, IfErr, IfOk, IsTrue, ⊤};
+ghost use Rattle.sqlite_wal.specs.Reads.{IsClean};
+ghost use Rattle.sqlite_wal.specs.Recovery.{Image, Replays};
+ghost use Rattle.book_trees.specs.Copies.{IsOnlyRead};
+ghost use Rattle.book_trees.specs.LedgerFiles.{page_size, without_log, HoldsBooks, IsHugeLog};
+ghost use Rattle.book_trees.specs.LedgerFiles.{IsUnused, trees_held};
+ghost use Rattle.book_trees.specs.Refusals.{probe_answer, HasCause};
+
+use crate::faults::OpenFault;
+use crate::unopened::size_of_a_page;
+use sqlite_disk::Disk;
+use sqlite_wal::{Error, probe_frames};
+use std::alloc::Global;
+
+/// The length of what a close leaves of a log: its header, and what shuts it.
+const CLOSED_LOG: usize = 41;
+
+/// Whether recovery passes over a log of which it does not say what it would take.
+fn probe_answer(error: Error) -> Result<bool, OpenFault>
+    ensures { result ≡ probe_answer error }
+{
+    match error {
+        Error::Corrupt => Ok(false),
+        Error::OutOfMemory => Err(OpenFault::Memory),
+        _ => Err(OpenFault::Store),
+    }
+}
+
+/// Whether recovery passes over a log. It does not pass over one that it refuses.
+fn has_no_frame<D: Disk>(alloc: Global, log: &mut D) -> Result<bool, OpenFault>
+    requires { IsTrue (D.Disk.is_usable log.old) }
+    ensures none { IfOk result (λ is. IsClean D.Disk log.new
+        → (IsTrue is ↔ Replays page_size (D.Disk.seen log.old) 0)) }
+    ensures cause { IfErr result (λ fault. IsClean D.Disk log.new
+        → HasCause (D.Disk.faults log.old) (D.Disk.faults log.new)
+        (IsHugeLog (D.Disk.seen log.old)) ⊤ fault) }
+    ensures read { IsOnlyRead D.Disk log.old log.new }
+{
+    match probe_frames(alloc, log, size_of_a_page()) {
+        Ok(pages) => Ok(pages.is_empty()),
+        Err(error) => probe_answer(error),
+    }
+}
+
+/// Whether a log is longer than what a close leaves, and recovery passes over it. The file alone then
+/// holds the same tables. Nothing is written; an open would write over such a log.
+pub fn is_unused<D: Disk>(alloc: Global, log: &mut D) -> Result<bool, OpenFault>
+    requires { IsTrue (D.Disk.is_usable log.old) }
+    ensures unused { IfOk result (λ is. IsClean D.Disk log.new
+        → (IsTrue is ↔ IsUnused (D.Disk.seen log.old))) }
+    ensures alone { IfOk result (λ is. IsClean D.Disk log.new → IsTrue is → (image : Image)
+        → image.log ≡ D.Disk.seen log.old → (held : HoldsBooks image)
+        → (alone : HoldsBooks (without_log image)) × (trees_held alone ≡ trees_held held)) }
+
+    // It has no answer only because of memory and the disk.
+    ensures cause { IfErr result (λ fault. IsClean D.Disk log.new
+        → HasCause (D.Disk.faults log.old) (D.Disk.faults log.new)
+        (IsHugeLog (D.Disk.seen log.old)) ⊤ fault) }
+    ensures read { IsOnlyRead D.Disk log.old log.new }
+{
+    let len = match log.len() {
+        Ok(len) => len,
+        Err(_error) => return Err(OpenFault::Store),
+    };
+    if len <= CLOSED_LOG {
+        return Ok(false);
+    }
+    has_no_frame(alloc, log)
+}
