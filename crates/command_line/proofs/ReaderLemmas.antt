@@ -19,10 +19,13 @@ use Rattle.clap.specs.declared.parser.matches.SubCommand.{SubCommand}
 use Rattle.clap.proofs.CallerReads.{signed_reads}
 use Rattle.std.specs.Box.{box_value}
 use Rattle.command_line.specs.Given.{HasNumber, HasRate, NoneIs}
-use Rattle.command_line.specs.Requests.{IsCentre, IsFlag, IsLeftOut, IsNumber, IsOfCommand, IsRequest}
-use Rattle.command_line.specs.Requests.{IsText, Writes, has_plain_period, is_of_period_text}
+use Rattle.command_line.specs.Requests.{IsCentre, IsDryRun, IsFlag, IsLeftOut, IsNumber, IsOfBooks}
+use Rattle.command_line.specs.Requests.{IsOfCommand, IsRequest, IsRuling, IsText, Writes}
+use Rattle.command_line.specs.Requests.{has_plain_period, is_of_period_text, request_of}
 use Rattle.command_line.specs.declared.request.Request.{Request}
 use Rattle.command_line.specs.declared.request.Request.TheVariants as request
+use Rattle.command_line.specs.declared.request.Ruling.{Ruling}
+use Rattle.command_line.specs.declared.request.Ruling.TheVariants as ruling
 use Rattle.command_line.specs.declared.request.Unclear.TheVariants as unclear
 use Rattle.command_line.proofs.RowLemmas.{none_some, true_false}
 
@@ -192,6 +195,16 @@ module _ {Z : Type 0} where
   none_met P None named met = met
   none_met P (Some b) named met = none_some _ named
 
+-- ---- a ruling
+
+-- where no dry run is asked for, the ruling itself is
+pub ruling_asked : (name : Text) (rows : List Row) (ruled : Ruling) → IsRuling name rows ruled
+    → IsDryRun rows false → IsOfBooks name rows (request_of ruled)
+ruling_asked name rows (ruling.Tariff file) is plain = (is, plain)
+ruling_asked name rows (ruling.Close period date) is plain = (is, plain)
+ruling_asked name rows (ruling.Choose digest) is plain = (is, plain)
+ruling_asked name rows ruling.Adopt is plain = (is, plain)
+
 -- ---- a period
 
 -- a request whose period is written plainly is no other
@@ -209,6 +222,7 @@ plain_request name rows asked command plain =
     go (request.OfBooks path book) command = plain
     go (request.Unclear unclear.Choice) command = plain
     go (request.Unclear unclear.Prices) command = plain
+    go (request.Unclear unclear.DryRun) command = plain
     go (request.Unclear unclear.Period) command = command
 
 pub plain_read : (name : Text) (rows : List Row) (read : Option Request)

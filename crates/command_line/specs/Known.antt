@@ -77,7 +77,8 @@ names = maybe (codes "from") any
 
 abbrev pub number_kind : WordSeen
 number_kind = place (codes "kind") (among (codes "frame" ∷ codes "ledger" ∷ codes "tariff"
-    ∷ codes "damaged" ∷ codes "log" ∷ []))
+    ∷ codes "damaged" ∷ codes "io" ∷ codes "busy" ∷ codes "exists" ∷ codes "word"
+    ∷ codes "unsound" ∷ codes "log" ∷ codes "layout" ∷ codes "far" ∷ []))
 
 abbrev pub kind_number : WordSeen
 kind_number = last (codes "number") number (codes "0")
@@ -101,6 +102,9 @@ prices = maybe (codes "tariff") any
 abbrev pub quiet : WordSeen
 quiet = flag (codes "quiet")
 
+abbrev pub dry_run : WordSeen
+dry_run = flag (codes "dry-run")
+
 abbrev pub csv : WordSeen
 csv = flag (codes "csv")
 
@@ -115,11 +119,11 @@ known_table = (
 ) ∷
     (codes "check", layouts ∷ quiet ∷ file ∷ []) ∷
     (codes "init", book ∷ []) ∷
-    (codes "tariff", book ∷ file ∷ []) ∷
+    (codes "tariff", book ∷ file ∷ dry_run ∷ []) ∷
     (codes "import", book ∷ file ∷ layouts ∷ quiet ∷ []) ∷
-    (codes "close", book ∷ period ∷ date ∷ []) ∷
-    (codes "choose", book ∷ digest ∷ names ∷ []) ∷
-    (codes "adopt", book ∷ []) ∷
+    (codes "close", book ∷ period ∷ date ∷ dry_run ∷ []) ∷
+    (codes "choose", book ∷ digest ∷ names ∷ dry_run ∷ []) ∷
+    (codes "adopt", book ∷ dry_run ∷ []) ∷
     (codes "statement", book ∷ period ∷ csv ∷ centre ∷ prices ∷ []) ∷
     (codes "adjustments", book ∷ period ∷ csv ∷ centre ∷ []) ∷
     (codes "disputes", book ∷ csv ∷ []) ∷

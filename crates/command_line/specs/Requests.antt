@@ -21,6 +21,8 @@ use Rattle.command_line.specs.declared.request.NumberKind.{NumberKind}
 use Rattle.command_line.specs.declared.request.NumberKind.TheVariants as number
 use Rattle.command_line.specs.declared.request.Request.{Request}
 use Rattle.command_line.specs.declared.request.Request.TheVariants as request
+use Rattle.command_line.specs.declared.request.Ruling.{Ruling}
+use Rattle.command_line.specs.declared.request.Ruling.TheVariants as ruling
 use Rattle.command_line.specs.declared.request.Unclear.{Unclear}
 use Rattle.command_line.specs.declared.request.Unclear.TheVariants as unclear
 
@@ -52,7 +54,7 @@ IsGiven rows name = IsSome (first_of name rows)
 abbrev pub IsLeftOut : List Row → Text → Type 0
 IsLeftOut rows name = first_of name rows ≡ None
 
--- the words for layouts and for kinds of numbers
+-- the words for layouts, and for kinds of numbers and what has none
 abbrev pub layout_text : Layout → Text
 layout_text Rdw = codes "rdw"
 layout_text Bdw = codes "bdw"
@@ -62,7 +64,14 @@ kind_text number.Frame = codes "frame"
 kind_text number.Ledger = codes "ledger"
 kind_text number.Tariff = codes "tariff"
 kind_text number.Damaged = codes "damaged"
+kind_text number.Io = codes "io"
+kind_text number.Busy = codes "busy"
+kind_text number.Exists = codes "exists"
+kind_text number.Word = codes "word"
+kind_text number.Unsound = codes "unsound"
 kind_text number.Log = codes "log"
+kind_text number.Layout = codes "layout"
+kind_text number.Far = codes "far"
 
 abbrev pub IsLayout : List Row → Layout → Type 0
 IsLayout rows value = first_of (codes "layout") rows ≡ Some (layout_text value)
@@ -104,22 +113,44 @@ is_table form.Table = true
 abbrev pub IsForm : List Row → StatementForm → Type 0
 IsForm rows value = IsFlag rows (codes "csv") (is_table value)
 
+-- a ruling
+abbrev pub IsRuling : Text → List Row → Ruling → Type 0
+IsRuling name rows (ruling.Tariff file) =
+    (name ≡ codes "tariff") × IsText rows (codes "file") file
+IsRuling name rows (ruling.Close period date) =
+    (name ≡ codes "close") × IsNumber rows (codes "period") period
+    × IsText rows (codes "date") date
+IsRuling name rows (ruling.Choose digest) =
+    (name ≡ codes "choose") × IsText rows (codes "sha256") digest
+    × IsLeftOut rows (codes "from")
+IsRuling name rows ruling.Adopt = name ≡ codes "adopt"
+
+-- the request to rule so
+abbrev pub request_of : Ruling → BookRequest
+request_of (ruling.Tariff file) = book.Tariff file
+request_of (ruling.Close period date) = book.Close period date
+request_of (ruling.Choose digest) = book.Choose digest
+request_of ruling.Adopt = book.Adopt
+
+-- whether only what would change is asked for
+abbrev pub IsDryRun : List Row → Bool → Type 0
+IsDryRun rows value = IsFlag rows (codes "dry-run") value
+
 -- what is asked of books
 abbrev pub IsOfBooks : Text → List Row → BookRequest → Type 0
 IsOfBooks name rows book.Init = name ≡ codes "init"
 IsOfBooks name rows (book.Tariff file) =
-    (name ≡ codes "tariff") × IsText rows (codes "file") file
+    IsRuling name rows (ruling.Tariff file) × IsDryRun rows false
 IsOfBooks name rows (book.Import dump) = (name ≡ codes "import") × IsDump rows dump
 IsOfBooks name rows (book.Close period date) =
-    (name ≡ codes "close") × IsNumber rows (codes "period") period
-    × IsText rows (codes "date") date
+    IsRuling name rows (ruling.Close period date) × IsDryRun rows false
 IsOfBooks name rows (book.Choose digest) =
-    (name ≡ codes "choose") × IsText rows (codes "sha256") digest
-    × IsLeftOut rows (codes "from")
+    IsRuling name rows (ruling.Choose digest) × IsDryRun rows false
 IsOfBooks name rows (book.ChooseListed file) =
     (name ≡ codes "choose") × IsLeftOut rows (codes "sha256")
-    × IsText rows (codes "from") file
-IsOfBooks name rows book.Adopt = name ≡ codes "adopt"
+    × IsText rows (codes "from") file × IsDryRun rows false
+IsOfBooks name rows book.Adopt = IsRuling name rows ruling.Adopt × IsDryRun rows false
+IsOfBooks name rows (book.DryRun ruled) = IsRuling name rows ruled × IsDryRun rows true
 IsOfBooks name rows (book.OfPeriod asked period centre) =
     IsOfPeriod name rows asked period × IsCentre rows centre
 IsOfBooks name rows (book.WhatIf form period centre file) =
@@ -175,6 +206,9 @@ IsUnclear name rows unclear.Choice =
 IsUnclear name rows unclear.Prices =
     (name ≡ codes "trial") × IsGiven rows (codes "tariff") × NamesRate rows
 IsUnclear name rows unclear.Period = has_plain_period rows ≡ false
+IsUnclear name rows unclear.DryRun =
+    (name ≡ codes "choose") × IsLeftOut rows (codes "sha256") × IsGiven rows (codes "from")
+    × IsDryRun rows true
 
 -- what is asked of the program, by the words of a command
 abbrev pub IsOfCommand : Text → List Row → Request → Type 0

@@ -135,6 +135,11 @@ const QUIET: Argument = Argument::Flag {
     help: "Shows no progress on a terminal",
 };
 
+const DRY_RUN: Argument = Argument::Flag {
+    name: "dry-run",
+    help: "Prints what would change, and changes nothing",
+};
+
 const CSV: Argument = Argument::Flag {
     name: "csv",
     help: "As comma-separated values, without the total",
@@ -213,15 +218,18 @@ const REQUESTS: Argument = Argument::Named(ValuedArgument {
 const NUMBER_KIND: Argument = Argument::InPlace(ValuedArgument {
     name: "kind",
     shown: "KIND",
-    help: "What kind of number it is, or the word log",
-    kind: ValueKind::OneOf(&["frame", "ledger", "tariff", "damaged", "log"]),
+    help: "What kind of number it is, or a word that has none",
+    kind: ValueKind::OneOf(&[
+        "frame", "ledger", "tariff", "damaged", "io", "busy", "exists", "word", "unsound", "log",
+        "layout", "far",
+    ]),
 });
 
 const NUMBER: Argument = Argument::Last(
     ValuedArgument {
         name: "number",
         shown: "NUMBER",
-        help: "The number on standard error or in a list; the word log has none",
+        help: "The number on standard error or in a list; a word has none",
         kind: ValueKind::Number,
     },
     "0",
@@ -247,7 +255,7 @@ pub(crate) static KNOWN_COMMANDS: [KnownCommand; 18] = [
     KnownCommand {
         name: "tariff",
         about: "Puts a tariff in force from its first day on",
-        words: &[BOOK, TARIFF],
+        words: &[BOOK, TARIFF, DRY_RUN],
     },
     KnownCommand {
         name: "import",
@@ -257,17 +265,17 @@ pub(crate) static KNOWN_COMMANDS: [KnownCommand; 18] = [
     KnownCommand {
         name: "close",
         about: "Closes the open period through a day",
-        words: &[BOOK, PERIOD, DATE],
+        words: &[BOOK, PERIOD, DATE, DRY_RUN],
     },
     KnownCommand {
         name: "choose",
         about: "Charges one of several records in dispute with each other, and none of the others",
-        words: &[BOOK, SHA256, NAMES],
+        words: &[BOOK, SHA256, NAMES, DRY_RUN],
     },
     KnownCommand {
         name: "adopt",
         about: "Adopts identity rule 2, for ever",
-        words: &[BOOK],
+        words: &[BOOK, DRY_RUN],
     },
     KnownCommand {
         name: "statement",

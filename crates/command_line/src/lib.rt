@@ -10,4 +10,4 @@ mod request;
 
 pub use command_line::requested_by;
 pub use fault::ArgumentFault;
-pub use request::{BookRequest, DumpFile, NumberKind, Request, Unclear};
+pub use request::{BookRequest, DumpFile, NumberKind, Request, Ruling, Unclear};

@@ -8,10 +8,11 @@ ghost use Rattle.command_line.specs.Given.{NoneIs};
 ghost use Rattle.command_line.specs.Known as known;
 ghost use Rattle.command_line.specs.Requests.{IsDump, IsFlag, IsForm, IsKind, IsLayout};
 ghost use Rattle.command_line.specs.Requests.{IsLeftOut, IsNumber, IsOfBooks, IsOfPeriod};
-ghost use Rattle.command_line.specs.Requests.{IsOfCommand, IsRequest, IsText, is_table, rows_in};
+ghost use Rattle.command_line.specs.Requests.{IsOfCommand, IsRequest, IsRuling, IsText, is_table};
+ghost use Rattle.command_line.specs.Requests.{rows_in};
 ghost use Rattle.command_line.specs.Requests as spec;
 
-use crate::request::{BookRequest, DumpFile, NumberKind, Request, Unclear};
+use crate::request::{BookRequest, DumpFile, NumberKind, Request, Ruling, Unclear};
 use book_reports::{PeriodReport, StatementForm};
 use clap::ArgMatches;
 use smf_frames::Layout;
@@ -73,7 +74,7 @@ fn change_in<'a>(name: &str, found: &ArgMatches<'a>) -> Option<Request<'a>>
         "import" => of_books_in(found, import_in(found)),
         "close" => of_books_in(found, close_in(found)),
         "choose" => choice_in(found),
-        "adopt" => of_books_in(found, Some(BookRequest::Adopt)),
+        "adopt" => of_books_in(found, ruling_in(found, Ruling::Adopt)),
         _ => service_in(name, found),
     }
 }
@@ -233,37 +234,69 @@ fn import_in<'a>(found: &ArgMatches<'a>) -> Option<BookRequest<'a>>
 
 fn tariff_in<'a>(found: &ArgMatches<'a>) -> Option<BookRequest<'a>>
     ensures asked { IfSome result (IsOfBooks (codes "tariff") (rows_in found.now)) }
-    ensures some { HasWord (rows_in found.now) known.file → IsSome result }
+    ensures some { HasWord (rows_in found.now) known.file
+        → HasWord (rows_in found.now) known.dry_run → IsSome result }
 {
     let file = text_in(found, "file")?;
-    Some(BookRequest::Tariff { file })
+    ruling_in(found, Ruling::Tariff { file })
 }
 
 fn close_in<'a>(found: &ArgMatches<'a>) -> Option<BookRequest<'a>>
     ensures asked { IfSome result (IsOfBooks (codes "close") (rows_in found.now)) }
     ensures some { HasWord (rows_in found.now) known.period
-        → HasWord (rows_in found.now) known.date → IsSome result }
+        → HasWord (rows_in found.now) known.date
+        → HasWord (rows_in found.now) known.dry_run → IsSome result }
 {
     let period = number_in(found, "period")?;
     let date = text_in(found, "date")?;
-    Some(BookRequest::Close { period, date })
+    ruling_in(found, Ruling::Close { period, date })
+}
+
+/// The ruling, or a dry run of it.
+#[tactic(auto, using(crate::proofs::ReaderLemmas::ruling_asked))]
+fn ruling_in<'a>(found: &ArgMatches<'_>, ruling: Ruling<'a>) -> Option<BookRequest<'a>>
+    ensures asked { (name : _) → IsRuling name (rows_in found.now) ruling.entry
+        → IfSome result (IsOfBooks name (rows_in found.now)) }
+    ensures some { HasWord (rows_in found.now) known.dry_run → IsSome result }
+{
+    if flag_in(found, "dry-run")? {
+        Some(BookRequest::DryRun(ruling))
+    } else {
+        Some(ruling.request())
+    }
 }
 
 /// One choice, or those of the list that is named. With both, or neither, it is unclear.
 fn choice_in<'a>(found: &ArgMatches<'a>) -> Option<Request<'a>>
     ensures request { IfSome result (IsOfCommand (codes "choose") (rows_in found.now)) }
-    ensures some { HasWord (rows_in found.now) known.book → IsSome result }
+    ensures some { HasWord (rows_in found.now) known.book
+        → HasWord (rows_in found.now) known.dry_run → IsSome result }
 {
     let unclear = Some(Request::Unclear(Unclear::Choice));
     match text_in(found, "sha256") {
         Some(name) => match text_in(found, "from") {
             Some(_) => unclear,
-            None => of_books_in(found, Some(BookRequest::Choose { name })),
+            None => of_books_in(found, ruling_in(found, Ruling::Choose { name })),
         },
         None => match text_in(found, "from") {
-            Some(file) => of_books_in(found, Some(BookRequest::ChooseListed { file })),
+            Some(file) => listed_in(found, file),
             None => unclear,
         },
+    }
+}
+
+/// The choices of a list. A dry run is not of them.
+fn listed_in<'a>(found: &ArgMatches<'a>, file: &'a str) -> Option<Request<'a>>
+    ensures request { IsLeftOut (rows_in found.now) (codes "sha256")
+        → IsText (rows_in found.now) (codes "from") file.entry
+        → IfSome result (IsOfCommand (codes "choose") (rows_in found.now)) }
+    ensures some { HasWord (rows_in found.now) known.book
+        → HasWord (rows_in found.now) known.dry_run → IsSome result }
+{
+    if flag_in(found, "dry-run")? {
+        Some(Request::Unclear(Unclear::DryRun))
+    } else {
+        of_books_in(found, Some(BookRequest::ChooseListed { file }))
     }
 }
 
@@ -420,7 +453,14 @@ fn kind_in(found: &ArgMatches<'_>) -> Option<NumberKind>
         "ledger" => Some(NumberKind::Ledger),
         "tariff" => Some(NumberKind::Tariff),
         "damaged" => Some(NumberKind::Damaged),
+        "io" => Some(NumberKind::Io),
+        "busy" => Some(NumberKind::Busy),
+        "exists" => Some(NumberKind::Exists),
+        "word" => Some(NumberKind::Word),
+        "unsound" => Some(NumberKind::Unsound),
         "log" => Some(NumberKind::Log),
+        "layout" => Some(NumberKind::Layout),
+        "far" => Some(NumberKind::Far),
         _ => None,
     }
 }

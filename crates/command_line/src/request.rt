@@ -1,7 +1,11 @@
+ghost use Rattle.std.specs.Prelude.{◌≡◌};
+ghost use Rattle.command_line.specs.Requests.{request_of};
+
 use book_reports::{PeriodReport, StatementForm};
 use smf_frames::Layout;
 
-/// What kind of thing a number stands for.
+/// What kind of thing a number stands for, or a word on standard error that has none: 0 stands for
+/// none.
 #[derive(Clone, Copy)]
 pub enum NumberKind {
     /// A fault of a dump's framing.
@@ -12,8 +16,22 @@ pub enum NumberKind {
     Tariff,
     /// What is wrong with a damaged record.
     Damaged,
-    /// The log that a command left beside books, which has no number: 0 stands for none.
+    /// The word `io`.
+    Io,
+    /// The word `busy`.
+    Busy,
+    /// The word `exists`.
+    Exists,
+    /// The word `word`.
+    Word,
+    /// The word `unsound`.
+    Unsound,
+    /// The word `log`.
     Log,
+    /// The word `layout`.
+    Layout,
+    /// The word `far`.
+    Far,
 }
 
 /// A dump in a file.
@@ -36,6 +54,46 @@ pub enum Unclear {
     Prices,
     /// Which period: its number has a sign, or a 0 before other digits.
     Period,
+    /// What a dry run is of: it is of one choice, and a list of names is given.
+    DryRun,
+}
+
+/// A ruling on the books.
+#[derive(Clone, Copy)]
+pub enum Ruling<'a> {
+    /// A tariff file submitted.
+    Tariff {
+        /// The path of the tariff.
+        file: &'a str,
+    },
+    /// The open period closed.
+    Close {
+        /// The number of the period.
+        period: u16,
+        /// Its last day, as `YYYY-MM-DD`.
+        date: &'a str,
+    },
+    /// A record chosen among those of its identity.
+    Choose {
+        /// Its name, as 64 hexadecimal digits.
+        name: &'a str,
+    },
+    /// Identity rule 2 adopted for good.
+    Adopt,
+}
+
+impl<'a> Ruling<'a> {
+    /// The request to rule so.
+    pub fn request(self) -> BookRequest<'a>
+        ensures { result ≡ request_of self.entry }
+    {
+        match self {
+            Ruling::Tariff { file } => BookRequest::Tariff { file },
+            Ruling::Close { period, date } => BookRequest::Close { period, date },
+            Ruling::Choose { name } => BookRequest::Choose { name },
+            Ruling::Adopt => BookRequest::Adopt,
+        }
+    }
 }
 
 /// What is asked of books in a file.
@@ -69,6 +127,8 @@ pub enum BookRequest<'a> {
     },
     /// Identity rule 2 adopted for good.
     Adopt,
+    /// What a ruling would change printed, and nothing changed.
+    DryRun(Ruling<'a>),
     /// What a period has printed.
     OfPeriod {
         report: PeriodReport,

@@ -1,4 +1,4 @@
--- What a number means: the texts of the fault that has it.
+-- What a number means: the texts of the fault that has it. What a word means that has none.
 use Rattle.std.specs.Prelude.{◌≡◌, ◌≢◌, ℕ, ◌-◌, ◌==◌, List, slice_get, Option, Some, None}
 use Rattle.std.specs.Prelude.{if◌then◌else◌}
 use Rattle.smf_frames.specs.Faults.{frame_number}
@@ -7,10 +7,10 @@ use Rattle.tariff_rules.specs.Faults.{tariff_number}
 use Rattle.book_model.specs.Faults.{ledger_number}
 use Rattle.program_output.specs.declared.explanations.FaultKind.{FaultKind}
 use Rattle.program_output.specs.declared.explanations.FaultKind.TheVariants.{Frame, Ledger, Tariff}
-use Rattle.program_output.specs.declared.explanations.FaultKind.TheVariants.{Damage, Log}
+use Rattle.program_output.specs.declared.explanations.FaultKind.TheVariants.{Damage, Word}
 use Rattle.program_output.specs.declared.explanations.Explanation.{Explanation}
 use Rattle.program_output.specs.Meanings.{Texts, frame_texts, ledger_texts, tariff_texts}
-use Rattle.program_output.specs.Meanings.{damage_texts, log_texts}
+use Rattle.program_output.specs.Meanings.{damage_texts, word_texts}
 
 -- the texts of a number, where a list has those of 1, 2, 3 and so on
 abbrev pub texts_of : ℕ → List Texts → Option Texts
@@ -44,7 +44,7 @@ Explains Frame = ExplainsBy frame_number frame_texts
 Explains Ledger = ExplainsBy ledger_number ledger_texts
 Explains Tariff = ExplainsBy tariff_number tariff_texts
 Explains Damage = ExplainsBy damage_number damage_texts
-Explains Log = ExplainsWord log_texts
+Explains (Word kind) = ExplainsWord (word_texts kind)
 
 -- two numbers with the same meaning are the same
 abbrev pub MeaningsFixNumbers : List Texts → Type 0

@@ -1,7 +1,10 @@
--- What each number means, and what to do about it, in the words of `explain`: one line each.
+-- What each number and word means, and what to do about it, in the words of `explain`: one line each.
 use Rattle.std.specs.Prelude.{ℕ, List, [], ◌∷◌, ◌++◌, codes}
+use Rattle.program_output.specs.declared.words.WordKind.{WordKind}
+use Rattle.program_output.specs.declared.words.WordKind.TheVariants.{Io, Busy, Exists, Word}
+use Rattle.program_output.specs.declared.words.WordKind.TheVariants.{Unsound, Log, Layout, Far}
 
--- what a number means, and what to do
+-- what a number or a word means, and what to do
 abbrev pub Texts : Type 0
 Texts = List ℕ × List ℕ
 
@@ -261,11 +264,49 @@ damage_texts =
     ) ∷
     []
 
--- the log that a command left beside books
-unfoldable pub log_texts : Texts
-log_texts = (
-  codes "The books are in two files, BOOK and BOOK-wal, since the log BOOK-wal could "
-      ++ codes "not be brought into BOOK.",
-  codes "Keep both files together; make room on the disk, and read any report of the "
-      ++ codes "books. To copy them, use backup.",
+-- the words on standard error that have no number
+unfoldable pub word_texts : WordKind → Texts
+word_texts Io = (
+  codes "A file or the port could not be opened, or reading or writing failed.",
+  codes "Check the path, the permissions and the disk: a file may be missing, a folder or a "
+      ++ codes "second hard link, the port in use, the output full. On a terminal the path and "
+      ++ codes "the cause follow.",
+)
+word_texts Busy = (
+  codes "Another program has the books open; nothing was done.",
+  codes "Wait until it has ended, or end it if it is serve; then run the command again.",
+)
+word_texts Exists = (
+  codes "A file that the command would make is there, or a log or journal of it; or books have "
+      ++ codes "the name of a log: BOOK-wal, BOOK-journal or BOOK-shm.",
+  codes "Take another name. Rename books that have the name of a log while no command runs, and "
+      ++ codes "delete nothing before you know whose it is.",
+)
+word_texts Word = (
+  codes "What was given is no date, or no name of a record or a centre; of a list, the number "
+      ++ codes "of the line follows.",
+  codes "Write a date as 2024-01-31, and copy all 64 digits of a record's name; a centre has 1 "
+      ++ codes "to 16 characters of A to Z, 0 to 9 and the hyphen.",
+)
+word_texts Unsound = (
+  codes "An audit found the books, or a copy of them, unsound; it printed what is wrong first.",
+  codes "Restore the last sound backup, and import later dumps again; nothing is counted twice.",
+)
+word_texts Log = (
+  codes "The books are in two files, BOOK and BOOK-wal, since the log BOOK-wal could not be "
+      ++ codes "brought into BOOK; or a log of no use to them was kept aside as BOOK-wal-kept.",
+  codes "Keep both files together; make room on the disk, and read any report of the books. To "
+      ++ codes "copy them, use backup. Find out whose log BOOK-wal-kept is before you delete "
+      ++ codes "it.",
+)
+word_texts Layout = (
+  codes "The dump was read as segments one after another, and what was taken for its first "
+      ++ codes "record is a block.",
+  codes "The dump reads as blocks: give --layout bdw, and run the command again; nothing is "
+      ++ codes "counted twice.",
+)
+word_texts Far = (
+  codes "The day of a close or a tariff lies more than 366 days after the newest record's.",
+  codes "Check the year: neither can be taken back. If it is wrong, restore the backup from "
+      ++ codes "before it; --dry-run shows first what a ruling changes.",
 )

@@ -66,6 +66,14 @@ busy_line = line_of (codes "busy")
 abbrev pub log_line : List ℕ
 log_line = line_of (codes "log")
 
+-- a dump that reads as blocks was read as segments alone
+abbrev pub layout_line : List ℕ
+layout_line = line_of (codes "layout")
+
+-- a ruling is dated long after the newest record
+abbrev pub far_line : List ℕ
+far_line = line_of (codes "far")
+
 -- nothing has the number that was to be explained
 abbrev pub no_number_line : List ℕ
 no_number_line = codes "error: nothing has this number\n"

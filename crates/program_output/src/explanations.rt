@@ -1,10 +1,11 @@
-//! What a number on standard error or in a list means, and what to do.
+//! What a number or a word on standard error or in a list means, and what to do.
 
 ghost use Rattle.program_output.specs.Explanations.{Explains};
 
-use crate::{damages, frame_faults, ledger_faults, log_notice, tariff_faults};
+use crate::words::WordKind;
+use crate::{damages, frame_faults, ledger_faults, tariff_faults, words};
 
-/// What kind of thing a number stands for.
+/// What kind of thing a number stands for, or a word that has none.
 #[derive(Clone, Copy)]
 pub enum FaultKind {
     /// A fault of a dump's framing.
@@ -15,11 +16,11 @@ pub enum FaultKind {
     Tariff,
     /// What is wrong with a damaged record.
     Damage,
-    /// The log that a command left beside books. It has no number, and is explained under 0.
-    Log,
+    /// A word that has no number. It is explained under 0.
+    Word(WordKind),
 }
 
-/// What a number means.
+/// What a number or a word means.
 #[derive(Clone, Copy)]
 pub struct Explanation {
     /// What happened, in one line.
@@ -37,6 +38,6 @@ pub fn explained(kind: FaultKind, number: u16) -> Option<Explanation>
         FaultKind::Ledger => ledger_faults::explained(number),
         FaultKind::Tariff => tariff_faults::explained(number),
         FaultKind::Damage => damages::explained(number),
-        FaultKind::Log => log_notice::explained(number),
+        FaultKind::Word(kind) => words::explained(kind, number),
     }
 }

@@ -3,8 +3,8 @@
 
 ghost use Rattle.std.specs.Prelude.{◌≡◌, ◌≤◌, [], ◌∷◌, length};
 ghost use Rattle.std.specs.IoError.{error_kind};
-ghost use Rattle.program_output.specs.Messages.{AreSaid, arguments_line, busy_line, io_line};
-ghost use Rattle.program_output.specs.Messages.{ledger_line, line_at, line_of};
+ghost use Rattle.program_output.specs.Messages.{AreSaid, arguments_line, busy_line, far_line};
+ghost use Rattle.program_output.specs.Messages.{io_line, layout_line, ledger_line, line_at, line_of};
 ghost use Rattle.program_output.specs.Messages.{log_line, no_number_line};
 ghost use Rattle.program_output.specs.Messages.{report_line, stop_lines, unsound_line};
 ghost use Rattle.program_output.specs.Messages as messages;
@@ -134,6 +134,20 @@ pub fn log_left<E: Writer>(errors: &mut E, status: Status, is_change: bool) -> S
         Status::Done if is_change => Status::Store,
         _ => status,
     }
+}
+
+/// Says that a dump reads as blocks and was read as segments alone. The status stays as it is.
+pub fn layout_noticed<E: Writer>(errors: &mut E)
+    ensures { AreSaid E.contents E.may_answer (layout_line ∷ []) errors.old errors.new }
+{
+    say_line(errors, "layout");
+}
+
+/// Says that a ruling is dated long after the newest record. The status stays as it is.
+pub fn far_noticed<E: Writer>(errors: &mut E)
+    ensures { AreSaid E.contents E.may_answer (far_line ∷ []) errors.old errors.new }
+{
+    say_line(errors, "far");
 }
 
 /// Says why a ledger refused.

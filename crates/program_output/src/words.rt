@@ -1,0 +1,96 @@
+//! The words on standard error that have no number, and what is said of each.
+
+ghost use Rattle.std.specs.Prelude.{◌≡◌};
+ghost use Rattle.program_output.specs.Explanations.{Explains};
+ghost use Rattle.program_output.specs.Meanings as spec;
+
+use crate::explanations::{Explanation, FaultKind};
+
+/// A word on standard error that has no number.
+#[derive(Clone, Copy)]
+pub enum WordKind {
+    /// A file, the port or the output failed.
+    Io,
+    /// Another program has the books open.
+    Busy,
+    /// A file is in the way of one that is to be made, or books have the name of a log.
+    Exists,
+    /// A date or a name has the wrong form.
+    Word,
+    /// An audit found books unsound.
+    Unsound,
+    /// A log was left beside books, or kept aside.
+    Log,
+    /// A dump that reads as blocks was read as segments alone.
+    Layout,
+    /// A ruling is dated long after the newest record.
+    Far,
+}
+
+/// What a word means, and what to do about it.
+#[tactic(auto, unfolding(crate::specs::Meanings::word_texts))]
+fn explanation_of(kind: WordKind) -> Explanation
+    ensures { spec.word_texts kind ≡ (result.meaning.now, result.advice.now) }
+{
+    match kind {
+        WordKind::Io => Explanation {
+            meaning: "A file or the port could not be opened, or reading or writing failed.",
+            advice: "Check the path, the permissions and the disk: a file may be missing, a folder \
+                 or a second hard link, the port in use, the output full. On a terminal the path \
+                 and the cause follow.",
+        },
+        WordKind::Busy => Explanation {
+            meaning: "Another program has the books open; nothing was done.",
+            advice: "Wait until it has ended, or end it if it is serve; then run the command \
+                 again.",
+        },
+        WordKind::Exists => Explanation {
+            meaning: "A file that the command would make is there, or a log or journal of it; or \
+                 books have the name of a log: BOOK-wal, BOOK-journal or BOOK-shm.",
+            advice: "Take another name. Rename books that have the name of a log while no command \
+                 runs, and delete nothing before you know whose it is.",
+        },
+        WordKind::Word => Explanation {
+            meaning: "What was given is no date, or no name of a record or a centre; of a list, \
+                 the number of the line follows.",
+            advice: "Write a date as 2024-01-31, and copy all 64 digits of a record's name; a \
+                 centre has 1 to 16 characters of A to Z, 0 to 9 and the hyphen.",
+        },
+        WordKind::Unsound => Explanation {
+            meaning: "An audit found the books, or a copy of them, unsound; it printed what is \
+                 wrong first.",
+            advice: "Restore the last sound backup, and import later dumps again; nothing is \
+                 counted twice.",
+        },
+        WordKind::Log => Explanation {
+            meaning: "The books are in two files, BOOK and BOOK-wal, since the log BOOK-wal could \
+                 not be brought into BOOK; or a log of no use to them was kept aside as \
+                 BOOK-wal-kept.",
+            advice: "Keep both files together; make room on the disk, and read any report of the \
+                 books. To copy them, use backup. Find out whose log BOOK-wal-kept is before you \
+                 delete it.",
+        },
+        WordKind::Layout => Explanation {
+            meaning: "The dump was read as segments one after another, and what was taken for its \
+                 first record is a block.",
+            advice: "The dump reads as blocks: give --layout bdw, and run the command again; \
+                 nothing is counted twice.",
+        },
+        WordKind::Far => Explanation {
+            meaning: "The day of a close or a tariff lies more than 366 days after the newest \
+                 record's.",
+            advice: "Check the year: neither can be taken back. If it is wrong, restore the backup \
+                 from before it; --dry-run shows first what a ruling changes.",
+        },
+    }
+}
+
+/// What a word means, and what to do about it. It has no number: 0 stands for none.
+pub(crate) fn explained(kind: WordKind, number: u16) -> Option<Explanation>
+    ensures { Explains (FaultKind.Word kind) number result }
+{
+    match number {
+        0 => Some(explanation_of(kind)),
+        _ => None,
+    }
+}
